@@ -1,26 +1,25 @@
 -- The logs of a generation, each beside its opening file, read one after the other.
-use Rattle.std.proofs.Common.{◌≡◌, ◌≢◌, ◌<◌, ◌+◌, ℕ, ltb, zero, suc, List, [], ◌∷◌, ◌++◌, Option, Some, take, length, get_or, slice_get, refl, sym, ap, subst, ◌∙◌, arith}
-use Rattle.std.specs.Global.{Vec}
+use Rattle.std.proofs.Common.{◌≡◌, ◌≢◌, ◌<◌, ◌+◌, ℕ, ltb, zero, suc, List, [], ◌∷◌, ◌++◌, Some, take, length, get_or, slice_get, refl, sym, ap, subst, ◌∙◌, arith}
 use Rattle.std.proofs.lemmas.List.Elements.{All-head}
 use Rattle.ep_base.specs.Quorums.{size}
 use Rattle.ep_base.specs.declared.version.Version.{Version}
 use Rattle.ep_base.specs.declared.version_kind.VersionKind.TheVariants.{V3}
-use Rattle.ep_collect.specs.Clusters.{Collects, IsMember, count_of}
-use Rattle.ep_collect.specs.declared.collect_fault.CollectFault.{CollectFault}
+use Rattle.ep_assemble.specs.Clusters.{Collects, IsMember, count_of}
+use Rattle.ep_assemble.specs.declared.collect_fault.CollectFault.{CollectFault}
 use Rattle.ep_journal.specs.Entries.{Collected, Log as Journal}
 use Rattle.ep_opening.specs.Bytes.{file_digest, opening_bytes}
 use Rattle.ep_opening.specs.Files.{File}
-use Rattle.ep_collect.specs.Clusters.{IsRefused as IsUncollected}
+use Rattle.ep_assemble.specs.Clusters.{IsRefused as IsUncollected}
 use Rattle.ep_log.specs.Origins.{Origin}
 use Rattle.ep_log.specs.Reading.{IsRead}
 use Rattle.ep_log.specs.declared.log_version.LogVersion.{LogVersion}
 use Rattle.ep_assemble.specs.Generations.{AreFiles, AreKept, AreNotKept, HaveOpened, IsFirstAt, IsKept, IsNotKept, IsOfOtherSize, IsRefusedIn, IsUnassembled, AreUnopened, origin_in}
-use Rattle.ep_assemble.specs.Logs.{IsNotRead, IsReadTo}
+use Rattle.ep_assemble.specs.Logs.{IsReadTo}
 use Rattle.ep_assemble.specs.Receipts.{AreUnheld}
 use Rattle.ep_assemble.specs.declared.assemble_fault.AssembleFault.{AssembleFault}
 use Rattle.ep_assemble.specs.declared.assemble_fault.AssembleFault.TheVariants.{Memory, Log, Collect, Receipts, TooManyReceipts}
 use Rattle.ep_assemble.specs.declared.assembled.End.{End}
-use Rattle.ep_assemble.specs.declared.cluster.Cluster.{Cluster}
+use Rattle.ep_assemble.specs.declared.opened_cluster.OpenedCluster.{OpenedCluster}
 use Rattle.ep_assemble.specs.declared.generation_fault.GenerationFault.{GenerationFault}
 use Rattle.ep_assemble.specs.declared.generation_fault.GenerationFault.TheVariants.{NoLog, Opening, Other, LogSize, Assemble}
 use Rattle.ep_assemble.specs.declared.opened_log.OpenedLog.{OpenedLog}
@@ -39,7 +38,7 @@ file_at zero (x ∷ kept) (f ∷ files) one all is =
     record { file = f; is = ap (λ (o : OpenedLog). o.opening.items) (sym same) ∙ all.0 }
 file_at (suc k) (x ∷ kept) (f ∷ files) one all is = file_at k kept files one all.1 is
 
-one_more : (c : Cluster) (kept : List OpenedLog) (js : List Journal) (ends : List End) (one : OpenedLog) (j : Journal) (end : End) → AreKept c kept js ends → IsKept c one j end →
+one_more : (c : OpenedCluster) (kept : List OpenedLog) (js : List Journal) (ends : List End) (one : OpenedLog) (j : Journal) (end : End) → AreKept c kept js ends → IsKept c one j end →
     AreKept c (kept ++ one ∷ []) (js ++ j ∷ []) (ends ++ end ∷ [])
 one_more c [] [] [] one j end all is = (is, tt)
 one_more c [] [] (e ∷ ends) one j end all is = absurd all
@@ -51,12 +50,12 @@ one_more c (k ∷ kept) (x ∷ js) [] one j end all is = absurd all
 one_more c (k ∷ kept) (x ∷ js) (e ∷ ends) one j end all is = (all.0, one_more c kept js ends one j end all.1 is)
 
 -- as a log beside any file that its machine has
-pub record IsReadBeside (c : Cluster) (one : OpenedLog) (j : Journal) (end : End) : Type 0 where
+pub record IsReadBeside (c : OpenedCluster) (one : OpenedLog) (j : Journal) (end : End) : Type 0 where
   pub read : (file : File) → one.opening.items ≡ opening_bytes file → IsReadTo (origin_in c file) one.log.items j end
   pub size : j.faults ≡ c.size
 
 pub one_read :
-    (c : Cluster) (i : ℕ) (kept : List OpenedLog) (files : List File) (one d : OpenedLog) (js js' : List Journal) (ends ends' : List End) (j : Journal) (end : End) → i < length kept → one ≡ get_or kept i d →
+    (c : OpenedCluster) (i : ℕ) (kept : List OpenedLog) (files : List File) (one d : OpenedLog) (js js' : List Journal) (ends ends' : List End) (j : Journal) (end : End) → i < length kept → one ≡ get_or kept i d →
     AreFiles kept files → AreKept c (take i kept) js ends → IsReadBeside c one j end → js' ≡ js ++ j ∷ [] → ends' ≡ ends ++ end ∷ [] → AreKept c (take (i + 1) kept) js' ends'
 one_read c i kept files one d js js' ends ends' j end less is are all read js_is ends_is =
     let has : HasFile one = file_at i kept files one are (at_place kept i one d less is) in
@@ -66,7 +65,7 @@ one_read c i kept files one d js js' ends ends' j end less is are all read js_is
     (subst (λ (es : List End). AreKept c (take i kept ++ one ∷ []) (js ++ j ∷ []) es) (sym ends_is) (one_more c (take i kept) js ends one j end all this)))
 
 first_at :
-    (c : Cluster) (at place : ℕ) (kept : List OpenedLog) (files : List File) (one d : OpenedLog) (js : List Journal) (ends : List End) (P : File → List ℕ → Type 0) → place < length kept → one ≡ get_or kept place d →
+    (c : OpenedCluster) (at place : ℕ) (kept : List OpenedLog) (files : List File) (one d : OpenedLog) (js : List Journal) (ends : List End) (P : File → List ℕ → Type 0) → place < length kept → one ≡ get_or kept place d →
     AreFiles kept files → AreKept c (take place kept) js ends → at ≡ place → ((file : File) → one.opening.items ≡ opening_bytes file → P file one.log.items) → IsFirstAt c at kept P
 first_at c at place kept files one d js ends P less is are all here holds =
     let has : HasFile one = file_at place kept files one are (at_place kept place one d less is) in
@@ -82,7 +81,7 @@ first_at c at place kept files one d js ends P less is are all here holds =
     }
 
 pub one_refused :
-    (c : Cluster) (e : GenerationFault) (place : ℕ) (kept : List OpenedLog) (files : List File) (one d : OpenedLog) (js : List Journal) (ends : List End) → place < length kept → one ≡ get_or kept place d →
+    (c : OpenedCluster) (e : GenerationFault) (place : ℕ) (kept : List OpenedLog) (files : List File) (one d : OpenedLog) (js : List Journal) (ends : List End) → place < length kept → one ≡ get_or kept place d →
     AreFiles kept files → AreKept c (take place kept) js ends → ((file : File) → one.opening.items ≡ opening_bytes file → IsNotKept c file place one.log.items e) → AreNotKept c kept e
 one_refused c NoLog place kept files one d js ends less is are all h =
     let has : HasFile one = file_at place kept files one are (at_place kept place one d less is) in
@@ -112,13 +111,13 @@ one_refused c (Assemble TooManyReceipts) place kept files one d js ends less is 
 
 -- as the log was read from what its own file tells
 pub read_beside :
-    (c : Cluster) (opening opening' log log' : List ℕ) (o : Origin) (v : LogVersion) (j : Journal) (whole behind : ℕ) → opening' ≡ opening → log' ≡ log →
+    (c : OpenedCluster) (opening opening' log log' : List ℕ) (o : Origin) (v : LogVersion) (j : Journal) (whole behind : ℕ) → opening' ≡ opening → log' ≡ log →
     ((file : File) → opening' ≡ opening_bytes file → o ≡ origin_in c file) → IsRead o log' v j whole behind → (file : File) → opening ≡ opening_bytes file → IsRead (origin_in c file) log v j whole behind
 read_beside c opening opening' log log' o v j whole behind same_opening same_log origin read file is =
     subst (λ (p : Origin). IsRead p log v j whole behind) (origin file (same_opening ∙ is)) (subst (λ (bs : List ℕ). IsRead o bs v j whole behind) same_log read)
 
 pub other_beside :
-    (c : Cluster) (opening opening' log log' : List ℕ) (o : Origin) (v : LogVersion) (j : Journal) (whole behind : ℕ) → opening' ≡ opening → log' ≡ log →
+    (c : OpenedCluster) (opening opening' log log' : List ℕ) (o : Origin) (v : LogVersion) (j : Journal) (whole behind : ℕ) → opening' ≡ opening → log' ≡ log →
     ((file : File) → opening' ≡ opening_bytes file → o ≡ origin_in c file) → IsRead o log' v j whole behind → j.faults ≢ c.size → (file : File) → opening ≡ opening_bytes file → IsOfOtherSize c file log
 other_beside c opening opening' log log' o v j whole behind same_opening same_log origin read other file is =
     record {
@@ -128,19 +127,13 @@ other_beside c opening opening' log log' o v j whole behind same_opening same_lo
       other = other;
     }
 
-pub unread_beside :
-    (c : Cluster) (opening opening' log log' : List ℕ) (o : Origin) (place : ℕ) (e : AssembleFault) → opening' ≡ opening → log' ≡ log → ((file : File) → opening' ≡ opening_bytes file → o ≡ origin_in c file) →
-    IsNotRead o place log' e → (file : File) → opening ≡ opening_bytes file → IsNotRead (origin_in c file) place log e
-unread_beside c opening opening' log log' o place e same_opening same_log origin why file is =
-    subst (λ (p : Origin). IsNotRead p place log e) (origin file (same_opening ∙ is)) (subst (λ (bs : List ℕ). IsNotRead o place bs e) same_log why)
-
 -- What is collected of them is of the cluster.
 
-pub record IsOfIt (c : Cluster) (it : Collected) : Type 0 where
+pub record IsOfIt (c : OpenedCluster) (it : Collected) : Type 0 where
   pub version : it.version ≡ V3 c.generation
   pub size : it.faults ≡ c.size
 
-pub of_it : (c : Cluster) (kept : List OpenedLog) (js : List Journal) (ends : List End) (it : Collected) → AreKept c kept js ends → Collects js it → IsOfIt c it
+pub of_it : (c : OpenedCluster) (kept : List OpenedLog) (js : List Journal) (ends : List End) (it : Collected) → AreKept c kept js ends → Collects js it → IsOfIt c it
 of_it c [] [] [] it all one =
     let once : count_of 0 [] ≡ 1 = one.all.once 0 (omega arith) in
     let none : count_of 0 [] ≡ 0 = refl in
@@ -160,7 +153,7 @@ of_it c (k ∷ kept) (j ∷ js) (e ∷ ends) it all one =
 
 -- Why no bundle is made.
 
-pub not_kept : (c : Cluster) (kept : List OpenedLog) (files : List (List ℕ)) (e : GenerationFault) → AreNotKept c kept e → IsUnassembled c kept files e
+pub not_kept : (c : OpenedCluster) (kept : List OpenedLog) (files : List (List ℕ)) (e : GenerationFault) → AreNotKept c kept e → IsUnassembled c kept files e
 not_kept c kept files NoLog h = absurd h
 not_kept c kept files (Opening place fault) h = absurd h
 not_kept c kept files (Other place how) h = absurd h
@@ -171,11 +164,11 @@ not_kept c kept files (Assemble (Collect fault)) h = absurd h
 not_kept c kept files (Assemble (Receipts place at)) h = absurd h
 not_kept c kept files (Assemble TooManyReceipts) h = absurd h
 
-pub uncollected : (c : Cluster) (kept : List OpenedLog) (files : List (List ℕ)) (js : List Journal) (ends : List End) (fault : CollectFault) (e : GenerationFault) → AreKept c kept js ends → IsUncollected fault js →
+pub uncollected : (c : OpenedCluster) (kept : List OpenedLog) (files : List (List ℕ)) (js : List Journal) (ends : List End) (fault : CollectFault) (e : GenerationFault) → AreKept c kept js ends → IsUncollected fault js →
     e ≡ Assemble (Collect fault) → IsUnassembled c kept files e
 uncollected c kept files js ends fault e read refused is = subst (IsUnassembled c kept files) (sym is) (record { journals = js; ends = ends; read = read; refused = refused })
 
-unheld_in : (c : Cluster) (kept : List OpenedLog) (files : List (List ℕ)) (js : List Journal) (ends : List End) (it : Collected) (fault : AssembleFault) → AreKept c kept js ends → Collects js it →
+unheld_in : (c : OpenedCluster) (kept : List OpenedLog) (files : List (List ℕ)) (js : List Journal) (ends : List End) (it : Collected) (fault : AssembleFault) → AreKept c kept js ends → Collects js it →
     AreUnheld (V3 c.generation) (size c.size) files fault → IsUnassembled c kept files (Assemble fault)
 unheld_in c kept files js ends it Memory read one why = tt
 unheld_in c kept files js ends it (Log place fault) read one why = absurd why
@@ -183,7 +176,7 @@ unheld_in c kept files js ends it (Collect fault) read one why = absurd why
 unheld_in c kept files js ends it (Receipts place at) read one why = record { journals = js; ends = ends; read = read; collected = it; collects = one; holds = why }
 unheld_in c kept files js ends it TooManyReceipts read one why = record { journals = js; ends = ends; read = read; collected = it; collects = one; holds = why }
 
-pub unheld : (c : Cluster) (kept : List OpenedLog) (files : List (List ℕ)) (js : List Journal) (ends : List End) (it : Collected) (fault : AssembleFault) (e : GenerationFault) → AreKept c kept js ends → Collects js it →
+pub unheld : (c : OpenedCluster) (kept : List OpenedLog) (files : List (List ℕ)) (js : List Journal) (ends : List End) (it : Collected) (fault : AssembleFault) (e : GenerationFault) → AreKept c kept js ends → Collects js it →
     AreUnheld it.version (size it.faults) files fault → e ≡ Assemble fault → IsUnassembled c kept files e
 unheld c kept files js ends it fault e read one why is =
     let of : IsOfIt c it = of_it c kept js ends it read one in
@@ -201,7 +194,7 @@ unopened g kept files (Assemble (Collect fault)) h = absurd h
 unopened g kept files (Assemble (Receipts place at)) h = absurd h
 unopened g kept files (Assemble TooManyReceipts) h = absurd h
 
-pub unassembled : (g : ℕ) (kept : List OpenedLog) (files : List (List ℕ)) (c : Cluster) (e : GenerationFault) → HaveOpened g kept c → IsUnassembled c kept files e → IsRefusedIn g kept files e
+pub unassembled : (g : ℕ) (kept : List OpenedLog) (files : List (List ℕ)) (c : OpenedCluster) (e : GenerationFault) → HaveOpened g kept c → IsUnassembled c kept files e → IsRefusedIn g kept files e
 unassembled g kept files c NoLog opened h = absurd h
 unassembled g kept files c (Opening place fault) opened h = absurd h
 unassembled g kept files c (Other place how) opened h = absurd h
@@ -213,7 +206,7 @@ unassembled g kept files c (Assemble (Receipts place at)) opened h = (c, opened,
 unassembled g kept files c (Assemble TooManyReceipts) opened h = (c, opened, h)
 
 -- the digest of a file's bytes
-pub origin_is : (c : Cluster) (file : File) (digest : List ℕ) (o : Origin) → Some digest ≡ Some (file_digest file) → o ≡ record { version = V3 c.generation; opening = c.opening; digest = digest } → o ≡ origin_in c file
+pub origin_is : (c : OpenedCluster) (file : File) (digest : List ℕ) (o : Origin) → Some digest ≡ Some (file_digest file) → o ≡ record { version = V3 c.generation; opening = c.opening; digest = digest } → o ≡ origin_in c file
 origin_is c file digest o is built =
     let same : digest ≡ file_digest file = (let s : Some digest ≡ Some (file_digest file) = is in cc) in
     built ∙ ap (λ d. record { version = V3 c.generation; opening = c.opening; digest = d }) same

@@ -5,7 +5,7 @@ use Rattle.std.proofs.lemmas.Bool.{ltb-true, ltb-false}
 use Rattle.std.proofs.lemmas.List.{take_more, map-append}
 use Rattle.ep_base.specs.declared.version.Version.{Version}
 use Rattle.ep_bundle.proofs.ReadEntries.{receipt_gives}
-use Rattle.ep_bundle.proofs.ReadNumbers.{Took, length_number, rest_bytes}
+use Rattle.ep_bundle.proofs.ReadNumbers.{Took, rest_bytes}
 use Rattle.ep_bundle.specs.Bytes.{claim_bytes, outcome_bytes, receipt_bytes}
 use Rattle.ep_bundle.specs.Reading.{Left, Reads}
 use Rattle.ep_bundle.specs.Stages.{receipt}
@@ -13,6 +13,7 @@ use Rattle.ep_bundle.specs.declared.bundle_fault.BundleFault.{BundleFault}
 use Rattle.ep_bundle.specs.declared.bundle_fault.BundleFault.TheVariants as bundle
 use Rattle.ep_frame.specs.Fields.{dep_bytes, number_bytes}
 use Rattle.ep_frame.specs.Spelling.{AreBytes}
+use Rattle.ep_frame.proofs.Again.{length-number_bytes}
 use Rattle.ep_rules.specs.declared.receipt.Receipt.{Receipt}
 use Rattle.ep_assemble.specs.Logs.{contents}
 use Rattle.ep_assemble.specs.Receipts.{AreHeld, AreReceipts, AreUnheld, Hold, IsNotHeld, IsUnheld, all_of, is_cut, receipt_length}
@@ -35,7 +36,7 @@ some_bytes w r =
       length-append (client ++ request ++ dep_bytes r.instance) (number_bytes 8 r.seen),
       length-append (client ++ request) (dep_bytes r.instance),
       length-append client request,
-      length_number 4 r.client,
+      length-number_bytes 4 r.client,
     )
 
 -- so far these bytes gave more receipts, and the tail is left

@@ -5,7 +5,7 @@ use Rattle.std.proofs.lemmas.Option.{slice_get-get_or}
 use Rattle.std.proofs.lemmas.List.{take-map, take_more, map-append}
 use Rattle.ep_journal.specs.Entries.{Log as Journal}
 use Rattle.ep_log.specs.Origins.{second}
-use Rattle.ep_assemble.specs.Logs.{AreRead, IsNotRead, IsReadTo, IsLogRefused, IsRefused, contents}
+use Rattle.ep_assemble.specs.Logs.{AreRead, IsNotRead, IsReadTo, IsLogRefused, contents}
 use Rattle.ep_assemble.specs.declared.assemble_fault.AssembleFault.{AssembleFault}
 use Rattle.ep_assemble.specs.declared.assemble_fault.AssembleFault.TheVariants.{Memory, Log, Collect, Receipts, TooManyReceipts}
 use Rattle.ep_assemble.specs.declared.assembled.End.{End}
@@ -58,10 +58,3 @@ one_read i vs v d js ends j end less is all read =
     let more : contents (take (i + 1) vs) ≡ contents (take i vs) ++ v.items ∷ [] =
     ap contents (take_more vs i d less) ∙ map-append (λ (x : Vec ℕ). x.items) (take i vs) (get_or vs i d ∷ []) ∙ ap (λ (x : Vec ℕ). contents (take i vs) ++ x.items ∷ []) (sym is) in
     subst (λ (bs : List (List ℕ)). AreRead bs (js ++ j ∷ []) (ends ++ end ∷ [])) (sym more) (one_more (contents (take i vs)) js ends v.items j end all read)
-
-pub not_log : (e : AssembleFault) (bss files : List (List ℕ)) → IsLogRefused e bss → IsRefused e bss files
-not_log Memory bss files h = tt
-not_log (Log place fault) bss files h = h
-not_log (Collect fault) bss files h = absurd h
-not_log (Receipts place at) bss files h = absurd h
-not_log TooManyReceipts bss files h = absurd h

@@ -1,7 +1,10 @@
 mod Appending
 mod Held
 mod InTurn
-mod Unread
+pub mod Unread
 mod Unassembled
 mod Opened
 mod Beside
+mod Checked
+mod Ordered
+mod MapsOfLogs

@@ -6,7 +6,7 @@ use Rattle.ep_opening.specs.Bytes.{opening_bytes}
 use Rattle.ep_opening.specs.Files.{File}
 use Rattle.ep_assemble.specs.Generations.{AreFiles, AreNoFiles, AreOfNone, AreUnopened, Differs, HaveOpened, IsClusterOf, IsFirstOther, IsLike, IsNotOpened}
 use Rattle.ep_assemble.specs.declared.assemble_fault.AssembleFault.TheVariants.{Memory, Log, Collect, Receipts, TooManyReceipts}
-use Rattle.ep_assemble.specs.declared.cluster.Cluster.{Cluster}
+use Rattle.ep_assemble.specs.declared.opened_cluster.OpenedCluster.{OpenedCluster}
 use Rattle.ep_assemble.specs.declared.differing.Differing.{Differing}
 use Rattle.ep_assemble.specs.declared.generation_fault.GenerationFault.{GenerationFault}
 use Rattle.ep_assemble.specs.declared.generation_fault.GenerationFault.TheVariants.{NoLog, Opening, Other, LogSize, Assemble}
@@ -77,5 +77,5 @@ of_none g kept files (Assemble (Collect fault)) are h = absurd h
 of_none g kept files (Assemble (Receipts place at)) are h = absurd h
 of_none g kept files (Assemble TooManyReceipts) are h = absurd h
 
-pub have_opened : (g : ℕ) (kept : List OpenedLog) (files : List File) (c : Cluster) → AreFiles kept files → IsClusterOf g files c → HaveOpened g kept c
+pub have_opened : (g : ℕ) (kept : List OpenedLog) (files : List File) (c : OpenedCluster) → AreFiles kept files → IsClusterOf g files c → HaveOpened g kept c
 have_opened g kept files c are of = record { files = files; are = are; of = of }

@@ -1,7 +1,7 @@
 -- Files of receipts that no bundle is made of, behind logs that are one cluster's.
 use Rattle.std.proofs.Common.{ℕ, List}
 use Rattle.ep_base.specs.Quorums.{size}
-use Rattle.ep_collect.specs.Clusters.{Collects}
+use Rattle.ep_assemble.specs.Clusters.{Collects}
 use Rattle.ep_journal.specs.Entries.{Collected, Log as Journal}
 use Rattle.ep_assemble.specs.Logs.{AreRead, IsRefused}
 use Rattle.ep_assemble.specs.Receipts.{AreUnheld}

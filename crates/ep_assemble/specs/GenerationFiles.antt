@@ -1,13 +1,13 @@
 -- What becomes of the files of a generation, by their names and the bytes that they gave: first of opening files, then of logs, then of receipts.
 use Rattle.std.specs.Prelude.{◌≡◌, ℕ, List, ◌++◌, Contains}
-use Rattle.ep_assemble.specs.Files.{IsUnreadLine}
 use Rattle.ep_assemble.specs.GenerationLines.{generation_line, missing_line}
 use Rattle.ep_assemble.specs.Generations.{IsAssembledOf, IsRefusedIn}
-use Rattle.ep_assemble.specs.Lines.{torn_lines, unread_line}
+use Rattle.ep_assemble.specs.Lines.{torn_lines}
+use Rattle.ep_cli.specs.Files.{unread_line, IsUnreadLine}
 use Rattle.ep_assemble.specs.declared.assemble_fault.AssembleFault.TheVariants.{Memory, Log, Collect, Receipts, TooManyReceipts}
 use Rattle.ep_assemble.specs.declared.assembled.End.{End}
-use Rattle.ep_assemble.specs.declared.files.FilesFault.{FilesFault}
-use Rattle.ep_assemble.specs.declared.files.FilesFault.TheVariants as files
+use Rattle.ep_cli.specs.declared.files_fault.FilesFault.{FilesFault}
+use Rattle.ep_cli.specs.declared.files_fault.FilesFault.TheVariants as files
 use Rattle.ep_assemble.specs.declared.generation_fault.GenerationFault.{GenerationFault}
 use Rattle.ep_assemble.specs.declared.generation_fault.GenerationFault.TheVariants.{NoLog, Opening, Other, LogSize, Assemble}
 use Rattle.ep_assemble.specs.declared.opened_log.OpenedLog.{OpenedLog}
@@ -38,18 +38,6 @@ pub record IsNotCollectedOf (g : ℕ) (openings logs receipts : List (List ℕ))
   pub of : IsOfGeneration fault
   pub refused : IsRefusedIn g kept receipt_bytes fault
   pub told : line ≡ generation_line openings logs receipts fault
-
--- why nothing is collected of these bytes
-abbrev pub IsTurnedDownOf : ℕ → List (List ℕ) → List (List ℕ) → List (List ℕ) → List OpenedLog → List (List ℕ) → FilesFault → Type 0
-IsTurnedDownOf g openings logs receipts kept receipt_bytes files.Memory = Unit {0}
-IsTurnedDownOf g openings logs receipts kept receipt_bytes (files.ReadFailed line) = ⊥
-IsTurnedDownOf g openings logs receipts kept receipt_bytes (files.Refused line) = IsNotCollectedOf g openings logs receipts kept receipt_bytes line.items
-
--- the fault's line, or want of memory
-abbrev pub IsGenerationLine : List (List ℕ) → List (List ℕ) → List (List ℕ) → GenerationFault → FilesFault → Type 0
-IsGenerationLine openings logs receipts fault files.Memory = Unit {0}
-IsGenerationLine openings logs receipts fault (files.ReadFailed line) = ⊥
-IsGenerationLine openings logs receipts fault (files.Refused line) = line.items ≡ generation_line openings logs receipts fault
 
 -- a file of one of these names is missing, and the line says which
 abbrev pub IsMissingLine : List (List ℕ) → List ℕ → Type 0

@@ -2,9 +2,9 @@
 use Rattle.std.specs.Prelude.{◌≡◌, ◌≢◌, ℕ, min, List, [], ◌∷◌, Some, All, take, slice_get}
 use Rattle.ep_base.specs.Quorums.{size}
 use Rattle.ep_base.specs.declared.version_kind.VersionKind.TheVariants.{V3}
-use Rattle.ep_collect.specs.Clusters.{Collects}
-use Rattle.ep_collect.specs.Clusters.{IsRefused as IsUncollected}
-use Rattle.ep_collect.specs.declared.collect_fault.CollectFault.{CollectFault}
+use Rattle.ep_assemble.specs.Clusters.{Collects}
+use Rattle.ep_assemble.specs.Clusters.{IsRefused as IsUncollected}
+use Rattle.ep_assemble.specs.declared.collect_fault.CollectFault.{CollectFault}
 use Rattle.ep_journal.specs.Entries.{Collected, Log as Journal}
 use Rattle.ep_journal.specs.Openings.{Opening as Begun}
 use Rattle.ep_log.specs.Origins.{Origin}
@@ -18,7 +18,7 @@ use Rattle.ep_assemble.specs.Logs.{IsBundled, IsNotRead, IsOfLog, IsReadTo}
 use Rattle.ep_assemble.specs.Receipts.{AreTooMany, IsFirstSpoiled}
 use Rattle.ep_assemble.specs.declared.assemble_fault.AssembleFault.TheVariants.{Memory, Log, Collect, Receipts, TooManyReceipts}
 use Rattle.ep_assemble.specs.declared.assembled.End.{End}
-use Rattle.ep_assemble.specs.declared.cluster.Cluster.{Cluster}
+use Rattle.ep_assemble.specs.declared.opened_cluster.OpenedCluster.{OpenedCluster}
 use Rattle.ep_assemble.specs.declared.differing.Differing.{Differing}
 use Rattle.ep_assemble.specs.declared.differing.Differing.TheVariants as differing
 use Rattle.ep_assemble.specs.declared.generation_fault.GenerationFault.{GenerationFault}
@@ -49,7 +49,7 @@ abbrev pub common : File → List File → Begun
 common first files = record { contents = first.opening.contents; since = least_since first.opening.since files }
 
 -- the files are those of one cluster in generation g, and this is the cluster
-pub record IsClusterOf (g : ℕ) (files : List File) (c : Cluster) : Type 0 where
+pub record IsClusterOf (g : ℕ) (files : List File) (c : OpenedCluster) : Type 0 where
   pub first : File
   pub stands : slice_get files 0 ≡ Some first
   pub alike : All (IsLike g first) files
@@ -58,35 +58,35 @@ pub record IsClusterOf (g : ℕ) (files : List File) (c : Cluster) : Type 0 wher
   pub opening : c.opening ≡ common first files
 
 -- the openings are the files of this cluster in generation g
-pub record HaveOpened (g : ℕ) (kept : List OpenedLog) (c : Cluster) : Type 0 where
+pub record HaveOpened (g : ℕ) (kept : List OpenedLog) (c : OpenedCluster) : Type 0 where
   pub files : List File
   pub are : AreFiles kept files
   pub of : IsClusterOf g files c
 
 -- and this is said of it
-abbrev pub OfCluster : ℕ → List OpenedLog → (Cluster → Type 0) → Type 0
-OfCluster g kept P = (c : Cluster) × HaveOpened g kept c × P c
+abbrev pub OfCluster : ℕ → List OpenedLog → (OpenedCluster → Type 0) → Type 0
+OfCluster g kept P = (c : OpenedCluster) × HaveOpened g kept c × P c
 
 -- Logs.
 
 -- the replica of this file's machine begins with what all journals open with, and its log names its own file
-abbrev pub origin_in : Cluster → File → Origin
+abbrev pub origin_in : OpenedCluster → File → Origin
 origin_in c file = record { version = V3 c.generation; opening = c.opening; digest = file_digest file }
 
 -- the log is one of a replica that opened with the file beside it, in a cluster of this size, and has this journal, up to its torn end where it has one
-pub record IsKept (c : Cluster) (kept : OpenedLog) (j : Journal) (end : End) : Type 0 where
+pub record IsKept (c : OpenedCluster) (kept : OpenedLog) (j : Journal) (end : End) : Type 0 where
   pub file : File
   pub is : kept.opening.items ≡ opening_bytes file
   pub read : IsReadTo (origin_in c file) kept.log.items j end
   pub size : j.faults ≡ c.size
 
-abbrev pub AreKept : Cluster → List OpenedLog → List Journal → List End → Type 0
+abbrev pub AreKept : OpenedCluster → List OpenedLog → List Journal → List End → Type 0
 AreKept c [] [] [] = Unit {0}
 AreKept c (kept ∷ rest) (journal ∷ journals) (end ∷ ends) = IsKept c kept journal end × AreKept c rest journals ends
 AreKept _ _ _ _ = ⊥
 
 -- the text is the bundle of the journals that the logs hold, and of the receipts that the files hold
-pub record IsAssembledIn (c : Cluster) (kept : List OpenedLog) (files : List (List ℕ)) (text : List ℕ) (ends receipt_ends : List End) : Type 0 where
+pub record IsAssembledIn (c : OpenedCluster) (kept : List OpenedLog) (files : List (List ℕ)) (text : List ℕ) (ends receipt_ends : List End) : Type 0 where
   pub journals : List Journal
   pub read : AreKept c kept journals ends
   pub collected : Collected
@@ -153,7 +153,7 @@ AreUnopened g kept (Assemble TooManyReceipts) = ⊥
 -- Faults of logs, and of receipts.
 
 -- those before the place are logs of the cluster, and this is said of the log at the place and of the file beside it
-pub record IsFirstAt (c : Cluster) (place : ℕ) (kept : List OpenedLog) (P : File → List ℕ → Type 0) : Type 0 where
+pub record IsFirstAt (c : OpenedCluster) (place : ℕ) (kept : List OpenedLog) (P : File → List ℕ → Type 0) : Type 0 where
   pub journals : List Journal
   pub ends : List End
   pub before : AreKept c (take place kept) journals ends
@@ -164,21 +164,21 @@ pub record IsFirstAt (c : Cluster) (place : ℕ) (kept : List OpenedLog) (P : Fi
   pub holds : P file one.log.items
 
 -- a log of a cluster of another size
-pub record IsOfOtherSize (c : Cluster) (file : File) (bytes : List ℕ) : Type 0 where
+pub record IsOfOtherSize (c : OpenedCluster) (file : File) (bytes : List ℕ) : Type 0 where
   pub journal : Journal
   pub end : End
   pub read : IsReadTo (origin_in c file) bytes journal end
   pub other : journal.faults ≢ c.size
 
 -- all logs are the cluster's, and their journals aren't one for each replica, for this reason
-pub record AreNoCluster (c : Cluster) (kept : List OpenedLog) (fault : CollectFault) : Type 0 where
+pub record AreNoCluster (c : OpenedCluster) (kept : List OpenedLog) (fault : CollectFault) : Type 0 where
   pub journals : List Journal
   pub ends : List End
   pub read : AreKept c kept journals ends
   pub refused : IsUncollected fault journals
 
 -- all logs are the cluster's, one for each replica, and so it is
-pub record AreOneEach (c : Cluster) (kept : List OpenedLog) (P : Type 0) : Type 0 where
+pub record AreOneEach (c : OpenedCluster) (kept : List OpenedLog) (P : Type 0) : Type 0 where
   pub journals : List Journal
   pub ends : List End
   pub read : AreKept c kept journals ends
@@ -187,7 +187,7 @@ pub record AreOneEach (c : Cluster) (kept : List OpenedLog) (P : Type 0) : Type 
   pub holds : P
 
 -- why the logs of this cluster, and these files of receipts, make no bundle
-abbrev pub IsUnassembled : Cluster → List OpenedLog → List (List ℕ) → GenerationFault → Type 0
+abbrev pub IsUnassembled : OpenedCluster → List OpenedLog → List (List ℕ) → GenerationFault → Type 0
 IsUnassembled c kept files NoLog = ⊥
 IsUnassembled c kept files (Opening place fault) = ⊥
 IsUnassembled c kept files (Other place how) = ⊥
@@ -255,7 +255,7 @@ AreOfNone g files (Assemble (Receipts place at)) = ⊥
 AreOfNone g files (Assemble TooManyReceipts) = ⊥
 
 -- why these bytes, at this place, are no log of the cluster beside this file
-abbrev pub IsNotKept : Cluster → File → ℕ → List ℕ → GenerationFault → Type 0
+abbrev pub IsNotKept : OpenedCluster → File → ℕ → List ℕ → GenerationFault → Type 0
 IsNotKept c file place bytes NoLog = ⊥
 IsNotKept c file place bytes (Opening at fault) = ⊥
 IsNotKept c file place bytes (Other at how) = ⊥
@@ -263,7 +263,7 @@ IsNotKept c file place bytes (LogSize at) = (at ≡ place) × IsOfOtherSize c fi
 IsNotKept c file place bytes (Assemble fault) = IsNotRead (origin_in c file) place bytes fault
 
 -- why the logs are not those of the cluster
-abbrev pub AreNotKept : Cluster → List OpenedLog → GenerationFault → Type 0
+abbrev pub AreNotKept : OpenedCluster → List OpenedLog → GenerationFault → Type 0
 AreNotKept c kept NoLog = ⊥
 AreNotKept c kept (Opening place fault) = ⊥
 AreNotKept c kept (Other place how) = ⊥

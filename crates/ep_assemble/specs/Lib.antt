@@ -5,3 +5,6 @@ pub mod Generations
 pub mod Lines
 pub mod Logs
 pub mod Receipts
+pub mod Clusters
+pub mod Shown
+pub mod ShownFiles

@@ -1,7 +1,7 @@
 -- The lines that are told of logs and receipts, by the names of their files.
 use Rattle.std.specs.Prelude.{ℕ, suc, cond, List, [], ◌∷◌, ◌++◌, codes, decimal, slice_index_or as get_or}
-use Rattle.ep_collect.specs.declared.collect_fault.CollectFault.{CollectFault}
-use Rattle.ep_collect.specs.declared.collect_fault.CollectFault.TheVariants.{NoJournal, OtherCluster, Twice, Missing}
+use Rattle.ep_assemble.specs.declared.collect_fault.CollectFault.{CollectFault}
+use Rattle.ep_assemble.specs.declared.collect_fault.CollectFault.TheVariants.{NoJournal, OtherCluster, Twice, Missing}
 use Rattle.ep_log.specs.declared.log_fault.LogFault.{LogFault}
 use Rattle.ep_log.specs.declared.log_fault.LogFault.TheVariants as log
 use Rattle.ep_assemble.specs.declared.assembled.End.{End}
@@ -47,9 +47,6 @@ refusal_line logs files (Log place fault) = log_line (name_at logs place) fault
 refusal_line logs files (Collect fault) = collect_line logs fault
 refusal_line logs files (Receipts place at) = receipts_line (name_at files place) at
 refusal_line logs files TooManyReceipts = codes "receipts refused: more than 4294967295\n"
-
-abbrev pub unread_line : List ℕ → List ℕ
-unread_line name = codes "reading " ++ name ++ codes " failed\n"
 
 abbrev pub torn_line : List ℕ → ℕ → List ℕ
 torn_line name whole = codes "torn end in " ++ name ++ (codes " after byte " ++ decimal whole) ++ codes "\n"

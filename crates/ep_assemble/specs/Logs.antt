@@ -4,9 +4,9 @@ use Rattle.std.specs.Global.{Vec}
 use Rattle.ep_base.specs.Quorums.{size}
 use Rattle.ep_base.specs.declared.version.Version.{Version}
 use Rattle.ep_bundle.specs.Bytes.{bundle_bytes}
-use Rattle.ep_collect.specs.Clusters.{Collects}
-use Rattle.ep_collect.specs.Clusters.{IsRefused as IsUncollected}
-use Rattle.ep_collect.specs.declared.collect_fault.CollectFault.{CollectFault}
+use Rattle.ep_assemble.specs.Clusters.{Collects}
+use Rattle.ep_assemble.specs.Clusters.{IsRefused as IsUncollected}
+use Rattle.ep_assemble.specs.declared.collect_fault.CollectFault.{CollectFault}
 use Rattle.ep_journal.specs.Entries.{Collected, Log as Journal}
 use Rattle.ep_log.specs.Origins.{Origin, second}
 use Rattle.ep_log.specs.Reading.{IsRead}

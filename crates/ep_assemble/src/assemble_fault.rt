@@ -3,7 +3,7 @@
 ghost use Rattle.std.specs.Prelude.{◌≡◌};
 ghost use Rattle.ep_assemble.specs.declared.assemble_fault.AssembleFault.TheVariants.{Memory as NoMemory, Collect as NotCollected};
 
-use ep_collect::CollectFault;
+use crate::collect_fault::CollectFault;
 use ep_log::LogFault;
 use std::alloc::{AllocError, AllocFailed};
 use thiserror::Error;

@@ -8,11 +8,11 @@ ghost use Rattle.ep_assemble.specs.Receipts.{AreUnheld};
 
 use crate::assemble_fault::AssembleFault;
 use crate::assembled::{Assembled, End};
+use crate::collecting::collect;
 use crate::logs::read_logs;
 use crate::receipts::read_receipts;
 use ep_base::Noted;
 use ep_bundle::write_bundle;
-use ep_collect::collect;
 use ep_journal::Journals;
 use ep_rules::Receipt;
 use std::alloc::{AllocError, Global};

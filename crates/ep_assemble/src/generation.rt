@@ -7,13 +7,13 @@ ghost use Rattle.ep_assemble.specs.Logs.{contents};
 
 use crate::assembled::Assembled;
 use crate::assembling::bundle_of;
-use crate::cluster::Cluster;
+use crate::collecting::collect;
 use crate::generation_fault::GenerationFault;
 use crate::kept::read_kept;
+use crate::opened_cluster::OpenedCluster;
 use crate::opened_log::OpenedLog;
 use crate::openings::opened;
 use ep_base::Generation;
-use ep_collect::collect;
 use std::alloc::Global;
 use std::mem::forget;
 
@@ -41,7 +41,7 @@ pub fn assemble_generation(
 /// The bundle of the logs of this cluster, and of the receipts that these files hold.
 fn assemble_kept(
     alloc: Global,
-    cluster: &Cluster,
+    cluster: &OpenedCluster,
     kept: &[OpenedLog],
     receipts: &[Vec<u8>],
 ) -> Result<Assembled, GenerationFault>

@@ -5,8 +5,8 @@ ghost use Rattle.ep_assemble.specs.declared.assemble_fault.AssembleFault.TheVari
 ghost use Rattle.ep_assemble.specs.declared.generation_fault.GenerationFault.TheVariants.{Assemble as NotAssembled};
 
 use crate::assemble_fault::AssembleFault;
+use crate::collect_fault::CollectFault;
 use crate::differing::Differing;
-use ep_collect::CollectFault;
 use ep_opening::OpeningFault;
 use std::alloc::{AllocError, AllocFailed};
 use thiserror::Error;

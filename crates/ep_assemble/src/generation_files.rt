@@ -1,11 +1,12 @@
 //! The files of a generation, collected.
 
 ghost use Rattle.std.specs.Prelude.{◌≡◌, ◌⊎◌, length, map, string_bytes, IfOk, IfErr, IsErr};
-ghost use Rattle.ep_assemble.specs.GenerationFiles.{IsCollectedOf, IsGenerationLine, IsLacking, IsOfLacking, IsTurnedDownOf};
+ghost use Rattle.ep_assemble.specs.GenerationFiles.{IsCollectedOf, IsLacking, IsNotCollectedOf, IsOfLacking};
+ghost use Rattle.ep_assemble.specs.GenerationLines.{generation_line};
 ghost use Rattle.ep_assemble.specs.Logs.{contents};
+ghost use Rattle.ep_cli.specs.Files.{IsReason};
 
 use crate::assemble_fault::AssembleFault;
-use crate::files::{Collection, FilesFault, unread};
 use crate::generation::assemble_generation;
 use crate::generation_fault::GenerationFault;
 use crate::generation_lines::{push_generation_refusal, push_missing};
@@ -13,6 +14,7 @@ use crate::generation_names::GenerationNames;
 use crate::lines::push_torn;
 use crate::opened_log::OpenedLog;
 use ep_base::Generation;
+use ep_cli::{FilesFault, Printout, unread};
 use std::alloc::Global;
 use std::fs;
 use std::io::ErrorKind;
@@ -82,19 +84,19 @@ pub fn collect_generation(
     names: &GenerationNames,
     kept: &[OpenedLog],
     receipts: &[Vec<u8>],
-) -> Result<Collection, FilesFault>
+) -> Result<Printout, FilesFault>
     requires kept { length kept.now ≡ length names.now.logs.items }
     requires receipts { length receipts.now ≡ length names.now.receipts.items }
-    ensures ok { IfOk result (λ c. IsCollectedOf generation (map string_bytes names.now.logs.items) (map string_bytes names.now.receipts.items) kept.now (contents receipts.now) c.bundle.items c.lines.items) }
-    ensures err { IfErr result (IsTurnedDownOf generation (map string_bytes names.now.openings.items) (map string_bytes names.now.logs.items) (map string_bytes names.now.receipts.items) kept.now (contents receipts.now)) }
+    ensures ok { IfOk result (λ c. IsCollectedOf generation (map string_bytes names.now.logs.items) (map string_bytes names.now.receipts.items) kept.now (contents receipts.now) c.text.items c.lines.items) }
+    ensures err { IfErr result (IsReason (IsNotCollectedOf generation (map string_bytes names.now.openings.items) (map string_bytes names.now.logs.items) (map string_bytes names.now.receipts.items) kept.now (contents receipts.now))) }
 {
     match assemble_generation(alloc, generation, kept, receipts) {
         Ok(assembled) => {
             let mut lines = Vec::new(alloc);
             push_torn(&names.logs, &assembled.ends, &mut lines)?;
             push_torn(&names.receipts, &assembled.receipt_ends, &mut lines)?;
-            Ok(Collection {
-                bundle: assembled.bundle,
+            Ok(Printout {
+                text: assembled.bundle,
                 lines,
             })
         }
@@ -108,8 +110,8 @@ fn refused(
     alloc: Global,
     names: &GenerationNames,
     fault: GenerationFault,
-) -> Result<Collection, FilesFault>
-    ensures line { IfErr result (IsGenerationLine (map string_bytes names.now.openings.items) (map string_bytes names.now.logs.items) (map string_bytes names.now.receipts.items) fault) }
+) -> Result<Printout, FilesFault>
+    ensures line { IfErr result (IsReason (λ line. line ≡ generation_line (map string_bytes names.now.openings.items) (map string_bytes names.now.logs.items) (map string_bytes names.now.receipts.items) fault)) }
     ensures never { IsErr result }
 {
     let mut line = Vec::new(alloc);

@@ -39,7 +39,7 @@ fn push_opening_text(fault: OpeningFault, out: &mut Vec<u8>) -> Result<(), Alloc
 }
 
 /// Appends the line of an opening file that is refused.
-pub fn push_opening_line(
+pub(crate) fn push_opening_line(
     name: &str,
     fault: OpeningFault,
     out: &mut Vec<u8>,

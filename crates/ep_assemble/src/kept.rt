@@ -8,18 +8,18 @@ ghost use Rattle.ep_opening.specs.Files.{File};
 ghost use Rattle.ep_assemble.specs.Generations.{AreFiles, AreKept, AreNotKept, IsNotKept, origin_in};
 
 use crate::assembled::End;
-use crate::cluster::Cluster;
 use crate::generation_fault::GenerationFault;
 use crate::logs::{Logs, read_one};
+use crate::opened_cluster::OpenedCluster;
 use crate::opened_log::OpenedLog;
-use ep_log::{Origin, ReadLog};
+use ep_log::{Beginning, ReadLog};
 use ep_opening::digest_in;
 use std::alloc::{AllocError, Global};
 
 /// Reads the logs of the cluster, each beside its opening file.
 pub(crate) fn read_kept(
     alloc: Global,
-    cluster: &Cluster,
+    cluster: &OpenedCluster,
     kept: &[OpenedLog],
 ) -> Result<Logs, GenerationFault>
     requires opened { (files : List File) × AreFiles kept.now files }
@@ -42,7 +42,7 @@ pub(crate) fn read_kept(
 /// Reads the log at this place.
 fn read_opened(
     alloc: Global,
-    cluster: &Cluster,
+    cluster: &OpenedCluster,
     place: usize,
     one: &OpenedLog,
 ) -> Result<ReadLog, GenerationFault>
@@ -59,14 +59,18 @@ fn read_opened(
 }
 
 /// Whether the log is one of a cluster of this size.
-fn is_of_size(cluster: &Cluster, log: &ReadLog) -> bool
+fn is_of_size(cluster: &OpenedCluster, log: &ReadLog) -> bool
     ensures { (result ≡ true) ↔ (log.now.journal.faults ≡ cluster.now.size) }
 {
     log.journal.size() == cluster.size
 }
 
 /// What the replica begins with whose opening file has these bytes. Each file has a digest, so `Err` is want of memory.
-fn origin_beside(alloc: Global, cluster: &Cluster, opening: &[u8]) -> Result<Origin, AllocError>
+fn origin_beside(
+    alloc: Global,
+    cluster: &OpenedCluster,
+    opening: &[u8],
+) -> Result<Beginning, AllocError>
     ensures { IfOk result (λ o. (file : File) → opening.now ≡ opening_bytes file → o ≡ origin_in cluster.now file) }
 {
     match digest_in(opening) {
@@ -76,9 +80,13 @@ fn origin_beside(alloc: Global, cluster: &Cluster, opening: &[u8]) -> Result<Ori
 }
 
 /// What the replica begins with whose opening file has this digest.
-fn origin_of(alloc: Global, cluster: &Cluster, digest: [u8; 32]) -> Result<Origin, AllocError>
+fn origin_of(
+    alloc: Global,
+    cluster: &OpenedCluster,
+    digest: [u8; 32],
+) -> Result<Beginning, AllocError>
     ensures { IfOk result (λ o. o ≡ record { version = V3 cluster.now.generation; opening = cluster.now.opening; digest = digest }) }
 {
     let opening = cluster.opening.copy(alloc)?;
-    Ok(Origin::of(cluster.generation, opening, digest))
+    Ok(Beginning::of(cluster.generation, opening, digest))
 }

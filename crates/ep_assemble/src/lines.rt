@@ -1,12 +1,12 @@
 //! The lines that are told of logs and receipts, by the names of their files.
 
 ghost use Rattle.std.specs.Prelude.{◌≡◌, ◌++◌, codes, decimal, map, string_bytes, OnOk};
-ghost use Rattle.ep_assemble.specs.Lines.{collect_line, end_line, log_line, log_text, name_at, receipts_line, refusal_line, torn_line, torn_lines, turned_text, unread_line};
+ghost use Rattle.ep_assemble.specs.Lines.{collect_line, end_line, log_line, log_text, name_at, receipts_line, refusal_line, torn_line, torn_lines, turned_text};
 
 use crate::assemble_fault::AssembleFault;
 use crate::assembled::End;
+use crate::collect_fault::CollectFault;
 use ep_base::ReplicaId;
-use ep_collect::CollectFault;
 use ep_log::LogFault;
 use itoa::Buffer;
 use std::alloc::AllocError;
@@ -46,7 +46,11 @@ fn push_log_text(fault: LogFault, out: &mut Vec<u8>) -> Result<(), AllocError>
 }
 
 /// Appends the line of a log that is refused.
-pub fn push_log_line(name: &str, fault: LogFault, out: &mut Vec<u8>) -> Result<(), AllocError>
+pub(crate) fn push_log_line(
+    name: &str,
+    fault: LogFault,
+    out: &mut Vec<u8>,
+) -> Result<(), AllocError>
     ensures { OnOk result (out.new.items ≡ out.old.items ++ log_line name.now fault) }
 {
     out.extend_from_slice(b"log refused ")?;
@@ -124,15 +128,6 @@ pub(crate) fn push_other(name: &str, out: &mut Vec<u8>) -> Result<(), AllocError
     out.extend_from_slice(b" is of another cluster\n")
 }
 
-/// Appends the line of a file that can't be read.
-pub(crate) fn push_unread(name: &str, out: &mut Vec<u8>) -> Result<(), AllocError>
-    ensures { OnOk result (out.new.items ≡ out.old.items ++ unread_line name.now) }
-{
-    out.extend_from_slice(b"reading ")?;
-    out.extend_from_slice(name.as_bytes())?;
-    out.extend_from_slice(b" failed\n")
-}
-
 /// Appends the line of a torn end.
 fn push_torn_line(name: &str, whole: usize, out: &mut Vec<u8>) -> Result<(), AllocError>
     ensures { OnOk result (out.new.items ≡ out.old.items ++ torn_line name.now whole) }
@@ -144,7 +139,7 @@ fn push_torn_line(name: &str, whole: usize, out: &mut Vec<u8>) -> Result<(), All
 }
 
 /// Appends the line of a log's end, where it is torn.
-pub fn push_end(name: &str, end: &End, out: &mut Vec<u8>) -> Result<(), AllocError>
+pub(crate) fn push_end(name: &str, end: &End, out: &mut Vec<u8>) -> Result<(), AllocError>
     ensures { OnOk result (out.new.items ≡ out.old.items ++ end_line name.now end.now) }
 {
     if end.is_torn {

@@ -5,9 +5,9 @@ ghost use Rattle.ep_opening.specs.Bytes.{opening_bytes};
 ghost use Rattle.ep_assemble.specs.Generations.{AreFiles, AreNoFiles, AreOfNone, AreUnopened, Differs, HaveOpened, IsClusterOf, IsFirstOther, IsLike, IsNotOpened, common, least_since, of_opening};
 
 use crate::assemble_fault::AssembleFault;
-use crate::cluster::Cluster;
 use crate::differing::Differing;
 use crate::generation_fault::GenerationFault;
+use crate::opened_cluster::OpenedCluster;
 use crate::opened_log::OpenedLog;
 use ep_base::Generation;
 use ep_journal::Opening;
@@ -20,7 +20,7 @@ pub(crate) fn opened(
     alloc: Global,
     generation: Generation,
     kept: &[OpenedLog],
-) -> Result<Cluster, GenerationFault>
+) -> Result<OpenedCluster, GenerationFault>
     ensures ok { IfOk result (HaveOpened generation kept.now) }
     ensures err { IfErr result (AreUnopened generation kept.now) }
 {
@@ -72,7 +72,7 @@ fn cluster_of(
     alloc: Global,
     generation: Generation,
     files: &[OpeningFile],
-) -> Result<Cluster, GenerationFault>
+) -> Result<OpenedCluster, GenerationFault>
     ensures ok { IfOk result (IsClusterOf generation files.now) }
     ensures err { IfErr result (AreOfNone generation files.now) }
 {
@@ -83,7 +83,7 @@ fn cluster_of(
         return Err(GenerationFault::Other(other.0, other.1));
     }
     let opening = common_of(alloc, first, files)?;
-    Ok(Cluster {
+    Ok(OpenedCluster {
         generation,
         size: first.size(),
         opening,

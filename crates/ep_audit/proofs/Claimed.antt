@@ -1,6 +1,6 @@
 -- The first fault of receipts is the rule book's.
 use Rattle.std.proofs.Common.{◌≡◌, ℕ, suc, ◌+◌, ◌<◌, inl, inr, Bool, true, false, ◌&&◌, cond, eqb, length, Option, Some, None, IfNone, IfSome, List, [], ◌∷◌, ◌++◌, slice_get, refl, sym, ap, subst, ◌∙◌, arith}
-use Rattle.std.proofs.lemmas.Bool.{eqb-true, eq-eqb, ltb-true, lt-ltb, false≢true}
+use Rattle.std.proofs.lemmas.Bool.{eqb-true, eq-eqb, ltb-true, lt-ltb, false≢true, and_parts}
 use Rattle.ep_base.specs.Instances.{leader_of}
 use Rattle.ep_base.specs.Messages.{instance_of_message}
 use Rattle.ep_base.specs.Sameness.{same_answer}
@@ -28,11 +28,6 @@ use Rattle.ep_audit.specs.Lookups.{entry_at, proposed, is_this, proposal_in, is_
 use Rattle.ep_audit.proofs.Handled.{passes, outer, inner, fails, or_none, or_some}
 use Rattle.ep_audit.proofs.Shown.{shown_at, shown_from, in_shown, shown_in, runs_of, numbered_of, entry_from, entry_parts}
 use Rattle.ep_journal.specs.Openings.{opens}
-
-both : (p q : Bool) → p && q ≡ true → (p ≡ true) × (q ≡ true)
-both true true is = (refl, refl)
-both true false is = absurd (false≢true is)
-both false q is = absurd (false≢true is)
 
 and_both : (p q : Bool) → p ≡ true → q ≡ true → p && q ≡ true
 and_both p q a b = rw a b
@@ -73,7 +68,7 @@ none_found (x ∷ es) i none e there names = go (is_this i (proposed x.event x.f
 tells : (x : rules.Entry) (event : Event) (frames : List (List ℕ)) (i client request : ℕ) → x.event ≡ event_of event → x.out ≡ frames_at frames → proposed event frames ≡ Some i → is_request client request event ≡ true → TellsOf x i client request
 tells x (Propose k n command seen) [] i client request is out names asks = let s : None ≡ Some i = names in absurd (cc)
 tells x (Propose k n command seen) (b ∷ bs) i client request is out names asks =
-    let t = both (eqb k client) (eqb n request) asks in
+    let t = and_parts (eqb k client) (eqb n request) asks in
     let s : Some (instance_of_message (message_at b)) ≡ Some i = names in
     record {
       command = command;
@@ -157,7 +152,7 @@ answered [] i answer is = absurd (false≢true is)
 answered (d ∷ ds) i answer is = go (eqb d.0 i && same_answer d.1 answer) refl is (answered ds i answer)
   where
     go : (b : Bool) → eqb d.0 i && same_answer d.1 answer ≡ b → cond b true (has_answer ds i answer) ≡ true → (has_answer ds i answer ≡ true → In (i, answer) ds) → In (i, answer) (d ∷ ds)
-    go true q s rec = let t = both (eqb d.0 i) (same_answer d.1 answer) q in inl (ap (λ z. (z, d.1)) (eqb-true d.0 i t.0) ∙ ap (λ z. (i, z)) ((Decides-same_answer d.1 answer).0 t.1))
+    go true q s rec = let t = and_parts (eqb d.0 i) (same_answer d.1 answer) q in inl (ap (λ z. (z, d.1)) (eqb-true d.0 i t.0) ∙ ap (λ z. (i, z)) ((Decides-same_answer d.1 answer).0 t.1))
     go false q s rec = inr (rec s)
 
 has_answered : (ds : List (ℕ × Answer)) (i : ℕ) (answer : Answer) → In (i, answer) ds → has_answer ds i answer ≡ true
@@ -173,7 +168,7 @@ has_answered (d ∷ ds) i answer (inr there) = go (eqb d.0 i && same_answer d.1 
 
 done_by : (o : Option Entry) (stamp i : ℕ) (answer : Answer) → has_done o stamp i answer ≡ true → (e : Entry) × (o ≡ Some e) × (e.stamp ≡ stamp) × In (i, answer) e.done
 done_by None stamp i answer is = absurd (false≢true is)
-done_by (Some e) stamp i answer is = let t = both (eqb e.stamp stamp) (has_answer e.done i answer) is in (e, refl, eqb-true e.stamp stamp t.0, answered e.done i answer t.1)
+done_by (Some e) stamp i answer is = let t = and_parts (eqb e.stamp stamp) (has_answer e.done i answer) is in (e, refl, eqb-true e.stamp stamp t.0, answered e.done i answer t.1)
 
 executed : (c : Collected) (h : AreJournals c) (r n stamp i : ℕ) (answer : Answer) → has_done (entry_at (entries_at c r) n) stamp i answer ≡ true → HasDone (journals_of c r) n stamp i answer
 executed c h r n stamp i answer is =
@@ -206,7 +201,7 @@ module _ (c : Collected) (h : AreJournals c) (some : 0 < c.faults) where
 
   knows : (t : Receipt) → is_known c t ≡ true → Knows t
   knows t is =
-      let b = both (is_proposed (proposal_of c t.instance) t.client t.request) (has_done (entry_at (entries_at c t.replica) t.entry) t.stamp t.instance t.answer) is in
+      let b = and_parts (is_proposed (proposal_of c t.instance) t.client t.request) (has_done (entry_at (entries_at c t.replica) t.entry) t.stamp t.instance t.answer) is in
       let e = is_some_entry (proposal_of c t.instance) t.client t.request b.0 in
       let p = proposer c h some t.instance t.client t.request e.0 e.1 e.2 in
       record { entry = e.0; found = e.1; known = record { proposed = p.proposes; executed = executed c h t.replica t.entry t.stamp t.instance t.answer b.1 }; is = p.is }

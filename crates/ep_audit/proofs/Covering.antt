@@ -1,6 +1,7 @@
 -- A table that is made instance by instance has all that is agreed on.
 use Rattle.std.proofs.Common.{◌≡◌, ℕ, zero, suc, ◌+◌, ◌<◌, ◌≤◌, inl, inr, Option, Some, None, List, [], ◌∷◌, ◌++◌, refl, sym, ap, subst, ◌∙◌, arith}
 use Rattle.std.proofs.lemmas.Bool.{cases_eq, cases_lt}
+use Rattle.std.proofs.lemmas.Option.{same_Some}
 use Rattle.ep_base.specs.Deps.{IsRising}
 use Rattle.ep_base.specs.Instances.{instance_of, number_of}
 use Rattle.ep_base.specs.Quorums.{size}
@@ -49,9 +50,6 @@ rising_append (e ∷ d ∷ t) i x rs h = (rs.0, rising_append (d ∷ t) i x rs.1
 same_row : (i j : ℕ) (x y : Decree) → ◌≡◌ {A = ℕ × Decree} (i, x) (j, y) → (i ≡ j) × (x ≡ y)
 same_row i j x y e = (ap (λ p. p.0) e, ap (λ p. p.1) e)
 
-some_same : (x y : Decree) → Some x ≡ Some y → x ≡ y
-some_same x y e = cc
-
 none_some : {A : Type 0} (x : Decree) → None ≡ Some x → A
 none_some x e = absurd (cc)
 
@@ -78,7 +76,7 @@ module _ (agreed : ℕ → Option Decree) (bound : ℕ) (table : List (ℕ × De
         ])
       ]),
       (λ k. elim (cases_eq i bound) [
-        | inl is ↦ (let same : y ≡ x = some_same y x (sym e ∙ ap agreed (sym is) ∙ k.1) in in_right (i, x) table ((bound, y) ∷ []) (inl (λ t. (sym is t, same t))))
+        | inl is ↦ (let same : y ≡ x = same_Some y x (sym e ∙ ap agreed (sym is) ∙ k.1) in in_right (i, x) table ((bound, y) ∷ []) (inl (λ t. (sym is t, same t))))
         | inr ne ↦ in_left (i, x) table ((bound, y) ∷ []) ((h.below i x).1 (let l = k.0 in omega arith, k.1))
       ]),
     );

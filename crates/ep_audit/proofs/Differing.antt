@@ -14,24 +14,12 @@ use Rattle.std.proofs.lemmas.Map.Lookups.{exact_bytes}
 use Rattle.ep_base.specs.Attributes.{same_list}
 use Rattle.ep_base.proofs.Same.{Decides-same_list}
 use Rattle.ep_exec.specs.Table.{key_cmp}
+use Rattle.ep_exec.proofs.Rising.{less_of, and_first, and_second}
 use Rattle.ep_rules.specs.OneMap.{Contents}
 use Rattle.ep_audit.specs.Differences.{IsLeastDifference, difference, is_same_at, lesser_key, lesser_of}
 
 abbrev Pair : Type 0
 Pair = List ℕ × List ℕ
-
-and_first : (a b : Bool) → (a && b) ≡ true → a ≡ true
-and_first true b h = refl
-and_first false b h = h
-
-and_second : (a b : Bool) → (a && b) ≡ true → b ≡ true
-and_second true b h = h
-and_second false b h = absurd (true≢false (sym h))
-
-less_of : (o : Ordering) → is_lt o ≡ true → o ≡ Less
-less_of Less h = refl
-less_of Equal h = absurd (true≢false (sym h))
-less_of Greater h = absurd (true≢false (sym h))
 
 -- What a rising list has.
 

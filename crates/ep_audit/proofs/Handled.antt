@@ -21,9 +21,10 @@ use Rattle.ep_rules.specs.Worlds.{In}
 use Rattle.ep_rules.specs.declared.receipt.Receipt.{Receipt}
 use Rattle.ep_audit.specs.Handlings.{frame_fault, event_fault, entry_fault, or_else, first_in, first_below}
 use Rattle.ep_audit.specs.Lookups.{sent_there}
-use Rattle.ep_audit.proofs.Shown.{shown_append, in_shown, readable_in, readable_of, handled_in, versioned_in}
+use Rattle.ep_audit.proofs.Shown.{in_shown, readable_in, readable_of, handled_in, versioned_in}
 use Rattle.ep_audit.proofs.Sending.{origin_there, no_origin, was_sent, sent_is}
 use Rattle.ep_journal.specs.Openings.{opens}
+use Rattle.ep_journal.proofs.Growing.{entries_append}
 
 -- Two tests, one in the other.
 
@@ -191,7 +192,7 @@ handled_wrong f c receipts n x h some =
     (λ m is. record {
       before = entries_of u.before;
       rest = entries_of u.rest;
-      split = sym (shown_append u.before (u.entry ∷ u.rest)) ∙ ap entries_of u.split;
+      split = sym (entries_append u.before (u.entry ∷ u.rest)) ∙ ap entries_of u.split;
       handles = is;
       fine = record { lower = λ q e lt k. journal_fine c q h (t.lower q lt) e k; earlier = before_fine c t.replica u.before h u.fine };
     })

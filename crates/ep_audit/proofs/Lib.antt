@@ -1,5 +1,4 @@
 pub mod Shown
-pub mod Spelled
 pub mod Sending
 pub mod Handled
 pub mod Claimed

@@ -5,6 +5,7 @@ use Rattle.std.specs.Borrow.{Bor}
 use Rattle.std.specs.List.{filter}
 use Rattle.std.specs.Option.{option_copied}
 use Rattle.std.proofs.lemmas.List.Elements.{filter-append}
+use Rattle.std.proofs.lemmas.List.{map-append}
 use Rattle.ep_base.specs.Places.{place, Has}
 use Rattle.ep_base.specs.Sameness.{is_noop}
 use Rattle.ep_base.specs.Commands.{Command}
@@ -222,10 +223,6 @@ replies_both : (xs ys : List Happening) → replies_in (xs ++ ys) ≡ replies_in
 replies_both [] ys = refl
 replies_both (x ∷ xs) ys = ap (λ z. x.reply ∷ z) (replies_both xs ys)
 
-map_both : {Y : Type 0} (f : ℕ → Y) (xs ys : List ℕ) → map f (xs ++ ys) ≡ map f xs ++ map f ys
-map_both f [] ys = refl
-map_both f (x ∷ xs) ys = ap (λ z. f x ∷ z) (map_both f xs ys)
-
 module _ (g : ℕ → Option Decree) where
   abbrev said : ℕ → Command
   said i = command_of (g i)
@@ -272,7 +269,7 @@ module _ (g : ℕ → Option Decree) where
 
   commands_append : (xs ys : List Happening) → SaysCommands xs → SaysCommands ys → SaysCommands (xs ++ ys)
   commands_append xs ys h k =
-      commands_both xs ys ∙ ap (λ z. z ++ commands_in ys) h ∙ ap (λ z. map said (instances_in xs) ++ z) k ∙ sym (map_both said (instances_in xs) (instances_in ys)) ∙ ap (map said) (sym (instances_both xs ys))
+      commands_both xs ys ∙ ap (λ z. z ++ commands_in ys) h ∙ ap (λ z. map said (instances_in xs) ++ z) k ∙ sym (map-append said (instances_in xs) (instances_in ys)) ∙ ap (map said) (sym (instances_both xs ys))
 
   line_of_commands : (seen : List ℕ) (i : ℕ) (x : Answer) → SaysCommands (line_of g seen i x)
   line_of_commands seen i x = go (is_new seen i)
@@ -310,7 +307,7 @@ module _ (g : ℕ → Option Decree) where
 
     replies_append : (xs ys : List Happening) → SaysReplies xs → SaysReplies ys → SaysReplies (xs ++ ys)
     replies_append xs ys a b =
-        replies_both xs ys ∙ ap (λ z. z ++ replies_in ys) a ∙ ap (λ z. map here (instances_in xs) ++ z) b ∙ sym (map_both here (instances_in xs) (instances_in ys)) ∙ ap (map here) (sym (instances_both xs ys))
+        replies_both xs ys ∙ ap (λ z. z ++ replies_in ys) a ∙ ap (λ z. map here (instances_in xs) ++ z) b ∙ sym (map-append here (instances_in xs) (instances_in ys)) ∙ ap (map here) (sym (instances_both xs ys))
 
     line_of_replies : (seen : List ℕ) (i : ℕ) (x : Answer) → IsReply base said h i x → SaysReplies (line_of g seen i x)
     line_of_replies seen i x k = go (is_new seen i)

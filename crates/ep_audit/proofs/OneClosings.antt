@@ -1,29 +1,28 @@
 -- Journals that are accepted have one closing.
-use Rattle.std.proofs.Common.{◌≡◌, ℕ, zero, suc, Bool, true, false, cond, ◌||◌, inl, inr, Option, Some, None, List, [], ◌∷◌, ◌++◌, map, refl, sym, ap, ap₂, subst, ◌∙◌, arith}
+use Rattle.std.proofs.Common.{◌≡◌, ℕ, Bool, true, false, cond, ◌||◌, inl, inr, Option, Some, None, List, [], ◌∷◌, ◌++◌, map, refl, sym, ap, ap₂, subst, ◌∙◌, arith}
 use Rattle.std.proofs.lemmas.Bool.{false≢true, cases_Bool}
 use Rattle.std.specs.Option.{option_map}
 use Rattle.ep_base.specs.Commands.{Command, Seal}
 use Rattle.ep_base.specs.Interference.{is_seal}
 use Rattle.ep_base.specs.Places.{Has}
-use Rattle.ep_base.specs.Quorums.{size}
 use Rattle.ep_rules.specs.Chains.{Closing as Closes, store_left, history_from}
 use Rattle.ep_rules.specs.Closing.{has_seal, up_to_seal, first_seal, written_by}
 use Rattle.ep_rules.specs.Journals.{Entry, left, Journals, Scheduled, acts_of}
 use Rattle.ep_rules.specs.Merging.{Merges}
 use Rattle.ep_rules.specs.OneMap.{Contents, Store, opened, is_closed, sealed_by, written, after_all, after_commands}
 use Rattle.ep_rules.specs.Operations.{Operation, instances_of, commands_of}
-use Rattle.ep_rules.specs.States.{State, fresh_state, committed_in, command_of}
+use Rattle.ep_rules.specs.States.{State, fresh_state}
 use Rattle.ep_rules.specs.Steps.{order_of, leaves}
 use Rattle.ep_rules.specs.History.{nothing, done_after}
-use Rattle.ep_rules.specs.Verdicts.{agreed_below, command_at, or_else}
+use Rattle.ep_rules.specs.Verdicts.{command_at}
 use Rattle.ep_rules.specs.Worlds.{World, In, Act, IsRun, ends, opening}
-use Rattle.ep_rules.proofs.ChainsExplained.{same_history, closes_left}
+use Rattle.ep_rules.proofs.ChainsExplained.{same_history, closes_left, told_same}
 use Rattle.ep_rules.proofs.Closings.{is_history, seal_closes_lem, store_is}
 use Rattle.ep_rules.proofs.Commuting.{map_of, seal_value}
 use Rattle.ep_rules.proofs.JournalsCommitted.{is_run, state_is}
 use Rattle.ep_rules.proofs.JournalsExecutions.{executions, done_is}
 use Rattle.ep_rules.proofs.Places.{has_cons, has_left, has_right}
-use Rattle.ep_rules.proofs.RunCommits.{committed_below, told_in}
+use Rattle.ep_rules.proofs.RunCommits.{told_in}
 use Rattle.ep_rules.proofs.RunHistories.{AreOf, command_is}
 use Rattle.ep_rules.proofs.Sealing.{closed_stays, not_seal, sealed_here, stays_open}
 use Rattle.ep_audit.specs.declared.closing.Closing.{Closing}
@@ -125,17 +124,8 @@ module _ (m : Contents) (f : ℕ) (journal : Journals) (schedule : List Schedule
   run : IsRun f (opening (opened m)) acts
   run = is_run (opened m) f journal schedule given
 
-  decrees_below : (n i : ℕ) → committed_below n w i ≡ agreed_below (opened m) n f journal i
-  decrees_below zero i = refl
-  decrees_below (suc n) i =
-      ap (λ o. or_else o (committed_in (w.states n).records i)) (decrees_below n i)
-      ∙ ap (λ (s : State). or_else (agreed_below (opened m) n f journal i) (committed_in s.records i)) (state_is (opened m) f journal schedule given n)
-
-  told_same : (i : ℕ) → told_in (opened m) f acts i ≡ command_at (opened m) f journal i
-  told_same i = ap command_of (decrees_below (size f) i)
-
   told_all : told_in (opened m) f acts ≡ command_at (opened m) f journal
-  told_all = λ t i. told_same i t
+  told_all = λ t i. told_same m f journal schedule given i t
 
   pub are_of : AreOf (command_at (opened m) f journal) (history_from m f schedule)
   are_of = subst (λ (c : ℕ → Command). AreOf c (history_from m f schedule)) told_all (is_history (opened m) f given.some given.few acts run).commands
@@ -147,7 +137,7 @@ module _ (m : Contents) (f : ℕ) (journal : Journals) (schedule : List Schedule
       let state : (w.states r) ≡ left f r (fresh_state (opened m)) (journal r) = state_is (opened m) f journal schedule given r in
       let here : own ≡ (left f r (fresh_state (opened m)) (journal r)).executed = done_is f acts (opening (opened m)) nothing run (λ q. refl) r ∙ ap (λ (s : State). s.executed) state in
       let has : Has own i = subst (λ xs. Has xs i) (sym here) (executed_by f r (fresh_state (opened m)) (journal r) e i k h) in
-      let shut : is_closed (after_all (told_in (opened m) f acts) (opened m) own) ≡ true = closed_by (told_in (opened m) f acts) m own i has (ap is_seal (told_same i) ∙ seals) in
+      let shut : is_closed (after_all (told_in (opened m) f acts) (opened m) own) ≡ true = closed_by (told_in (opened m) f acts) m own i has (ap is_seal (told_same m f journal schedule given i) ∙ seals) in
       subst (λ s. is_closed s ≡ true) (sym (store_is (opened m) f given.some given.few acts run r) ∙ ap (λ (s : State). s.store) state) shut
 
   module _ (v : Verdict) (same : operations_in v.history.items ≡ history_from m f schedule) (closing : IsClosing journal (operations_in v.history.items) v.closing) where

@@ -1,18 +1,17 @@
 -- Rows of places, and what is found by them.
-use Rattle.std.proofs.Common.{◌≡◌, ◌≢◌, ℕ, zero, suc, ◌+◌, ◌<◌, ◌≤◌, ◌⊎◌, inl, inr, Bool, true, false, cond, eqb, Option, Some, None, List, [], ◌∷◌, ◌++◌, length, get_or, set, drop, slice_get, replicate, refl, sym, ap, subst, ◌∙◌, arith}
+use Rattle.std.proofs.Common.{◌≡◌, ◌≢◌, ℕ, zero, suc, ◌+◌, ◌<◌, ◌≤◌, ◌⊎◌, inl, inr, Bool, true, false, cond, eqb, Option, Some, None, List, [], ◌∷◌, length, get_or, set, drop, slice_get, refl, sym, ap, subst, ◌∙◌, arith}
 use Rattle.std.proofs.Common.{get_or-set_same, get_or-set_other}
 use Rattle.std.proofs.lemmas.Bool.{eqb-true, eq-eqb, false≢true, cases_lt}
-use Rattle.std.proofs.lemmas.List.{get_or-replicate, get_or_append_left, length-append, length-replicate}
 use Rattle.std.proofs.lemmas.Option.{slice_get-get_or}
+use Rattle.std.proofs.lemmas.List.{length-set}
 use Rattle.ep_base.specs.Quorums.{size}
-use Rattle.std.proofs.Math.Seq.{get_or-append_seam}
 use Rattle.ep_base.specs.Instances.{instance_of, leader_of, number_of, highest_number}
 use Rattle.ep_frame.proofs.Packing.{leader_again, number_again, instance_again}
 use Rattle.ep_journal.specs.Entries.{Collected, entries_at, AreJournals}
 use Rattle.ep_journal.specs.declared.entry.Entry.{Entry}
 use Rattle.ep_audit.specs.Claims.{proposal_of}
 use Rattle.ep_audit.specs.Lookups.{proposed, is_this, proposal_in}
-use Rattle.ep_audit.specs.Proposing.{place_in, IsRowFrom, IsRow, AreRows, marked}
+use Rattle.ep_audit.specs.Proposing.{place_in, IsRowFrom, AreRows, marked}
 
 -- the entry at the place
 pub at_place : (es : List Entry) (i : ℕ) → slice_get es (place_in es i) ≡ proposal_in es i
@@ -48,11 +47,6 @@ here : (k i : ℕ) (es : List Entry) (e : Entry) → slice_get es k ≡ Some e �
 here k i es e at is =
     ap (λ xs. place_in xs i) (drop_at es k e at) ∙ ap (λ o. cond (is_this i o) 0 (suc (place_in (drop (suc k) es) i))) is ∙ ap (λ b. cond b 0 (suc (place_in (drop (suc k) es) i))) (eq-eqb i i refl)
 
-length_set : (xs : List ℕ) (i v : ℕ) → length (set xs i v) ≡ length xs
-length_set [] i v = refl
-length_set (x ∷ xs) zero v = refl
-length_set (x ∷ xs) (suc i) v = ap suc (length_set xs i v)
-
 -- one entry more, at the end
 pub row_more : (r k : ℕ) (es : List Entry) (e : Entry) (row : List ℕ) → slice_get es k ≡ Some e → IsRowFrom r (suc k) es row → IsRowFrom r k es (marked r (proposed e.event e.frames) k row)
 row_more r k es e row at h = go (proposed e.event e.frames) refl
@@ -77,7 +71,7 @@ row_more r k es e row at h = go (proposed e.event e.frames) refl
 
     own : (j : ℕ) → proposed e.event e.frames ≡ Some j → (b : Bool) → eqb (leader_of j) r ≡ b → IsRowFrom r k es (cond b (set row (number_of j) k) row)
     own j is true q = record {
-      long = subst (λ m. highest_number < m) (sym (length_set row (number_of j) k)) h.long;
+      long = subst (λ m. highest_number < m) (sym (length-set row (number_of j) k)) h.long;
       places = λ n le. there j is (eqb-true (leader_of j) r q) n le (decided (number_of j) n);
     }
     own j is false q = same_row (λ n le p. let s : Some j ≡ Some (instance_of r n) = sym is ∙ p in let t : j ≡ instance_of r n = cc in false≢true (sym q ∙ eq-eqb (leader_of j) r (ap leader_of t ∙ leader_again r n (omega arith))))
@@ -86,38 +80,7 @@ row_more r k es e row at h = go (proposed e.event e.frames) refl
     go None is = same_row (λ n le q. let s : None ≡ Some (instance_of r n) = sym is ∙ q in cc)
     go (Some j) is = own j is (eqb (leader_of j) r) refl
 
-drop_all : {X : Type 0} (xs : List X) → drop (length xs) xs ≡ []
-drop_all [] = refl
-drop_all (x ∷ xs) = drop_all xs
-
-pub row_opens : (r slots : ℕ) (es : List Entry) → highest_number < slots → IsRowFrom r (length es) es (replicate slots (length es))
-row_opens r slots es long = record {
-  long = subst (λ m. highest_number < m) (sym (length_replicate slots (length es))) long;
-  places = λ n le. get_or-replicate slots n (length es) 0 (omega arith) ∙ (let e : place_in (drop (length es) es) (instance_of r n) ≡ 0 = ap (λ xs. place_in xs (instance_of r n)) (drop_all es) in omega arith);
-}
-  where
-    length_replicate : (n v : ℕ) → length (replicate n v) ≡ n
-    length_replicate n v = length-replicate n v
-
-pub row_whole : (r : ℕ) (es : List Entry) (row : List ℕ) → IsRowFrom r 0 es row → IsRow r es row
-row_whole r es row h = record { long = h.long; places = λ n le. (let q : get_or row n 0 ≡ 0 + place_in es (instance_of r n) = h.places n le in omega arith) }
-
 -- Rows of all replicas.
-
-pub rows_none : (c : Collected) → AreRows c 0 []
-rows_none c = record { many = refl; row = λ q lt. absurd (omega arith) }
-
-pub rows_more : (c : Collected) (n : ℕ) (rows : List (List ℕ)) (row : List ℕ) → AreRows c n rows → IsRow n (entries_at c n) row → AreRows c (n + 1) (rows ++ (row ∷ []))
-rows_more c n rows row h is = record {
-  many = length-append rows (row ∷ []) ∙ (let m : length rows ≡ n = h.many in omega arith);
-  row = λ q lt. elim (cases_lt q n) [
-    | inl less ↦ (let within : q < length rows = subst (λ m. q < m) (sym h.many) less in subst (λ xs. IsRow q (entries_at c q) xs) (sym (get_or_append_left rows (row ∷ []) [] q within)) (h.row q less))
-    | inr more ↦ (
-        let same : n ≡ q = omega arith in
-        let at : get_or (rows ++ (row ∷ [])) n [] ≡ row = subst (λ m. get_or (rows ++ (row ∷ [])) m [] ≡ row) h.many (get_or-append_seam rows row [] []) in
-        subst (λ m. IsRow m (entries_at c m) (get_or (rows ++ (row ∷ [])) m [])) same (subst (λ xs. IsRow n (entries_at c n) xs) (sym at) is))
-  ];
-}
 
 -- What the rows find.
 

@@ -2,17 +2,18 @@
 use Rattle.std.proofs.Common.{◌≡◌, ℕ, ◌+◌, Some, None, List, slice_get, sym, subst, ◌∙◌}
 use Rattle.ep_frame.specs.Meaning.{version_at, sender_at, origin_at}
 use Rattle.ep_frame.specs.Spelling.{IsFrame}
-use Rattle.ep_journal.specs.Entries.{Collected, entries_at, journals_of, frames_at, AreJournals}
+use Rattle.ep_journal.specs.Entries.{Collected, entries_at, journals_of, frames_at, AreJournals, frame_in}
 use Rattle.ep_journal.specs.Events.{frame_at}
 use Rattle.ep_journal.specs.declared.entry.Entry.{Entry}
+use Rattle.ep_journal.proofs.Growing.{frame_there}
+use Rattle.ep_journal.proofs.OneFrame.{one_frame}
 use Rattle.ep_rules.specs.Audits.{HasOrigin}
 use Rattle.ep_rules.specs.Steps.{Frame}
 use Rattle.ep_rules.specs.Journals.{WasSent}
 use Rattle.ep_rules.specs.Journals as rules
 use Rattle.ep_rules.proofs.ByPlace.{sent_by_place_lem, origin_by_place_lem}
-use Rattle.ep_audit.specs.Lookups.{entry_at, frame_in, sent_there}
-use Rattle.ep_audit.proofs.Shown.{shown_at, shown_from, frame_shown_at, frame_shown_from, readable_at, readable_of, frame_of, versioned_at, frame_in_version, numbered_of, entry_from, entry_parts, frame_parts}
-use Rattle.ep_audit.proofs.Spelled.{one_frame}
+use Rattle.ep_audit.specs.Lookups.{entry_at, sent_there}
+use Rattle.ep_audit.proofs.Shown.{shown_at, shown_from, frame_shown_at, frame_shown_from, readable_at, readable_of, versioned_at, frame_in_version, numbered_of, entry_from, entry_parts, frame_parts}
 
 -- what the look-up finds
 record Stands (c : Collected) (b sent : List ℕ) : Type 0 where
@@ -68,4 +69,4 @@ sent_is c b sent h frame version is w =
     let same : u.0 ≡ sent = (let q : Some u.0 ≡ Some sent = sym there ∙ is in cc) in
     let readable = (readable_at (entries_at c (sender_at b)) u.1.place u.1.entry (readable_of c h (sender_at b)) u.1.at).1 in
     let versioned = (versioned_at c h (sender_at b) u.1.place u.1.entry u.1.at).frames in
-    sym same ∙ sym (one_frame c.version b u.0 frame version (frame_of u.1.entry.frames (origin_at b).out u.0 readable u.1.frame) (frame_in_version c.version u.1.entry.frames (origin_at b).out u.0 versioned u.1.frame) u.2)
+    sym same ∙ sym (one_frame c.version b u.0 version (frame_in_version c.version u.1.entry.frames (origin_at b).out u.0 versioned u.1.frame) frame (frame_there u.1.entry.frames (origin_at b).out u.0 readable u.1.frame) u.2)

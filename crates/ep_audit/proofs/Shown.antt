@@ -1,11 +1,10 @@
 -- Entries and frames of the code, and those that the rule book sees, at the same places.
-use Rattle.std.proofs.Common.{◌≡◌, ℕ, zero, suc, ◌+◌, inl, inr, Option, Some, None, List, [], ◌∷◌, ◌++◌, slice_get, refl, sym, ap, subst, arith}
+use Rattle.std.proofs.Common.{◌≡◌, ℕ, zero, suc, ◌+◌, inl, inr, Option, Some, None, List, [], ◌∷◌, slice_get, refl, sym, ap, subst, arith}
 use Rattle.std.proofs.lemmas.Bool.{cases_lt}
 use Rattle.ep_base.specs.Quorums.{size}
 use Rattle.ep_base.specs.declared.version.Version.{Version}
 use Rattle.ep_frame.specs.Meaning.{version_at}
-use Rattle.ep_frame.specs.Spelling.{IsFrame}
-use Rattle.ep_journal.specs.Entries.{Collected, entry_of, entries_of, entries_at, journals_of, frames_at, AreFrames, AreReadable, AreFramesIn, IsEntryIn, AreEntriesIn, AreJournals}
+use Rattle.ep_journal.specs.Entries.{Collected, entry_of, entries_of, entries_at, journals_of, frames_at, AreFrames, AreReadable, AreFramesIn, IsEntryIn, AreEntriesIn, AreJournals, frame_in}
 use Rattle.ep_journal.specs.Events.{event_of, frame_at, IsReadable, lacking}
 use Rattle.ep_journal.specs.declared.entry.Entry.{Entry}
 use Rattle.ep_journal.specs.declared.event.Event.TheVariants.{Handle}
@@ -15,7 +14,7 @@ use Rattle.ep_rules.specs.Journals.{AreLocalRuns, AreNumbered}
 use Rattle.ep_rules.specs.States.{State, fresh_state}
 use Rattle.ep_rules.specs.Steps.{Frame, leaves}
 use Rattle.ep_rules.specs.Worlds.{In}
-use Rattle.ep_audit.specs.Lookups.{entry_at, frame_in}
+use Rattle.ep_audit.specs.Lookups.{entry_at}
 use Rattle.ep_journal.specs.Openings.{opens}
 
 -- Entries.
@@ -35,10 +34,6 @@ pub shown_from : (es : List Entry) (k : ℕ) (x : rules.Entry) → slice_get (en
 shown_from [] k x is = absurd (cc)
 shown_from (e ∷ es) zero x is = let s : Some (entry_of e) ≡ Some x = is in record { entry = e; at = refl; is = (let q : x ≡ entry_of e = cc in q) }
 shown_from (e ∷ es) (suc k) x is = let t = shown_from es k x is in record { entry = t.entry; at = t.at; is = t.is }
-
-pub shown_append : (xs ys : List Entry) → entries_of (xs ++ ys) ≡ entries_of xs ++ entries_of ys
-shown_append [] ys = refl
-shown_append (x ∷ xs) ys = ap (λ es. entry_of x ∷ es) (shown_append xs ys)
 
 pub shown_in : (es : List Entry) (e : Entry) → In e es → In (entry_of e) (entries_of es)
 shown_in [] e h = absurd h
@@ -78,11 +73,6 @@ pub readable_in : (es : List Entry) (e : Entry) → AreReadable es → In e es �
 readable_in [] e h there = absurd there
 readable_in (x ∷ es) e h (inl is) = subst (λ y. IsReadable y.event × AreFrames y.frames) is (h.0, h.1)
 readable_in (x ∷ es) e h (inr there) = readable_in es e h.2 there
-
-pub frame_of : (bs : List (List ℕ)) (k : ℕ) (b : List ℕ) → AreFrames bs → slice_get bs k ≡ Some b → IsFrame b
-frame_of [] k b h is = absurd (cc)
-frame_of (x ∷ bs) zero b h is = let s : Some x ≡ Some b = is in let q : x ≡ b = cc in subst (λ y. IsFrame y) q h.0
-frame_of (x ∷ bs) (suc k) b h is = frame_of bs k b h.1 is
 
 -- What is of the version.
 

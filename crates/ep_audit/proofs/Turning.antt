@@ -1,44 +1,44 @@
 -- The next entry of journals is the first one of their schedule.
 use Rattle.std.proofs.Common.{◌≡◌, ◌≢◌, ℕ, zero, suc, ◌+◌, ◌<◌, ◌≤◌, Bool, true, false, cond, ltb, ◌⊎◌, inl, inr, Option, Some, None, List, [], ◌∷◌, ◌++◌, length, length-append, length-set, drop, set, get_or, replicate, append-nil, append_assoc, get_or-set_same, get_or-set_other, refl, sym, ap, subst, ◌∙◌, arith}
-use Rattle.std.proofs.lemmas.Bool.{eq-eqb, ne_eqb, ltb-true, ltb-false, cases_eq, cases_lt}
+use Rattle.std.proofs.lemmas.Bool.{ltb-true, ltb-false, cases_eq, cases_lt}
 use Rattle.ep_rules.specs.Worlds.{In}
 use Rattle.std.proofs.lemmas.List.{get_or-replicate, length-replicate}
 use Rattle.std.proofs.Math.ListN.{get_or-eq_default}
 use Rattle.std.proofs.Math.Seq.{drop-nil}
+use Rattle.std.proofs.lemmas.Option.{same_Some}
 use Rattle.ep_base.specs.Quorums.{size}
 use Rattle.ep_rules.specs.Journals.{Entry, Journals, Scheduled, of, Precedes, IsSchedule, AreNumbered, AreLocalRuns}
 use Rattle.ep_rules.proofs.Merged.{of_in}
+use Rattle.ep_rules.proofs.Sorted.{of_first, of_skip}
+use Rattle.ep_rules.proofs.OneSchedule.{heads, tails}
 use Rattle.ep_journal.specs.Entries.{entries_of}
 use Rattle.ep_journal.specs.declared.entry.Entry.{Entry as Written}
 use Rattle.ep_audit.specs.Turns.{first_turn, earlier, least_turn, least_of, rests, AreFirst}
 use Rattle.ep_audit.specs.Verdicts.{places_of}
-use Rattle.ep_audit.specs.declared.turn.Turn.{Turn}
+use Rattle.ep_audit.specs.declared.entry_place.EntryPlace.{EntryPlace}
 use Rattle.ep_rules.specs.OneMap.{Store}
 
 -- t is the first entry of its replica, and no first entry of a replica below n is earlier
-pub record IsLeastTurn (n : ℕ) (journal : Journals) (t : Turn) : Type 0 where
+pub record IsLeastTurn (n : ℕ) (journal : Journals) (t : EntryPlace) : Type 0 where
   pub below : t.replica < n
   pub first : first_turn t.replica (journal t.replica) ≡ Some t
-  pub least : (q : ℕ) (u : Turn) → q < n → first_turn q (journal q) ≡ Some u → (t.stamp < u.stamp) ⊎ ((t.stamp ≡ u.stamp) × (t.replica ≤ q))
+  pub least : (q : ℕ) (u : EntryPlace) → q < n → first_turn q (journal q) ≡ Some u → (t.stamp < u.stamp) ⊎ ((t.stamp ≡ u.stamp) × (t.replica ≤ q))
 
-abbrev pub Tells : ℕ → Journals → Option Turn → Type 0
+abbrev pub Tells : ℕ → Journals → Option EntryPlace → Type 0
 Tells n journal None = (q : ℕ) → q < n → journal q ≡ []
 Tells n journal (Some t) = IsLeastTurn n journal t
 
-none_first : (r : ℕ) (t : Turn) (es : List Entry) → es ≡ [] → first_turn r es ≡ Some t → ⊥
+none_first : (r : ℕ) (t : EntryPlace) (es : List Entry) → es ≡ [] → first_turn r es ≡ Some t → ⊥
 none_first r t [] e h = cc
 none_first r t (x ∷ es) e h = cc
 
-same_turn : (a b : Turn) → Some a ≡ Some b → a ≡ b
-same_turn a b e = cc
-
-stamp_here : (n q : ℕ) (u : Turn) (x : Entry) (es : List Entry) (journal : Journals) → journal n ≡ x ∷ es → q ≡ n → first_turn q (journal q) ≡ Some u → x.stamp ≡ u.stamp
+stamp_here : (n q : ℕ) (u : EntryPlace) (x : Entry) (es : List Entry) (journal : Journals) → journal n ≡ x ∷ es → q ≡ n → first_turn q (journal q) ≡ Some u → x.stamp ≡ u.stamp
 stamp_here n q u x es journal e same is =
-    let t : Turn = record { replica = n; number = x.number; stamp = x.stamp } in
+    let t : EntryPlace = record { replica = n; number = x.number; stamp = x.stamp } in
     let k : Some t ≡ Some u = sym (ap (λ z. first_turn z (journal z)) same ∙ ap (first_turn n) e) ∙ is in
-    ap (λ (z : Turn). z.stamp) (same_turn t u k)
+    ap (λ (z : EntryPlace). z.stamp) (same_Some t u k)
 
-more : (n : ℕ) (journal : Journals) (o : Option Turn) (es : List Entry) → journal n ≡ es → Tells n journal o → Tells (suc n) journal (earlier o (first_turn n es))
+more : (n : ℕ) (journal : Journals) (o : Option EntryPlace) (es : List Entry) → journal n ≡ es → Tells n journal o → Tells (suc n) journal (earlier o (first_turn n es))
 more n journal None [] e h = λ q lt. elim (cases_eq q n) [ inl is ↦ ap journal is ∙ e | inr ne ↦ h q (omega arith) ]
 more n journal None (x ∷ es) e h = record {
   below = omega arith;
@@ -88,7 +88,7 @@ least_is (suc n) journal = more n journal (least_turn n journal) (journal n) ref
 -- The schedule's next entry.
 
 -- the journals go on after the entry of this turn
-pub record Goes (journal later : Journals) (t : Turn) : Type 0 where
+pub record Goes (journal later : Journals) (t : EntryPlace) : Type 0 where
   pub entry : Entry
   pub here : journal t.replica ≡ entry ∷ later t.replica
   pub number : entry.number ≡ t.number
@@ -96,7 +96,7 @@ pub record Goes (journal later : Journals) (t : Turn) : Type 0 where
   pub others : (q : ℕ) → q ≢ t.replica → later q ≡ journal q
 
 -- what is left of a schedule after the entry of this turn
-pub record Behind (later : Journals) (t : Turn) (schedule : List Scheduled) : Type 0 where
+pub record Behind (later : Journals) (t : EntryPlace) (schedule : List Scheduled) : Type 0 where
   pub rest : List Scheduled
   pub scheduled : IsSchedule later rest
   pub is : places_of schedule ≡ (t.replica, t.number) ∷ places_of rest
@@ -104,23 +104,11 @@ pub record Behind (later : Journals) (t : Turn) (schedule : List Scheduled) : Ty
 nil_cons : (x : Entry) (xs : List Entry) → [] ≡ x ∷ xs → ⊥
 nil_cons x xs e = cc
 
-heads : (x y : Entry) (xs ys : List Entry) → x ∷ xs ≡ y ∷ ys → x ≡ y
-heads x y xs ys e = cc
-
-tails : (x y : Entry) (xs ys : List Entry) → x ∷ xs ≡ y ∷ ys → xs ≡ ys
-tails x y xs ys e = cc
-
-of_here : (a : Scheduled) (r : ℕ) (xs : List Scheduled) → a.replica ≡ r → of r (a ∷ xs) ≡ a.entry ∷ of r xs
-of_here a r xs e = ap (λ b. cond b (a.entry ∷ of r xs) (of r xs)) (eq-eqb a.replica r e)
-
-of_skip : (a : Scheduled) (r : ℕ) (xs : List Scheduled) → (a.replica ≡ r → ⊥) → of r (a ∷ xs) ≡ of r xs
-of_skip a r xs n = ap (λ b. cond b (a.entry ∷ of r xs) (of r xs)) (ne_eqb a.replica r n)
-
-module _ (n : ℕ) (journal later : Journals) (t : Turn) (least : IsLeastTurn n journal t) (none : (q : ℕ) → n ≤ q → journal q ≡ []) (g : Goes journal later t) where
+module _ (n : ℕ) (journal later : Journals) (t : EntryPlace) (least : IsLeastTurn n journal t) (none : (q : ℕ) → n ≤ q → journal q ≡ []) (g : Goes journal later t) where
   -- no other replica's entry comes first
   not_other : (a : Scheduled) (xs : List Scheduled) → IsSchedule journal (a ∷ xs) → a.replica ≢ t.replica → ⊥
   not_other a xs h ne =
-      let mine : journal a.replica ≡ a.entry ∷ of a.replica xs = sym (h.0 a.replica) ∙ of_here a a.replica xs refl in
+      let mine : journal a.replica ≡ a.entry ∷ of a.replica xs = sym (h.0 a.replica) ∙ of_first a a.replica xs refl in
       let below : a.replica < n = elim (cases_lt a.replica n) [ inl lt ↦ lt | inr ge ↦ absurd (nil_cons a.entry (of a.replica xs) (sym (none a.replica ge) ∙ mine)) ] in
       let l : (t.stamp < a.entry.stamp) ⊎ ((t.stamp ≡ a.entry.stamp) × (t.replica ≤ a.replica)) =
       least.least a.replica (record { replica = a.replica; number = a.entry.number; stamp = a.entry.stamp }) below (ap (first_turn a.replica) mine)
@@ -136,7 +124,7 @@ module _ (n : ℕ) (journal later : Journals) (t : Turn) (least : IsLeastTurn n 
   next_is [] h = absurd (nil_cons g.entry (later t.replica) (h.0 t.replica ∙ g.here))
   next_is (a ∷ xs) h = elim (cases_eq a.replica t.replica) [
     | inl same ↦ (
-        let e : a.entry ∷ of t.replica xs ≡ g.entry ∷ later t.replica = sym (of_here a t.replica xs same) ∙ h.0 t.replica ∙ g.here in
+        let e : a.entry ∷ of t.replica xs ≡ g.entry ∷ later t.replica = sym (of_first a t.replica xs same) ∙ h.0 t.replica ∙ g.here in
         let number : a.entry.number ≡ t.number = ap (λ (z : Entry). z.number) (heads a.entry g.entry (of t.replica xs) (later t.replica) e) ∙ g.number in
         record {
           rest = xs;
@@ -156,15 +144,15 @@ module _ (n : ℕ) (journal later : Journals) (t : Turn) (least : IsLeastTurn n 
 -- journals without entries have the empty schedule
 pub none_left : (journal : Journals) → ((q : ℕ) → journal q ≡ []) → (schedule : List Scheduled) → IsSchedule journal schedule → schedule ≡ []
 none_left journal none [] h = refl
-none_left journal none (a ∷ xs) h = absurd (nil_cons a.entry (of a.replica xs) (sym (none a.replica) ∙ sym (h.0 a.replica) ∙ of_here a a.replica xs refl))
+none_left journal none (a ∷ xs) h = absurd (nil_cons a.entry (of a.replica xs) (sym (none a.replica) ∙ sym (h.0 a.replica) ∙ of_first a a.replica xs refl))
 
 -- What is left after some entries.
 
-found : (r : ℕ) (t : Turn) (es : List Entry) → first_turn r es ≡ Some t → (e : Entry) × (rest : List Entry) × (es ≡ e ∷ rest) × (e.number ≡ t.number) × (e.stamp ≡ t.stamp)
+found : (r : ℕ) (t : EntryPlace) (es : List Entry) → first_turn r es ≡ Some t → (e : Entry) × (rest : List Entry) × (es ≡ e ∷ rest) × (e.number ≡ t.number) × (e.stamp ≡ t.stamp)
 found r t [] h = absurd (none_first r t [] refl h)
 found r t (e ∷ rest) h =
-    let is = same_turn (record { replica = r; number = e.number; stamp = e.stamp }) t h in
-    (e, rest, refl, ap (λ (z : Turn). z.number) is, ap (λ (z : Turn). z.stamp) is)
+    let is = same_Some (record { replica = r; number = e.number; stamp = e.stamp }) t h in
+    (e, rest, refl, ap (λ (z : EntryPlace). z.number) is, ap (λ (z : EntryPlace). z.stamp) is)
 
 drop_more : (k : ℕ) (xs : List Entry) (e : Entry) (es : List Entry) → drop k xs ≡ e ∷ es → drop (suc k) xs ≡ es
 drop_more zero [] e es h = absurd (nil_cons e es h)
@@ -178,7 +166,7 @@ number_at n last (suc k) [] e es a h = absurd (nil_cons e es h)
 number_at n last zero (x ∷ xs) e es a h = let s : x.number ≡ e.number = ap (λ (z : Entry). z.number) (heads x e xs es h) in let b = a.0 in omega arith
 number_at n last (suc k) (x ∷ xs) e es a h = let s = number_at (suc n) x.stamp k xs e es a.3 h in omega arith
 
-pub goes : (journal : Journals) (done : List ℕ) (t : Turn) → AreNumbered 1 0 (journal t.replica) → first_turn t.replica (rests journal done t.replica) ≡ Some t → t.replica < length done →
+pub goes : (journal : Journals) (done : List ℕ) (t : EntryPlace) → AreNumbered 1 0 (journal t.replica) → first_turn t.replica (rests journal done t.replica) ≡ Some t → t.replica < length done →
     Goes (rests journal done) (rests journal (set done t.replica t.number)) t
 goes journal done t numbered h lt =
     let r = t.replica in
@@ -203,7 +191,7 @@ same_left : (n : ℕ) (journal later : Journals) → ((q : ℕ) → q < n → la
 same_left zero journal later h = refl
 same_left (suc n) journal later h = let a = ap length (h n (omega arith)) in let b = same_left n journal later (λ q lt. h q (omega arith)) in omega arith
 
-pub left_falls : (n : ℕ) (journal later : Journals) (t : Turn) → Goes journal later t → t.replica < n → left_below n later < left_below n journal
+pub left_falls : (n : ℕ) (journal later : Journals) (t : EntryPlace) → Goes journal later t → t.replica < n → left_below n later < left_below n journal
 left_falls zero journal later t g lt = absurd (omega arith)
 left_falls (suc n) journal later t g lt = elim (cases_eq t.replica n) [
   | inl is ↦ (
@@ -240,14 +228,14 @@ pub record Remains (journal : Journals) (done : List ℕ) (made : List (ℕ × �
   pub scheduled : IsSchedule (rests journal done) rest
   pub whole : made ++ places_of rest ≡ places_of schedule
 
-pub is_next : (n : ℕ) (journal : Journals) (o : Option Turn) → o ≡ least_turn n journal → Tells n journal o
+pub is_next : (n : ℕ) (journal : Journals) (o : Option EntryPlace) → o ≡ least_turn n journal → Tells n journal o
 is_next n journal o e = subst (Tells n journal) (sym e) (least_is n journal)
 
 -- none beyond the cluster
 none_beyond : (base : Store) (f : ℕ) (journal : Journals) (done : List ℕ) → AreLocalRuns base f journal → (q : ℕ) → size f ≤ q → rests journal done q ≡ []
 none_beyond base f journal done runs q le = ap (drop (get_or done q 0)) (runs.others q le) ∙ drop-nil (get_or done q 0)
 
-module _ (base : Store) (f : ℕ) (journal : Journals) (runs : AreLocalRuns base f journal) (done : List ℕ) (long : length done ≡ size f) (t : Turn) (e : Some t ≡ least_turn (size f) (rests journal done)) where
+module _ (base : Store) (f : ℕ) (journal : Journals) (runs : AreLocalRuns base f journal) (done : List ℕ) (long : length done ≡ size f) (t : EntryPlace) (e : Some t ≡ least_turn (size f) (rests journal done)) where
   pub turn_is : IsLeastTurn (size f) (rests journal done) t
   turn_is = is_next (size f) (rests journal done) (Some t) e
 
@@ -290,26 +278,26 @@ zero_there n q = elim (cases_lt q n) [ inl lt ↦ get_or-replicate n q 0 0 lt | 
 
 -- The first entry of each journal.
 
-least_as : (n : ℕ) (journal : Journals) (turns : List (Option Turn)) → ((r : ℕ) → r < n → get_or turns r None ≡ first_turn r (journal r)) → least_of n turns ≡ least_turn n journal
+least_as : (n : ℕ) (journal : Journals) (turns : List (Option EntryPlace)) → ((r : ℕ) → r < n → get_or turns r None ≡ first_turn r (journal r)) → least_of n turns ≡ least_turn n journal
 least_as zero journal turns h = refl
 least_as (suc n) journal turns h =
     let before : least_of n turns ≡ least_turn n journal = least_as n journal turns (λ r lt. h r (omega arith)) in
     let here : get_or turns n None ≡ first_turn n (journal n) = h n (omega arith) in
     (λ t. earlier (before t) (here t))
 
-pub least_first : (n : ℕ) (journal : Journals) (turns : List (Option Turn)) → AreFirst n journal turns → least_of (length turns) turns ≡ least_turn n journal
+pub least_first : (n : ℕ) (journal : Journals) (turns : List (Option EntryPlace)) → AreFirst n journal turns → least_of (length turns) turns ≡ least_turn n journal
 least_first n journal turns h = ap (λ k. least_of k turns) h.0 ∙ least_as n journal turns h.1
 
-got_before : (turns : List (Option Turn)) (turn : Option Turn) (r : ℕ) → r < length turns → get_or (turns ++ turn ∷ []) r None ≡ get_or turns r None
+got_before : (turns : List (Option EntryPlace)) (turn : Option EntryPlace) (r : ℕ) → r < length turns → get_or (turns ++ turn ∷ []) r None ≡ get_or turns r None
 got_before [] turn r lt = absurd (omega arith)
 got_before (x ∷ turns) turn zero lt = refl
 got_before (x ∷ turns) turn (suc r) lt = got_before turns turn r (omega arith)
 
-got_last : (turns : List (Option Turn)) (turn : Option Turn) → get_or (turns ++ turn ∷ []) (length turns) None ≡ turn
+got_last : (turns : List (Option EntryPlace)) (turn : Option EntryPlace) → get_or (turns ++ turn ∷ []) (length turns) None ≡ turn
 got_last [] turn = refl
 got_last (x ∷ turns) turn = got_last turns turn
 
-pub first_more : (n : ℕ) (journal : Journals) (turns after : List (Option Turn)) (turn : Option Turn) → turn ≡ first_turn n (journal n) → after ≡ turns ++ turn ∷ [] → AreFirst n journal turns → AreFirst (n + 1) journal after
+pub first_more : (n : ℕ) (journal : Journals) (turns after : List (Option EntryPlace)) (turn : Option EntryPlace) → turn ≡ first_turn n (journal n) → after ≡ turns ++ turn ∷ [] → AreFirst n journal turns → AreFirst (n + 1) journal after
 first_more n journal turns after turn is grown h = subst (AreFirst (n + 1) journal) (sym grown) (
   length-append turns (turn ∷ []) ∙ ap (λ k. k + 1) h.0,
   λ r lt. elim (cases_eq r n) [
@@ -318,10 +306,10 @@ first_more n journal turns after turn is grown h = subst (AreFirst (n + 1) journ
   ],
 )
 
-pub first_begins : (n : ℕ) (journal : Journals) (done : List ℕ) (turns : List (Option Turn)) → ((q : ℕ) → get_or done q 0 ≡ 0) → AreFirst n journal turns → AreFirst n (rests journal done) turns
+pub first_begins : (n : ℕ) (journal : Journals) (done : List ℕ) (turns : List (Option EntryPlace)) → ((q : ℕ) → get_or done q 0 ≡ 0) → AreFirst n journal turns → AreFirst n (rests journal done) turns
 first_begins n journal done turns none h = (h.0, λ r lt. h.1 r lt ∙ ap (λ k. first_turn r (drop k (journal r))) (sym (none r)))
 
-pub first_next : (n : ℕ) (journal : Journals) (done : List ℕ) (turns : List (Option Turn)) (r number : ℕ) (turn : Option Turn) → length done ≡ n → r < n → turn ≡ first_turn r (drop number (journal r)) → AreFirst n (rests journal done) turns
+pub first_next : (n : ℕ) (journal : Journals) (done : List ℕ) (turns : List (Option EntryPlace)) (r number : ℕ) (turn : Option EntryPlace) → length done ≡ n → r < n → turn ≡ first_turn r (drop number (journal r)) → AreFirst n (rests journal done) turns
     → AreFirst n (rests journal (set done r number)) (set turns r turn)
 first_next n journal done turns r number turn long below is h = (
   length-set turns r turn ∙ h.0,

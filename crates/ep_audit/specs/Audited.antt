@@ -18,8 +18,8 @@ use Rattle.ep_audit.specs.Faults.{fault_of}
 use Rattle.ep_audit.specs.declared.closing.Closing.{Closing}
 use Rattle.ep_audit.specs.Verdicts.{instances_in, left_after, IsVerdict}
 use Rattle.ep_audit.specs.declared.verdict.Verdict.{Verdict}
-use Rattle.ep_audit.specs.declared.refusal.Refusal.{Refusal}
-use Rattle.ep_audit.specs.declared.refusal.Refusal.TheVariants.{Memory, Fault}
+use Rattle.ep_audit.specs.declared.verdict_fault.VerdictFault.{VerdictFault}
+use Rattle.ep_audit.specs.declared.verdict_fault.VerdictFault.TheVariants.{Memory, Fault}
 use Rattle.ep_rules.specs.OneMap.{Contents, Store, opened, is_closed}
 
 -- The journals of replicas that open with the map base, merged in the schedule's order, are a run of the protocol; h is their one history.
@@ -70,6 +70,6 @@ pub record IsAudited (base : Store) (f : ℕ) (journal : Journals) (receipts : L
   pub closing : (m : Contents) → base ≡ opened m → IsOneClosing m f journal v
 
 -- why there is no verdict: want of memory, or the first fault
-abbrev pub IsRefused : Store → ℕ → Journals → List Receipt → Refusal → Type 0
+abbrev pub IsRefused : Store → ℕ → Journals → List Receipt → VerdictFault → Type 0
 IsRefused base f journal receipts Memory = Unit {0}
 IsRefused base f journal receipts (Fault fault) = IsFault base f journal receipts (fault_of fault)

@@ -1,13 +1,13 @@
 -- What is looked up in journals, by places.
 use Rattle.std.specs.Prelude.{ℕ, zero, suc, Bool, true, false, ◌&&◌, cond, eqb, List, [], ◌∷◌, Option, Some, None, slice_get}
-use Rattle.ep_base.specs.Messages.{instance_of_message}
 use Rattle.ep_base.specs.Sameness.{same_answer}
 use Rattle.ep_base.specs.declared.reply.Answer.{Answer}
-use Rattle.ep_frame.specs.Meaning.{sender_at, origin_at, message_at}
-use Rattle.ep_journal.specs.Entries.{Collected, entries_at}
+use Rattle.ep_frame.specs.Meaning.{sender_at, origin_at}
+use Rattle.ep_journal.specs.Entries.{Collected, entries_at, frame_in}
 use Rattle.ep_journal.specs.declared.entry.Entry.{Entry}
 use Rattle.ep_journal.specs.declared.event.Event.{Event}
 use Rattle.ep_journal.specs.declared.event.Event.TheVariants.{Propose, Handle, GiveUp, Recover, Execute}
+use Rattle.ep_journal.specs.Events.{first_named}
 
 -- the entry of this number, from 1
 abbrev pub entry_at : List Entry → ℕ → Option Entry
@@ -16,24 +16,15 @@ entry_at es (suc k) = slice_get es k
 
 -- Frames.
 
-abbrev pub frame_in : Option Entry → ℕ → Option (List ℕ)
-frame_in None place = None
-frame_in (Some e) place = slice_get e.frames place
-
 -- what stands where the frame's sender, entry and place say
 abbrev pub sent_there : Collected → List ℕ → Option (List ℕ)
 sent_there c b = frame_in (entry_at (entries_at c (sender_at b)) (origin_at b).entry) (origin_at b).out
 
 -- Proposals.
 
--- the instance that the first frame is about
-abbrev pub first_about : List (List ℕ) → Option ℕ
-first_about [] = None
-first_about (b ∷ bs) = Some (instance_of_message (message_at b))
-
 -- the instance as which a command is proposed: the first frame is about it
 abbrev pub proposed : Event → List (List ℕ) → Option ℕ
-proposed (Propose client request command seen) frames = first_about frames
+proposed (Propose client request command seen) frames = first_named frames
 proposed (Handle b) frames = None
 proposed (GiveUp i) frames = None
 proposed (Recover i) frames = None

@@ -7,12 +7,12 @@ ghost use Rattle.ep_audit.specs.Following.{IsUnfollowed, IsUnjudged};
 
 use crate::auditing::audit;
 use crate::chain_fault::ChainFault;
-use crate::chain_refusal::ChainRefusal;
+use crate::chain_link::ChainLink;
+use crate::chain_verdict_fault::ChainVerdictFault;
 use crate::closing::Closing;
 use crate::difference::first_difference;
-use crate::link::Link;
-use crate::refusal::Refusal;
 use crate::verdict::Verdict;
+use crate::verdict_fault::VerdictFault;
 use ep_base::Key;
 use std::alloc::{AllocError, Global};
 
@@ -20,9 +20,9 @@ use std::alloc::{AllocError, Global};
 /// that map.
 fn opens_otherwise(
     alloc: Global,
-    before: &Link,
+    before: &ChainLink,
     verdict: &Verdict,
-    link: &Link,
+    link: &ChainLink,
 ) -> Result<Option<Key>, AllocError>
     ensures { IfOk result (λ key. MatchOption key (link.now.journals.opening.contents ≡ map_after before.now verdict.now) (λ k. IsLeastDifference link.now.journals.opening.contents (map_after before.now verdict.now) k)) }
 {
@@ -34,10 +34,10 @@ fn opens_otherwise(
 #[tactic(auto, using(crate::proofs::Linking::goes_on, crate::proofs::Linking::not_next))]
 fn parting(
     alloc: Global,
-    before: &Link,
+    before: &ChainLink,
     verdict: &Verdict,
     closing: &Closing,
-    link: &Link,
+    link: &ChainLink,
 ) -> Result<Option<ChainFault>, AllocError>
     requires { verdict.now.closing ≡ Some closing.now }
     ensures { IfOk result (λ fault. MatchOption fault (GoesOn before.now verdict.now link.now) (λ f. IsParted before.now verdict.now closing.now link.now f)) }
@@ -59,31 +59,34 @@ fn parting(
 }
 
 /// The verdict of the generation's own audit.
-fn judge(alloc: Global, link: &Link, place: usize) -> Result<Verdict, ChainRefusal>
+fn judge(alloc: Global, link: &ChainLink, place: usize) -> Result<Verdict, ChainVerdictFault>
     ensures ok { IfOk result (λ v. IsJudged link.now v) }
     ensures refused { IfErr result (λ e. IsUnjudged link.now place e) }
 {
     match audit(alloc, &link.journals, &link.receipts) {
         Ok(verdict) => Ok(verdict),
-        Err(Refusal::Memory) => Err(ChainRefusal::Memory),
-        Err(Refusal::Fault(fault)) => Err(ChainRefusal::Fault(place, ChainFault::Audit(fault))),
+        Err(VerdictFault::Memory) => Err(ChainVerdictFault::Memory),
+        Err(VerdictFault::Fault(fault)) => Err(ChainVerdictFault::Fault(
+            place,
+            ChainFault::Audit(fault),
+        )),
     }
 }
 
 /// The verdict of the generation, which goes on from the one before.
 fn follow(
     alloc: Global,
-    before: &Link,
+    before: &ChainLink,
     verdict: &Verdict,
-    link: &Link,
+    link: &ChainLink,
     place: usize,
-) -> Result<Verdict, ChainRefusal>
+) -> Result<Verdict, ChainVerdictFault>
     requires { 1 ≤ place }
     ensures ok { IfOk result (λ v. IsJudged link.now v × GoesOn before.now verdict.now link.now) }
     ensures refused { IfErr result (λ e. IsUnfollowed before.now verdict.now link.now place e) }
 {
     let Some(closing) = &verdict.closing else {
-        return Err(ChainRefusal::Fault(place - 1, ChainFault::NotClosed));
+        return Err(ChainVerdictFault::Fault(place - 1, ChainFault::NotClosed));
     };
     let next = match judge(alloc, link, place) {
         Ok(next) => next,
@@ -91,17 +94,17 @@ fn follow(
     };
     match parting(alloc, before, verdict, closing, link)? {
         None => Ok(next),
-        Some(fault) => Err(ChainRefusal::Fault(place, fault)),
+        Some(fault) => Err(ChainVerdictFault::Fault(place, fault)),
     }
 }
 
 /// The verdict of the generation at this place, whose verdicts of those before are given.
 fn next_verdict(
     alloc: Global,
-    links: &[Link],
+    links: &[ChainLink],
     verdicts: &[Verdict],
     place: usize,
-) -> Result<Verdict, ChainRefusal>
+) -> Result<Verdict, ChainVerdictFault>
     requires there { place < length links.now }
     requires count { length verdicts.now ≡ place }
     requires linked { AreLinked links.now verdicts.now }
@@ -122,7 +125,7 @@ fn next_verdict(
 /// up to its first seal, one after the other, are one history of one map from the first opening on, and keep each caller's order: `IsChained`, by the laws
 /// `chains_explain` and `chains_keep_callers` of `ep_rules`. Its `chain` is what `chains_one_machine` says the same of, for any machine.
 /// Otherwise the first fault of the first one that has one.
-pub fn audit_chain(alloc: Global, links: &[Link]) -> Result<Vec<Verdict>, ChainRefusal>
+pub fn audit_chain(alloc: Global, links: &[ChainLink]) -> Result<Vec<Verdict>, ChainVerdictFault>
     ensures ok { IfOk result (λ vs. IsChained links.now vs.items) }
     ensures refused { IfErr result (λ e. IsChainRefused links.now e) }
 {

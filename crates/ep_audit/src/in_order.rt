@@ -7,7 +7,7 @@ ghost use Rattle.ep_journal.specs.Entries.{journals_of};
 ghost use Rattle.ep_audit.specs.Turns.{AreFirst};
 ghost use Rattle.ep_audit.specs.Verdicts.{places_of};
 
-use crate::turn::{Turn, first, least};
+use crate::entry_place::{EntryPlace, first, least};
 use ep_base::ReplicaId;
 use ep_journal::Journals;
 use std::alloc::{AllocError, Global};
@@ -25,7 +25,7 @@ fn none_done(alloc: Global, journals: &Journals) -> Result<Vec<usize>, AllocErro
 }
 
 /// The first entry of each replica's journal.
-fn first_of_each(alloc: Global, journals: &Journals) -> Result<Vec<Option<Turn>>, AllocError>
+fn first_of_each(alloc: Global, journals: &Journals) -> Result<Vec<Option<EntryPlace>>, AllocError>
     ensures { IfOk result (λ v. AreFirst (size journals.now.faults) (journals_of journals.now) v.items) }
 {
     let count = journals.size().count();

@@ -49,7 +49,7 @@ fn add_led(
 ) -> Result<(), AllocError>
     ensures { OnOk result (Covers (agreed_in journals.now) (instance_of leader 1) table.old.items → Covers (agreed_in journals.now) (instance_of leader 2001) table.new.items) }
 {
-    for place in 0..2000 {
+    for place in 0..InstanceId::HIGHEST_NUMBER {
         let instance = InstanceId::new(leader, place + 1).unwrap();
         add_agreed(alloc, journals, instance, table)?;
     }

@@ -8,6 +8,7 @@ use Rattle.ep_base.specs.Interference.{listed, keys_in, has_key, only_reads, is_
 use Rattle.ep_base.specs.Touched.{Touched}
 use Rattle.ep_base.proofs.Interfering.{Decides-has_key}
 use Rattle.ep_base.proofs.Same.{Decides-same_list}
+use Rattle.ep_base.proofs.Tests.{or_true}
 
 some_same : (k l : List ℕ) → k ≡ l → Some k ≡ Some l
 some_same k l e = ap Some e
@@ -21,10 +22,6 @@ key_then k l c = go (same_list k l) refl ((Decides-has_key k (l ∷ [])).1 c)
 
 key_there : (k l : List ℕ) → l ≡ k → Contains (l ∷ []) k
 key_there k l e = (Decides-has_key k (l ∷ [])).0 (ap (λ b. b || false) ((Decides-same_list k l).1 (sym e)))
-
-or_true : (b : Bool) → (b || true) ≡ true
-or_true true = refl
-or_true false = refl
 
 touched_then : (p : Touched) (k : List ℕ) → Contains (keys_in p) k → Touches p k
 touched_then p k c = go (same_list k p.first) p.second refl refl ((Decides-has_key k (keys_in p)).1 c)

@@ -46,7 +46,7 @@ Decides-part a b =
 pub Decides-interfere : (a b : Command) → Decides (interfere a b) (Interferes a b)
 Decides-interfere a b = Decides-or (meet a b) (part a b) (Decides-meet a b) (Decides-part a b)
 
-turn : {A B : Type 0} → A ⊎ B → B ⊎ A
+pub turn : {A B : Type 0} → A ⊎ B → B ⊎ A
 turn (inl a) = inr a
 turn (inr b) = inl b
 

@@ -1,12 +1,7 @@
 -- The keys that a command names, one after the other.
 use Rattle.std.proofs.Common.{◌≡◌, ◌++◌, refl}
-use Rattle.std.specs.Prelude.{Bool, true, false, ◌||◌}
 use Rattle.ep_base.specs.Commands.{Command, Noop, Get, Put, Del, Swap, Cas, Seal, Opaque}
 use Rattle.ep_base.specs.Interference.{listed, keys_of, key_of, second_key_of}
-
-pub or_false : (b : Bool) → (b || false) ≡ b
-or_false true = refl
-or_false false = refl
 
 pub keys_listed : (a : Command) → keys_of a ≡ listed (key_of a) ++ listed (second_key_of a)
 keys_listed Noop = refl

@@ -1,7 +1,6 @@
 pub mod Places
 pub mod Union
 pub mod Members
-pub mod Joins
 pub mod Rising
 pub mod Bound
 pub mod Versions
@@ -11,3 +10,5 @@ pub mod Partitions
 pub mod Runs
 pub mod Interfering
 pub mod Footprints
+pub mod Tests
+pub mod Lists

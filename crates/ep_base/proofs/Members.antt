@@ -8,7 +8,6 @@ use Rattle.std.proofs.lemmas.Cmp.{ranked}
 use Rattle.ep_base.specs.Places.{Has}
 use Rattle.ep_base.specs.Deps.{IsRising, IsUnion, union, union_from, by_order}
 use Rattle.ep_base.proofs.Places.{Has-empty, Has-cons_cases, Has-head, Has-tail}
-use Rattle.ep_base.proofs.Union.{IsRising-union}
 
 -- what is one of two lists stays so where a list grows
 in_first : (x : ℕ) (is js : List ℕ) (k : ℕ) → Has is k ⊎ Has js k → Has (x ∷ is) k ⊎ Has js k
@@ -101,41 +100,3 @@ same_members (i ∷ is) (j ∷ js) h k v w =
     let same : i ≡ j = omega (arith, least_i, least_j) in
     let rest : is ≡ js = same_members is js h.1 k.1 (rest_within i j is js same h v) (rest_within j i js is (sym same) k w) in
     rw (same, rest) refl
-
--- the union does not depend on the order in which sets are joined
-pub union-comm : (a b : List ℕ) → IsRising a → IsRising b → union a b ≡ union b a
-union-comm a b h k =
-    let turned : (c d : List ℕ) → Within (union c d) (union d c) = λ c d m has. Has-union d c m (turn (union-cases c d m has)) in
-    same_members (union a b) (union b a) (IsRising-union a b h k) (IsRising-union b a k h) (turned a b) (turned b a)
-  where
-    turn : {P Q : Type 0} → P ⊎ Q → Q ⊎ P
-    turn (inl p) = inr p
-    turn (inr q) = inl q
-
-pub union-assoc : (a b c : List ℕ) → IsRising a → IsRising b → IsRising c → union (union a b) c ≡ union a (union b c)
-union-assoc a b c h k l =
-    same_members (union (union a b) c) (union a (union b c)) (IsRising-union _ c (IsRising-union a b h k) l) (IsRising-union a _ h (IsRising-union b c k l))
-    (λ m has. outward m (union-cases (union a b) c m has)) (λ m has. inward m (union-cases a (union b c) m has))
-  where
-    first_two : (m : ℕ) → Has a m ⊎ Has b m → Has (union a (union b c)) m
-    first_two m (inl x) = Has-union a (union b c) m (inl x)
-    first_two m (inr x) = Has-union a (union b c) m (inr (Has-union b c m (inl x)))
-
-    outward : (m : ℕ) → Has (union a b) m ⊎ Has c m → Has (union a (union b c)) m
-    outward m (inl x) = first_two m (union-cases a b m x)
-    outward m (inr x) = Has-union a (union b c) m (inr (Has-union b c m (inr x)))
-
-    last_two : (m : ℕ) → Has b m ⊎ Has c m → Has (union (union a b) c) m
-    last_two m (inl x) = Has-union (union a b) c m (inl (Has-union a b m (inr x)))
-    last_two m (inr x) = Has-union (union a b) c m (inr x)
-
-    inward : (m : ℕ) → Has a m ⊎ Has (union b c) m → Has (union (union a b) c) m
-    inward m (inl x) = Has-union (union a b) c m (inl (Has-union a b m (inl x)))
-    inward m (inr x) = last_two m (union-cases b c m x)
-
-pub union-self : (a : List ℕ) → IsRising a → union a a ≡ a
-union-self a h = same_members (union a a) a (IsRising-union a a h h) h (λ m has. one (union-cases a a m has)) (λ m has. Has-union a a m (inl has))
-  where
-    one : {P : Type 0} → P ⊎ P → P
-    one (inl p) = p
-    one (inr p) = p

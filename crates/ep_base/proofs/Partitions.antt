@@ -3,8 +3,9 @@ use Rattle.std.proofs.Common.{◌≡◌, ℕ, ◌+◌, ◌*◌, ◌/◌, ◌%◌
 use Rattle.std.specs.Cmp.Derive.{both_true}
 use Rattle.std.specs.Prelude.{◌≢◌, ◌&&◌, not, eqb, nat_le}
 use Rattle.std.proofs.Math.Seq.{take-append_seam, drop-append_seam}
-use Rattle.std.proofs.lemmas.Bool.{eqb-true, leb-true, le-leb}
+use Rattle.std.proofs.lemmas.Bool.{eqb-true, leb-true, le-leb, and_parts}
 use Rattle.std.proofs.lemmas.List.{append-nil, nil_from_length}
+use Rattle.std.proofs.lemmas.Option.{same_Some}
 use Rattle.ep_base.specs.Attributes.{same_list}
 use Rattle.ep_base.specs.Commands.{Command, Noop, Get, Put, Del, Swap, Cas, Seal, Opaque}
 use Rattle.ep_base.specs.Interference.{keys_of, listed, only_reads, key_of, second_key_of}
@@ -16,10 +17,6 @@ use Rattle.ep_base.specs.declared.op.Op.{Op}
 use Rattle.ep_base.specs.declared.op.Op.TheVariants as op
 use Rattle.ep_base.proofs.Keys.{keys_listed}
 use Rattle.ep_base.proofs.Same.{Decides-same_list}
-
-pub both : (a b : Bool) → (a && b) ≡ true → (a ≡ true) × (b ≡ true)
-both true b h = (refl, h)
-both false b h = absurd (true≢false (sym h))
 
 not_true : (b : Bool) → not b ≡ true → b ≡ true → ⊥
 not_true true n e = true≢false (sym n)
@@ -33,7 +30,7 @@ pub none_there : (xs : List ℕ) → eqb (length xs) 0 ≡ true → xs ≡ []
 none_there xs e = nil_from_length xs (eqb-true (length xs) 0 e)
 
 pub key_there : (k : List ℕ) → is_key_len (length k) ≡ true → IsKey k
-key_there k e = let h = both (nat_le 1 (length k)) (nat_le (length k) 255) e in (leb-true 1 (length k) h.0, leb-true (length k) 255 h.1)
+key_there k e = let h = and_parts (nat_le 1 (length k)) (nat_le (length k) 255) e in (leb-true 1 (length k) h.0, leb-true (length k) 255 h.1)
 
 pub key_from : (k : List ℕ) → IsKey k → is_key_len (length k) ≡ true
 key_from k h = both_true (le-leb 1 (length k) h.0) (le-leb (length k) 255 h.1)
@@ -73,10 +70,10 @@ pub record Fits (o : Op) (k l b : List ℕ) : Type 0 where
 
 pub fits : (o : Op) (k l b : List ℕ) → are_parts (made o k l b) ≡ true → Fits o k l b
 fits o k l b e =
-    let h = both (lengths_fit (made o k l b)) (not (is_twice k l) && body_said o b) e in
-    let lens = both (first_fits o (length k)) (second_fits o (length l) && body_fits o (length b)) h.0 in
-    let more = both (second_fits o (length l)) (body_fits o (length b)) lens.1 in
-    let rest = both (not (is_twice k l)) (body_said o b) h.1 in
+    let h = and_parts (lengths_fit (made o k l b)) (not (is_twice k l) && body_said o b) e in
+    let lens = and_parts (first_fits o (length k)) (second_fits o (length l) && body_fits o (length b)) h.0 in
+    let more = and_parts (second_fits o (length l)) (body_fits o (length b)) lens.1 in
+    let rest = and_parts (not (is_twice k l)) (body_said o b) h.1 in
     record { first = lens.0; second = more.0; body = more.1; once = rest.0; said = rest.1 }
 
 pub fits_from : (o : Op) (k l b : List ℕ) → Fits o k l b → are_parts (made o k l b) ≡ true
@@ -110,8 +107,8 @@ pub record Compares (b : List ℕ) : Type 0 where
 pub compares : (b : List ℕ) → is_comparison b ≡ true → Compares b
 compares b e =
     let whole = part_bytes (expected_in b) ++ part_bytes (new_in b) in
-    let h = both (same_list b whole) (is_short (expected_in b) && is_short (new_in b)) e in
-    let short = both (is_short (expected_in b)) (is_short (new_in b)) h.1 in
+    let h = and_parts (same_list b whole) (is_short (expected_in b) && is_short (new_in b)) e in
+    let short = and_parts (is_short (expected_in b)) (is_short (new_in b)) h.1 in
     record { whole = (Decides-same_list b whole).0 h.0; expected = short_there (expected_in b) short.0; new = short_there (new_in b) short.1 }
 
 pub compares_from : (b : List ℕ) → Compares b → is_comparison b ≡ true
@@ -225,14 +222,11 @@ fits_with (Opaque p b) h = go p.reads
 pub of_fitting : (p : Parts) → are_parts p ≡ true → command_of p ≡ Some (command_in p)
 of_fitting p e = ap (λ b. cond b (Some (command_in p)) None) e
 
-some_is : (c d : Command) → Some c ≡ Some d → c ≡ d
-some_is c d e = cc
-
 pub of_then : (p : Parts) (c : Command) → command_of p ≡ Some c → (are_parts p ≡ true) × (command_in p ≡ c)
 of_then p c e = go (are_parts p) refl e
   where
     go : (b : Bool) → are_parts p ≡ b → cond b (Some (command_in p)) None ≡ Some c → (are_parts p ≡ true) × (command_in p ≡ c)
-    go true is e = (is, some_is (command_in p) c e)
+    go true is e = (is, same_Some (command_in p) c e)
     go false is e = absurd (cc)
 
 pub forth_lem : (c : Command) → IsInRange c → command_of (parts_of c) ≡ Some c

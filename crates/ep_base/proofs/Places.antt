@@ -25,5 +25,8 @@ Has-cons_cases x xs i h = elim (at_head (x == i) (place xs i) (length xs) h) [ i
 pub Has-head : (x : ℕ) (xs : List ℕ) (i : ℕ) → x ≡ i → Has (x ∷ xs) i
 Has-head x xs i e = in_head (x == i) (place xs i) (length xs) (eq-eqb x i e)
 
+pub Has-first : (x : ℕ) (xs : List ℕ) → Has (x ∷ xs) x
+Has-first x xs = Has-head x xs x refl
+
 pub Has-tail : (x : ℕ) (xs : List ℕ) (i : ℕ) → Has xs i → Has (x ∷ xs) i
 Has-tail x xs i h = in_tail (x == i) (place xs i) (length xs) h

@@ -1,15 +1,11 @@
 -- The parts of a command in its run of bytes, and those of a comparison's body.
-use Rattle.std.proofs.Common.{◌≡◌, ℕ, ◌+◌, ◌-◌, ◌≤◌, ◌<◌, List, [], ◌∷◌, ◌++◌, length, take, drop, append_assoc, length-append, length-take-le, length-drop, Option, Some, None, Result, Ok, Err, Bool, true, false, cond, refl, sym, ap, subst, ◌∙◌, true≢false, arith}
-use Rattle.std.specs.Prelude.{◌↔◌, ◌||◌, ◌&&◌, eqb, IsTrue, IfOk}
+use Rattle.std.proofs.Common.{◌≡◌, ℕ, ◌+◌, ◌-◌, ◌≤◌, ◌<◌, List, [], ◌∷◌, ◌++◌, length, take, drop, append_assoc, length-append, length-take-le, length-drop, Option, Some, None, Result, Ok, Err, Bool, true, false, cond, refl, sym, ap, subst, ◌∙◌, arith}
+use Rattle.std.specs.Prelude.{◌↔◌, ◌&&◌, eqb, IsTrue, IfOk}
 use Rattle.std.specs.Cmp.{both_ways}
-use Rattle.std.specs.Cmp.Derive.{both_true}
-use Rattle.std.proofs.Math.Bool.{or_assoc}
 use Rattle.std.proofs.Math.Seq.{take-append_seam, drop-append_seam}
-use Rattle.std.proofs.lemmas.Bool.{eqb-true, eq-eqb}
-use Rattle.std.proofs.lemmas.List.{append-nil, take-append-drop, drop-drop, drop-take, take_all}
-use Rattle.ep_base.specs.Attributes.{same_list}
+use Rattle.std.proofs.lemmas.Bool.{eqb-true, eq-eqb, and_parts}
+use Rattle.std.proofs.lemmas.List.{append-nil, take-append-drop, drop-drop, drop-take, take_all, take_rest}
 use Rattle.ep_base.specs.Commands.{Command, Cas, Opaque}
-use Rattle.ep_base.specs.Interference.{keys_of, has_key, share_key, listed}
 use Rattle.ep_base.specs.Parts.{Parts, parts_of, command_in, command_with, command_of, are_parts, cut, body_said, key_if_any, key_bytes, part_bytes, part_at, expected_in, new_in, is_short, is_comparison, IsShort, IsPartLen, IsInRange}
 use Rattle.ep_base.specs.Ops.{is_key_len}
 use Rattle.ep_base.specs.Sameness.{same_command}
@@ -17,7 +13,7 @@ use Rattle.ep_base.specs.Touched.{Touched}
 use Rattle.ep_base.specs.declared.command_fault.CommandFault.{CommandFault}
 use Rattle.ep_base.specs.declared.op.Op.{Op}
 use Rattle.ep_base.specs.declared.op.Op.TheVariants as op
-use Rattle.ep_base.proofs.Partitions.{both, key_there, key_from, short_there, short_from, fits, fits_with, of_then, back_is, range_is, forth_lem, again_with, keys_lem, Compares, compares, compares_from}
+use Rattle.ep_base.proofs.Partitions.{key_there, short_there, fits, fits_with, of_then, back_is, range_is, forth_lem, again_with, Compares, compares, compares_from}
 use Rattle.ep_base.proofs.Same.{Decides-same_command}
 
 -- A run of bytes that is a command's.
@@ -47,12 +43,8 @@ cut_whole run m n =
 pub view_whole : (o : Op) (run : List ℕ) (m n : ℕ) (s : Command) → are_parts (cut o run m n) ≡ true → command_in (cut o run m n) ≡ s → run ≡ all_of (parts_of s)
 view_whole o run m n s e v = sym (ap all_of (view_parts o run m n s e v) ∙ cut_whole run m n)
 
--- the end of a list, as a slice gives it
-pub end_is : (k : ℕ) (xs : List ℕ) → take (length xs - k) (drop k xs) ≡ drop k xs
-end_is k xs = take_all (length xs - k) (drop k xs) (let e = length-drop k xs in omega arith)
-
 pub view_body : (o : Op) (run : List ℕ) (m n : ℕ) (s : Command) → are_parts (cut o run m n) ≡ true → command_in (cut o run m n) ≡ s → (xs : List ℕ) → xs ≡ run → take (length xs - (m + n)) (drop (m + n) xs) ≡ (parts_of s).body
-view_body o run m n s e v xs is = end_is (m + n) xs ∙ ap (λ x. drop (m + n) x) is ∙ sym (ap (λ (p : Parts). p.body) (view_parts o run m n s e v))
+view_body o run m n s e v xs is = take_rest xs (m + n) ∙ ap (λ x. drop (m + n) x) is ∙ sym (ap (λ (p : Parts). p.body) (view_parts o run m n s e v))
 
 pub view_second : (o : Op) (run : List ℕ) (m n : ℕ) (s : Command) → are_parts (cut o run m n) ≡ true → command_in (cut o run m n) ≡ s → (xs : List ℕ) → xs ≡ run → take (m + n - m) (drop m xs) ≡ (parts_of s).second
 view_second o run m n s e v xs is =
@@ -75,20 +67,6 @@ view_lens o run m n s le e v =
     }
 
 -- Keys.
-
-pub has_both : (k : List ℕ) (xs ys : List (List ℕ)) → has_key k (xs ++ ys) ≡ (has_key k xs || has_key k ys)
-has_both k [] ys = refl
-has_both k (x ∷ xs) ys = ap (λ b. same_list k x || b) (has_both k xs ys) ∙ sym (or_assoc (same_list k x) (has_key k xs) (has_key k ys))
-
-pub names_is : (c : Command) (k : List ℕ) → IsInRange c → has_key k (keys_of c) ≡ (has_key k (listed (key_if_any (parts_of c).first)) || has_key k (listed (key_if_any (parts_of c).second)))
-names_is c k h = ap (has_key k) (keys_lem c h) ∙ has_both k (listed (key_if_any (parts_of c).first)) (listed (key_if_any (parts_of c).second))
-
-pub share_both : (xs ys ls : List (List ℕ)) → share_key (xs ++ ys) ls ≡ (share_key xs ls || share_key ys ls)
-share_both [] ys ls = refl
-share_both (x ∷ xs) ys ls = ap (λ b. has_key x ls || b) (share_both xs ys ls) ∙ sym (or_assoc (has_key x ls) (share_key xs ls) (share_key ys ls))
-
-pub shares_is : (c : Command) (ls : List (List ℕ)) → IsInRange c → share_key (keys_of c) ls ≡ (share_key (listed (key_if_any (parts_of c).first)) ls || share_key (listed (key_if_any (parts_of c).second)) ls)
-shares_is c ls h = ap (λ ks. share_key ks ls) (keys_lem c h) ∙ share_both (listed (key_if_any (parts_of c).first)) (listed (key_if_any (parts_of c).second)) ls
 
 -- Sameness.
 
@@ -143,12 +121,6 @@ pub same_where : (c d : Command) → IsInRange c → IsInRange d → SameHeads c
 same_where c d h k heads t w =
     (λ is. parts_same c d h k (record { op = heads.0; first = heads.1; second = heads.2; whole = w.0 is }), λ e. w.1 (let a = same_parts c d e in a.whole))
 
-heads_of : (c d : Command) → c ≡ d → SameHeads c d
-heads_of c d e = let a = same_parts c d e in (a.op, a.first, a.second)
-
-pub same_unless : (c d : Command) → ¬ SameHeads c d → IsTrue false ↔ (c ≡ d)
-same_unless c d n = (λ is. absurd (true≢false (sym is)), λ e. absurd (n (heads_of c d e)))
-
 pub tested : (c d : Command) (t : Bool) → (IsTrue t ↔ (c ≡ d)) → t ≡ same_command c d
 tested c d t w = both_ways t (same_command c d) (λ is. (Decides-same_command c d).1 (w.0 is)) (λ is. w.1 ((Decides-same_command c d).0 is))
 
@@ -156,12 +128,9 @@ tested c d t w = both_ways t (same_command c d) (λ is. (Decides-same_command c 
 
 pub cas_range : (k : List ℕ) (e n : Option (List ℕ)) → (is_key_len (length k) && (is_short e && is_short n)) ≡ true → IsInRange (Cas k e n)
 cas_range k e n h =
-    let p = both (is_key_len (length k)) (is_short e && is_short n) h in
-    let q = both (is_short e) (is_short n) p.1 in
+    let p = and_parts (is_key_len (length k)) (is_short e && is_short n) h in
+    let q = and_parts (is_short e) (is_short n) p.1 in
     (key_there k p.0, (short_there e q.0, short_there n q.1))
-
-pub range_cas : (k : List ℕ) (e n : Option (List ℕ)) → IsInRange (Cas k e n) → (is_key_len (length k) && (is_short e && is_short n)) ≡ true
-range_cas k e n h = both_true (key_from k h.0) (both_true (short_from e h.1.0) (short_from n h.1.1))
 
 cas_cut : (k run : List ℕ) (e n : Option (List ℕ)) → run ≡ k ++ (part_bytes e ++ part_bytes n) → cut op.Cas run (length k) 0 ≡ parts_of (Cas k e n)
 cas_cut k run e n is =
@@ -223,10 +192,6 @@ opaque_err p l b o e is X h =
     let exact = opaque_in p l b is in
     (λ x. exact.0 (sym turn ∙ h.0 x), λ n. h.1 (turn ∙ exact.1 n))
 
-pub nonempty : (l : List ℕ) → (length l ≡ 0 → ⊥) → key_if_any l ≡ Some l
-nonempty [] n = absurd (n refl)
-nonempty (x ∷ xs) n = refl
-
 -- a comparison's body is one
 pub cas_body : (s : Command) → are_parts (parts_of s) ≡ true → (parts_of s).op ≡ op.Cas → is_comparison (parts_of s).body ≡ true
 cas_body s e is = let p = parts_of s in let f = fits p.op p.first p.second p.body e in subst (λ o. body_said o p.body ≡ true) is f.said
@@ -258,9 +223,6 @@ false_where : (t : Bool) → (t ≡ true → ⊥) → false ≡ t
 false_where true h = absurd (h refl)
 false_where false h = refl
 
-pub no_first : (b : List ℕ) → IsPartLen b None → false ≡ is_comparison b
-no_first b none = false_where (is_comparison b) (λ is. begins b none is)
-
 pub no_second : (b r : List ℕ) (n : ℕ) → IsPartLen b (Some n) → r ≡ drop n b → IsPartLen r None → false ≡ is_comparison b
 no_second b r n some e none = false_where (is_comparison b) (λ is. goes_on b n some (subst (λ x. IsPartLen x None) e none) is)
 
@@ -285,10 +247,6 @@ both_there b r n m first e second =
     both_ways (eqb (n + m) (length b)) (is_comparison b)
     (λ is. compares_from b (whole_then b n m first there (eqb-true (n + m) (length b) is)))
     (λ is. eq-eqb (n + m) (length b) (then_whole b n m first there (compares b is)))
-
--- neither is missing
-pub first_there : {X : Type 0} (b : List ℕ) → is_comparison b ≡ true → IsPartLen b None → X
-first_there b is none = begins b none is
 
 pub second_there : {X : Type 0} (b r : List ℕ) (n : ℕ) → is_comparison b ≡ true → IsPartLen b (Some n) → r ≡ drop n b → IsPartLen r None → X
 second_there b r n is some e none = goes_on b n some (subst (λ x. IsPartLen x None) e none) is

@@ -1,10 +1,10 @@
 -- The union of two rising lists is rising.
-use Rattle.std.proofs.Common.{◌≡◌, ℕ, ◌<◌, ◌≤◌, ◌⊎◌, List, [], ◌∷◌, ◌++◌, ◌-◌, length, take, drop, refl, sym, ap, subst, arith, inl, inr}
+use Rattle.std.proofs.Common.{◌≡◌, ℕ, ◌<◌, ◌≤◌, ◌⊎◌, List, [], ◌∷◌, ◌++◌, ◌-◌, length, take, drop, refl, sym, ap, subst, inl, inr}
 use Rattle.std.specs.Ordering.{nat_cmp, MatchOrdering}
 use Rattle.std.specs.declared.cmp.Ordering.{Ordering}
 use Rattle.std.specs.declared.cmp.Ordering.TheVariants.{Less, Equal, Greater}
 use Rattle.std.proofs.lemmas.Cmp.{ranked}
-use Rattle.std.proofs.lemmas.List.{append-nil, length-drop, take_all}
+use Rattle.std.proofs.lemmas.List.{append-nil, take_rest}
 use Rattle.std.proofs.Math.ListN.{drop_of_length-le}
 use Rattle.ep_base.specs.Deps.{IsBelowFirst, IsRising, union, union_from, by_order}
 
@@ -17,13 +17,10 @@ union-ends : (done : List ℕ) (a b : List ℕ) (i j : ℕ) → (length a ≤ i)
 union-ends done a b i j (inl h) = rw (drop_of_length-le a h, append-nil) refl
 union-ends done a b i j (inr h) = rw (drop_of_length-le b h, union-nil, append-nil) refl
 
-whole : (a : List ℕ) (i : ℕ) → take (length a - i) (drop i a) ≡ drop i a
-whole a i = take_all (length a - i) (drop i a) (omega (arith, length-drop i a))
-
 -- the same as code writes the ends
 pub union-ended : (done : List ℕ) (a b : List ℕ) (i j : ℕ) → (length a ≤ i) ⊎ (length b ≤ j)
     → (done ++ take (length a - i) (drop i a)) ++ take (length b - j) (drop j b) ≡ done ++ union (drop i a) (drop j b)
-union-ended done a b i j h = rw (whole a i, whole b j) (sym (union-ends done a b i j h))
+union-ended done a b i j h = rw (take_rest a i, take_rest b j) (sym (union-ends done a b i j h))
 
 both_below : (i : ℕ) (a b : List ℕ) → IsBelowFirst i a → IsBelowFirst i b → IsBelowFirst i (union a b)
 both_below i [] b h k = k

@@ -1,7 +1,6 @@
 -- Versions and their numbers, what the later one has, and how many dependencies there are.
-use Rattle.std.proofs.Common.{◌≡◌, ℕ, ◌+◌, ◌*◌, ◌<◌, ◌≤◌, Bool, true, false, cond, eqb, List, [], ◌∷◌, Option, Some, None, length, refl, sym, true≢false, not, arith}
+use Rattle.std.proofs.Common.{◌≡◌, ℕ, ◌+◌, ◌*◌, ◌<◌, ◌≤◌, Bool, true, false, List, [], ◌∷◌, Option, Some, None, length, refl, sym, true≢false, not, arith}
 use Rattle.std.specs.Prelude.{◌||◌}
-use Rattle.std.proofs.lemmas.Bool.{eqb-true}
 use Rattle.ep_base.specs.Deps.{IsRising, AreInstances, most_deps}
 use Rattle.ep_base.specs.Instances.{leader_of, number_of, IsInstance}
 use Rattle.ep_base.specs.Interference.{is_swap, is_late, is_long}
@@ -18,14 +17,6 @@ pub version_again : (v : Version) → version_of (version_number v) (generation_
 version_again V1 = refl
 version_again V2 = refl
 version_again (V3 g) = refl
-
-pub version_found : (n g : ℕ) → (eqb n 1 || eqb n 2) ≡ true → version_number (version_of n g) ≡ n
-version_found n g e = go (eqb n 1) (eqb n 3) refl refl e
-  where
-    go : (a b : Bool) → eqb n 1 ≡ a → eqb n 3 ≡ b → (a || eqb n 2) ≡ true → version_number (cond a V1 (cond b (V3 g) V2)) ≡ n
-    go true b is third e = sym (eqb-true n 1 is)
-    go false true is third e = sym (eqb-true n 3 third)
-    go false false is third e = sym (eqb-true n 2 e)
 
 -- A later version has all that an earlier one has.
 
@@ -100,3 +91,13 @@ pub length_in : (v : Version) (is : List ℕ) → IsRising is → AreInstances i
 length_in V1 is h k few e = length_in_first is h k e
 length_in V2 is h k few e = few
 length_in (V3 g) is h k few e = few
+
+pub version_low : (v : Version) → version_number v ≤ 3
+version_low V1 = omega arith
+version_low V2 = omega arith
+version_low (V3 g) = omega arith
+
+pub highest_low : (v : Version) → highest_in v ≤ 2000
+highest_low V1 = omega arith
+highest_low V2 = omega arith
+highest_low (V3 g) = omega arith

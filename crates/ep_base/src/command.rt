@@ -16,6 +16,7 @@ use crate::command_fault::CommandFault;
 use crate::command_view::{CommandView, Touching};
 use crate::comparison::{comparison_run, expected_and_new, is_comparison, is_short};
 use crate::op::{Op, is_key_len, is_same_op};
+use crate::value::Value;
 use bytes::Bytes;
 use std::alloc::{AllocError, Global};
 use std::marker::Model;
@@ -351,7 +352,7 @@ impl Command {
     pub fn is_long(&self) -> bool
         ensures { result ≡ is_long self.now }
     {
-        matches!(self.op, Op::Put) && 1024 < self.body().len()
+        matches!(self.op, Op::Put) && Value::LONGEST_EARLY < self.body().len()
     }
 
     /// Whether the command is a seal.

@@ -5,6 +5,7 @@ ghost use Rattle.std.specs.Option.{option_copied};
 ghost use Rattle.ep_base.specs.Parts.{part_bytes, part_at, expected_in, new_in, is_comparison, is_short, IsShort, IsPartLen};
 ghost use Rattle.ep_base.specs.Values.{most_value};
 
+use crate::value::Value;
 use bytes::Bytes;
 use std::alloc::{AllocError, Global};
 
@@ -66,7 +67,7 @@ pub(crate) fn is_short(part: Option<&[u8]>) -> bool
 {
     match part {
         None => true,
-        Some(value) => value.len() <= 65535,
+        Some(value) => value.len() <= Value::LONGEST,
     }
 }
 

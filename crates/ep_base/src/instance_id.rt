@@ -38,12 +38,15 @@ impl Default for InstanceId {
 }
 
 impl InstanceId {
+    /// The highest number of an instance in any version.
+    pub const HIGHEST_NUMBER: u16 = 2000;
+
     /// The instance of this number; `OutOfRange` unless it is 1 to 2,000.
     pub fn new(replica: ReplicaId, number: u16) -> Result<InstanceId, OutOfRange>
         ensures in_range { IsOk result ↔ ((1 ≤ number) × (number ≤ highest_number)) }
         ensures value { IfOk result (λ i. i ≡ instance_of replica number) }
     {
-        if number == 0 || number > 2000 {
+        if number == 0 || number > InstanceId::HIGHEST_NUMBER {
             return Err(OutOfRange);
         }
         Ok(InstanceId {
@@ -57,7 +60,7 @@ impl InstanceId {
         ensures value { IfOk result (λ i. i ≡ place) }
     {
         let number = place % 65536;
-        if place >= 458_752 || number == 0 || number > 2000 {
+        if place >= 458_752 || number == 0 || number > InstanceId::HIGHEST_NUMBER as u32 {
             return Err(OutOfRange);
         }
         Ok(InstanceId { place })

@@ -24,12 +24,15 @@ impl Model for Key {
 }
 
 impl Key {
+    /// How many bytes a key has at most.
+    pub const LONGEST: usize = 255;
+
     /// The key of these bytes; `OutOfRange` unless they are 1 to 255.
     pub fn new(alloc: Global, bytes: &[u8]) -> Result<Key, CommandFault>
         ensures ok { IfOk result (λ k. k ≡ bytes.now) }
         ensures out_of_range { result ≡ Err CommandFault.OutOfRange ↔ ((length bytes.now ≡ 0) ⊎ (255 < length bytes.now)) }
     {
-        if bytes.is_empty() || bytes.len() > 255 {
+        if bytes.is_empty() || bytes.len() > Key::LONGEST {
             return Err(CommandFault::OutOfRange);
         }
         let bytes = Vec::from_slice(alloc, bytes).map_err(|_| CommandFault::Memory)?;

@@ -77,5 +77,5 @@ pub use stamp::Stamp;
 pub use value::Value;
 pub use version::Version;
 pub use version_kind::VersionKind;
-pub use vote::{Status, Vote};
+pub use vote::{Vote, VoteStatus};
 pub use write_failed::WriteFailed;

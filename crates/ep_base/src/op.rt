@@ -3,6 +3,9 @@
 ghost use Rattle.std.specs.Prelude.{◌≡◌, ◌≤◌, ◌↔◌, IsTrue, IfSome, IsSome};
 ghost use Rattle.ep_base.specs.Ops.{op_number, reads, first_fits, second_fits, body_fits, is_key_len, is_comparison_len};
 
+use crate::key::Key;
+use crate::value::Value;
+
 /// What a command does. Its number is 1 to 9, in the order that they stand in here.
 #[derive(Clone, Copy, Debug, PartialEq, Eq)]
 pub enum Op {
@@ -91,7 +94,7 @@ impl Op {
     {
         match self {
             Op::Swap => is_key_len(len),
-            Op::Ask | Op::Act => len <= 255,
+            Op::Ask | Op::Act => len <= Key::LONGEST,
             Op::Noop | Op::Get | Op::Put | Op::Del | Op::Cas | Op::Seal => len == 0,
         }
     }
@@ -103,7 +106,7 @@ impl Op {
         ensures { result ≡ body_fits self len }
     {
         match self {
-            Op::Put | Op::Ask | Op::Act | Op::Seal => len <= 65535,
+            Op::Put | Op::Ask | Op::Act | Op::Seal => len <= Value::LONGEST,
             Op::Cas => is_comparison_len(len),
             Op::Noop | Op::Get | Op::Del | Op::Swap => len == 0,
         }
@@ -115,7 +118,7 @@ impl Op {
 pub(crate) fn is_key_len(len: usize) -> bool
     ensures { result ≡ is_key_len len }
 {
-    1 <= len && len <= 255
+    1 <= len && len <= Key::LONGEST
 }
 
 fn is_comparison_len(len: usize) -> bool

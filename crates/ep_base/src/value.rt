@@ -26,12 +26,18 @@ impl Model for Value {
 }
 
 impl Value {
+    /// How many bytes a value has at most.
+    pub const LONGEST: usize = 65_535;
+
+    /// How many it has at most in versions 1 and 2.
+    pub const LONGEST_EARLY: usize = 1_024;
+
     /// The value of these bytes; `OutOfRange` where they are more than 65,535.
     pub fn new(alloc: Global, bytes: &[u8]) -> Result<Value, CommandFault>
         ensures ok { IfOk result (λ v. v ≡ bytes.now) }
         ensures out_of_range { result ≡ Err CommandFault.OutOfRange ↔ (most_value < length bytes.now) }
     {
-        if bytes.len() > 65535 {
+        if bytes.len() > Value::LONGEST {
             return Err(CommandFault::OutOfRange);
         }
         let bytes = Vec::from_slice(alloc, bytes).map_err(|_| CommandFault::Memory)?;

@@ -6,6 +6,7 @@ ghost use Rattle.ep_base.specs.Versions.{version_number, generation_of, version_
 
 use crate::command::Command;
 use crate::generation::Generation;
+use crate::instance_id::InstanceId;
 use crate::version_kind::VersionKind;
 use std::marker::Model;
 
@@ -109,7 +110,7 @@ impl Version {
     {
         match self.kind {
             VersionKind::V1 => 1000,
-            VersionKind::V2 | VersionKind::V3(_) => 2000,
+            VersionKind::V2 | VersionKind::V3(_) => InstanceId::HIGHEST_NUMBER,
         }
     }
 

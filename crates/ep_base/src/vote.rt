@@ -8,7 +8,7 @@ use std::alloc::{AllocError, Global};
 
 /// How far a vote goes (EPaxos, section 4.3).
 #[derive(Clone, Copy, Debug, PartialEq, Eq)]
-pub enum Status {
+pub enum VoteStatus {
     PreAccepted,
     Accepted,
     Committed,
@@ -17,7 +17,7 @@ pub enum Status {
 /// What a replica last voted for in an instance, and at which ballot (Sutra, 2019: the last ballot in which it voted).
 #[derive(Drop)]
 pub struct Vote {
-    pub status: Status,
+    pub status: VoteStatus,
     pub ballot: Ballot,
     pub decree: Decree,
 }

@@ -5,12 +5,12 @@ use Rattle.ep_journal.specs.Entries.{Collected}
 use Rattle.ep_view.specs.Handled.{is_in, is_handled, AreHandled}
 use Rattle.ep_view.specs.Shown.{IsInOrder}
 use Rattle.ep_view.specs.declared.handled.Handled.{Handled}
-use Rattle.ep_view.specs.declared.part.Part.{Part}
+use Rattle.ep_view.specs.declared.selection.Selection.{Selection}
 use Rattle.ep_browser.specs.Events.{edition_event}
 use Rattle.ep_browser.specs.Files.{events_at, file_text, IsTraceFile}
 
 pub is_traced :
-    (c : Collected) (part : Part) (h : Handled) (all : List (ℕ × ℕ)) (text : List ℕ) → AreHandled c h → IsInOrder c all →
+    (c : Collected) (part : Selection) (h : Handled) (all : List (ℕ × ℕ)) (text : List ℕ) → AreHandled c h → IsInOrder c all →
     text ≡ file_text (size c.faults) (edition_event c.version c.opening) (events_at (is_in h) part c all) → IsTraceFile c part text
 is_traced c part h all text are ordered is =
     record { all = all; ordered = ordered; is = is ∙ ap (λ (f : List ℕ → Bool). file_text (size c.faults) (edition_event c.version c.opening) (events_at f part c all)) (λ i b. are b i) }

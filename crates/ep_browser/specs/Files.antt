@@ -7,7 +7,7 @@ use Rattle.ep_view.specs.Handled.{is_handled}
 use Rattle.ep_audit.specs.Lookups.{entry_at}
 use Rattle.ep_view.specs.Shown.{IsInOrder}
 use Rattle.ep_view.specs.Kept.{keeps}
-use Rattle.ep_view.specs.declared.part.Part.{Part}
+use Rattle.ep_view.specs.declared.selection.Selection.{Selection}
 use Rattle.ep_browser.specs.Events.{entry_events, process_text, first_event, edition_event}
 
 -- the processes of the replicas below n
@@ -15,7 +15,7 @@ abbrev pub processes : ℕ → List ℕ
 processes zero = []
 processes (suc n) = processes n ++ process_text n
 
-module _ (handled : List ℕ → Bool) (part : Part) where
+module _ (handled : List ℕ → Bool) (part : Selection) where
   -- the events of an entry, if it is asked for
   abbrev pub events_of : ℕ → Option Entry → List ℕ
   events_of r None = []
@@ -34,7 +34,7 @@ abbrev pub file_text : ℕ → List ℕ → List ℕ → List ℕ
 file_text n edition events = opening n ++ edition ++ events ++ codes "\n]}\n"
 
 -- the file has the journals' edition, and the events of each entry that is asked for, in the order of the journals' schedule
-pub record IsTraceFile (c : Collected) (part : Part) (text : List ℕ) : Type 0 where
+pub record IsTraceFile (c : Collected) (part : Selection) (text : List ℕ) : Type 0 where
   pub all : List (ℕ × ℕ)
   pub ordered : IsInOrder c all
   pub is : text ≡ file_text (size c.faults) (edition_event c.version c.opening) (events_at (is_handled c) part c all)

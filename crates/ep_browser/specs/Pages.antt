@@ -3,7 +3,7 @@ use Rattle.std.specs.Prelude.{◌≡◌, ℕ, List, ◌++◌}
 use Rattle.ep_journal.specs.Entries.{Collected}
 use Rattle.ep_browser.specs.Strings.{string_text, IsString}
 use Rattle.ep_view.specs.Shown.{IsShown}
-use Rattle.ep_view.specs.declared.part.Part.{Part}
+use Rattle.ep_view.specs.declared.selection.Selection.{Selection}
 use Rattle.ep_browser.specs.declared.parts.TheConstants.{HEAD, TAIL}
 
 -- words as a string between the fixed parts
@@ -11,7 +11,7 @@ unfoldable pub page_text : List ℕ → List ℕ
 page_text shown = HEAD.now ++ string_text shown ++ TAIL.now
 
 -- what is shown of the part of the journals stands in the page, as a string that ends no script
-pub record IsPage (c : Collected) (part : Part) (text : List ℕ) : Type 0 where
+pub record IsPage (c : Collected) (part : Selection) (text : List ℕ) : Type 0 where
   pub shown : List ℕ
   pub is_shown : IsShown c part shown
   pub is : text ≡ page_text shown

@@ -13,14 +13,14 @@ use crate::events::{push_edition_event, push_first, push_process};
 use ep_audit::entry_at;
 use ep_base::ReplicaId;
 use ep_journal::{Entry, Journals};
-use ep_view::{Handled, Part, schedule};
+use ep_view::{Handled, Selection, schedule};
 use std::alloc::{AllocError, Global};
 
 // Appends the events of an entry, if it is asked for.
 fn push_kept(
     text: &mut Vec<u8>,
     handled: &Handled,
-    part: &Part,
+    part: &Selection,
     replica: ReplicaId,
     entry: &Entry,
 ) -> Result<(), AllocError>
@@ -37,7 +37,7 @@ fn push_place(
     text: &mut Vec<u8>,
     journals: &Journals,
     handled: &Handled,
-    part: &Part,
+    part: &Selection,
     place: &(ReplicaId, u32),
 ) -> Result<(), AllocError>
     requires { AreJournals journals.now }
@@ -55,7 +55,7 @@ fn push_entries(
     text: &mut Vec<u8>,
     journals: &Journals,
     handled: &Handled,
-    part: &Part,
+    part: &Selection,
     places: &[(ReplicaId, u32)],
 ) -> Result<(), AllocError>
     requires { AreJournals journals.now }
@@ -90,7 +90,7 @@ fn push_file(
     text: &mut Vec<u8>,
     journals: &Journals,
     handled: &Handled,
-    part: &Part,
+    part: &Selection,
     places: &[(ReplicaId, u32)],
 ) -> Result<(), AllocError>
     requires { AreJournals journals.now }
@@ -108,7 +108,11 @@ fn push_file(
 /// where a frame is sent that no entry of any journal handles. Of journals of version 3 a label of the first process tells their generation
 /// and what they begin with.
 #[tactic(auto, using(crate::proofs::Traced::is_traced))]
-pub fn trace_events(alloc: Global, journals: &Journals, part: &Part) -> Result<Vec<u8>, AllocError>
+pub fn trace_events(
+    alloc: Global,
+    journals: &Journals,
+    part: &Selection,
+) -> Result<Vec<u8>, AllocError>
     ensures { IfOk result (λ text. IsTraceFile journals.now part.now text.items) }
 {
     journals.are_journals();

@@ -1,7 +1,6 @@
 pub mod Readings
 pub mod Filled
 pub mod Loops
-pub mod Spelled
 pub mod Next
 pub mod Comparing
 pub mod Compared
@@ -32,3 +31,8 @@ pub mod ReadJournals
 pub mod ReadHeaders
 pub mod MapBytes
 pub mod ReadBundles
+mod Counts
+mod Each
+mod Frames
+mod Places
+mod Reread

@@ -1,11 +1,11 @@
 -- Reading the keys of a map, one after the other.
-use Rattle.std.proofs.Common.{◌≡◌, ℕ, zero, suc, ◌+◌, ◌-◌, ◌≤◌, ◌<◌, List, [], ◌∷◌, ◌++◌, length, length-append, Option, Some, Result, Ok, Err, refl, sym, ap, ◌∙◌, subst, arith}
+use Rattle.std.proofs.Common.{◌≡◌, ℕ, suc, ◌+◌, ◌-◌, ◌≤◌, ◌<◌, List, [], ◌∷◌, ◌++◌, length, length-append, Option, Some, Result, Ok, Err, refl, sym, ap, ◌∙◌, arith}
 use Rattle.std.specs.Prelude.{IsErrAnd}
 use Rattle.std.specs.FinMap.{entries, from_sorted}
 use Rattle.ep_rules.specs.OneMap.{Contents, empty}
 use Rattle.ep_exec.proofs.Rising.{none_listed}
 use Rattle.ep_bundle.specs.Headers.{Pair, contents, pair, pairs}
-use Rattle.ep_bundle.specs.Reading.{Left, Reading, Reads, and_then}
+use Rattle.ep_bundle.specs.Reading.{Reading, Reads, and_then}
 use Rattle.ep_bundle.specs.declared.bundle_fault.BundleFault.{BundleFault}
 use Rattle.ep_bundle.proofs.Loops.{one_more}
 use Rattle.ep_bundle.proofs.Readings.{fails, same_reading}
@@ -64,8 +64,3 @@ all_filled n k m p0 p left0 left le g zs h =
       ap (λ (o : Reading (List Pair)). and_then o (λ es l. Ok (from_sorted es, l))) (i.2 ∙ ap (λ n. pairs n (entries m) (record { at = p; bytes = i.0 })) none)
           ∙ ap (λ (x : Contents). Ok (x, record { at = p; bytes = i.0 })) (map_again m),
     )
-
--- one list ends with one pair
-pub same_pair : (es : List Pair) (d e : Pair) → es ++ d ∷ [] ≡ es ++ e ∷ [] → d ≡ e
-same_pair [] d e is = cc
-same_pair (x ∷ es) d e is = same_pair es d e (let t : es ++ d ∷ [] ≡ es ++ e ∷ [] = (cc) in t)

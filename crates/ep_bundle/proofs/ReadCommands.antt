@@ -1,6 +1,6 @@
 -- Commands: each took its own bytes, the lengths as its version tells them and the parts as all do.
-use Rattle.std.proofs.Common.{◌≡◌, ℕ, ◌+◌, ◌≤◌, ◌<◌, ◌^◌, Bool, true, false, ◌&&◌, not, cond, leb, List, [], ◌∷◌, ◌++◌, length, length-append, append-nil, append_assoc, Option, Some, None, Result, Ok, Err, refl, sym, ap, ◌∙◌, subst, arith}
-use Rattle.std.proofs.lemmas.Bool.{leb-true}
+use Rattle.std.proofs.Common.{◌≡◌, ℕ, ◌+◌, ◌≤◌, Bool, true, false, ◌&&◌, not, cond, leb, List, [], ◌++◌, length, length-append, append-nil, append_assoc, Option, Some, None, Result, Ok, Err, refl, sym, ap, ◌∙◌, subst, arith}
+use Rattle.std.proofs.lemmas.Bool.{leb-true, and_parts}
 use Rattle.ep_base.specs.Commands.{Command}
 use Rattle.ep_base.specs.Ops.{op_number, first_fits, second_fits, body_fits}
 use Rattle.ep_base.specs.Parts.{Parts, parts_of, command_of, command_in, command_with, are_parts, is_twice, body_said}
@@ -21,11 +21,7 @@ use Rattle.ep_bundle.specs.declared.bundle_fault.BundleFault.{BundleFault}
 use Rattle.ep_bundle.specs.declared.bundle_fault.BundleFault.TheVariants.{BadBundle}
 use Rattle.ep_bundle.specs.declared.lengths.Lengths.{Lengths}
 use Rattle.ep_bundle.proofs.Readings.{fails, goes_on}
-use Rattle.ep_bundle.proofs.ReadNumbers.{Gives, Comes, Ranges, done, step, last, other, whole, choice, refused, run_gives, number_gives, field_gives}
-
-both_true : (a b : Bool) → (a && b) ≡ true → (a ≡ true) × (b ≡ true)
-both_true true b e = (refl, e)
-both_true false b e = absurd (cc)
+use Rattle.ep_bundle.proofs.ReadNumbers.{Gives, Comes, done, step, last, other, whole, choice, refused, run_gives, number_gives, field_gives}
 
 -- a number, and a run, that are allowed
 
@@ -40,9 +36,6 @@ allowed_run_gives n holds l h =
     (λ b m p k. choice (holds b) (Ok (b, m)) (Err (BadBundle l.at)) (λ e. done b (append-nil b, (p.0, e))) (λ e. refused (BadBundle l.at))))
 
 -- the op
-
-pub ops_low : (v : Version) → highest_op v ≤ 9
-ops_low v = op_low v
 
 pub op_is : (o : Op) (n : ℕ) → n ≡ op_number o → o ≡ op_of n
 op_is o n is = sym (op_again o) ∙ sym (ap op_of is)
@@ -77,11 +70,11 @@ pub record IsOther (v : Version) (o : Op) (k : ℕ) (s : Lengths) : Type 0 where
 -- the lengths that a command of version 1 or 2 tells are of its parts
 pub early_lengths_are : (o : Op) (k n : ℕ) → first_fits o k ≡ true → early_fits o n ≡ true → AreLengths (record { op = o; first = k; second = second_in o n; body = body_in o n })
 early_lengths_are o k n h e =
-    let p = both_true (second_fits o (second_in o n)) (leb (body_in o n) 1024 && body_fits o (body_in o n)) e in
-    (h, p.0, (both_true (leb (body_in o n) 1024) (body_fits o (body_in o n)) p.1).1)
+    let p = and_parts (second_fits o (second_in o n)) (leb (body_in o n) 1024 && body_fits o (body_in o n)) e in
+    (h, p.0, (and_parts (leb (body_in o n) 1024) (body_fits o (body_in o n)) p.1).1)
 
 pub early_second : (o : Op) (n : ℕ) → early_fits o n ≡ true → second_in o n ≤ 255
-early_second o n e = second_high o (second_in o n) (both_true (second_fits o (second_in o n)) (leb (body_in o n) 1024 && body_fits o (body_in o n)) e).0
+early_second o n e = second_high o (second_in o n) (and_parts (second_fits o (second_in o n)) (leb (body_in o n) 1024 && body_fits o (body_in o n)) e).0
 
 divided : (b : Bool) (n : ℕ) → n ≡ cond b 0 n + cond b n 0
 divided true n = omega arith
@@ -92,8 +85,8 @@ early_gives : (v : Version) (o : Op) (k : ℕ) (l : Left) → ((s : Lengths) →
 early_gives v o k l told short h =
     whole (step (allowed 2 (early_fits o) l) (λ n m. Ok (record { op = o; first = k; second = second_in o n; body = body_in o n }, m)) h (allowed_gives 2 wide2 (early_fits o) l h)
     (λ n m p hm.
-    let e = both_true (second_fits o (second_in o n)) (leb (body_in o n) 1024 && body_fits o (body_in o n)) p in
-    let f = both_true (leb (body_in o n) 1024) (body_fits o (body_in o n)) e.1 in
+    let e = and_parts (second_fits o (second_in o n)) (leb (body_in o n) 1024 && body_fits o (body_in o n)) p in
+    let f = and_parts (leb (body_in o n) 1024) (body_fits o (body_in o n)) e.1 in
     let s : Lengths = record { op = o; first = k; second = second_in o n; body = body_in o n } in
     done s (
       append-nil (number_bytes 2 n) ∙ ap (λ x. number_bytes 2 x) (divided (second_fits o 0) n) ∙ told s,

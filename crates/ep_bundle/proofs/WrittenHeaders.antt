@@ -1,5 +1,5 @@
 -- What is written is read back: what stands before a bundle's journals.
-use Rattle.std.proofs.Common.{◌≡◌, inl, inr, ℕ, zero, suc, ◌+◌, ◌/◌, ◌^◌, ◌<◌, ◌≤◌, T, Bool, true, false, ◌&&◌, ◌||◌, cond, eqb, List, [], ◌∷◌, ◌++◌, length, Ok, Err, refl, sym, ap, subst, ◌∙◌, append_assoc, arith}
+use Rattle.std.proofs.Common.{◌≡◌, inl, inr, ℕ, suc, ◌+◌, ◌/◌, ◌^◌, ◌<◌, ◌≤◌, Bool, true, ◌&&◌, ◌||◌, cond, eqb, List, [], ◌∷◌, ◌++◌, length, Ok, Err, refl, sym, ap, subst, ◌∙◌, append_assoc, arith}
 use Rattle.std.specs.FinMap.{entries, entries_sorted, from_sorted, is_sorted, same_entries_map}
 use Rattle.std.specs.FinMap.Entries.{below_all}
 use Rattle.std.specs.List.{flat_map}
@@ -11,12 +11,14 @@ use Rattle.ep_base.specs.Values.{most_value}
 use Rattle.ep_base.specs.Versions.{version_number}
 use Rattle.ep_base.specs.declared.version.Version.{Version}
 use Rattle.ep_base.specs.declared.version_kind.VersionKind.TheVariants.{V1, V2, V3}
+use Rattle.ep_base.proofs.Tests.{true_of}
+use Rattle.ep_base.proofs.Versions.{version_low}
 use Rattle.ep_exec.proofs.Rising.{list_is}
 use Rattle.ep_exec.specs.Bytes.{contents_bytes, pair_bytes}
 use Rattle.ep_exec.specs.Table.{key_cmp}
 use Rattle.ep_frame.specs.Fields.{number_bytes}
 use Rattle.ep_journal.specs.Openings.{Opening, OpensIn}
-use Rattle.ep_rules.specs.OneMap.{Contents, empty}
+use Rattle.ep_rules.specs.OneMap.{Contents}
 use Rattle.ep_bundle.specs.Bytes.{edition_bytes, header_bytes, magic, map_bytes}
 use Rattle.ep_bundle.specs.Headers.{Pair, cluster, contents, edition, header, key_above, map_in, pair, pairs}
 use Rattle.ep_bundle.specs.Reading.{Left, Reading, and_then, field, number, run}
@@ -27,6 +29,7 @@ use Rattle.ep_bundle.specs.declared.bundle_fault.BundleFault.TheVariants.{BadBun
 use Rattle.ep_bundle.proofs.MapBytes.{pair_is, contents_are}
 use Rattle.ep_bundle.proofs.ReadHeaders.{Rises, same_key}
 use Rattle.ep_bundle.proofs.WrittenStages.{Gives, then_gives, made_of, numbered, fielded, ran, respelled}
+use Rattle.ep_bundle.proofs.WrittenParts.{group4}
 
 -- keys
 
@@ -47,9 +50,6 @@ key_given es n key len rise at rest =
       ap (λ (o : Reading (List ℕ)). and_then o (λ k l. cond (is_sorted key_cmp (es ++ (k, []) ∷ [])) (Ok (k, l)) (Err (BadBundle at)))) p.1
           ∙ ap (λ (b : Bool). cond b (Ok (key, record { at = p.0; bytes = rest })) (Err (BadBundle at))) rise,
     )
-
-group4 : (a b c d : List ℕ) → a ++ (b ++ (c ++ d)) ≡ a ++ b ++ c ++ d
-group4 a b c d = simp append_assoc
 
 pair_given : (es : List Pair) (e : Pair) → PairTyped e → Rises (es ++ e ∷ []) → Gives (pair es) (pair_bytes e) e
 pair_given es e t rise =
@@ -81,12 +81,8 @@ pairs_given before (e ∷ items) t rise =
 
 -- maps
 
-is_true : (b : Bool) → T b → b ≡ true
-is_true true h = refl
-is_true false h = absurd h
-
 rising : (m : Contents) → Rises (entries m)
-rising m = is_true (is_sorted key_cmp (entries m)) (entries_sorted m)
+rising m = true_of (is_sorted key_cmp (entries m)) (entries_sorted m)
 
 pub map_again : (m : Contents) → from_sorted (entries m) ≡ m
 map_again m = same_entries_map (from_sorted (entries m)) m (list_is (entries m) (rising m))
@@ -126,11 +122,6 @@ numbers_low V1 = omega arith
 numbers_low V2 = omega arith
 numbers_low (V3 g) = omega arith
 
-numbers_high : (v : Version) → version_number v ≤ 3
-numbers_high V1 = omega arith
-numbers_high V2 = omega arith
-numbers_high (V3 g) = omega arith
-
 edition_given : (v : Version) (o : Opening) → HasItsGeneration v → OpensIn v o → o.since ≤ 281474976710655 → Gives (edition (version_number v)) (edition_bytes v o.since) (v, o.since)
 edition_given V1 o generation opens high = λ at rest. (at, ap (λ (p : Opening). Ok ((V1, p.since), record { at = at; bytes = rest })) (sym opens))
 edition_given V2 o generation opens high = λ at rest. (at, ap (λ (p : Opening). Ok ((V2, p.since), record { at = at; bytes = rest })) (sym opens))
@@ -159,7 +150,7 @@ headed v o f k low high lt generation opens fits typed =
     let h : BundleHeader = record { version = v; cluster = f; opening = o; receipts = k } in
     let n = version_number v in
     let least : 1 ≤ n = numbers_low v in
-    let most : n ≤ 3 = numbers_high v in
+    let most : n ≤ 3 = version_low v in
     respelled header (a ++ (b ++ (c ++ (d ++ (e ++ m))))) (header_bytes v o (size f) k) h (group6 a b c d e m)
     (then_gives (field 4 magic magic) (λ x l. and_then (field 1 1 3 l) (λ n l. and_then (cluster l) (λ f l. and_then (edition n l) (λ w l. and_then (number 4 l) (λ k l. and_then (map_in w.0 l) (λ m l. Ok (made w f k m, l)))))))
     a (b ++ (c ++ (d ++ (e ++ m)))) magic h (fielded 4 magic magic magic (omega arith) (omega arith) (omega arith))

@@ -12,3 +12,4 @@ pub mod Contents
 pub mod WriteRanges
 pub mod WriteLaws
 pub mod ReadLaws
+pub mod Respelled

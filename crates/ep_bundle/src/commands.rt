@@ -26,7 +26,7 @@ fn highest_op(version: Version) -> u8
 }
 
 /// The number of an op of a command of the version; a no-op, which is 1, isn't proposed.
-#[tactic(auto, using(crate::proofs::ReadCommands::ops_low))]
+#[tactic(auto, using(ep_frame::proofs::Saying::op_low))]
 fn read_op_number<S: Source>(
     source: &mut S,
     place: &mut u64,

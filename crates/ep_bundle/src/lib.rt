@@ -31,7 +31,10 @@ mod parts;
 mod putting;
 mod read_laws;
 mod receipts;
+mod respelled_writing;
+mod respelling;
 mod room;
+mod upgrading;
 mod write_laws;
 mod writing;
 
@@ -52,6 +55,7 @@ pub use parts::read_instance;
 pub use putting::{put_run, put_u8, put_u16, put_u32, put_u64};
 pub use read_laws::{bundles_are_canonical, entries_are_canonical, journals_are_canonical};
 pub use receipts::read_receipt;
+pub use upgrading::in_third;
 pub use write_laws::{
     bundle_is_read_back, entries_are_read_back, journal_is_read_back, learn_entries, learn_entry,
     learn_fits, learn_opening,

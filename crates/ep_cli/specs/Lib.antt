@@ -1,3 +1,6 @@
-pub mod Outputs
-pub mod Lines
 pub mod Codes
+pub mod Endings
+pub mod Files
+pub mod Lines
+pub mod Outputs
+pub mod Printed

@@ -20,6 +20,14 @@ pub record Output : Type 0 where
 abbrev pub output : Option (List ℕ) → Option (List ℕ) → Bool → Bool → Output
 output before after had_failed failed = record { before = before; after = after; had_failed = had_failed; failed = failed }
 
+-- a sink that was this and is now that, by the bytes that one holds and whether one has failed
+abbrev pub became : {W : Type 0} → (W → Option (List ℕ)) → (W → Bool) → W → W → Output
+became held has_failed old new = output (held old) (held new) (has_failed old) (has_failed new)
+
+-- a source that was this and is now that
+abbrev pub turned : {S : Type 0} → (S → Bool) → S → S → Input
+turned has_failed old new = input (has_failed old) (has_failed new)
+
 -- these bytes were written, and nothing else
 abbrev pub Wrote : Output → List ℕ → Type 0
 Wrote o bytes = Appends o.before o.after bytes

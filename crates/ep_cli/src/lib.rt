@@ -1,15 +1,32 @@
-//! What the programs share: their words, the lines of their faults and how they end, and what contracts say of their outputs.
+//! What the programs share: their words and files, the standard streams, the lines of their faults and how they end, and what contracts say of
+//! their outputs.
 //!
-//! `ep_main` and `ep_viewer` call it. Start with specs/Outputs.antt (what was written, and which device failed) and specs/Lines.antt, which
-//! says each line, as docs/FORMATS.md, section 6, lists them.
+//! Each program is its table of commands above it. Start with `streams.rt` and specs/Outputs.antt (what was written, and which device
+//! failed), and specs/Lines.antt, which says each line, as docs/FORMATS.md, section 6, lists them.
 #![tactic(auto)]
 
+mod ahead;
 mod arguments;
-mod declined;
+mod endings;
+mod files;
+mod files_fault;
+mod made;
+mod printing;
+mod printout;
 mod status;
+mod streams;
 mod telling;
+mod words_fault;
 
+pub use ahead::{Ahead, read_ahead};
 pub use arguments::words;
-pub use declined::Declined;
+pub use endings::{decline, put_printout, told, turned_away};
+pub use files::{read_file, read_files, unread};
+pub use files_fault::FilesFault;
+pub use made::Made;
+pub use printing::{put_made, put_text};
+pub use printout::Printout;
 pub use status::Status;
-pub use telling::{tell_bad_bundle, tell_not_a_run, tell_script, tell_words};
+pub use streams::Streams;
+pub use telling::{tell_bad_bundle, tell_not_a_run, tell_number, tell_script, tell_words};
+pub use words_fault::WordsFault;

@@ -1,8 +1,8 @@
 //! Faults on the fault output.
 
-ghost use Rattle.std.specs.Prelude.{◌++◌, decimal};
+ghost use Rattle.std.specs.Prelude.{◌++◌};
 ghost use Rattle.ep_base.specs.Devices.{Puts};
-ghost use Rattle.ep_cli.specs.Lines.{command_line_refused, script_refused, bad_bundle, not_a_run};
+ghost use Rattle.ep_cli.specs.Lines.{command_line_refused, script_refused, bad_bundle, not_a_run, numbered};
 
 use ep_base::{ReplicaId, Sink, WriteFailed};
 use itoa::Buffer;
@@ -19,20 +19,14 @@ pub fn tell_words<F: Sink>(why: &str, sink: &mut F) -> Result<(), WriteFailed>
 pub fn tell_script<F: Sink>(line: u32, sink: &mut F) -> Result<(), WriteFailed>
     ensures { Puts (F.held sink.old) (F.held sink.new) (F.has_failed sink.old) (F.has_failed sink.new) result (script_refused line) }
 {
-    let mut digits = Buffer::new();
-    sink.put(b"script refused at line ")?;
-    sink.put(digits.format(line).as_bytes())?;
-    sink.put(b"\n")
+    tell_number(b"script refused at line ", line as u64, b"\n", sink)
 }
 
 /// Writes that a bundle is refused, whose field at this byte is its first at fault. It takes no memory.
 pub fn tell_bad_bundle<F: Sink>(offset: u64, sink: &mut F) -> Result<(), WriteFailed>
     ensures { Puts (F.held sink.old) (F.held sink.new) (F.has_failed sink.old) (F.has_failed sink.new) result (bad_bundle offset) }
 {
-    let mut digits = Buffer::new();
-    sink.put(b"bundle refused E12 at byte ")?;
-    sink.put(digits.format(offset).as_bytes())?;
-    sink.put(b"\n")
+    tell_number(b"bundle refused E12 at byte ", offset, b"\n", sink)
 }
 
 /// Writes that a bundle is refused, of which this entry of the replica is the first that isn't its next step. It takes no memory.
@@ -43,20 +37,26 @@ pub fn tell_not_a_run<F: Sink>(
 ) -> Result<(), WriteFailed>
     ensures { Puts (F.held sink.old) (F.held sink.new) (F.has_failed sink.old) (F.has_failed sink.new) result (not_a_run replica entry) }
 {
-    tell_place(
+    tell_number(
         b"bundle refused E11 at replica ",
-        u32::from(replica.index()),
+        u64::from(replica.index()),
+        b" entry ",
         sink,
     )?;
-    tell_place(b" entry ", entry, sink)?;
-    sink.put(b"\n")
+    tell_number(b"", u64::from(entry), b"\n", sink)
 }
 
-/// Writes a name and the number after it.
-fn tell_place<F: Sink>(name: &[u8], place: u32, sink: &mut F) -> Result<(), WriteFailed>
-    ensures { Puts (F.held sink.old) (F.held sink.new) (F.has_failed sink.old) (F.has_failed sink.new) result (name.now ++ decimal place) }
+/// Writes a number, and what stands before and after it. It takes no memory.
+pub fn tell_number<F: Sink>(
+    before: &[u8],
+    number: u64,
+    after: &[u8],
+    sink: &mut F,
+) -> Result<(), WriteFailed>
+    ensures { Puts (F.held sink.old) (F.held sink.new) (F.has_failed sink.old) (F.has_failed sink.new) result (numbered before.now number after.now) }
 {
     let mut digits = Buffer::new();
-    sink.put(name)?;
-    sink.put(digits.format(place).as_bytes())
+    sink.put(before)?;
+    sink.put(digits.format(number).as_bytes())?;
+    sink.put(after)
 }

@@ -2,15 +2,15 @@
 
 ghost use Rattle.std.specs.Prelude.{◌≡◌, ◌-◌, ◌==◌, ◌||◌, ◌↔◌, None, Some, IsOk, IfErr, IfSome, MatchResult, is_err, is_some};
 
-use crate::cause::Cause;
 use crate::device_failed::DeviceFailed;
 use crate::device_fault::DeviceFault;
+use crate::system_fault::SystemFault;
 
 /// How many calls on the one that fails is (1 is the next one, 0 means none), and why one has failed first.
 #[derive(Drop)]
 pub(crate) struct Countdown {
     pub(crate) call: u64,
-    pub(crate) failed: Option<Cause>,
+    pub(crate) failed: Option<SystemFault>,
 }
 
 impl Countdown {
@@ -26,7 +26,7 @@ impl Countdown {
         match self.failed {
             Some(cause) => Err(DeviceFailed { cause }),
             None if is_last => {
-                let cause = Cause::InputOutput;
+                let cause = SystemFault::InputOutput;
                 self.failed = Some(cause);
                 Err(DeviceFailed { cause })
             }
@@ -43,7 +43,7 @@ impl Countdown {
     {
         let why = match answer {
             Ok(()) => return Ok(()),
-            Err(DeviceFault::Memory) => Cause::NoMemory,
+            Err(DeviceFault::Memory) => SystemFault::NoMemory,
             Err(DeviceFault::Failed(cause)) => cause,
         };
         let cause = self.failed.unwrap_or(why);

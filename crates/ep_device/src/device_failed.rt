@@ -1,6 +1,6 @@
 //! A device that failed.
 
-use crate::cause::Cause;
+use crate::system_fault::SystemFault;
 use thiserror::Error;
 
 /// The device has failed, now or before. What was asked may have been done in part.
@@ -8,5 +8,5 @@ use thiserror::Error;
 #[error("{cause}")]
 pub struct DeviceFailed {
     /// Why it failed first.
-    pub cause: Cause,
+    pub cause: SystemFault,
 }

@@ -3,8 +3,8 @@
 ghost use Rattle.std.specs.Prelude.{◌≡◌};
 ghost use Rattle.ep_device.specs.declared.device_fault.DeviceFault.TheVariants.{Failed, Memory};
 
-use crate::cause::Cause;
 use crate::device_failed::DeviceFailed;
+use crate::system_fault::SystemFault;
 use std::alloc::AllocError;
 use thiserror::Error;
 
@@ -16,7 +16,7 @@ pub enum DeviceFault {
     Memory,
     /// The device has failed, now or before; why it failed first.
     #[error("{0}")]
-    Failed(Cause),
+    Failed(SystemFault),
 }
 
 impl From<AllocError> for DeviceFault {

@@ -4,8 +4,8 @@ ghost use Rattle.std.specs.Prelude.{◌≡◌, ◌≢◌, ◌⊎◌};
 ghost use Rattle.std_io.specs.IoError.{error_kind, raw_os_error};
 ghost use Rattle.ep_device.specs.Files.{cause_in, cause_of};
 
-use crate::cause::Cause;
 use crate::device_fault::DeviceFault;
+use crate::system_fault::SystemFault;
 use std::io;
 use std::io::ErrorKind;
 
@@ -14,31 +14,31 @@ pub(crate) const NO_SUCH_FILE: i32 = 2;
 
 /// What an error of this number is, as Linux has it on x86-64 and aarch64.
 #[tactic(auto, unfolding(crate::specs::Files::cause_in))]
-fn cause_in(number: u32) -> Cause
+fn cause_in(number: u32) -> SystemFault
     ensures { result ≡ cause_in number }
 {
     match number {
-        1 | 13 => Cause::NotAllowed,
-        2 | 20 => Cause::NotFound,
-        5 => Cause::InputOutput,
-        11 => Cause::Locked,
-        12 => Cause::NoMemory,
-        21 => Cause::NotAFile,
-        27 => Cause::TooLarge,
-        28 => Cause::NoSpace,
-        30 => Cause::ReadOnly,
-        122 => Cause::OverQuota,
-        _ => Cause::System(number),
+        1 | 13 => SystemFault::NotAllowed,
+        2 | 20 => SystemFault::NotFound,
+        5 => SystemFault::InputOutput,
+        11 => SystemFault::Locked,
+        12 => SystemFault::NoMemory,
+        21 => SystemFault::NotAFile,
+        27 => SystemFault::TooLarge,
+        28 => SystemFault::NoSpace,
+        30 => SystemFault::ReadOnly,
+        122 => SystemFault::OverQuota,
+        _ => SystemFault::System(number),
     }
 }
 
 /// What the error is.
-pub(crate) fn cause_of(error: &io::Error) -> Cause
+pub(crate) fn cause_of(error: &io::Error) -> SystemFault
     ensures { result ≡ cause_of (raw_os_error error.now) }
 {
     match error.raw_os_error() {
         Some(number) => cause_in(number.unsigned_abs()),
-        None => Cause::Unknown,
+        None => SystemFault::Unknown,
     }
 }
 

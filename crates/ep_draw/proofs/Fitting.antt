@@ -10,7 +10,7 @@ use Rattle.ep_journal.specs.Openings.{opens}
 use Rattle.ep_journal.specs.declared.entry.Entry.{Entry as Written}
 use Rattle.ep_audit.specs.Verdicts.{places_of}
 use Rattle.ep_view.specs.Kept.{is_of_replica, is_of_instance, is_of_some, keeps}
-use Rattle.ep_view.specs.declared.part.Part.{Part}
+use Rattle.ep_view.specs.declared.selection.Selection.{Selection}
 use Rattle.ep_audit.specs.Lookups.{entry_at}
 use Rattle.ep_draw.specs.Ranges.{stamp_of, stamp_at, first_left}
 use Rattle.ep_draw.specs.Drawn.{keeps_some, kept, up_to, AreKept}
@@ -39,30 +39,30 @@ above_test : (a b : ℕ) → suc b ≤ a → nat_le a b ≡ false
 above_test a b h = let less : b < a = omega arith in lt-leb a b less
 
 -- what a part doesn't keep, it doesn't keep up to a lower stamp
-keeps_less : (part : Part) (t r : ℕ) (e : Written) → t ≤ part.to → keeps part r e ≡ false → keeps (up_to t part) r e ≡ false
+keeps_less : (part : Selection) (t r : ℕ) (e : Written) → t ≤ part.to → keeps part r e ≡ false → keeps (up_to t part) r e ≡ false
 keeps_less part t r e low misses =
     both (is_of_replica part.replica r) (nat_le part.from e.stamp) (nat_le e.stamp part.to) (nat_le e.stamp t) (is_of_instance part.instance e && is_of_some part.about e)
     (λ early. let below : e.stamp ≤ t = leb-true e.stamp t early in let inner : e.stamp ≤ part.to = omega arith in le-leb e.stamp part.to inner) misses
 
-keeps_no_later : (part : Part) (t r : ℕ) (e : Written) → suc t ≤ e.stamp → keeps (up_to t part) r e ≡ false
+keeps_no_later : (part : Selection) (t r : ℕ) (e : Written) → suc t ≤ e.stamp → keeps (up_to t part) r e ≡ false
 keeps_no_later part t r e high =
     late (is_of_replica part.replica r) (nat_le part.from e.stamp) (nat_le e.stamp t) (is_of_instance part.instance e && is_of_some part.about e) (above_test e.stamp t high)
 
-kept_is_inside : (part : Part) (r : ℕ) (e : Written) → keeps part r e ≡ true → e.stamp ≤ part.to
+kept_is_inside : (part : Selection) (r : ℕ) (e : Written) → keeps part r e ≡ true → e.stamp ≤ part.to
 kept_is_inside part r e met =
     leb-true e.stamp part.to
     (inside (is_of_replica part.replica r) (nat_le part.from e.stamp) (nat_le e.stamp part.to) (is_of_instance part.instance e && is_of_some part.about e) met)
 
 -- the same, of a place that may have no entry
-some_less : (part : Part) (t r : ℕ) (o : Option Written) → t ≤ part.to → keeps_some part r o ≡ false → keeps_some (up_to t part) r o ≡ false
+some_less : (part : Selection) (t r : ℕ) (o : Option Written) → t ≤ part.to → keeps_some part r o ≡ false → keeps_some (up_to t part) r o ≡ false
 some_less part t r None low misses = refl
 some_less part t r (Some e) low misses = keeps_less part t r e low misses
 
-some_no_later : (part : Part) (t r : ℕ) (o : Option Written) → suc t ≤ stamp_of o → keeps_some (up_to t part) r o ≡ false
+some_no_later : (part : Selection) (t r : ℕ) (o : Option Written) → suc t ≤ stamp_of o → keeps_some (up_to t part) r o ≡ false
 some_no_later part t r None high = refl
 some_no_later part t r (Some e) high = keeps_no_later part t r e high
 
-some_is_inside : (part : Part) (r : ℕ) (o : Option Written) → keeps_some part r o ≡ true → stamp_of o ≤ part.to
+some_is_inside : (part : Selection) (r : ℕ) (o : Option Written) → keeps_some part r o ≡ true → stamp_of o ≤ part.to
 some_is_inside part r None met = absurd (let wrong : false ≡ true = met in cc)
 some_is_inside part r (Some e) met = kept_is_inside part r e met
 
@@ -79,7 +79,7 @@ abbrev Climbs : Collected → List (ℕ × ℕ) → Type 0
 Climbs c [] = Unit {0}
 Climbs c (p ∷ ps) = From c (stamp_in c p) ps × Climbs c ps
 
-none_later : (c : Collected) (part : Part) (t : ℕ) (ps : List (ℕ × ℕ)) → From c (suc t) ps → kept c (up_to t part) ps ≡ []
+none_later : (c : Collected) (part : Selection) (t : ℕ) (ps : List (ℕ × ℕ)) → From c (suc t) ps → kept c (up_to t part) ps ≡ []
 none_later c part t [] h = refl
 none_later c part t (p ∷ ps) h =
     go (keeps_some (up_to t part) p.0 (entry_at (entries_at c p.0) p.1)) (some_no_later part t p.0 (entry_at (entries_at c p.0) p.1) h.0) (none_later c part t ps h.1)
@@ -107,7 +107,7 @@ step true true q p xs ys (suc m) less rest head at =
     let more : suc (length ys) ≤ suc m = omega arith in
     more
 
-kept_one : (c : Collected) (part : Part) (p : ℕ × ℕ) (ps : List (ℕ × ℕ)) (n : ℕ) → slice_get (kept c part ps) n ≡ Some p → keeps_some part p.0 (entry_at (entries_at c p.0) p.1) ≡ true
+kept_one : (c : Collected) (part : Selection) (p : ℕ × ℕ) (ps : List (ℕ × ℕ)) (n : ℕ) → slice_get (kept c part ps) n ≡ Some p → keeps_some part p.0 (entry_at (entries_at c p.0) p.1) ≡ true
 kept_one c part p [] n at = absurd (cc)
 kept_one c part p (q ∷ qs) n at = go (keeps_some part q.0 (entry_at (entries_at c q.0) q.1)) refl (kept_one c part p qs) n at
   where
@@ -121,7 +121,7 @@ kept_one c part p (q ∷ qs) n at = go (keeps_some part q.0 (entry_at (entries_a
         subst (λ (z : ℕ × ℕ). keeps_some part z.0 (entry_at (entries_at c z.0) z.1) ≡ true) same e
     go true e rest (suc m) there = rest m there
 
-fits : (c : Collected) (part : Part) (t : ℕ) (p : ℕ × ℕ) (all : List (ℕ × ℕ)) → t ≤ part.to → Climbs c all → stamp_in c p ≡ suc t → (n : ℕ) → slice_get (kept c part all) n ≡ Some p
+fits : (c : Collected) (part : Selection) (t : ℕ) (p : ℕ × ℕ) (all : List (ℕ × ℕ)) → t ≤ part.to → Climbs c all → stamp_in c p ≡ suc t → (n : ℕ) → slice_get (kept c part all) n ≡ Some p
     → length (kept c (up_to t part) all) ≤ n
 fits c part t p [] low climbs is n at = absurd (cc)
 fits c part t p (q ∷ qs) low climbs is n at =
@@ -175,7 +175,7 @@ at_first : (c : Collected) (o : Option (ℕ × ℕ)) (t : ℕ) → stamp_at c o 
 at_first c None t e = absurd (let wrong : 0 ≡ suc t = e in omega arith)
 at_first c (Some p) t e = (p, refl, e)
 
-from_first : (c : Collected) (part : Part) (rows : List (ℕ × ℕ)) → AreLocalRuns (opens c.opening) c.faults (journals_of c) → (k : AreKept c part rows) (t : ℕ) (p : ℕ × ℕ)
+from_first : (c : Collected) (part : Selection) (rows : List (ℕ × ℕ)) → AreLocalRuns (opens c.opening) c.faults (journals_of c) → (k : AreKept c part rows) (t : ℕ) (p : ℕ × ℕ)
     → slice_get rows 2000 ≡ Some p → stamp_in c p ≡ suc t → length (kept c (up_to t part) k.all) ≤ 2000
 from_first c part rows runs k t p at is =
     let there : slice_get (kept c part k.all) 2000 ≡ Some p = ap (λ (z : List (ℕ × ℕ)). slice_get z 2000) (sym k.are) ∙ at in
@@ -184,6 +184,6 @@ from_first c part rows runs k t p at is =
     let low : t ≤ part.to = omega arith in
     fits c part t p k.all low climbs is 2000 there
 
-pub few_enough : (c : Collected) (part : Part) (rows : List (ℕ × ℕ)) → AreLocalRuns (opens c.opening) c.faults (journals_of c) → (k : AreKept c part rows) (t : ℕ) → first_left c rows ≡ suc t
+pub few_enough : (c : Collected) (part : Selection) (rows : List (ℕ × ℕ)) → AreLocalRuns (opens c.opening) c.faults (journals_of c) → (k : AreKept c part rows) (t : ℕ) → first_left c rows ≡ suc t
     → length (kept c (up_to t part) k.all) ≤ 2000
 few_enough c part rows runs k t e = let found = at_first c (slice_get rows 2000) t e in from_first c part rows runs k t found.0 found.1 found.2

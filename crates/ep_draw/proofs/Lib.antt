@@ -1,2 +1,4 @@
 pub mod Drawings
 pub mod Fitting
+pub mod Joining
+pub mod ReadBack

@@ -8,22 +8,22 @@ use Rattle.ep_view.specs.Lines.{taken_text, done_text}
 use Rattle.ep_audit.specs.Lookups.{entry_at}
 use Rattle.ep_view.specs.Shown.{IsInOrder}
 use Rattle.ep_view.specs.Kept.{keeps}
-use Rattle.ep_view.specs.declared.part.Part.{Part}
-use Rattle.ep_svg.specs.Escaping.{escaped}
+use Rattle.ep_view.specs.declared.selection.Selection.{Selection}
+use Rattle.ep_draw.specs.Escaping.{escaped}
 use Rattle.ep_draw.specs.Layout.{column, row}
 use Rattle.ep_draw.specs.Ranges.{first_left, ranges_text}
-use Rattle.ep_svg.specs.Shapes.{attribute, shapes_text, arrows_text}
+use Rattle.ep_draw.specs.Shapes.{attribute, shapes_text, arrows_text}
 use Rattle.ep_draw.specs.declared.style.TheConstants.{KEY, STYLE}
 use Rattle.ep_draw.specs.declared.draw_fault.DrawFault.{DrawFault}
 use Rattle.ep_draw.specs.declared.draw_fault.DrawFault.TheVariants.{Memory, TooMany}
 use Rattle.ep_draw.specs.declared.picture.Picture.{Picture}
 
-abbrev pub keeps_some : Part → ℕ → Option Entry → Bool
+abbrev pub keeps_some : Selection → ℕ → Option Entry → Bool
 keeps_some part r None = false
 keeps_some part r (Some e) = keeps part r e
 
 -- those of the places, each a replica and the number of an entry, whose entries the part keeps
-abbrev pub kept : Collected → Part → List (ℕ × ℕ) → List (ℕ × ℕ)
+abbrev pub kept : Collected → Selection → List (ℕ × ℕ) → List (ℕ × ℕ)
 kept c part [] = []
 kept c part (p ∷ ps) = cond (keeps_some part p.0 (entry_at (entries_at c p.0) p.1)) (p ∷ kept c part ps) (kept c part ps)
 
@@ -98,26 +98,26 @@ pub record IsFile (c : Collected) (rows : List (ℕ × ℕ)) (svg : List ℕ) : 
   pub text : svg ≡ file_text c rows picture
 
 -- these are the entries that the part keeps, of all entries by stamp and then by replica
-pub record AreKept (c : Collected) (part : Part) (rows : List (ℕ × ℕ)) : Type 0 where
+pub record AreKept (c : Collected) (part : Selection) (rows : List (ℕ × ℕ)) : Type 0 where
   pub all : List (ℕ × ℕ)
   pub ordered : IsInOrder c all
   pub are : rows ≡ kept c part all
 
 -- The file has a dot for each entry that the part keeps, 2,000 at most, in rows by stamp and then by replica. No shape and no arrow of its picture
 -- is a dot, and whatever words they and the dots bear stand there escaped.
-pub record IsDrawn (c : Collected) (part : Part) (svg : List ℕ) : Type 0 where
+pub record IsDrawn (c : Collected) (part : Selection) (svg : List ℕ) : Type 0 where
   pub rows : List (ℕ × ℕ)
   pub are_kept : AreKept c part rows
   pub few : length rows ≤ 2000
   pub file : IsFile c rows svg
 
 -- the same part, but with this as its greatest stamp
-abbrev pub up_to : ℕ → Part → Part
+abbrev pub up_to : ℕ → Selection → Selection
 up_to stamp part = record { instance = part.instance; about = part.about; replica = part.replica; from = part.from; to = stamp }
 
 -- the part keeps so many entries, more than 2,000, and these lines say what there is, and which stamps can be drawn: up to the stamp that they name,
 -- the part keeps 2,000 of all entries at most
-pub record IsTooMany (c : Collected) (part : Part) (count : ℕ) (lines : List ℕ) : Type 0 where
+pub record IsTooMany (c : Collected) (part : Selection) (count : ℕ) (lines : List ℕ) : Type 0 where
   pub rows : List (ℕ × ℕ)
   pub are_kept : AreKept c part rows
   pub so_many : length rows ≡ count
@@ -126,6 +126,6 @@ pub record IsTooMany (c : Collected) (part : Part) (count : ℕ) (lines : List �
   pub example : (stamp : ℕ) → first_left c rows ≡ suc stamp → length (kept c (up_to stamp part) are_kept.all) ≤ 2000
 
 -- why nothing is drawn
-abbrev pub IsRefused : Collected → Part → DrawFault → Type 0
+abbrev pub IsRefused : Collected → Selection → DrawFault → Type 0
 IsRefused c part Memory = Unit {0}
 IsRefused c part (TooMany count lines) = IsTooMany c part count lines.items

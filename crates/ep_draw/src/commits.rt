@@ -1,11 +1,13 @@
 //! Where instances are committed, and on which path.
 
+use crate::look::Look;
+use crate::point::Point;
 use crate::scene::Scene;
+use crate::shape::Shape;
 use ep_audit::entries_of;
 use ep_base::{InstanceId, ReplicaId};
 use ep_frame::Frame;
 use ep_journal::{Entry, Event};
-use ep_svg::{Look, Point, Shape};
 use std::alloc::AllocError;
 
 /// How far the mark of a commit reaches from its dot.

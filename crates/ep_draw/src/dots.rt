@@ -5,11 +5,13 @@ ghost use Rattle.ep_journal.specs.Entries.{entries_at};
 ghost use Rattle.ep_audit.specs.Lookups.{entry_at};
 ghost use Rattle.ep_draw.specs.Drawn.{class_of, classed, spot, titled, circle_text, dot_text, dots_from};
 
+use crate::attributes::push_attribute;
+use crate::escaping::push_escaped;
+use crate::point::Point;
 use crate::scene::Scene;
 use crate::words::told;
 use ep_base::ReplicaId;
 use ep_journal::{Entry, Event};
-use ep_svg::{Point, push_attribute, push_escaped};
 use std::alloc::AllocError;
 
 // The kind of event, as a class of the file.

@@ -5,25 +5,27 @@ ghost use Rattle.ep_journal.specs.Entries.{AreJournals, entries_at};
 ghost use Rattle.ep_audit.specs.Lookups.{entry_at};
 ghost use Rattle.ep_draw.specs.Drawn.{keeps_some, kept, measured, viewed, front, opening, body, file_text, IsFile, AreKept, IsDrawn, IsRefused};
 
+use crate::arrow::push_arrows;
+use crate::attributes::push_attribute;
 use crate::dots::push_dots;
 use crate::draw_fault::DrawFault;
 use crate::picture::Picture;
 use crate::ranges::ranges;
 use crate::scene::Scene;
+use crate::shape::push_shapes;
 use crate::style::{KEY, STYLE};
 use ep_audit::{AuditFault, entry_at, first_fault};
 use ep_base::ReplicaId;
 use ep_journal::Journals;
 use ep_report::push_number;
-use ep_svg::{push_arrows, push_attribute, push_shapes};
-use ep_view::{Handled, Part, schedule};
+use ep_view::{Handled, Selection, schedule};
 use std::alloc::{AllocError, Global};
 
 /// How many events a diagram shows.
-const MOST: usize = 2000;
+pub(crate) const MOST: usize = 2000;
 
 /// Whether the part keeps the entry at this place.
-fn is_kept(journals: &Journals, part: &Part, place: &(ReplicaId, u32)) -> bool
+fn is_kept(journals: &Journals, part: &Selection, place: &(ReplicaId, u32)) -> bool
     requires { AreJournals journals.now }
     ensures { result ≡ keeps_some part.now place.now.0 (entry_at (entries_at journals.now place.now.0) place.now.1) }
 {
@@ -38,7 +40,7 @@ fn is_kept(journals: &Journals, part: &Part, place: &(ReplicaId, u32)) -> bool
 fn kept(
     alloc: Global,
     journals: &Journals,
-    part: &Part,
+    part: &Selection,
     places: &[(ReplicaId, u32)],
 ) -> Result<Vec<(ReplicaId, u32)>, AllocError>
     requires { AreJournals journals.now }
@@ -159,7 +161,7 @@ fn draw_rows<'a>(
 fn rows_of(
     alloc: Global,
     journals: &Journals,
-    part: &Part,
+    part: &Selection,
 ) -> Result<Vec<(ReplicaId, u32)>, AllocError>
     ensures { IfOk result (λ rows. AreKept journals.now part.now rows.items) }
 {
@@ -169,7 +171,12 @@ fn rows_of(
 }
 
 // Why these entries, which are too many, aren't drawn.
-fn too_many(alloc: Global, journals: &Journals, part: &Part, rows: &[(ReplicaId, u32)]) -> DrawFault
+fn too_many(
+    alloc: Global,
+    journals: &Journals,
+    part: &Selection,
+    rows: &[(ReplicaId, u32)],
+) -> DrawFault
     requires kept { AreKept journals.now part.now rows.now }
     requires many { 2000 < length rows.now }
     ensures { IsRefused journals.now part.now result }
@@ -187,7 +194,7 @@ fn too_many(alloc: Global, journals: &Journals, part: &Part, rows: &[(ReplicaId,
 fn draw_kept(
     alloc: Global,
     journals: &Journals,
-    part: &Part,
+    part: &Selection,
     rows: &[(ReplicaId, u32)],
 ) -> Result<Vec<u8>, DrawFault>
     requires { AreKept journals.now part.now rows.now }
@@ -208,7 +215,7 @@ fn draw_kept(
 /// never was, executions with their answers, and in red the audit's first fault.
 ///
 /// `TooMany` where the part keeps more than 2,000 entries, with lines that say what there is and what can be drawn.
-pub fn diagram(alloc: Global, journals: &Journals, part: &Part) -> Result<Vec<u8>, DrawFault>
+pub fn diagram(alloc: Global, journals: &Journals, part: &Selection) -> Result<Vec<u8>, DrawFault>
     ensures drawn { IfOk result (λ svg. IsDrawn journals.now part.now svg.items) }
     ensures refused { IfErr result (λ fault. IsRefused journals.now part.now fault) }
 {

@@ -1,12 +1,15 @@
 //! The frames of a diagram: an arrow from the entry that sent a frame to each entry that handled it, a cross where none did.
 
+use crate::arrow::Arrow;
+use crate::arrow_kind::ArrowKind;
+use crate::fate::Fate;
+use crate::frame_path::FramePath;
+use crate::point::Point;
 use crate::scene::{Scene, handles};
-use crate::way::Way;
 use ep_base::ReplicaId;
 use ep_frame::Frame;
 use ep_journal::{Entry, Event};
 use ep_report::{push_instance, push_number};
-use ep_svg::{Arrow, Fate, Kind, Point};
 use ep_view::{push_message, push_origin};
 use std::alloc::{AllocError, Global};
 
@@ -39,16 +42,16 @@ fn words_of(alloc: Global, frame: &Frame, fate: Fate) -> Result<Vec<u8>, AllocEr
 }
 
 // The kind of the frame's message.
-fn kind_of(frame: &Frame) -> Kind {
+fn kind_of(frame: &Frame) -> ArrowKind {
     match frame.view().header().kind {
-        1 => Kind::PreAccept,
-        2 => Kind::PreAcceptOk,
-        3 => Kind::Accept,
-        4 => Kind::AcceptOk,
-        5 => Kind::Commit,
-        6 => Kind::Prepare,
-        7 => Kind::PrepareOk,
-        _ => Kind::Nack,
+        1 => ArrowKind::PreAccept,
+        2 => ArrowKind::PreAcceptOk,
+        3 => ArrowKind::Accept,
+        4 => ArrowKind::AcceptOk,
+        5 => ArrowKind::Commit,
+        6 => ArrowKind::Prepare,
+        7 => ArrowKind::PrepareOk,
+        _ => ArrowKind::Nack,
     }
 }
 
@@ -61,7 +64,7 @@ fn label_of(alloc: Global, frame: &Frame) -> Result<Vec<u8>, AllocError> {
 }
 
 // Where the label stands: on the line, near its end.
-fn label_at(way: Way, label: &[u8]) -> Point {
+fn label_at(way: FramePath, label: &[u8]) -> Point {
     let half = (label.len() as u64).saturating_mul(10) / 3;
     let middle = way.to.back_to(way.from, half.saturating_add(28));
     Point {
@@ -74,7 +77,7 @@ fn arrow_of(
     alloc: Global,
     scene: &Scene<'_>,
     frame: &Frame,
-    way: Way,
+    way: FramePath,
 ) -> Result<Arrow, AllocError> {
     let label = label_of(alloc, frame)?;
     let words = words_of(alloc, frame, way.fate)?;
@@ -95,7 +98,7 @@ fn add_way(
     arrows: &mut Vec<Arrow>,
     scene: &Scene<'_>,
     frame: &Frame,
-    way: Way,
+    way: FramePath,
 ) -> Result<(), AllocError> {
     let arrow = arrow_of(*arrows.allocator(), scene, frame, way)?;
     arrows.push(arrow)?;
@@ -103,14 +106,14 @@ fn add_way(
 }
 
 // The way to the entry in this row, if it handles the frame.
-fn way_to(scene: &Scene<'_>, row: usize, frame: &Frame) -> Option<Way> {
+fn way_to(scene: &Scene<'_>, row: usize, frame: &Frame) -> Option<FramePath> {
     let place = scene.rows.get(row)?;
     let entry = scene.entry(*place)?;
     if !handles(entry, frame) {
         return None;
     }
     let (replica, _) = place;
-    Some(Way {
+    Some(FramePath {
         from: scene.sender(frame)?,
         to: scene.layout().dot(*replica, row),
         fate: Fate::Handled,
@@ -119,7 +122,7 @@ fn way_to(scene: &Scene<'_>, row: usize, frame: &Frame) -> Option<Way> {
 }
 
 // The way of a frame that no entry of the picture handles.
-fn way_out(scene: &Scene<'_>, frame: &Frame) -> Option<Way> {
+fn way_out(scene: &Scene<'_>, frame: &Frame) -> Option<FramePath> {
     let from = scene.sender(frame)?;
     let fate = if scene.handled.has(frame) {
         Fate::Leaves
@@ -130,7 +133,7 @@ fn way_out(scene: &Scene<'_>, frame: &Frame) -> Option<Way> {
         x: scene.layout().column(frame.origin().to),
         y: from.y.saturating_add(fall_of(frame)),
     };
-    Some(Way {
+    Some(FramePath {
         from,
         to: receiver.short_of(from, BESIDE, 0),
         fate,
@@ -165,7 +168,7 @@ fn is_drawn(scene: &Scene<'_>, frame: &Frame) -> bool {
 }
 
 // The way of a frame that is handled in this row, and that no entry of the picture sent.
-fn way_in(scene: &Scene<'_>, row: usize, place: &(ReplicaId, u32), frame: &Frame) -> Way {
+fn way_in(scene: &Scene<'_>, row: usize, place: &(ReplicaId, u32), frame: &Frame) -> FramePath {
     let (replica, _) = place;
     let to = scene.layout().dot(*replica, row);
     let line = Point {
@@ -176,7 +179,7 @@ fn way_in(scene: &Scene<'_>, row: usize, place: &(ReplicaId, u32), frame: &Frame
         Some(sender) => (sender, Fate::Changed),
         None => (line.short_of(to, BESIDE, fall_of(frame)), Fate::Enters),
     };
-    Way {
+    FramePath {
         from,
         to,
         fate,

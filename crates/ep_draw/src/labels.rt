@@ -2,15 +2,17 @@
 //! words.
 
 use crate::commits::add_commit;
-use crate::layout::row_y;
+use crate::grid::row_y;
+use crate::look::Look;
+use crate::point::Point;
 use crate::scene::Scene;
 use crate::seals::{add_marks, add_meanings};
+use crate::shape::Shape;
 use crate::words::told;
 use ep_audit::AuditFault;
 use ep_base::{ReplicaId, VersionKind};
 use ep_journal::Entry;
 use ep_report::push_number;
-use ep_svg::{Look, Point, Shape};
 use ep_view::push_generation;
 use std::alloc::{AllocError, Global};
 

@@ -1,12 +1,13 @@
 //! What is drawn around the dots of a diagram.
 
+use crate::arrow::Arrow;
 use crate::frames::add_arrows;
+use crate::grid::row_y;
 use crate::labels::{add_labels, width_of};
-use crate::layout::row_y;
 use crate::scene::Scene;
+use crate::shape::Shape;
 use crate::style::WIDTH;
 use ep_audit::AuditFault;
-use ep_svg::{Arrow, Shape};
 use std::alloc::{AllocError, Global};
 
 /// What is drawn around the dots.

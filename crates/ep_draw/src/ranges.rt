@@ -6,6 +6,7 @@ ghost use Rattle.ep_journal.specs.Entries.{AreJournals, entries_at};
 ghost use Rattle.ep_audit.specs.Lookups.{entry_at};
 ghost use Rattle.ep_draw.specs.Ranges.{last_stamp, first_of, taken, last_taken, count_text, stamps_text, instances_text, range_text, replica_text, replicas_text, stamp_of, stamp_at, example_text, ranges_text};
 
+use crate::drawing::MOST;
 use ep_audit::{entries_of, entry_at};
 use ep_base::{InstanceId, ReplicaId};
 use ep_frame::Frame;
@@ -179,6 +180,6 @@ pub(crate) fn ranges(
     journals.are_journals();
     let mut text = Vec::new(alloc);
     push_replicas(&mut text, journals)?;
-    push_example(&mut text, stamp_at(journals, rows, 2000))?;
+    push_example(&mut text, stamp_at(journals, rows, MOST))?;
     Ok(text)
 }

@@ -4,12 +4,12 @@ ghost use Rattle.std.specs.Prelude.{◌≡◌, option_copied};
 ghost use Rattle.ep_journal.specs.Entries.{entries_at};
 ghost use Rattle.ep_audit.specs.Lookups.{entry_at};
 
-use crate::layout::Layout;
+use crate::grid::Grid;
+use crate::point::Point;
 use ep_audit::entry_at;
 use ep_base::ReplicaId;
 use ep_frame::Frame;
 use ep_journal::{Entry, Event, Journals};
-use ep_svg::Point;
 use ep_view::Handled;
 
 /// What is drawn: entries in rows, each as its replica with its number.
@@ -24,10 +24,10 @@ pub(crate) struct Scene<'a> {
 
 impl<'a> Scene<'a> {
     /// Where the replicas' lines stand.
-    pub fn layout(&self) -> Layout
+    pub fn layout(&self) -> Grid
         ensures { result.size ≡ self.now.journals.now.faults }
     {
-        Layout {
+        Grid {
             size: self.journals.size(),
         }
     }

@@ -1,10 +1,12 @@
 //! Where seals are, and what was answered `closed`.
 
+use crate::look::Look;
+use crate::point::Point;
 use crate::scene::Scene;
+use crate::shape::Shape;
 use ep_base::{Answer, InstanceId, ReplicaId, Reply};
 use ep_frame::Frame;
 use ep_journal::{Entry, Event};
-use ep_svg::{Look, Point, Shape};
 use std::alloc::AllocError;
 
 /// How far the mark of a seal reaches from its dot. A commit's mark stands within it.

@@ -3,7 +3,7 @@
 ghost use Rattle.std.specs.Prelude.{◌≡◌, IfOk};
 ghost use Rattle.ep_frame.specs.Meaning.{origin_at};
 
-use crate::fault::Fault;
+use crate::example_fault::ExampleFault;
 use bytes::Bytes;
 use ep_base::{InstanceId, ReplicaId, Size};
 use ep_frame::Frame;
@@ -56,11 +56,11 @@ impl Cluster {
         &mut self,
         number: ReplicaId,
         proposal: Event,
-    ) -> Result<InstanceId, Fault> {
+    ) -> Result<InstanceId, ExampleFault> {
         self.take(number, proposal)?;
         match self.replicas.get(number.index() as usize) {
-            Some(replica) => last_proposed(replica).ok_or(Fault::NoReceipt),
-            None => Err(Fault::NoReceipt),
+            Some(replica) => last_proposed(replica).ok_or(ExampleFault::NoReceipt),
+            None => Err(ExampleFault::NoReceipt),
         }
     }
 
@@ -93,11 +93,11 @@ impl Cluster {
         &mut self,
         number: ReplicaId,
         instance: InstanceId,
-    ) -> Result<Receipt, Fault> {
+    ) -> Result<Receipt, ExampleFault> {
         self.take(number, Event::Execute(instance))?;
         match self.replicas.get(number.index() as usize) {
             Some(replica) => receipt_of(self.alloc, replica, instance),
-            None => Err(Fault::NoReceipt),
+            None => Err(ExampleFault::NoReceipt),
         }
     }
 
@@ -156,10 +156,14 @@ fn last_proposed(replica: &Replica) -> Option<InstanceId> {
 }
 
 /// What the replica tells the client of its command in the instance.
-fn receipt_of(alloc: Global, replica: &Replica, instance: InstanceId) -> Result<Receipt, Fault> {
+fn receipt_of(
+    alloc: Global,
+    replica: &Replica,
+    instance: InstanceId,
+) -> Result<Receipt, ExampleFault> {
     match replica.outcome(instance) {
         Some(outcome) => Ok(outcome.to_receipt(alloc)?),
-        None => Err(Fault::NoReceipt),
+        None => Err(ExampleFault::NoReceipt),
     }
 }
 

@@ -2,11 +2,11 @@
 #![tactic(auto)]
 
 mod cluster;
-mod fault;
+mod example_fault;
 mod telling;
 
 use crate::cluster::Cluster;
-use crate::fault::Fault;
+use crate::example_fault::ExampleFault;
 use crate::telling::tell;
 use ep_base::{Command, ReplicaId};
 use ep_journal::Event;
@@ -26,7 +26,7 @@ fn main(rt: HostRuntime) -> ExitCode {
 }
 
 /// A client puts at one replica and gets at another, which then restarts from its journal.
-fn play(rt: &impl Print, alloc: Global, cluster: &mut Cluster) -> Result<(), Fault> {
+fn play(rt: &impl Print, alloc: Global, cluster: &mut Cluster) -> Result<(), ExampleFault> {
     let zero = ReplicaId::new(0)?;
     let one = ReplicaId::new(1)?;
 

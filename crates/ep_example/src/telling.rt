@@ -1,11 +1,11 @@
 //! What the example prints.
 
-use crate::fault::Fault;
+use crate::example_fault::ExampleFault;
 use ep_base::{Answer, Reply};
 use ep_rules::Receipt;
 
 /// Prints what the client is told of its command. Answers the stamp, which the client hands in with what it proposes next.
-pub(crate) fn tell(rt: &impl Print, receipt: Receipt) -> Result<u64, Fault> {
+pub(crate) fn tell(rt: &impl Print, receipt: Receipt) -> Result<u64, ExampleFault> {
     let stamp = receipt.stamp;
     let printed = println!(rt;
         "client {} request {} at replica {}: {}, stamp {stamp}",
@@ -17,7 +17,7 @@ pub(crate) fn tell(rt: &impl Print, receipt: Receipt) -> Result<u64, Fault> {
     drop(receipt);
     match printed {
         Ok(()) => Ok(stamp),
-        Err(_) => Err(Fault::Print),
+        Err(_) => Err(ExampleFault::Print),
     }
 }
 

@@ -6,10 +6,10 @@ use Rattle.ep_base.specs.Places.{Has}
 use Rattle.ep_rules.specs.Graph.{Graph, Reaches}
 use Rattle.ep_rules.specs.Graph.Reaches.{itself, onward}
 use Rattle.ep_rules.specs.Order.{IsNext, InBlocks, IsPlan, IsClosed}
-use Rattle.ep_rules.proofs.Places.{has_left, has_right}
+use Rattle.ep_rules.proofs.Places.{has_left, has_right, has_single}
 use Rattle.ep_exec.specs.Cut.{is_alone}
 use Rattle.ep_exec.proofs.Clear.{in_then}
-use Rattle.ep_exec.proofs.Counts.{has_single, single_has}
+use Rattle.ep_exec.proofs.Counts.{single_has}
 
 -- its attributes
 pub record AloneAs (skipped : List ℕ) (o : Option Attrs) : Type 0 where

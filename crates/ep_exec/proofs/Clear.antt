@@ -5,12 +5,13 @@ use Rattle.std.proofs.lemmas.Bool.{cases_lt, le-leb, lt-leb, lt-ltb, ltb-true, l
 use Rattle.std.specs.List.{flat_map, filter, AllByRecursion}
 use Rattle.ep_base.specs.declared.attrs.Attrs.{Attrs}
 use Rattle.ep_base.specs.Places.{place, Has}
+use Rattle.ep_base.proofs.Places.{Has-first}
 use Rattle.ep_rules.specs.Graph.{Graph, Reaches}
 use Rattle.ep_rules.specs.Graph.Reaches.{itself, onward}
 use Rattle.ep_rules.specs.Order.{IsReady, IsBlock}
 use Rattle.ep_exec.specs.Found.{IsLeast, ranked, Gathers}
 use Rattle.ep_rules.proofs.Reaching.{reach_trans}
-use Rattle.ep_rules.proofs.Places.{has_or, has_left, has_right, has_split, has_cons, has_tail, not_has, place_head, has_filter, filter_has}
+use Rattle.ep_rules.proofs.Places.{has_or, has_left, has_right, has_split, has_cons, has_tail, not_has, has_filter, filter_has}
 use Rattle.ep_exec.proofs.Blocks.{IsGathered, gathered_none, gathered_more}
 use Rattle.ep_exec.specs.Walk.{deps_at, IsComponent, DepsFirst, AreComponents}
 use Rattle.ep_exec.specs.Ready.{is_out, Waiting, waits_for, waiting_of, passed, with_passed, is_none_left, are_in, is_open, ready_by, settled_by, ready_in, settled_of, ranked_left_of, component_at, block_in}
@@ -24,9 +25,6 @@ out_yes xs i n = elim (cases_Bool (ltb (place xs i) (length xs))) [ inl e ↦ ab
 
 pub out_then : (xs : List ℕ) (i : ℕ) → is_out xs i ≡ true → ¬ Has xs i
 out_then xs i e h = false≢true (sym (ap (λ b. cond b false true) (lt-ltb (place xs i) (length xs) h)) ∙ e)
-
-head_has : (x : ℕ) (xs : List ℕ) → Has (x ∷ xs) x
-head_has x xs = let q = place_head x xs in omega arith
 
 -- Passing.
 
@@ -58,7 +56,7 @@ passed_stuck done (x ∷ ds) e = go (ltb (place done x) (length done)) refl e (p
   where
     go : (b : Bool) → ltb (place done x) (length done) ≡ b → is_none_left (cond b (passed done ds) (x ∷ ds)) ≡ false → (is_none_left (passed done ds) ≡ false → IsStuck done (passed done ds)) → IsStuck done (cond b (passed done ds) (x ∷ ds))
     go true t f r = r f
-    go false t f r = record { at = x; has = head_has x ds; left = λ h. false≢true (sym t ∙ lt-ltb (place done x) (length done) h) }
+    go false t f r = record { at = x; has = Has-first x ds; left = λ h. false≢true (sym t ∙ lt-ltb (place done x) (length done) h) }
 
 none_left : (ds : List ℕ) (d : ℕ) → is_none_left ds ≡ true → Has ds d → ⊥
 none_left [] d e h = omega arith
@@ -96,7 +94,7 @@ waits_all g c (x ∷ js) i d a h e q n = elim (has_cons x i js h) [
 
 dep_of : (g : Graph) (c js : List ℕ) (x d : ℕ) (o : Option Attrs) → g x ≡ o → Has (deps_at o) d → ¬ Has c d → IsWait g c (x ∷ js) d
 dep_of g c js x d None e h n = absurd (omega arith)
-dep_of g c js x d (Some a) e h n = record { apart = n; from = x; attrs = a; member = head_has x js; is = e; dep = h }
+dep_of g c js x d (Some a) e h n = record { apart = n; from = x; attrs = a; member = Has-first x js; is = e; dep = h }
 
 waits_from : (g : Graph) (c js : List ℕ) (d : ℕ) → Has (waits_for g c js) d → IsWait g c js d
 waits_from g c [] d h = absurd (omega arith)
@@ -188,7 +186,7 @@ in_then xs (x ∷ ds) e d h =
 
 in_from : (xs ds : List ℕ) → ((d : ℕ) → Has ds d → Has xs d) → are_in xs ds ≡ true
 in_from xs [] h = refl
-in_from xs (x ∷ ds) h = and_from (ltb (place xs x) (length xs)) (are_in xs ds) (lt-ltb (place xs x) (length xs) (h x (head_has x ds))) (in_from xs ds (λ d k. h d (has_tail x d ds k)))
+in_from xs (x ∷ ds) h = and_from (ltb (place xs x) (length xs)) (are_in xs ds) (lt-ltb (place xs x) (length xs) (h x (Has-first x ds))) (in_from xs ds (λ d k. h d (has_tail x d ds k)))
 
 module _ (g : Graph) (done : List ℕ) where
   -- what a clear component reaches is its own or done
@@ -325,7 +323,7 @@ ranked_gathered g done first seen block (j ∷ js) w r = subst (λ ys. IsGathere
     (λ x h. r x (has_tail j x js h)))
   where
     step : ((is_out done j && is_out block j) ≡ true) ⊎ ((is_out done j && is_out block j) ≡ false) → Gathers g done first j block (cond (is_out done j && is_out block j) (ranked g block j) block)
-    step (inl e) = let p = and_parts (is_out done j) (is_out block j) e in inr (out_then done j p.0, out_then block j p.1, r j (head_has j js), ap (λ b. cond b (ranked g block j) block) e)
+    step (inl e) = let p = and_parts (is_out done j) (is_out block j) e in inr (out_then done j p.0, out_then block j p.1, r j (Has-first j js), ap (λ b. cond b (ranked g block j) block) e)
     step (inr e) = inl (
       elim (has_or done j) [
         | inl d ↦ inl d

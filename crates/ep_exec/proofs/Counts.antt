@@ -1,25 +1,14 @@
 -- How many instances are left, and single ones.
-use Rattle.std.proofs.Common.{◌≡◌, ℕ, zero, suc, ◌<◌, ◌≤◌, ◌⊎◌, inl, inr, List, [], ◌∷◌, length, get_or, Bool, cond, ltb, sym, subst, arith}
+use Rattle.std.proofs.Common.{ℕ, zero, suc, ◌<◌, ◌≤◌, ◌⊎◌, inl, inr, List, [], ◌∷◌, length, get_or, Bool, cond, ltb, sym, subst, arith}
 use Rattle.std.proofs.lemmas.Bool.{cases_Bool, lt-ltb, le-ltb}
 use Rattle.ep_base.specs.Places.{place, Has}
 use Rattle.ep_rules.proofs.Places.{place_cons, place_head, has_or, not_has, has_cons}
-
--- what stands at an instance's place
-pub get_place : (xs : List ℕ) (i d : ℕ) → Has xs i → get_or xs (place xs i) d ≡ i
-get_place [] i d h = absurd (omega arith)
-get_place (x ∷ xs) i d h = elim (place_cons x i xs) [
-  | inl p ↦ rw p.1 p.0
-  | inr p ↦ rw p (get_place xs i d (omega arith))
-]
 
 -- an instance's place is no later than where it stands
 pub place_at : (xs : List ℕ) (n : ℕ) (d : ℕ) → n < length xs → place xs (get_or xs n d) ≤ n
 place_at [] n d h = absurd (omega arith)
 place_at (x ∷ xs) zero d h = let e = place_head x xs in omega arith
 place_at (x ∷ xs) (suc n) d h = let r = place_at xs n d (omega arith) in let c = place_cons x (get_or xs n d) xs in omega arith
-
-pub has_single : (d j : ℕ) → Has (d ∷ []) j → d ≡ j
-has_single d j h = elim (has_cons d j [] h) [ inl e ↦ e | inr k ↦ absurd (omega arith) ]
 
 pub single_has : (d : ℕ) → Has (d ∷ []) d
 single_has d = let e = place_head d [] in omega arith

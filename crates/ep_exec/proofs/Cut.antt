@@ -48,10 +48,6 @@ some_of (Some a) n = (a, refl)
 some_none : (o : Option Attrs) (a : Attrs) → o ≡ Some a → o ≡ None → ⊥
 some_none o a e n = let t : Some a ≡ None = sym e ∙ n in absurd (cc)
 
--- where nothing is skipped
-pub none_closed : (g : Graph) → IsClosed g []
-none_closed g i h = absurd (omega arith)
-
 pub none_within : (executed : List ℕ) (i : ℕ) → Has [] i → Has executed i
 none_within executed i h = absurd (omega arith)
 

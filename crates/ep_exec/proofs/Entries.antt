@@ -1,5 +1,5 @@
 -- What a table's entries say of its map.
-use Rattle.std.proofs.Common.{◌≡◌, ℕ, suc, ◌+◌, drop, arith, Bool, true, false, true≢false, cond, Option, Some, None, List, [], ◌∷◌, ◌++◌, refl, sym, ap, ◌∙◌}
+use Rattle.std.proofs.Common.{◌≡◌, ℕ, ◌+◌, Bool, true, false, true≢false, cond, Option, Some, None, List, [], ◌∷◌, ◌++◌, refl, sym, ap, ◌∙◌}
 use Rattle.std.proofs.lemmas.Cmp.{nat_list_cmp_total}
 use Rattle.std.proofs.lemmas.Map.Lookups.{exact_bytes}
 use Rattle.std.proofs.lemmas.Map.Views.{tells_apart}
@@ -7,15 +7,14 @@ use Rattle.std.specs.Cmp.Lexicographic.{texts_ties, nat_list_eq_equiv}
 use Rattle.std.specs.FinMap.{same_map, get-empty}
 use Rattle.std.specs.Option.{option_copied, option_flatten}
 use Rattle.std.specs.Borrow.{Bor}
-use Rattle.std.proofs.lemmas.Option.{slice_get_within, get_or_from_slice_get}
-use Rattle.std.proofs.Math.Seq.{drop-cons}
-use Rattle.std.specs.Prelude.{Vec, is_some, slice_get}
+use Rattle.std.specs.Prelude.{Vec, is_some}
 use Rattle.std.specs.Global.{Global}
 use Rattle.std.specs.Map.{lookup, KeepsOthers}
 use Rattle.ep_base.specs.Attributes.{same_list}
 use Rattle.ep_rules.specs.OneMap.{Contents, value_at, with_key}
 use Rattle.ep_rules.proofs.Commuting.{is_key, value_with}
-use Rattle.ep_exec.specs.Table.{Entry, HavePlaces, contents_of, has_place, is_at, restored}
+use Rattle.ep_exec.specs.Table.{Entry, HavePlaces, contents_of, has_place, restored}
+use Rattle.ep_space.specs.Index.{is_at}
 
 -- two maps with one value at each key are one
 pub same_contents : (m n : Contents) → ((q : List ℕ) → value_at m q ≡ value_at n q) → m ≡ n
@@ -111,12 +110,6 @@ have_places-front es (v ∷ us) u p = let r = have_places-front es us u p.1 in (
 pub copied_none : {X : Type 0} (o : Option (Bor X)) → is_some o ≡ false → option_copied o ≡ None
 copied_none None e = refl
 copied_none (Some x) e = absurd (true≢false e)
-
-pub drop_here : {X : Type 0} (es : List X) (k : ℕ) (x : X) → slice_get es k ≡ Some x → drop k es ≡ x ∷ drop (k + 1) es
-drop_here es k x h =
-    let cons = drop-cons es k x (slice_get_within es k x h) in
-    let place : suc k ≡ k + 1 = omega arith in
-    cons ∙ (λ t. get_or_from_slice_get es k x x h t ∷ drop (place t) es)
 
 -- an exchange is taken back by what both keys had
 pub swap_back : (m : Contents) (k l : List ℕ) (o p : Option (List ℕ)) → with_key (with_key (with_key (with_key m k o) l p) l (value_at m l)) k (value_at m k) ≡ m

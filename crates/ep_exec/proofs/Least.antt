@@ -3,8 +3,8 @@ use Rattle.std.proofs.Common.{◌≡◌, ℕ, ◌+◌, ◌<◌, ◌⊎◌, inl, 
 use Rattle.std.proofs.lemmas.Bool.{cases_order}
 use Rattle.std.proofs.lemmas.List.{take_more}
 use Rattle.ep_exec.specs.Found.{IsLeast, IsLesser}
-use Rattle.ep_rules.proofs.Places.{has_left, has_right, has_split}
-use Rattle.ep_exec.proofs.Counts.{has_single, single_has}
+use Rattle.ep_rules.proofs.Places.{has_left, has_right, has_split, has_single}
+use Rattle.ep_exec.proofs.Counts.{single_has}
 
 below_trans : (i j k : ℕ) → i < j → j < k → i < k
 below_trans i j k a b = omega arith
@@ -14,9 +14,6 @@ below_self i h = omega arith
 
 below_or : (i j : ℕ) → (i < j) ⊎ ((i ≡ j) ⊎ (j < i))
 below_or i j = elim (cases_order i j) [ inl e ↦ inr (inl e) | inr (inl l) ↦ inl l | inr (inr l) ↦ inr (inr l) ]
-
-pub least_none : (P : ℕ → Type 0) → IsLeast P [] None
-least_none P = λ j h p. omega arith
 
 -- one more, of which it doesn't hold
 pub least_skip : (P : ℕ → Type 0) (xs : List ℕ) (x : ℕ) (best : Option ℕ) → IsLeast P xs best → ¬ P x → IsLeast P (xs ++ x ∷ []) best

@@ -16,3 +16,4 @@ pub mod Searching
 pub mod Sealed
 pub mod Rising
 pub mod Sorting
+pub mod Filling

@@ -1,34 +1,20 @@
 -- What a mark more makes of marks.
-use Rattle.std.proofs.Common.{◌≡◌, ◌≢◌, ℕ, ◌<◌, Bool, true, false, true≢false, List, [], ◌∷◌, ◌++◌, length, inl, inr, ◌⊎◌, refl, sym, ap, subst, ◌∙◌, arith, ◌==◌}
+use Rattle.std.proofs.Common.{◌≡◌, ℕ, ◌<◌, Bool, true, false, List, [], ◌∷◌, ◌++◌, length, inl, inr, sym, subst, ◌∙◌, arith}
 use Rattle.std.specs.Prelude.{slice_index_or, slice_set}
-use Rattle.std.proofs.lemmas.Bool.{eq-eqb, eqb-true}
+use Rattle.std.proofs.lemmas.Bool.{cases_eq}
 use Rattle.std.proofs.lemmas.List.{get_or-set_same, get_or-set_other}
 use Rattle.ep_base.specs.Instances.{IsInstance}
 use Rattle.ep_base.specs.Places.{Has}
-use Rattle.ep_rules.proofs.Places.{has_left, has_right, has_split, place_head}
+use Rattle.ep_rules.proofs.Places.{has_left, has_right, has_split, place_head, has_single}
 use Rattle.ep_space.specs.Entries.{slot}
 use Rattle.ep_space.proofs.Spots.{slot-is}
 use Rattle.ep_exec.specs.Marks.{AreMarks}
-use Rattle.ep_exec.proofs.Counts.{has_single}
-
-same_or : (i j : ℕ) → (i ≡ j) ⊎ (i ≢ j)
-same_or i j = go (i == j) refl
-  where
-    go : (b : Bool) → (i == j) ≡ b → (i ≡ j) ⊎ (i ≢ j)
-    go true e = inl (eqb-true i j e)
-    go false e = inr (λ same. true≢false (sym (eq-eqb i j same) ∙ e))
-
-pub marks_none : (is : List ℕ) (ms : List Bool) → is ≡ [] → ms ≡ [] → AreMarks is ms
-marks_none is ms e f = λ i known. (
-  λ has. absurd (let h = subst (λ xs. Has xs i) e has in omega (arith, h)),
-  λ h. absurd (true≢false (sym h ∙ ap (λ xs. slice_index_or xs (slot i) false) f)),
-)
 
 pub marks_wider : (is : List ℕ) (ms more : List Bool) → AreMarks is ms → ((k : ℕ) → slice_index_or more k false ≡ slice_index_or ms k false) → AreMarks is more
 marks_wider is ms more s same i known = (λ has. same (slot i) ∙ (s i known).0 has, λ h. (s i known).1 (sym (same (slot i)) ∙ h))
 
 pub marks_more : (is : List ℕ) (ms : List Bool) (j : ℕ) → AreMarks is ms → IsInstance j → slot j < length ms → AreMarks (is ++ j ∷ []) (slice_set ms (slot j) true)
-marks_more is ms j s own within i known = elim (same_or i j) [
+marks_more is ms j s own within i known = elim (cases_eq i j) [
   | inl e ↦
       let here : Has (j ∷ []) j = (let p = place_head j [] in omega arith) in (
         λ _. subst (λ q. slice_index_or (slice_set ms (slot j) true) (slot q) false ≡ true) (sym e) (get_or-set_same ms (slot j) true false within),

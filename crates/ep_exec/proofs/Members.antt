@@ -5,8 +5,7 @@ use Rattle.std.specs.List.{list_any}
 use Rattle.std.proofs.lemmas.Bool.{eqb-true, eq-eqb}
 use Rattle.indexmap.specs.IndexSet.{insert_key}
 use Rattle.ep_base.specs.Places.{Has}
-use Rattle.ep_rules.proofs.Places.{place_head, has_cons, has_tail, has_or, has_split, has_left, has_right}
-use Rattle.ep_exec.proofs.Counts.{has_single}
+use Rattle.ep_rules.proofs.Places.{place_head, has_cons, has_tail, has_or, has_split, has_left, has_right, has_single}
 
 -- the equality of instances as code tests it
 abbrev pub same : ℕ → ℕ → Bool

@@ -7,10 +7,11 @@ use Rattle.ep_rules.specs.Graph.{Graph, Reaches}
 use Rattle.ep_rules.specs.Graph.Reaches.{itself, onward}
 use Rattle.ep_rules.specs.Order.{Together}
 use Rattle.ep_rules.proofs.Reaching.{reach_trans}
-use Rattle.ep_rules.proofs.Places.{has_or, has_left, has_right, has_split}
-use Rattle.ep_exec.proofs.Counts.{has_single, single_has}
+use Rattle.ep_rules.proofs.Places.{has_or, has_left, has_right, has_split, has_single}
+use Rattle.ep_exec.proofs.Counts.{single_has}
 use Rattle.ep_exec.specs.Walk.{Flat, members_of, pooled, joined, merged, deps_at, fresh, Follows, IsComponent, DepsFirst, AreComponents}
 use Rattle.ep_exec.proofs.Stacks.{merged_here, merged_down, pooled_split, pooled_left, pooled_right}
+use Rattle.ep_exec.proofs.Blocks.{flat_more}
 
 -- a level of the path: `above` is what is closed and what is in the levels above it, `rest` the levels below
 pub record IsLevel (g : Graph) (above : List ℕ) (t : Flat) (rest : List Flat) : Type 0 where
@@ -222,10 +223,6 @@ all_push : (g : Graph) (cs : List (List ℕ)) (c : List ℕ) → AllByRecursion 
 all_push g [] c h k = (k, tt)
 all_push g (x ∷ cs) c h k = (h.0, all_push g cs c h.1 k)
 
-flat_push : (cs : List (List ℕ)) (c : List ℕ) → flat_map (λ c. c) (cs ++ c ∷ []) ≡ flat_map (λ c. c) cs ++ c
-flat_push [] c = append-nil c
-flat_push (x ∷ cs) c = ap (λ ys. x ++ ys) (flat_push cs c) ∙ sym (append_assoc x (flat_map (λ c. c) cs) c)
-
 first_push : (g : Graph) (before : List ℕ) (cs : List (List ℕ)) (c : List ℕ) → DepsFirst g before cs
     → ((i d : ℕ) (a : Attrs) → Has c i → g i ≡ Some a → Has a.deps d → Has (before ++ flat_map (λ c. c) cs) d ⊎ Has c d)
     → ((i : ℕ) → Has c i → ¬ Has (before ++ flat_map (λ c. c) cs) i) → DepsFirst g before (cs ++ c ∷ [])
@@ -249,7 +246,7 @@ walk_close g root us closed cs m s w = record {
   sound = λ i h. w.sound i (elim h [ inl k ↦ elim (has_split closed m i k) [ inl q ↦ inl q | inr q ↦ inr (has_left m (members_of s) i q) ] | inr k ↦ inr (has_right m (members_of s) i k) ]);
   begins = elim w.begins [ inl k ↦ inl (has_left closed m root k) | inr k ↦ elim (has_split m (members_of s) root k) [ inl q ↦ inl (has_right closed m root q) | inr q ↦ inr q ] ];
   shut = shut';
-  parts = ap (λ ys. ys ++ m) w.parts ∙ sym (flat_push cs m);
+  parts = ap (λ ys. ys ++ m) w.parts ∙ sym (flat_more cs m);
   each = all_push g cs m w.each (λ i j hi. (λ hj. (w.path.0.each i j hi hj, w.path.0.each j i hj hi), λ t. component i j hi t));
   first = first_push g [] cs m w.first
       (λ i d a h e k. elim (w.path.0.deps i d a h e k) [ inl y ↦ inl (subst (λ ys. Has ys d) w.parts y) | inr (inl y) ↦ inr y | inr (inr y) ↦ absurd (omega arith) ])

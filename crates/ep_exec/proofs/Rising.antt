@@ -8,7 +8,9 @@ use Rattle.std.specs.Cmp.Lexicographic.{nat_list_cmp_total}
 use Rattle.std.specs.Prelude.{slice_get}
 use Rattle.ep_rules.specs.OneMap as one_map
 use Rattle.ep_exec.specs.Table.{key_cmp}
-use Rattle.ep_exec.proofs.Entries.{same_contents, drop_here}
+use Rattle.ep_exec.proofs.Entries.{same_contents}
+use Rattle.ep_base.proofs.Tests.{and_true}
+use Rattle.ep_base.proofs.Lists.{drop_here}
 
 -- a key with its value
 abbrev Pair : Type 0
@@ -25,9 +27,6 @@ none_is_empty (x ∷ es) e = absurd (cc)
 pub none_listed : entries one_map.empty ≡ []
 none_listed = ap (λ (m : FinMap key_cmp (List ℕ)). entries m) (sym (none_is_empty [] refl)) ∙ list_is [] refl
 
-pub sorted_is : (es : List Pair) → is_sorted key_cmp es ≡ true → from_entries {R = key_cmp} es ≡ from_sorted es
-sorted_is es h = same_contents _ _ (λ q. get-from_entries nat_list_cmp_total es q ∙ sym (get-from_sorted key_cmp es q (subst T (sym h) tt)))
-
 -- One key more.
 
 abbrev below : List ℕ → List ℕ → Bool
@@ -39,24 +38,20 @@ ends_below k [] = true
 ends_below k (e ∷ []) = below e.0 k
 ends_below k (e ∷ f ∷ es) = ends_below k (f ∷ es)
 
-and_first : (a b : Bool) → (a && b) ≡ true → a ≡ true
+pub and_first : (a b : Bool) → (a && b) ≡ true → a ≡ true
 and_first true b h = refl
 and_first false b h = h
 
-and_second : (a b : Bool) → (a && b) ≡ true → b ≡ true
+pub and_second : (a b : Bool) → (a && b) ≡ true → b ≡ true
 and_second true b h = h
 and_second false b h = absurd (true≢false (sym h))
-
-and_true : (a : Bool) → (a && true) ≡ a
-and_true true = refl
-and_true false = refl
 
 absorb : (a b : Bool) → (b ≡ true → a ≡ true) → (a && b) ≡ b
 absorb true b i = refl
 absorb false true i = absurd (true≢false (sym (i refl)))
 absorb false false i = refl
 
-less_of : (o : Ordering) → is_lt o ≡ true → o ≡ Less
+pub less_of : (o : Ordering) → is_lt o ≡ true → o ≡ Less
 less_of Less h = refl
 less_of Equal h = absurd (true≢false (sym h))
 less_of Greater h = absurd (true≢false (sym h))
@@ -116,9 +111,6 @@ module _ {A : Type 0} where
 
   pub same_start : (xs ys : List A) → length xs ≡ length ys → IsTrue true ↔ (drop (length xs) xs ≡ drop (length xs) ys)
   same_start xs ys e = (λ t. drop_of_length-le xs (omega arith) ∙ sym (drop_of_length-le ys (omega (arith, e))), λ _. refl)
-
-  pub same_whole : (xs ys : List A) (b : Bool) → IsTrue b ↔ (drop 0 xs ≡ drop 0 ys) → IsTrue b ↔ (xs ≡ ys)
-  same_whole xs ys b h = h
 
   pub not_as_long : (xs ys : List A) → length xs ≢ length ys → IsTrue false ↔ (xs ≡ ys)
   not_as_long xs ys n = (λ t. absurd (true≢false (sym t)), λ e. absurd (n (ap length e)))

@@ -7,13 +7,13 @@ use Rattle.ep_base.specs.Places.{Has}
 use Rattle.ep_rules.specs.Graph.{Graph, Reaches}
 use Rattle.ep_rules.specs.Graph.Reaches.{itself, onward}
 use Rattle.ep_rules.specs.Order.{IsClosed}
-use Rattle.ep_rules.proofs.Places.{has_or, has_left, has_right, has_split, has_cons, has_tail, has_filter, filter_has}
+use Rattle.ep_rules.proofs.Places.{has_or, has_left, has_right, has_split, has_cons, has_tail, has_filter, filter_has, has_single}
 use Rattle.ep_exec.specs.Cut.{cut, cut_attrs}
 use Rattle.ep_exec.specs.Missing.{IsMissing, is_lacking, first_lacking, Visits}
 use Rattle.ep_exec.specs.Ready.{is_out}
 use Rattle.ep_exec.specs.Walk.{deps_at}
 use Rattle.ep_exec.proofs.Clear.{out_yes, out_then}
-use Rattle.ep_exec.proofs.Counts.{has_single, single_has}
+use Rattle.ep_exec.proofs.Counts.{single_has}
 use Rattle.ep_exec.proofs.Cut.{some_of}
 use Rattle.ep_exec.proofs.Size.{weight, weight_falls}
 

@@ -1,5 +1,5 @@
 -- Why a walk ends.
-use Rattle.std.proofs.Common.{◌≡◌, ℕ, suc, ◌+◌, ◌<◌, ◌≤◌, ◌⊎◌, inl, inr, List, [], ◌∷◌, ◌++◌, length, cond, ltb, sym, subst, arith, append_assoc}
+use Rattle.std.proofs.Common.{◌≡◌, ℕ, suc, ◌+◌, ◌<◌, ◌≤◌, ◌⊎◌, inl, inr, List, [], ◌∷◌, ◌++◌, length, cond, ltb, sym, subst, arith}
 use Rattle.std.proofs.lemmas.Bool.{lt-ltb, le-ltb, cases_Bool}
 use Rattle.std.proofs.lemmas.List.{length-append}
 use Rattle.ep_base.specs.Places.{place, Has}
@@ -46,11 +46,6 @@ merged_size t (b ∷ s) d = go (has_or t.members d) (merged_size (joined b t) s 
     go : Has t.members d ⊎ (Has t.members d → ⊥) → (length (edges_of (merged (joined b t) s d)) ≡ length (pooled b.edges t.edges) + length (edges_of s)) × (length (merged (joined b t) s d) ≤ suc (length s)) → (length (edges_of (merged t (b ∷ s) d)) ≡ length t.edges + length (b.edges ++ edges_of s)) × (length (merged t (b ∷ s) d) ≤ suc (suc (length s)))
     go (inl k) r = rw (merged_here t (b ∷ s) d k) (length-append t.edges (b.edges ++ edges_of s), omega arith)
     go (inr n) r = rw (merged_down t b s d n) (omega (arith, r.0, pooled_length b.edges t.edges, length-append b.edges (edges_of s)), omega (arith, r.1))
-
-pub close_smaller : (g : Graph) (us closed m : List ℕ) (s : List Flat) → size g us (closed ++ m) s < size g us closed (record { members = m; edges = [] } ∷ s)
-close_smaller g us closed m s =
-    let f = weight_fewer g (closed ++ (m ++ members_of s)) ((closed ++ m) ++ members_of s) us (λ u h. subst (λ ys. Has ys u) (sym (append_assoc closed m (members_of s))) h) in
-    omega arith
 
 pub follow_smaller : (g : Graph) (us closed : List ℕ) (t : Flat) (s : List Flat) (d : ℕ) (new : List Flat) → Has us d → Follows g closed t s d new → size g us closed new < size g us closed (plus t d ∷ s)
 follow_smaller g us closed t s d new in_us (inl p) = rw p.1 (omega (arith, length-append (t.edges ++ d ∷ []) (edges_of s), length-append t.edges (d ∷ []), length-append t.edges (edges_of s)))

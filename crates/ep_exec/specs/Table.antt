@@ -7,8 +7,8 @@ use Rattle.std.specs.Map.{lookup}
 use Rattle.std.specs.Ordering.{nat_cmp}
 use Rattle.std.specs.Cmp.Lexicographic.{slice_cmp}
 use Rattle.std.specs.declared.cmp.Ordering.{Ordering}
-use Rattle.ep_base.specs.Attributes.{same_list}
 use Rattle.ep_rules.specs.OneMap.{Contents, empty, with_key, Store}
+use Rattle.ep_space.specs.Index.{is_at}
 
 -- keys by their bytes, a key before the longer ones that begin with it
 abbrev pub key_cmp : List ℕ → List ℕ → Ordering
@@ -33,9 +33,6 @@ Entry = Vec ℕ Global × Option (List ℕ)
 abbrev pub contents_of : List Entry → Contents
 contents_of [] = empty
 contents_of (e ∷ es) = with_key (contents_of es) e.0.items e.1
-
-abbrev pub is_at : List ℕ → Vec ℕ Global → Bool
-is_at k l = same_list k l.items
 
 -- the key has an entry, with a value or with none
 abbrev pub has_place : List Entry → List ℕ → Bool

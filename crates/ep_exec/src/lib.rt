@@ -1,7 +1,7 @@
 //! What a replica executes: the order, the map that it keeps, and the set of what it has executed.
 //!
 //! `ep_journal` asks `plan_left` for the order of an execution, tries its commands on the `Store`, and keeps them or takes
-//! them all back. `ep_verdict` counts first executions by `Executed`. The order is that of `ep_rules`, specs/Order.antt,
+//! them all back. `ep_audit` counts first executions by `Executed`. The order is that of `ep_rules`, specs/Order.antt,
 //! which says nothing of how it is found.
 //!
 //! Start with `planning.rt` and `store.rt`. The walk that finds components has a stack of its own, so that long chains of
@@ -10,6 +10,7 @@
 //! The walk and the map's table may be made anew freely, as long as `plan`, `plan_left` and `Store` keep their clauses.
 #![tactic(auto)]
 
+mod component;
 mod contents;
 mod contents_fault;
 mod executed;
@@ -18,7 +19,6 @@ mod level;
 mod listed;
 mod marked;
 mod marks;
-mod part;
 mod plan_fault;
 mod planning;
 mod reach;

@@ -11,7 +11,7 @@ ghost use Rattle.ep_exec.specs.Table.{contents_of};
 use crate::contents::Contents;
 use crate::contents_fault::ContentsFault;
 use crate::sorted::sorted;
-use crate::table::{self, Table, apply_open, sealed, value_of};
+use crate::table::{self, ValueTable, apply_open, sealed, value_of};
 use crate::trial::Trial;
 use ep_base::{Command, Key, Reply, Value};
 use indexmap::IndexMap;
@@ -22,7 +22,7 @@ use std::marker::Model;
 #[derive(Drop)]
 pub struct Store {
     alloc: Global,
-    table: Table,
+    table: ValueTable,
     seal: Option<Value>,
 }
 
@@ -50,6 +50,7 @@ impl Store {
     }
 
     /// The open map with these contents.
+    #[tactic(auto, using(crate::proofs::Sorting::sorted_entries))]
     pub fn opened(alloc: Global, contents: &Contents) -> Result<Store, AllocError>
         ensures { IfOk result (λ s. s ≡ opened contents.now) }
     {
@@ -122,7 +123,7 @@ impl Store {
     }
 
     /// The map of a table, closed by this seal, if one is given.
-    pub(crate) fn with(alloc: Global, table: Table, seal: Option<Value>) -> Store
+    pub(crate) fn with(alloc: Global, table: ValueTable, seal: Option<Value>) -> Store
         ensures { result ≡ record { contents = contents_of table.entries; seal = seal } }
     {
         Store { alloc, table, seal }

@@ -1,20 +1,20 @@
 //! The table behind a map: keys, each with a value or with none.
 
 ghost use Rattle.std.specs.Prelude.{◌≡◌, ℕ, List, None, true, false, IfOk, OnOk, OnErr};
-ghost use Rattle.std.specs.FinMap.{from_entries};
+ghost use Rattle.std.specs.FinMap.{from_entries, is_sorted};
 ghost use Rattle.std.specs.Option.{option_copied, option_flatten};
 ghost use Rattle.ep_base.specs.Commands.{Swap, Cas};
 ghost use Rattle.ep_base.specs.Parts.{IsShort};
 ghost use Rattle.ep_rules.specs.OneMap.{Contents, value_at, with_key, written, read, told, sealed_by};
 ghost use Rattle.ep_base.specs.Sameness.{same_option};
-ghost use Rattle.ep_exec.specs.Table.{HavePlaces, contents_of, has_place, restored};
+ghost use Rattle.ep_exec.specs.Table.{HavePlaces, contents_of, has_place, key_cmp, restored};
 
 use ep_base::{Command, CommandView, Key, Reply, Value};
 use indexmap::IndexMap;
 use std::alloc::{AllocError, Global};
 
 /// Keys, each with its value, or with none where it has only a place.
-pub type Table = IndexMap<Vec<u8>, Option<Value>>;
+pub type ValueTable = IndexMap<Vec<u8>, Option<Value>>;
 
 /// Lets a value go.
 fn done<T: Drop>(_value: T) {}
@@ -30,7 +30,7 @@ fn flat(found: Option<&Option<Value>>) -> Option<&Value>
 }
 
 /// What the key has.
-pub fn value_of<'a>(table: &'a Table, key: &[u8]) -> Option<&'a Value>
+pub fn value_of<'a>(table: &'a ValueTable, key: &[u8]) -> Option<&'a Value>
     ensures { option_copied result ≡ value_at (contents_of table.now.entries) key.now }
 {
     flat(table.get(key))
@@ -38,7 +38,7 @@ pub fn value_of<'a>(table: &'a Table, key: &[u8]) -> Option<&'a Value>
 
 /// Sets what the key has, and gives what it had. A key that has a place needs no memory.
 pub fn set(
-    table: &mut Table,
+    table: &mut ValueTable,
     key: Vec<u8>,
     value: Option<Value>,
 ) -> Result<Option<Value>, AllocError>
@@ -56,7 +56,7 @@ pub fn set(
 }
 
 /// Takes the key out, and gives what it had.
-pub fn remove(table: &mut Table, key: &[u8]) -> Option<Value>
+pub fn remove(table: &mut ValueTable, key: &[u8]) -> Option<Value>
     ensures was { result ≡ value_at (contents_of table.old.entries) key.now }
     ensures removed { contents_of table.new.entries ≡ with_key (contents_of table.old.entries) key.now None }
 {
@@ -84,7 +84,7 @@ pub fn told(value: Option<Value>) -> Reply
 }
 
 /// The same table again.
-pub fn copy(alloc: Global, table: &Table) -> Result<Table, AllocError>
+pub fn copy(alloc: Global, table: &ValueTable) -> Result<ValueTable, AllocError>
     ensures { IfOk result (λ t. contents_of t.entries ≡ contents_of table.now.entries) }
 {
     let mut copy = IndexMap::new(alloc);
@@ -97,13 +97,14 @@ pub fn copy(alloc: Global, table: &Table) -> Result<Table, AllocError>
     Ok(copy)
 }
 
-/// The table of these keys, each with its value.
-pub fn filled(alloc: Global, items: &[(Key, Value)]) -> Result<Table, AllocError>
+/// The table of these keys, each with its value. `sorted` goes over a table from its end, and a tree takes a key that is below all of it fastest: so the
+/// least key stands first.
+pub fn filled(alloc: Global, items: &[(Key, Value)]) -> Result<ValueTable, AllocError>
+    requires { is_sorted key_cmp items.now ≡ true }
     ensures { IfOk result (λ t. contents_of t.entries ≡ from_entries items.now) }
 {
-    let mut table = IndexMap::new(alloc);
-    for index in (0..items.len()).rev() {
-        let (key, value) = &items[index];
+    let mut table = IndexMap::with_capacity(alloc, items.len())?;
+    for (key, value) in items {
         let name = Vec::from_slice(alloc, key.as_slice())?;
         let value = value.copy(alloc)?;
         done(set(&mut table, name, Some(value))?);
@@ -112,7 +113,7 @@ pub fn filled(alloc: Global, items: &[(Key, Value)]) -> Result<Table, AllocError
 }
 
 /// Makes a place for the key.
-pub fn make_place(alloc: Global, table: &mut Table, key: &[u8]) -> Result<(), AllocError>
+pub fn make_place(alloc: Global, table: &mut ValueTable, key: &[u8]) -> Result<(), AllocError>
     ensures contents { contents_of table.new.entries ≡ contents_of table.old.entries }
     ensures place { OnOk result (has_place table.new.entries key.now ≡ true) }
     ensures places { (q : List ℕ) → has_place table.old.entries q ≡ true → has_place table.new.entries q ≡ true }
@@ -126,7 +127,7 @@ pub fn make_place(alloc: Global, table: &mut Table, key: &[u8]) -> Result<(), Al
 }
 
 /// Takes the key's place away, if it has no value.
-pub fn sweep(table: &mut Table, key: &[u8])
+pub fn sweep(table: &mut ValueTable, key: &[u8])
     ensures { contents_of table.new.entries ≡ contents_of table.old.entries }
 {
     if value_of(table, key).is_none() {
@@ -135,7 +136,7 @@ pub fn sweep(table: &mut Table, key: &[u8])
 }
 
 /// Sets what a key has that has a place.
-pub fn put_back(table: &mut Table, key: Vec<u8>, value: Option<Value>) -> Option<Value>
+pub fn put_back(table: &mut ValueTable, key: Vec<u8>, value: Option<Value>) -> Option<Value>
     requires { has_place table.old.entries key.items ≡ true }
     ensures was { result ≡ value_at (contents_of table.old.entries) key.items }
     ensures contents { contents_of table.new.entries ≡ with_key (contents_of table.old.entries) key.items value }
@@ -150,7 +151,7 @@ pub fn put_back(table: &mut Table, key: Vec<u8>, value: Option<Value>) -> Option
 /// Makes a place for both keys.
 fn make_places(
     alloc: Global,
-    table: &mut Table,
+    table: &mut ValueTable,
     first: &[u8],
     second: &[u8],
 ) -> Result<(), AllocError>
@@ -164,7 +165,7 @@ fn make_places(
 
 /// Sets what two keys have that have places, and gives what the first one had.
 fn put_both(
-    table: &mut Table,
+    table: &mut ValueTable,
     first: Vec<u8>,
     value: Option<Value>,
     second: Vec<u8>,
@@ -185,7 +186,7 @@ fn put_both(
 /// written.
 pub fn swap(
     alloc: Global,
-    table: &mut Table,
+    table: &mut ValueTable,
     first: &[u8],
     second: &[u8],
 ) -> Result<Option<Value>, AllocError>
@@ -205,7 +206,7 @@ pub fn swap(
 }
 
 /// Whether the key has this value, or none.
-pub fn has_value(table: &Table, key: &[u8], expected: Option<&[u8]>) -> bool
+pub fn has_value(table: &ValueTable, key: &[u8], expected: Option<&[u8]>) -> bool
     ensures { result ≡ same_option (value_at (contents_of table.now.entries) key.now) (option_copied expected.entry) }
 {
     match (value_of(table, key), expected) {
@@ -229,7 +230,7 @@ fn made(alloc: Global, bytes: Option<&[u8]>) -> Result<Option<Value>, AllocError
 /// Gives the key what is new where it has what is expected, and gives what it had.
 pub fn compare(
     alloc: Global,
-    table: &mut Table,
+    table: &mut ValueTable,
     key: &[u8],
     expected: Option<&[u8]>,
     new: Option<&[u8]>,
@@ -253,7 +254,11 @@ pub fn compare(
 }
 
 /// Does a command on an open map, but for closing it: a no-op and a seal change nothing.
-pub fn apply_open(alloc: Global, table: &mut Table, command: &Command) -> Result<Reply, AllocError>
+pub fn apply_open(
+    alloc: Global,
+    table: &mut ValueTable,
+    command: &Command,
+) -> Result<Reply, AllocError>
     ensures reply { IfOk result (λ r. r ≡ read (contents_of table.old.entries) command.now) }
     ensures ok { OnOk result (contents_of table.new.entries ≡ written (contents_of table.old.entries) command.now) }
     ensures err { OnErr result (contents_of table.new.entries ≡ contents_of table.old.entries) }
@@ -294,7 +299,7 @@ pub fn sealed(alloc: Global, command: &Command) -> Result<Option<Value>, AllocEr
 /// Makes a place for the key, and notes what it has to be put back: the key again, with which `put_back` writes.
 pub fn note(
     alloc: Global,
-    table: &mut Table,
+    table: &mut ValueTable,
     undo: &mut Vec<(Vec<u8>, Option<Value>)>,
     key: &[u8],
 ) -> Result<Vec<u8>, AllocError>
@@ -317,7 +322,7 @@ pub fn note(
 /// Sets what the key has, gives what it had, and notes it to be put back.
 pub fn write(
     alloc: Global,
-    table: &mut Table,
+    table: &mut ValueTable,
     undo: &mut Vec<(Vec<u8>, Option<Value>)>,
     key: &[u8],
     value: Option<Value>,
@@ -336,7 +341,7 @@ pub fn write(
 /// taken, before either key is written.
 pub fn exchange(
     alloc: Global,
-    table: &mut Table,
+    table: &mut ValueTable,
     undo: &mut Vec<(Vec<u8>, Option<Value>)>,
     first: &[u8],
     second: &[u8],
@@ -357,7 +362,7 @@ pub fn exchange(
 /// The same as `compare`, and notes what is changed to be put back.
 pub fn compare_noted(
     alloc: Global,
-    table: &mut Table,
+    table: &mut ValueTable,
     undo: &mut Vec<(Vec<u8>, Option<Value>)>,
     key: &[u8],
     expected: Option<&[u8]>,
@@ -378,7 +383,7 @@ pub fn compare_noted(
 }
 
 /// Takes all that is noted back, the last change first.
-pub fn take_back(table: &mut Table, undo: Vec<(Vec<u8>, Option<Value>)>)
+pub fn take_back(table: &mut ValueTable, undo: Vec<(Vec<u8>, Option<Value>)>)
     requires { HavePlaces table.old.entries undo.items }
     ensures { contents_of table.new.entries ≡ restored undo.items (contents_of table.old.entries) }
 {
@@ -389,7 +394,7 @@ pub fn take_back(table: &mut Table, undo: Vec<(Vec<u8>, Option<Value>)>)
 }
 
 /// Takes the places away that were made for these keys and have no value.
-pub fn sweep_all(table: &mut Table, undo: &[(Vec<u8>, Option<Value>)])
+pub fn sweep_all(table: &mut ValueTable, undo: &[(Vec<u8>, Option<Value>)])
     ensures { contents_of table.new.entries ≡ contents_of table.old.entries }
 {
     for (key, _) in undo {

@@ -10,7 +10,8 @@ ghost use Rattle.ep_exec.specs.Tries.{tried};
 
 use crate::store::Store;
 use crate::table::{
-    Table, compare_noted, copied, exchange, sealed, sweep_all, take_back, told, value_of, write,
+    ValueTable, compare_noted, copied, exchange, sealed, sweep_all, take_back, told, value_of,
+    write,
 };
 use ep_base::{Answer, Command, CommandView, Reply, Value};
 use std::alloc::{AllocError, Global};
@@ -22,7 +23,7 @@ use std::marker::Model;
 #[derive(Drop)]
 pub struct Trial {
     alloc: Global,
-    table: Table,
+    table: ValueTable,
     undo: Vec<(Vec<u8>, Option<Value>)>,
     // the seal at the start, and that of a command since
     before: Option<Value>,
@@ -45,7 +46,7 @@ impl Model for Trial {
 impl Trial {
     /// No command is tried yet.
     #[tactic(auto, using(crate::proofs::Sealed::first_alone))]
-    pub(crate) fn new(alloc: Global, table: Table, seal: Option<Value>) -> Trial
+    pub(crate) fn new(alloc: Global, table: ValueTable, seal: Option<Value>) -> Trial
         ensures { result ≡ record { start = record { contents = contents_of table.entries; seal = seal }; current = record { contents = contents_of table.entries; seal = seal } } }
     {
         Trial {
@@ -136,7 +137,7 @@ fn closed_answer(command: &Command) -> Answer
 // Does a command on an open map, but for closing it, and notes what it changes.
 fn try_open(
     alloc: Global,
-    table: &mut Table,
+    table: &mut ValueTable,
     undo: &mut Vec<(Vec<u8>, Option<Value>)>,
     command: &Command,
 ) -> Result<Answer, AllocError>

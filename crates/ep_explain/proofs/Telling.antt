@@ -3,9 +3,9 @@ use Rattle.std.proofs.Common.{◌≡◌, ℕ, ◌+◌, ◌<◌, List, [], ◌∷
 use Rattle.std.proofs.lemmas.List.{take_more}
 use Rattle.std.specs.Prelude.{Bool, ◌||◌, IfErr, None, Some}
 use Rattle.std.specs.Io.KnownBytes.{Keeps}
-use Rattle.ep_advice.specs.Kept.{is_read_failed}
-use Rattle.ep_advice.specs.declared.explain_fault.ExplainFault.{ExplainFault}
-use Rattle.ep_advice.specs.declared.explain_fault.ExplainFault.TheVariants as explain
+use Rattle.ep_explain.specs.Kept.{is_read_failed}
+use Rattle.ep_explain.specs.declared.explain_fault.ExplainFault.{ExplainFault}
+use Rattle.ep_explain.specs.declared.explain_fault.ExplainFault.TheVariants as explain
 use Rattle.ep_base.specs.Devices.{FailsAsTold, tells}
 use Rattle.ep_bundle.specs.Contents.{contents_of}
 use Rattle.ep_bundle.specs.Journals.{Contents, Finds, ReadsBundle}

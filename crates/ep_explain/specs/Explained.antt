@@ -12,9 +12,9 @@ use Rattle.ep_audit.specs.declared.audit_fault.AuditFault.{AuditFault}
 use Rattle.ep_rules.specs.declared.receipt.Receipt.{Receipt}
 use Rattle.ep_view.specs.Editions.{edition_line}
 use Rattle.ep_audit.specs.Listed.{all_faults, IsFirst}
-use Rattle.ep_advice.specs.Advice.{IsAdvice, refused_at}
-use Rattle.ep_advice.specs.Sections.{section}
-use Rattle.ep_advice.specs.declared.subcommand.Subcommand.{Subcommand}
+use Rattle.ep_explain.specs.Advice.{IsAdvice, refused_at}
+use Rattle.ep_explain.specs.Reasons.{section}
+use Rattle.ep_explain.specs.declared.subcommand.Subcommand.{Subcommand}
 use Rattle.ep_explain.specs.Sections.{AreTold}
 use Rattle.ep_explain.specs.declared.finding.Finding.{Finding}
 use Rattle.ep_explain.specs.declared.finding.Finding.TheVariants.{Accepted, Refused, Unreadable, Script}

@@ -1,6 +1,6 @@
 -- Faults, and the reasons under them.
 use Rattle.std.specs.Prelude.{ℕ, List, [], ◌∷◌, ◌++◌}
-use Rattle.ep_advice.specs.Sections.{section}
+use Rattle.ep_explain.specs.Reasons.{section}
 use Rattle.ep_audit.specs.Faults.{fault_of, fault_text}
 use Rattle.ep_report.specs.Reports.{text_of}
 use Rattle.ep_audit.specs.declared.audit_fault.AuditFault.{AuditFault}

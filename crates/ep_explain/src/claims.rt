@@ -5,7 +5,7 @@ ghost use Rattle.ep_journal.specs.Entries.{AreJournals};
 ghost use Rattle.ep_audit.specs.Lookups.{proposal_in};
 
 use crate::handled::{add_clock, push_entry};
-use ep_advice::Reasons;
+use crate::reasons::Reasons;
 use ep_audit::{entries_of, entry_at, is_request, proposed};
 use ep_base::{Answer, InstanceId, ReplicaId};
 use ep_journal::{Entry, Event, Journals};

@@ -3,22 +3,26 @@
 ghost use Rattle.std.specs.Prelude.{◌≡◌, ◌++◌, ℕ, List, Some, IfOk, IfErr, OnOk};
 ghost use Rattle.ep_base.specs.Devices.{FailsAsTold, tells};
 ghost use Rattle.ep_bundle.specs.Reading.{is_read_failed as is_bundle_unread};
-ghost use Rattle.ep_advice.specs.Kept.{is_read_failed, known_left};
-ghost use Rattle.ep_advice.specs.declared.explain_fault.ExplainFault.TheVariants.{Memory};
+ghost use Rattle.ep_explain.specs.Kept.{is_read_failed, known_left};
+ghost use Rattle.ep_explain.specs.declared.explain_fault.ExplainFault.TheVariants.{Memory};
 ghost use Rattle.ep_explain.specs.Explained.{IsExplained, IsJudged, IsNoBundle, IsRefusalTold, IsVerdictTold, script_finding};
 ghost use Rattle.ep_explain.specs.Sections.{AreTold, fault_section};
 ghost use Rattle.ep_report.specs.Reports.{text_of};
 ghost use Rattle.ep_view.specs.Editions.{edition_line};
 
+use crate::advice::Advice;
 use crate::claims::{order_reasons, unknown_reasons};
+use crate::explain_fault::ExplainFault;
 use crate::explained::Explained;
 use crate::finding::Finding;
 use crate::grammar::field_reasons;
+use crate::guess::subcommand_of;
 use crate::handled::handling_reasons;
+use crate::kept::Kept;
+use crate::reasons::{Reasons, push_section};
+use crate::scripts::explain_script;
 use crate::stepping::step_reasons;
-use ep_advice::{
-    Advice, ExplainFault, Kept, Reasons, Subcommand, explain_script, push_section, subcommand_of,
-};
+use crate::subcommand::Subcommand;
 use ep_audit::{AuditFault, faults};
 use ep_base::Source;
 use ep_bundle::{Bundle, BundleFault, read_bundle};

@@ -1,13 +1,14 @@
 //! Why a field of a bundle isn't allowed: the grammar of docs/FORMATS.md, section 2, once more, for the names of its fields.
 
 use crate::allowed::Allowed;
-use crate::field::Field;
+use crate::bundle_field::BundleField;
+use crate::field_place::FieldPlace;
 use crate::front::push_front;
+use crate::guess::is_text;
+use crate::reasons::Reasons;
 use crate::region::Region;
-use crate::spot::Spot;
 use crate::stop::Stop;
 use crate::walk::{Walk, number_of};
-use ep_advice::{Reasons, is_text};
 use ep_report::push_number;
 use ep_script::push_word;
 use std::alloc::{AllocError, Global};
@@ -49,15 +50,19 @@ pub(crate) fn field_reasons(
 }
 
 fn pass_bundle(walk: &mut Walk<'_>) -> Result<(), Stop> {
-    walk.number(Field::Magic, 4, Allowed::Magic)?;
-    let version = walk.number(Field::Version, 1, Allowed::Range(1, 3))?;
-    let replicas = walk.number(Field::Replicas, 1, Allowed::ClusterSize)?;
+    walk.number(BundleField::Magic, 4, Allowed::Magic)?;
+    let version = walk.number(BundleField::Version, 1, Allowed::Range(1, 3))?;
+    let replicas = walk.number(BundleField::Replicas, 1, Allowed::ClusterSize)?;
     let terms = Terms { version, replicas };
     if terms.is_late() {
-        walk.number(Field::Generation, 4, Allowed::Range(1, 4_294_967_295))?;
-        walk.number(Field::Since, 8, Allowed::Range(0, 281_474_976_710_655))?;
+        walk.number(BundleField::Generation, 4, Allowed::Range(1, 4_294_967_295))?;
+        walk.number(
+            BundleField::Since,
+            8,
+            Allowed::Range(0, 281_474_976_710_655),
+        )?;
     }
-    let receipts = walk.number(Field::ReceiptCount, 4, Allowed::Any)?;
+    let receipts = walk.number(BundleField::ReceiptCount, 4, Allowed::Any)?;
     if terms.is_late() {
         pass_opening(walk)?;
     }
@@ -73,7 +78,11 @@ fn pass_bundle(walk: &mut Walk<'_>) -> Result<(), Stop> {
 }
 
 fn pass_opening(walk: &mut Walk<'_>) -> Result<(), Stop> {
-    let keys = walk.number(Field::OpeningCount, 4, Allowed::Range(0, 4_000_000_000))?;
+    let keys = walk.number(
+        BundleField::OpeningCount,
+        4,
+        Allowed::Range(0, 4_000_000_000),
+    )?;
     for key in 0..keys {
         walk.enter(Region::Opening(key.saturating_add(1)));
         pass_pair(walk)?;
@@ -82,16 +91,16 @@ fn pass_opening(walk: &mut Walk<'_>) -> Result<(), Stop> {
 }
 
 fn pass_pair(walk: &mut Walk<'_>) -> Result<(), Stop> {
-    let key = walk.number(Field::OpenedKeyLength, 1, Allowed::Range(1, 255))?;
-    let value = walk.number(Field::OpenedValueLength, 4, Allowed::Range(0, 65_535))?;
-    walk.run(Field::OpenedKey, key as usize, Allowed::HigherKey)?;
-    walk.run(Field::OpenedValue, value as usize, Allowed::Any)?;
+    let key = walk.number(BundleField::OpenedKeyLength, 1, Allowed::Range(1, 255))?;
+    let value = walk.number(BundleField::OpenedValueLength, 4, Allowed::Range(0, 65_535))?;
+    walk.run(BundleField::OpenedKey, key as usize, Allowed::HigherKey)?;
+    walk.run(BundleField::OpenedValue, value as usize, Allowed::Any)?;
     Ok(())
 }
 
 fn pass_journal(walk: &mut Walk<'_>, terms: Terms, replica: u64) -> Result<(), Stop> {
-    walk.number(Field::JournalReplica, 1, Allowed::One(replica))?;
-    let entries = walk.number(Field::EntryCount, 4, Allowed::Any)?;
+    walk.number(BundleField::JournalReplica, 1, Allowed::One(replica))?;
+    let entries = walk.number(BundleField::EntryCount, 4, Allowed::Any)?;
     for entry in 0..entries {
         walk.enter(Region::Entry(replica, entry.saturating_add(1)));
         pass_entry(walk, terms)?;
@@ -100,14 +109,18 @@ fn pass_journal(walk: &mut Walk<'_>, terms: Terms, replica: u64) -> Result<(), S
 }
 
 fn pass_entry(walk: &mut Walk<'_>, terms: Terms) -> Result<(), Stop> {
-    let kind = walk.number(Field::EventKind, 1, Allowed::Range(1, 5))?;
-    walk.number(Field::Stamp, 8, Allowed::Range(1, 281_474_976_710_655))?;
+    let kind = walk.number(BundleField::EventKind, 1, Allowed::Range(1, 5))?;
+    walk.number(
+        BundleField::Stamp,
+        8,
+        Allowed::Range(1, 281_474_976_710_655),
+    )?;
     pass_body(walk, terms, kind)?;
-    let frames = walk.number(Field::FrameCount, 2, Allowed::Any)?;
+    let frames = walk.number(BundleField::FrameCount, 2, Allowed::Any)?;
     for _ in 0..frames {
         pass_frame(walk, terms)?;
     }
-    let executions = walk.number(Field::ExecutionCount, 2, Allowed::Any)?;
+    let executions = walk.number(BundleField::ExecutionCount, 2, Allowed::Any)?;
     for _ in 0..executions {
         pass_instance(walk, terms)?;
         pass_answer(walk, terms)?;
@@ -124,14 +137,14 @@ fn pass_body(walk: &mut Walk<'_>, terms: Terms, kind: u64) -> Result<(), Stop> {
 }
 
 fn pass_request(walk: &mut Walk<'_>) -> Result<(), Stop> {
-    walk.number(Field::Client, 4, Allowed::Range(1, 4_294_967_295))?;
-    walk.number(Field::Request, 4, Allowed::Range(1, 4_294_967_295))?;
+    walk.number(BundleField::Client, 4, Allowed::Range(1, 4_294_967_295))?;
+    walk.number(BundleField::Request, 4, Allowed::Range(1, 4_294_967_295))?;
     Ok(())
 }
 
 fn pass_proposal(walk: &mut Walk<'_>, terms: Terms) -> Result<(), Stop> {
     pass_request(walk)?;
-    walk.number(Field::SeenStamp, 8, Allowed::Any)?;
+    walk.number(BundleField::SeenStamp, 8, Allowed::Any)?;
     if terms.is_late() {
         pass_command(walk)
     } else {
@@ -155,16 +168,20 @@ fn text_lengths(op: u64) -> Allowed {
 
 /// A command of version 1 or 2.
 fn pass_early_command(walk: &mut Walk<'_>, terms: Terms) -> Result<(), Stop> {
-    let op = walk.number(Field::EarlyOp, 1, Allowed::Range(2, highest_op(terms)))?;
-    let key = walk.number(Field::KeyLength, 1, Allowed::Range(1, 255))?;
-    let text = walk.number(Field::TextLength, 2, text_lengths(op))?;
-    walk.run(Field::Key, key as usize, Allowed::Any)?;
+    let op = walk.number(
+        BundleField::EarlyOp,
+        1,
+        Allowed::Range(2, highest_op(terms)),
+    )?;
+    let key = walk.number(BundleField::KeyLength, 1, Allowed::Range(1, 255))?;
+    let text = walk.number(BundleField::TextLength, 2, text_lengths(op))?;
+    walk.run(BundleField::Key, key as usize, Allowed::Any)?;
     let allowed = if op == 5 {
         Allowed::OtherKey
     } else {
         Allowed::Any
     };
-    walk.run(Field::Text, text as usize, allowed)?;
+    walk.run(BundleField::Text, text as usize, allowed)?;
     Ok(())
 }
 
@@ -206,13 +223,13 @@ fn bodies(op: u64) -> Allowed {
 
 /// A command of version 3.
 fn pass_command(walk: &mut Walk<'_>) -> Result<(), Stop> {
-    let op = walk.number(Field::Op, 1, Allowed::Range(2, 9))?;
-    let key = walk.number(Field::KeyLength, 1, key_lengths(op))?;
-    let second = walk.number(Field::SecondKeyLength, 1, second_key_lengths(op))?;
-    let body = walk.number(Field::BodyLength, 4, body_lengths(op))?;
-    walk.run(Field::Key, key as usize, Allowed::Any)?;
-    walk.run(Field::SecondKey, second as usize, Allowed::OtherKey)?;
-    walk.run(Field::Body, body as usize, bodies(op))?;
+    let op = walk.number(BundleField::Op, 1, Allowed::Range(2, 9))?;
+    let key = walk.number(BundleField::KeyLength, 1, key_lengths(op))?;
+    let second = walk.number(BundleField::SecondKeyLength, 1, second_key_lengths(op))?;
+    let body = walk.number(BundleField::BodyLength, 4, body_lengths(op))?;
+    walk.run(BundleField::Key, key as usize, Allowed::Any)?;
+    walk.run(BundleField::SecondKey, second as usize, Allowed::OtherKey)?;
+    walk.run(BundleField::Body, body as usize, bodies(op))?;
     Ok(())
 }
 
@@ -226,8 +243,8 @@ fn frame_lengths(terms: Terms) -> Allowed {
 }
 
 fn pass_frame(walk: &mut Walk<'_>, terms: Terms) -> Result<(), Stop> {
-    let len = walk.number(Field::FrameLength, 4, frame_lengths(terms))?;
-    walk.run(Field::Frame, len as usize, Allowed::Any)?;
+    let len = walk.number(BundleField::FrameLength, 4, frame_lengths(terms))?;
+    walk.run(BundleField::Frame, len as usize, Allowed::Any)?;
     Ok(())
 }
 
@@ -238,8 +255,8 @@ fn replicas_of(terms: Terms) -> Allowed {
 
 fn pass_instance(walk: &mut Walk<'_>, terms: Terms) -> Result<(), Stop> {
     let highest = if terms.version == 1 { 1000 } else { 2000 };
-    walk.number(Field::InstanceReplica, 1, replicas_of(terms))?;
-    walk.number(Field::InstanceNumber, 2, Allowed::Range(1, highest))?;
+    walk.number(BundleField::InstanceReplica, 1, replicas_of(terms))?;
+    walk.number(BundleField::InstanceNumber, 2, Allowed::Range(1, highest))?;
     Ok(())
 }
 
@@ -247,20 +264,20 @@ fn pass_answer(walk: &mut Walk<'_>, terms: Terms) -> Result<(), Stop> {
     if terms.is_late() {
         return pass_late_answer(walk);
     }
-    let code = walk.number(Field::EarlyAnswerCode, 1, Allowed::Range(0, 2))?;
+    let code = walk.number(BundleField::EarlyAnswerCode, 1, Allowed::Range(0, 2))?;
     if code == 1 {
-        let len = walk.number(Field::ValueLength, 2, Allowed::Range(0, 1024))?;
-        walk.run(Field::Value, len as usize, Allowed::Any)?;
+        let len = walk.number(BundleField::ValueLength, 2, Allowed::Range(0, 1024))?;
+        walk.run(BundleField::Value, len as usize, Allowed::Any)?;
     }
     Ok(())
 }
 
 /// An answer of version 3.
 fn pass_late_answer(walk: &mut Walk<'_>) -> Result<(), Stop> {
-    let code = walk.number(Field::AnswerCode, 1, Allowed::Range(0, 4))?;
+    let code = walk.number(BundleField::AnswerCode, 1, Allowed::Range(0, 4))?;
     if code == 1 {
-        let len = walk.number(Field::ValueLength, 4, Allowed::Range(0, 65_535))?;
-        walk.run(Field::Value, len as usize, Allowed::Any)?;
+        let len = walk.number(BundleField::ValueLength, 4, Allowed::Range(0, 65_535))?;
+        walk.run(BundleField::Value, len as usize, Allowed::Any)?;
     }
     Ok(())
 }
@@ -268,10 +285,10 @@ fn pass_late_answer(walk: &mut Walk<'_>) -> Result<(), Stop> {
 fn pass_receipt(walk: &mut Walk<'_>, terms: Terms) -> Result<(), Stop> {
     pass_request(walk)?;
     pass_instance(walk, terms)?;
-    walk.number(Field::SeenStamp, 8, Allowed::Any)?;
-    walk.number(Field::ReceiptReplica, 1, replicas_of(terms))?;
-    walk.number(Field::ReceiptEntry, 4, Allowed::Any)?;
-    walk.number(Field::ReceiptStamp, 8, Allowed::Any)?;
+    walk.number(BundleField::SeenStamp, 8, Allowed::Any)?;
+    walk.number(BundleField::ReceiptReplica, 1, replicas_of(terms))?;
+    walk.number(BundleField::ReceiptEntry, 4, Allowed::Any)?;
+    walk.number(BundleField::ReceiptStamp, 8, Allowed::Any)?;
     pass_answer(walk, terms)
 }
 
@@ -316,7 +333,7 @@ fn add_text(bytes: &[u8], reasons: &mut Reasons) -> Result<(), AllocError> {
 /// What to do, what it usually means, and the field: what it may be, and what it is.
 fn add_spot(
     alloc: Global,
-    spot: Spot,
+    spot: FieldPlace,
     rest: &[u8],
     reasons: &mut Reasons,
 ) -> Result<(), AllocError> {
@@ -343,7 +360,7 @@ fn add_cure(reasons: &mut Reasons) -> Result<(), AllocError> {
 }
 
 /// The field, and where it is.
-fn add_field(alloc: Global, spot: Spot, reasons: &mut Reasons) -> Result<(), AllocError> {
+fn add_field(alloc: Global, spot: FieldPlace, reasons: &mut Reasons) -> Result<(), AllocError> {
     let mut line = Vec::from_slice(alloc, b"field: ")?;
     spot.field.push_name(&mut line)?;
     line.extend_from_slice(b", in ")?;
@@ -364,7 +381,7 @@ fn add_cut(
 /// What the field may be, and what it is.
 fn add_allowed(
     alloc: Global,
-    spot: Spot,
+    spot: FieldPlace,
     rest: &[u8],
     reasons: &mut Reasons,
 ) -> Result<(), AllocError> {
@@ -377,7 +394,7 @@ fn add_allowed(
 }
 
 /// Appends what the field is.
-fn push_found(line: &mut Vec<u8>, spot: Spot, rest: &[u8]) -> Result<(), AllocError> {
+fn push_found(line: &mut Vec<u8>, spot: FieldPlace, rest: &[u8]) -> Result<(), AllocError> {
     let (front, _) = rest.split_at(spot.len.min(rest.len()));
     match spot.allowed {
         Allowed::Magic | Allowed::OtherKey | Allowed::HigherKey => push_word(line, front),

@@ -3,8 +3,8 @@
 ghost use Rattle.ep_journal.specs.Entries.{AreJournals};
 
 use crate::frames::{push_difference, push_frame};
+use crate::reasons::Reasons;
 use crate::side::Side;
-use ep_advice::Reasons;
 use ep_audit::{entries_of, entry_at, sent_there};
 use ep_base::ReplicaId;
 use ep_frame::Frame;

@@ -1,36 +1,55 @@
 //! Why a bundle or a script is refused, in words.
 //!
-//! A program that shows bundles calls `explain`, whose first line is that of the reader or of the audit. Of scripts `ep_advice` tells. Of a bundle
-//! all faults come then, each with its reasons: what to do, what usually brings it about, what stands where, and what differs. An audit stops
-//! at its first fault; `faults` of `ep_audit` finds all of them, in the audit's order.
+//! A program that shows bundles calls `explain`, whose first line is that of the reader or of the audit. Of a bundle all faults come then,
+//! each with its reasons: what to do, what usually brings it about, what stands where, and what differs. An audit stops at its first fault;
+//! `faults` of `ep_audit` finds all of them, in the audit's order. Of a script the reader's line comes, and which word of it is at fault, what
+//! stands there, and what may. `subcommand_of` tells from the first bytes whether they are a script, and for which subcommand: `Kept` is a
+//! source that can be looked at before it is read.
 //!
 //! Start with `explaining.rt` and specs/Explained.antt. `handled.rt` and `claims.rt` tell of what an audit refuses,
-//! `stepping.rt` and `step.rt` of an entry that isn't its replica's next step, `grammar.rt` of a field that isn't allowed.
+//! `stepping.rt` and `step.rt` of an entry that isn't its replica's next step, `grammar.rt` of a field that isn't allowed. `scripts.rt` and
+//! specs/Advice.antt are of scripts: `script_grammar.rt` and `operands.rt` have the grammar of docs/FORMATS.md, section 4, once more, for the
+//! names of its words.
 //!
-//! Reasons are words for people. What is promised of them is where they stand, and that each is one indented line.
+//! Reasons are words for people. What is promised of them is where they stand, that each is one indented line, and of a script that the first
+//! one names the line that the reader refuses.
 #![tactic(auto)]
 
+mod advice;
 mod allowed;
+mod bounds;
+mod bundle_field;
 mod claims;
+mod entry_told;
+mod explain_fault;
 mod explained;
 mod explaining;
-mod field;
+mod field_place;
 mod finding;
 mod form;
 mod frame_field;
 mod frames;
 mod front;
 mod grammar;
+mod guess;
 mod handled;
+mod kept;
+mod lines;
+mod operands;
+mod reasons;
 mod region;
+mod script_grammar;
+mod scripts;
 mod side;
-mod spot;
 mod step;
 mod stepping;
 mod stop;
-mod told;
+mod subcommand;
 mod walk;
+mod weathers;
 
+pub use explain_fault::ExplainFault;
 pub use explained::Explained;
 pub use explaining::explain;
 pub use finding::Finding;
+pub use kept::Kept;

@@ -3,11 +3,11 @@
 ghost use Rattle.std.specs.Prelude.{IfSome};
 ghost use Rattle.ep_journal.specs.Leaving.{MarksNext};
 
+use crate::entry_told::EntryTold;
 use crate::frames::{push_difference, push_frame, push_frame_fault, push_told};
+use crate::reasons::Reasons;
 use crate::side::Side;
-use crate::told::Told;
 use bytes::Bytes;
-use ep_advice::Reasons;
 use ep_base::{Answer, InstanceId, Stamp, Version};
 use ep_bundle::Draft;
 use ep_frame::{Frame, FrameFault};
@@ -32,7 +32,7 @@ pub(crate) fn add_draft(
         frames,
         done,
     } = draft;
-    let told = Told {
+    let told = EntryTold {
         stamp,
         frames: frames.as_slice(),
         done: done.as_slice(),
@@ -60,7 +60,7 @@ fn add_event(
     alloc: Global,
     journal: &mut Journal,
     event: Event,
-    told: &Told<'_>,
+    told: &EntryTold<'_>,
     reasons: &mut Reasons,
 ) -> Result<(), AllocError> {
     add_words(alloc, &event, reasons)?;
@@ -133,7 +133,7 @@ fn add_taken(
     alloc: Global,
     taken: Result<(), StepFault>,
     entries: &[Entry],
-    told: &Told<'_>,
+    told: &EntryTold<'_>,
     reasons: &mut Reasons,
 ) -> Result<(), AllocError> {
     match taken {
@@ -180,7 +180,7 @@ fn meaning_of(fault: StepFault) -> &'static str {
 fn add_differences(
     alloc: Global,
     entries: &[Entry],
-    told: &Told<'_>,
+    told: &EntryTold<'_>,
     reasons: &mut Reasons,
 ) -> Result<(), AllocError> {
     let Some(step) = entries.last() else {

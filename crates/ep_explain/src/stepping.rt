@@ -4,8 +4,8 @@ ghost use Rattle.std.specs.Prelude.{◌<◌};
 ghost use Rattle.ep_base.specs.Quorums.{size};
 ghost use Rattle.ep_journal.specs.Openings.{OpensIn};
 
+use crate::reasons::Reasons;
 use crate::step::{MOST_ENTRIES, add_draft};
-use ep_advice::Reasons;
 use ep_base::{Noted, ReplicaId, Source};
 use ep_bundle::{
     BundleFault, BundleHeader, read_count, read_draft, read_entry, read_header, read_journal,

@@ -1,12 +1,12 @@
 //! Why a walk over a bundle ends.
 
-use crate::spot::Spot;
+use crate::field_place::FieldPlace;
 
 /// Why a walk ends.
 #[derive(Clone, Copy)]
 pub(crate) enum Stop {
     /// This field begins at the place.
-    At(Spot),
+    At(FieldPlace),
     /// The place was not met.
     Past,
 }

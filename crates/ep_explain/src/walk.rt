@@ -1,9 +1,9 @@
 //! A walk over the fields of a bundle, up to a given place.
 
 use crate::allowed::Allowed;
-use crate::field::Field;
+use crate::bundle_field::BundleField;
+use crate::field_place::FieldPlace;
 use crate::region::Region;
-use crate::spot::Spot;
 use crate::stop::Stop;
 
 /// The bytes that aren't passed yet, and the offset of the first of them.
@@ -48,12 +48,12 @@ impl<'a> Walk<'a> {
     /// Passes a field of so many bytes, and gives them; ends where it is the one that is looked for.
     pub(crate) fn run(
         &mut self,
-        field: Field,
+        field: BundleField,
         len: usize,
         allowed: Allowed,
     ) -> Result<&'a [u8], Stop> {
         if self.at == self.wanted && len > 0 {
-            return Err(Stop::At(Spot {
+            return Err(Stop::At(FieldPlace {
                 field,
                 region: self.region,
                 len,
@@ -72,7 +72,7 @@ impl<'a> Walk<'a> {
     /// Passes a number of so many bytes, and gives it; ends where it is the one that is looked for.
     pub(crate) fn number(
         &mut self,
-        field: Field,
+        field: BundleField,
         len: usize,
         allowed: Allowed,
     ) -> Result<u64, Stop> {

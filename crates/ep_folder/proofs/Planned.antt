@@ -3,10 +3,10 @@ use Rattle.std.proofs.Common.{◌≡◌, ℕ, ◌-◌, ◌<◌, ◌≤◌, Bool,
 use Rattle.std.proofs.lemmas.Bool.{false≢true, ltb-true, ltb-false, eqb-true, and_parts, cond_both}
 use Rattle.std.specs.List.{AllByRecursion}
 use Rattle.ep_folder.specs.Plans.{begin, begins, go_on, has_opening, left_for, newest, opened_number, plan, start, take, take_again, take_later, where_unmarked, NeverGoesBack}
-use Rattle.ep_folder.specs.declared.held.Held.{Held}
+use Rattle.ep_folder.specs.declared.generation_folder.GenerationFolder.{GenerationFolder}
 use Rattle.ep_folder.specs.declared.log_start.LogStart.TheVariants as log
 use Rattle.ep_folder.specs.declared.plan.Plan.{Plan}
-use Rattle.ep_folder.specs.declared.refusal.Refusal.{Refusal}
+use Rattle.ep_folder.specs.declared.start_fault.StartFault.{StartFault}
 use Rattle.ep_folder.specs.declared.wish.Wish.{Wish}
 use Rattle.ep_folder.specs.declared.wish.Wish.TheVariants as wish
 
@@ -17,19 +17,19 @@ record Keeps (top left : ℕ) (p : Plan) : Type 0 where
   openings : top ≤ p.generation
 
 -- each is at most the greatest
-marks_under : (hs : List Held) (g : ℕ) → left_for hs ≤ g → AllByRecursion (λ h. h.left_for ≤ g) hs
+marks_under : (hs : List GenerationFolder) (g : ℕ) → left_for hs ≤ g → AllByRecursion (λ h. h.left_for ≤ g) hs
 marks_under [] g le = tt
 marks_under (h ∷ hs) g le = (omega arith, marks_under hs g (omega arith))
 
-marks_below : (hs : List Held) (g : ℕ) → left_for hs < g → AllByRecursion (λ h. h.left_for < g) hs
+marks_below : (hs : List GenerationFolder) (g : ℕ) → left_for hs < g → AllByRecursion (λ h. h.left_for < g) hs
 marks_below [] g le = tt
 marks_below (h ∷ hs) g le = (omega arith, marks_below hs g (omega arith))
 
-openings_under : (hs : List Held) (g : ℕ) → newest hs ≤ g → AllByRecursion (λ h. opened_number h ≤ g) hs
+openings_under : (hs : List GenerationFolder) (g : ℕ) → newest hs ≤ g → AllByRecursion (λ h. opened_number h ≤ g) hs
 openings_under [] g le = tt
 openings_under (h ∷ hs) g le = (omega arith, openings_under hs g (omega arith))
 
-all_of : (hs : List Held) (p : Plan) → Keeps (newest hs) (left_for hs) p → NeverGoesBack hs p
+all_of : (hs : List GenerationFolder) (p : Plan) → Keeps (newest hs) (left_for hs) p → NeverGoesBack hs p
 all_of hs p k = record {
   marks = marks_under hs p.generation k.marks;
   begun = λ has_log begun. marks_below hs p.generation (k.begun has_log begun);
@@ -37,7 +37,7 @@ all_of hs p k = record {
 }
 
 -- what holds of a plan that was answered
-abbrev KeepsIn : ℕ → ℕ → Result Plan Refusal → Type 0
+abbrev KeepsIn : ℕ → ℕ → Result Plan StartFault → Type 0
 KeepsIn top left (Ok p) = Keeps top left p
 KeepsIn top left (Err e) = Unit {0}
 
@@ -86,12 +86,12 @@ keeps_take top left g same =
     cond_both (ltb g top) _ _ (KeepsIn top left) (λ _. tt) (λ above. cond_both (eqb g top) _ _ (KeepsIn top left) (λ _. keeps_again top left same)
     (λ _. keeps_later top g left (ltb-false g top above)))
 
-keeps : (hs : List Held) (w : Wish) → KeepsIn (newest hs) (left_for hs) (plan hs w)
+keeps : (hs : List GenerationFolder) (w : Wish) → KeepsIn (newest hs) (left_for hs) (plan hs w)
 keeps hs wish.GoOn = keeps_go_on (newest hs) (left_for hs) (has_opening (newest hs - 1) hs)
 keeps hs (wish.New same) = keeps_begin (newest hs) (left_for hs) same
 keeps hs (wish.Take g same) = keeps_take (newest hs) (left_for hs) g same
 
 -- the plan that was answered
-pub never_goes_back : (hs : List Held) (w : Wish) (r : Result Plan Refusal) → r ≡ plan hs w → IfOk r (NeverGoesBack hs)
+pub never_goes_back : (hs : List GenerationFolder) (w : Wish) (r : Result Plan StartFault) → r ≡ plan hs w → IfOk r (NeverGoesBack hs)
 never_goes_back hs w (Ok p) is = all_of hs p (subst (KeepsIn (newest hs) (left_for hs)) (sym is) (keeps hs w))
 never_goes_back hs w (Err e) is = tt

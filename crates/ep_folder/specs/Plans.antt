@@ -1,34 +1,34 @@
 -- How a replica that lives through generations starts, by what its folder has.
 use Rattle.std.specs.Prelude.{◌≡◌, ℕ, ◌-◌, ◌<◌, ◌≤◌, max, Bool, true, false, not, cond, ◌&&◌, eqb, ltb, List, [], ◌∷◌, Result, Ok, Err}
 use Rattle.std.specs.List.{AllByRecursion, list_any}
-use Rattle.ep_folder.specs.declared.held.Held.{Held}
+use Rattle.ep_folder.specs.declared.generation_folder.GenerationFolder.{GenerationFolder}
 use Rattle.ep_folder.specs.declared.log_start.LogStart.{LogStart}
 use Rattle.ep_folder.specs.declared.log_start.LogStart.TheVariants as log
 use Rattle.ep_folder.specs.declared.plan.Plan.{Plan}
-use Rattle.ep_folder.specs.declared.refusal.Refusal.{Refusal}
-use Rattle.ep_folder.specs.declared.refusal.Refusal.TheVariants.{Empty, There, Left, Older, Other}
+use Rattle.ep_folder.specs.declared.start_fault.StartFault.{StartFault}
+use Rattle.ep_folder.specs.declared.start_fault.StartFault.TheVariants.{Empty, There, Left, Older, Other}
 use Rattle.ep_folder.specs.declared.wish.Wish.{Wish}
 use Rattle.ep_folder.specs.declared.wish.Wish.TheVariants as wish
 
 -- the generation, where it has an opening
-abbrev pub opened_number : Held → ℕ
+abbrev pub opened_number : GenerationFolder → ℕ
 opened_number h = cond h.has_opening h.number 0
 
 -- the greatest generation that has an opening; 0 where none has
-abbrev pub newest : List Held → ℕ
+abbrev pub newest : List GenerationFolder → ℕ
 newest [] = 0
 newest (h ∷ hs) = max (opened_number h) (newest hs)
 
 -- the greatest generation that a mark names: the replica has begun its log; 0 where there is no mark
-abbrev pub left_for : List Held → ℕ
+abbrev pub left_for : List GenerationFolder → ℕ
 left_for [] = 0
 left_for (h ∷ hs) = max h.left_for (left_for hs)
 
-abbrev pub is_opening_of : ℕ → Held → Bool
+abbrev pub is_opening_of : ℕ → GenerationFolder → Bool
 is_opening_of g h = h.has_opening && eqb h.number g
 
 -- whether the generation has an opening
-abbrev pub has_opening : ℕ → List Held → Bool
+abbrev pub has_opening : ℕ → List GenerationFolder → Bool
 has_opening g hs = list_any (is_opening_of g) hs
 
 abbrev pub start : ℕ → Bool → LogStart → Plan
@@ -39,29 +39,29 @@ abbrev pub where_unmarked : ℕ → ℕ → LogStart
 where_unmarked g left = cond (ltb left g) log.Either log.Existing
 
 -- Going on. A log is begun only where the generation before is still here, and not left for this one: then there has been none.
-abbrev pub go_on : ℕ → ℕ → Bool → Result Plan Refusal
+abbrev pub go_on : ℕ → ℕ → Bool → Result Plan StartFault
 go_on newest left before =
     cond (ltb newest left) (Err (Left left)) (cond (eqb newest 0) (Err Empty) (Ok (start newest false (cond before (where_unmarked newest left) log.Existing))))
 
 -- A new replica: nothing is here, or no more than the opening that it begins with.
-abbrev pub begin : ℕ → ℕ → Bool → Result Plan Refusal
+abbrev pub begin : ℕ → ℕ → Bool → Result Plan StartFault
 begin newest left same =
     cond (ltb newest left) (Err (Left left))
     (cond (eqb newest 0) (Ok (start 1 true log.New)) (cond (eqb newest 1 && eqb left 0 && same) (Ok (start 1 false log.New)) (Err (There newest))))
 
 -- Taking the opening of the generation that is the newest one here: the same again.
-abbrev pub take_again : ℕ → ℕ → Bool → Result Plan Refusal
+abbrev pub take_again : ℕ → ℕ → Bool → Result Plan StartFault
 take_again newest left same = cond (ltb newest left) (Err (Left left)) (cond same (Ok (start newest false (where_unmarked newest left))) (Err (Other newest)))
 
 -- taking that of a later one, where the replica has not been before
-abbrev pub take_later : ℕ → ℕ → Result Plan Refusal
+abbrev pub take_later : ℕ → ℕ → Result Plan StartFault
 take_later g left = cond (ltb left g) (Ok (start g true log.Either)) (Err (Left left))
 
-abbrev pub take : ℕ → ℕ → ℕ → Bool → Result Plan Refusal
+abbrev pub take : ℕ → ℕ → ℕ → Bool → Result Plan StartFault
 take newest left g same = cond (ltb g newest) (Err (Older newest)) (cond (eqb g newest) (take_again newest left same) (take_later g left))
 
 -- how it starts, or why not
-abbrev pub plan : List Held → Wish → Result Plan Refusal
+abbrev pub plan : List GenerationFolder → Wish → Result Plan StartFault
 plan hs wish.GoOn = go_on (newest hs) (left_for hs) (has_opening (newest hs - 1) hs)
 plan hs (wish.New same) = begin (newest hs) (left_for hs) same
 plan hs (wish.Take g same) = take (newest hs) (left_for hs) g same
@@ -74,7 +74,7 @@ begins log.Existing has_log = false
 
 -- What holds of each plan: no mark names a later generation than that of the plan, nor this one where a log may be begun. So a replica never
 -- acts in a generation that it has left, and never begins a log that it has begun before, as long as the mark is there.
-pub record NeverGoesBack (hs : List Held) (p : Plan) : Type 0 where
+pub record NeverGoesBack (hs : List GenerationFolder) (p : Plan) : Type 0 where
   pub marks : AllByRecursion (λ h. h.left_for ≤ p.generation) hs
   pub begun : (has_log : Bool) → begins p.log has_log ≡ true → AllByRecursion (λ h. h.left_for < p.generation) hs
   pub openings : AllByRecursion (λ h. opened_number h ≤ p.generation) hs

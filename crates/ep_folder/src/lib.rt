@@ -9,7 +9,7 @@
 //! .ci/disks.py do.
 #![tactic(auto)]
 
-mod held;
+mod generation_folder;
 mod log_start;
 mod looking;
 mod making;
@@ -17,10 +17,10 @@ mod named;
 mod paths;
 mod plan;
 mod planning;
-mod refusal;
+mod start_fault;
 mod wish;
 
-pub use held::Held;
+pub use generation_folder::GenerationFolder;
 pub use log_start::LogStart;
 pub use looking::{has_log, look, read_bytes};
 pub use making::{leave_earlier, lock_folder, make_folder, write_whole};
@@ -28,5 +28,5 @@ pub use named::{generation_in, left_in};
 pub use paths::{file_path, generation_path, log_path, mark_path, opening_path};
 pub use plan::Plan;
 pub use planning::{newest_in, plan_for};
-pub use refusal::Refusal;
+pub use start_fault::StartFault;
 pub use wish::Wish;

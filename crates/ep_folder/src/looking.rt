@@ -1,6 +1,6 @@
 //! What a folder has.
 
-use crate::held::Held;
+use crate::generation_folder::GenerationFolder;
 use crate::named::{generation_in, left_in};
 use crate::paths::{log_path, mark_path, opening_path};
 use ep_base::Generation;
@@ -11,7 +11,10 @@ use std::rt::Files;
 use std::{fs, io};
 
 /// What the folder has of each generation. Names that spell none are passed over.
-pub fn look<R: Files + AllocGlobal>(rt: &R, folder: &str) -> Result<Vec<Held>, DeviceFault> {
+pub fn look<R: Files + AllocGlobal>(
+    rt: &R,
+    folder: &str,
+) -> Result<Vec<GenerationFolder>, DeviceFault> {
     let mut all = Vec::new(rt.alloc());
     let entries = match fs::read_dir(&rt, folder) {
         Ok(entries) => entries,
@@ -31,7 +34,7 @@ pub fn look<R: Files + AllocGlobal>(rt: &R, folder: &str) -> Result<Vec<Held>, D
     Ok(all)
 }
 
-fn append(all: &mut Vec<Held>, held: Held) -> Result<(), AllocError> {
+fn append(all: &mut Vec<GenerationFolder>, held: GenerationFolder) -> Result<(), AllocError> {
     all.push(held)?;
     Ok(())
 }
@@ -41,7 +44,7 @@ fn held_of<R: Files + AllocGlobal>(
     rt: &R,
     folder: &str,
     number: Option<u32>,
-) -> Result<Option<Held>, DeviceFault> {
+) -> Result<Option<GenerationFolder>, DeviceFault> {
     let Some(number) = number else {
         return Ok(None);
     };
@@ -55,10 +58,10 @@ fn held_in<R: Files + AllocGlobal>(
     rt: &R,
     folder: &str,
     generation: Generation,
-) -> Result<Held, DeviceFault> {
+) -> Result<GenerationFolder, DeviceFault> {
     let opening = opening_path(rt.alloc(), folder, generation)?;
     let mark = mark_path(rt.alloc(), folder, generation)?;
-    Ok(Held {
+    Ok(GenerationFolder {
         number: generation.number(),
         has_opening: is_there(rt, opening.as_str())?,
         left_for: left_for(rt, mark.as_str(), generation.number())?,

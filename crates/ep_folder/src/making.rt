@@ -1,10 +1,10 @@
 //! What is written into a folder: on the disk before the call returns.
 
-use crate::held::Held;
+use crate::generation_folder::GenerationFolder;
 use crate::paths::{generation_path, mark_path};
 use crate::planning::is_to_be_marked;
 use ep_base::Generation;
-use ep_device::{Cause, Device, DeviceFault, FileDevice, fault_of, lock_of};
+use ep_device::{Device, DeviceFault, FileDevice, SystemFault, fault_of, lock_of};
 use itoa::Buffer;
 use std::fs::File;
 use std::io::ErrorKind;
@@ -70,7 +70,7 @@ pub fn write_whole<R: Files<File = File> + AllocGlobal>(
 pub fn leave_earlier<R: Files<File = File> + AllocGlobal>(
     rt: &R,
     folder: &str,
-    held: &[Held],
+    held: &[GenerationFolder],
     later: Generation,
 ) -> Result<(), DeviceFault> {
     for one in held {
@@ -83,11 +83,11 @@ pub fn leave_earlier<R: Files<File = File> + AllocGlobal>(
 fn leave<R: Files<File = File> + AllocGlobal>(
     rt: &R,
     folder: &str,
-    held: &Held,
+    held: &GenerationFolder,
     later: Generation,
 ) -> Result<(), DeviceFault> {
     match left(rt, folder, held, later) {
-        Err(DeviceFault::Failed(Cause::NotFound)) => Ok(()),
+        Err(DeviceFault::Failed(SystemFault::NotFound)) => Ok(()),
         answer => answer,
     }
 }
@@ -95,7 +95,7 @@ fn leave<R: Files<File = File> + AllocGlobal>(
 fn left<R: Files<File = File> + AllocGlobal>(
     rt: &R,
     folder: &str,
-    held: &Held,
+    held: &GenerationFolder,
     later: Generation,
 ) -> Result<(), DeviceFault> {
     let Ok(earlier) = Generation::new(held.number) else {

@@ -3,10 +3,10 @@
 ghost use Rattle.std.specs.Prelude.{◌≡◌, ◌-◌, ◌≤◌, ◌<◌, ◌&&◌, max, ltb, IfOk};
 ghost use Rattle.ep_folder.specs.Plans.{begin, go_on, has_opening, is_opening_of, left_for, newest, opened_number, plan, start, take, take_again, take_later, where_unmarked, NeverGoesBack};
 
-use crate::held::Held;
+use crate::generation_folder::GenerationFolder;
 use crate::log_start::LogStart;
 use crate::plan::Plan;
-use crate::refusal::Refusal;
+use crate::start_fault::StartFault;
 use crate::wish::Wish;
 
 /// The greater one.
@@ -17,14 +17,14 @@ fn more(one: u32, other: u32) -> u32
 }
 
 /// The generation, where it has an opening; else 0.
-fn opened_number(held: &Held) -> u32
+fn opened_number(held: &GenerationFolder) -> u32
     ensures { result ≡ opened_number held.now }
 {
     if held.has_opening { held.number } else { 0 }
 }
 
 /// The greatest generation that has an opening; 0 where none has.
-pub fn newest_in(held: &[Held]) -> u32
+pub fn newest_in(held: &[GenerationFolder]) -> u32
     ensures { result ≡ newest held.now }
 {
     let mut newest = 0;
@@ -35,7 +35,7 @@ pub fn newest_in(held: &[Held]) -> u32
 }
 
 /// The greatest generation that a mark names; 0 where there is no mark.
-fn left_for(held: &[Held]) -> u32
+fn left_for(held: &[GenerationFolder]) -> u32
     ensures { result ≡ left_for held.now }
 {
     let mut left = 0;
@@ -45,14 +45,14 @@ fn left_for(held: &[Held]) -> u32
     left
 }
 
-fn is_opening_of(generation: u32, held: &Held) -> bool
+fn is_opening_of(generation: u32, held: &GenerationFolder) -> bool
     ensures { result ≡ is_opening_of generation held.now }
 {
     held.has_opening && held.number == generation
 }
 
 /// Whether the generation has an opening.
-fn has_opening(generation: u32, held: &[Held]) -> bool
+fn has_opening(generation: u32, held: &[GenerationFolder]) -> bool
     ensures { result ≡ has_opening generation held.now }
 {
     held.iter().any(|one| is_opening_of(generation, one))
@@ -76,14 +76,14 @@ fn is_gone(newest: u32, left: u32) -> bool
     newest < left
 }
 
-fn go_on(newest: u32, left: u32, before: bool) -> Result<Plan, Refusal>
+fn go_on(newest: u32, left: u32, before: bool) -> Result<Plan, StartFault>
     ensures { result ≡ go_on newest left before }
 {
     if is_gone(newest, left) {
-        return Err(Refusal::Left(left));
+        return Err(StartFault::Left(left));
     }
     if newest == 0 {
-        return Err(Refusal::Empty);
+        return Err(StartFault::Empty);
     }
     let log = if before {
         where_unmarked(newest, left)
@@ -97,11 +97,11 @@ fn go_on(newest: u32, left: u32, before: bool) -> Result<Plan, Refusal>
     })
 }
 
-fn begin(newest: u32, left: u32, is_same: bool) -> Result<Plan, Refusal>
+fn begin(newest: u32, left: u32, is_same: bool) -> Result<Plan, StartFault>
     ensures { result ≡ begin newest left is_same }
 {
     if is_gone(newest, left) {
-        return Err(Refusal::Left(left));
+        return Err(StartFault::Left(left));
     }
     if newest == 0 {
         return Ok(Plan {
@@ -117,17 +117,17 @@ fn begin(newest: u32, left: u32, is_same: bool) -> Result<Plan, Refusal>
             log: LogStart::New,
         });
     }
-    Err(Refusal::There(newest))
+    Err(StartFault::There(newest))
 }
 
-fn take_again(newest: u32, left: u32, is_same: bool) -> Result<Plan, Refusal>
+fn take_again(newest: u32, left: u32, is_same: bool) -> Result<Plan, StartFault>
     ensures { result ≡ take_again newest left is_same }
 {
     if is_gone(newest, left) {
-        return Err(Refusal::Left(left));
+        return Err(StartFault::Left(left));
     }
     if !is_same {
-        return Err(Refusal::Other(newest));
+        return Err(StartFault::Other(newest));
     }
     Ok(Plan {
         generation: newest,
@@ -136,7 +136,7 @@ fn take_again(newest: u32, left: u32, is_same: bool) -> Result<Plan, Refusal>
     })
 }
 
-fn take_later(generation: u32, left: u32) -> Result<Plan, Refusal>
+fn take_later(generation: u32, left: u32) -> Result<Plan, StartFault>
     ensures { result ≡ take_later generation left }
 {
     if left < generation {
@@ -146,15 +146,15 @@ fn take_later(generation: u32, left: u32) -> Result<Plan, Refusal>
             log: LogStart::Either,
         })
     } else {
-        Err(Refusal::Left(left))
+        Err(StartFault::Left(left))
     }
 }
 
-fn take(newest: u32, left: u32, generation: u32, is_same: bool) -> Result<Plan, Refusal>
+fn take(newest: u32, left: u32, generation: u32, is_same: bool) -> Result<Plan, StartFault>
     ensures { result ≡ take newest left generation is_same }
 {
     if generation < newest {
-        return Err(Refusal::Older(newest));
+        return Err(StartFault::Older(newest));
     }
     if generation == newest {
         return take_again(newest, left, is_same);
@@ -163,14 +163,14 @@ fn take(newest: u32, left: u32, generation: u32, is_same: bool) -> Result<Plan, 
 }
 
 /// How a replica whose folder has this starts, or why it doesn't.
-pub fn plan_for(held: &[Held], wish: Wish) -> Result<Plan, Refusal>
+pub fn plan_for(held: &[GenerationFolder], wish: Wish) -> Result<Plan, StartFault>
     ensures value { result ≡ plan held.now wish }
     ensures never { IfOk result (NeverGoesBack held.now) }
 {
     chosen(held, wish)
 }
 
-fn chosen(held: &[Held], wish: Wish) -> Result<Plan, Refusal>
+fn chosen(held: &[GenerationFolder], wish: Wish) -> Result<Plan, StartFault>
     ensures { result ≡ plan held.now wish }
 {
     let newest = newest_in(held);
@@ -186,7 +186,7 @@ fn chosen(held: &[Held], wish: Wish) -> Result<Plan, Refusal>
 }
 
 /// Whether the folder is to be marked once the log of this generation is begun: it is of an earlier one, and its mark names none as late.
-pub(crate) fn is_to_be_marked(held: &Held, generation: u32) -> bool
+pub(crate) fn is_to_be_marked(held: &GenerationFolder, generation: u32) -> bool
     ensures { result ≡ (ltb held.now.number generation && ltb held.now.left_for generation) }
 {
     held.number < generation && held.left_for < generation

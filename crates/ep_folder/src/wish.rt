@@ -7,6 +7,6 @@ pub enum Wish {
     GoOn,
     /// To begin generation 1, of a replica that is new.
     New { is_same: bool },
-    /// To take the opening of this generation, which a peer has.
+    /// To take the opening of this generation, which a peer has, or which this start made as it closed the one before.
     Take { generation: u32, is_same: bool },
 }

@@ -1,24 +1,21 @@
 -- Parts of the bytes of dependencies.
-use Rattle.std.proofs.Common.{◌≡◌, ℕ, ◌+◌, ◌*◌, ◌-◌, ◌≤◌, ◌<◌, ◌⊎◌, ◌↔◌, List, [], ◌∷◌, ◌++◌, length, take, drop, refl, sym, ap, subst, ◌∙◌, inl, inr, arith}
+use Rattle.std.proofs.Common.{◌≡◌, ℕ, ◌+◌, ◌*◌, ◌-◌, ◌≤◌, ◌<◌, ◌↔◌, List, [], ◌∷◌, ◌++◌, length, take, drop, refl, sym, ap, subst, ◌∙◌, inl, inr, arith}
 use Rattle.std.proofs.lemmas.List.{take-append-drop, length-take, length-drop}
 use Rattle.ep_base.specs.Instances.{instance_of}
 use Rattle.ep_base.specs.Deps.{IsRising, AreInstances}
 use Rattle.ep_base.specs.Places.{Has}
 use Rattle.ep_base.proofs.Places.{Has-empty, Has-cons_cases, Has-head, Has-tail}
+use Rattle.ep_base.proofs.Rising.{rising_front}
 use Rattle.ep_frame.specs.Fields.{deps_in}
 use Rattle.ep_frame.specs.DepBytes.{AreDepBytes}
 use Rattle.ep_frame.proofs.Headers.{length-deps_in}
+use Rattle.ep_rules.proofs.Places.{has_left, has_right, has_split}
 
 pub deps_in-append : (n : ℕ) (a b : List ℕ) → length a ≡ 3 * n → deps_in (a ++ b) ≡ deps_in a ++ deps_in b
 deps_in-append n [] b len = refl
 deps_in-append n (r ∷ []) b len = absurd (omega (arith, len))
 deps_in-append n (r ∷ x ∷ []) b len = absurd (omega (arith, len))
 deps_in-append n (r ∷ x ∷ y ∷ a) b len = ap (λ (is : List ℕ). instance_of r (x * 256 + y) ∷ is) (deps_in-append (n - 1) a b (omega (arith, len)))
-
-rising_front : (xs ys : List ℕ) → IsRising (xs ++ ys) → IsRising xs
-rising_front [] ys h = tt
-rising_front (x ∷ []) ys h = (tt, tt)
-rising_front (x ∷ y ∷ xs) ys h = (h.0, rising_front (y ∷ xs) ys h.1)
 
 rising_back : (xs ys : List ℕ) → IsRising (xs ++ ys) → IsRising ys
 rising_back [] ys h = h
@@ -58,22 +55,6 @@ split b n h le =
 
 -- ---- what a rising list has
 
-has_front : (xs ys : List ℕ) (d : ℕ) → Has xs d → Has (xs ++ ys) d
-has_front [] ys d h = absurd (Has-empty d h)
-has_front (x ∷ xs) ys d h = elim (Has-cons_cases x xs d h) [ inl e ↦ Has-head x (xs ++ ys) d e | inr t ↦ Has-tail x (xs ++ ys) d (has_front xs ys d t) ]
-
-has_back : (xs ys : List ℕ) (d : ℕ) → Has ys d → Has (xs ++ ys) d
-has_back [] ys d h = h
-has_back (x ∷ xs) ys d h = Has-tail x (xs ++ ys) d (has_back xs ys d h)
-
-has_cases : (xs ys : List ℕ) (d : ℕ) → Has (xs ++ ys) d → Has xs d ⊎ Has ys d
-has_cases [] ys d h = inr h
-has_cases (x ∷ xs) ys d h =
-    elim (Has-cons_cases x (xs ++ ys) d h) [
-      | inl e ↦ inl (Has-head x xs d e)
-      | inr t ↦ elim (has_cases xs ys d t) [ inl k ↦ inl (Has-tail x xs d k) | inr k ↦ inr k ]
-    ]
-
 -- what comes after is greater
 below_all : (x : ℕ) (xs : List ℕ) (d : ℕ) → IsRising (x ∷ xs) → Has xs d → x < d
 below_all x [] d h k = absurd (Has-empty d k)
@@ -83,7 +64,7 @@ above_all : (xs : List ℕ) (y : ℕ) (ys : List ℕ) (d : ℕ) → IsRising (xs
 above_all [] y ys d h k = absurd (Has-empty d k)
 above_all (x ∷ xs) y ys d h k =
     elim (Has-cons_cases x xs d k) [
-      | inl e ↦ (let lt = below_all x (xs ++ (y ∷ ys)) y h (has_back xs (y ∷ ys) y (Has-head y ys y refl)) in omega (arith, e, lt))
+      | inl e ↦ (let lt = below_all x (xs ++ (y ∷ ys)) y h (has_right xs (y ∷ ys) y (Has-head y ys y refl)) in omega (arith, e, lt))
       | inr t ↦ above_all xs y ys d h.1 t
     ]
 
@@ -91,8 +72,8 @@ above_all (x ∷ xs) y ys d h k =
 
 pub in_high : (xs : List ℕ) (y : ℕ) (ys : List ℕ) (d : ℕ) → IsRising (xs ++ (y ∷ ys)) → y < d → Has ys d ↔ Has (xs ++ (y ∷ ys)) d
 in_high xs y ys d h lt = (
-  λ k. has_back xs (y ∷ ys) d (Has-tail y ys d k),
-  λ k. elim (has_cases xs (y ∷ ys) d k) [
+  λ k. has_right xs (y ∷ ys) d (Has-tail y ys d k),
+  λ k. elim (has_split xs (y ∷ ys) d k) [
     | inl f ↦ (let up = above_all xs y ys d h f in absurd (omega (arith, up, lt)))
     | inr b ↦ elim (Has-cons_cases y ys d b) [ inl e ↦ absurd (omega (arith, e, lt)) | inr t ↦ t ]
   ],
@@ -100,15 +81,15 @@ in_high xs y ys d h lt = (
 
 pub in_low : (xs : List ℕ) (y : ℕ) (ys : List ℕ) (d : ℕ) → IsRising (xs ++ (y ∷ ys)) → d < y → Has xs d ↔ Has (xs ++ (y ∷ ys)) d
 in_low xs y ys d h lt = (
-  λ k. has_front xs (y ∷ ys) d k,
-  λ k. elim (has_cases xs (y ∷ ys) d k) [
+  λ k. has_left xs (y ∷ ys) d k,
+  λ k. elim (has_split xs (y ∷ ys) d k) [
     | inl f ↦ f
     | inr b ↦ elim (Has-cons_cases y ys d b) [ inl e ↦ absurd (omega (arith, e, lt)) | inr t ↦ (let up = below_all y ys d (rising_back xs (y ∷ ys) h) t in absurd (omega (arith, up, lt))) ]
   ],
 )
 
 pub in_middle : (xs : List ℕ) (y : ℕ) (ys : List ℕ) (d : ℕ) → y ≡ d → Has (xs ++ (y ∷ ys)) d
-in_middle xs y ys d e = has_back xs (y ∷ ys) d (Has-head y ys d e)
+in_middle xs y ys d e = has_right xs (y ∷ ys) d (Has-head y ys d e)
 
 -- the same of the bytes of three parts
 

@@ -1,10 +1,10 @@
 -- Dependencies in order, from left to right.
-use Rattle.std.proofs.lemmas.List.{take_all, length-drop}
 use Rattle.std.proofs.Common.{◌≡◌, ℕ, ◌-◌, ◌+◌, ◌*◌, ◌≤◌, ◌<◌, refl, sym, ap, ◌∙◌, slice_index_or, length, take, drop, arith, List, [], ◌∷◌, ◌++◌, Bool, true, Option, Some, None}
 use Rattle.std.specs.Prelude.{◌&&◌}
 use Rattle.std.proofs.lemmas.Bool.{and_parts}
 use Rattle.ep_base.specs.Instances.{instance_of}
 use Rattle.ep_base.specs.Deps.{IsRising, IsDeps}
+use Rattle.ep_base.proofs.Rising.{rising_to}
 use Rattle.ep_frame.specs.Fields.{deps_in}
 use Rattle.ep_frame.specs.Faults.{are_deps, is_instance, precedes_first}
 use Rattle.ep_frame.proofs.Found.{rising_found}
@@ -14,10 +14,6 @@ abbrev pub follow : Option ℕ → List ℕ → Bool
 follow None is = are_deps is
 follow (Some i) is = precedes_first i is && are_deps is
 
--- what `&b[p..]` is
-pub rest_of : (p : ℕ) (b : List ℕ) → take (length b - p) (drop p b) ≡ drop p b
-rest_of p b = take_all (length b - p) (drop p b) (omega (arith, length-drop p b))
-
 -- what `&b[i..i + n]` is
 pub part_of : (i n : ℕ) (b : List ℕ) → take (i + n - i) (drop i b) ≡ take n (drop i b)
 part_of i n b = let e : i + n - i ≡ n = omega arith in ap (λ k. take k (drop i b)) e
@@ -26,11 +22,6 @@ part_of i n b = let e : i + n - i ≡ n = omega arith in ap (λ k. take k (drop 
 pub is_dep : (xs : List ℕ) (i : ℕ) (ys : List ℕ) → are_deps (xs ++ (i ∷ ys)) ≡ true → is_instance i ≡ true
 is_dep [] i ys e = let p = and_parts (is_instance i && precedes_first i ys) (are_deps ys) e in let q = and_parts (is_instance i) (precedes_first i ys) p.0 in q.0
 is_dep (x ∷ xs) i ys e = let p = and_parts (is_instance x && precedes_first x (xs ++ (i ∷ ys))) (are_deps (xs ++ (i ∷ ys))) e in is_dep xs i ys p.1
-
-rising_to : (xs : List ℕ) (i : ℕ) (ys : List ℕ) → IsRising (xs ++ (i ∷ ys)) → IsRising (xs ++ (i ∷ []))
-rising_to [] i ys h = (tt, tt)
-rising_to (x ∷ []) i ys h = (h.0, (tt, tt))
-rising_to (x ∷ y ∷ xs) i ys h = (h.0, rising_to (y ∷ xs) i ys h.1)
 
 -- and above those before it
 pub is_above : (xs : List ℕ) (i : ℕ) (ys : List ℕ) → are_deps (xs ++ (i ∷ ys)) ≡ true → IsRising (xs ++ (i ∷ []))
@@ -49,9 +40,6 @@ dep_at_front bs = instance_of (slice_index_or bs 0 0) (slice_index_or bs 1 0 * 2
 -- what is known of the next dependency, where those before it and it are in order
 pub next_is_dep : (xs bs all : List ℕ) → xs ++ deps_in bs ≡ deps_in all → are_deps (deps_in all) ≡ true → 3 ≤ length bs → is_instance (dep_at_front bs) ≡ true
 next_is_dep xs bs all e d h = is_dep xs (dep_at_front bs) (deps_in (drop 3 bs)) (ap (λ (ys : List ℕ). are_deps (xs ++ ys)) (sym (first_dep bs h)) ∙ ap are_deps e ∙ d)
-
-pub next_is_above : (xs bs all : List ℕ) → xs ++ deps_in bs ≡ deps_in all → are_deps (deps_in all) ≡ true → 3 ≤ length bs → IsRising (xs ++ (dep_at_front bs ∷ []))
-next_is_above xs bs all e d h = is_above xs (dep_at_front bs) (deps_in (drop 3 bs)) (ap (λ (ys : List ℕ). are_deps (xs ++ ys)) (sym (first_dep bs h)) ∙ ap are_deps e ∙ d)
 
 -- what is too short has no dependency
 short_deps : (bs : List ℕ) → length bs < 3 → deps_in bs ≡ []

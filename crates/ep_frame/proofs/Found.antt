@@ -4,6 +4,7 @@ use Rattle.std.specs.Prelude.{◌&&◌, not, Some}
 use Rattle.ep_base.specs.Ops.{op_number, first_fits, second_fits, body_fits}
 use Rattle.ep_base.specs.Parts.{Parts as CommandParts, parts_of as command_parts, command_in, command_of, are_parts, is_twice, body_said}
 use Rattle.ep_base.proofs.Partitions.{fits_from, parts_law_lem}
+use Rattle.ep_base.proofs.Versions.{highest_low}
 use Rattle.std.specs.List.{AllByRecursion}
 use Rattle.std.proofs.lemmas.Bool.{eqb-true, leb-true, ltb-true, eq-eqb, and_parts}
 use Rattle.std.proofs.lemmas.List.{nil_from_length}
@@ -13,8 +14,8 @@ use Rattle.ep_base.specs.Deps.{IsRising, IsBelowFirst}
 use Rattle.ep_base.specs.Generations.{HasItsGeneration}
 use Rattle.ep_base.specs.Versions.{version_number, generation_of, version_of, highest_in, most_deps_in, IsInstanceIn, AreDepsIn, IsDecreeIn, CanSay}
 use Rattle.ep_base.specs.declared.version.Version.{Version}
-use Rattle.ep_base.specs.declared.vote.Status.{Status}
-use Rattle.ep_base.specs.declared.vote.Status.TheVariants.{PreAccepted, Accepted, Committed}
+use Rattle.ep_base.specs.declared.vote.VoteStatus.{VoteStatus}
+use Rattle.ep_base.specs.declared.vote.VoteStatus.TheVariants.{PreAccepted, Accepted, Committed}
 use Rattle.ep_base.specs.declared.message.Message.{Message}
 use Rattle.ep_base.specs.declared.message.Message.TheVariants.{PrepareOk}
 use Rattle.ep_frame.specs.Faults.{names_rows, ballot_rows, vote_rows, body_rows, late_rows, within, highest_op, op_of, text_fits, generation_fits, are_deps, are_in, deps_allowed, is_instance, precedes_first}
@@ -22,7 +23,7 @@ use Rattle.ep_frame.specs.Spelling.{Parts, parts_of, status_code, IsBallot, IsCo
 use Rattle.ep_frame.specs.Meaning.{origin_in, instance_in, ballot_in, other_in, attrs_of, command_parts_of, decree_of, message_of}
 use Rattle.ep_frame.proofs.Packing.{leader_again, number_again, counter_again, owner_again}
 use Rattle.ep_frame.proofs.Rows.{AllPass, within-is, apart-is, chosen, other_chosen}
-use Rattle.ep_frame.proofs.Saying.{number_low, op_low, count_low, version_is, IsShortIn, text_is, op_found, op_known, deps_found}
+use Rattle.ep_frame.proofs.Saying.{op_low, count_low, version_is, IsShortIn, text_is, op_found, op_known, deps_found}
 
 -- the version that the header names
 abbrev pub version_in : Parts → Version
@@ -114,7 +115,7 @@ front p k n l m out entry fits small_generation =
     let stamp = within-is 1 281474976710655 p.header.stamp n.1.1.1.1.1.1.0 in
     let small : p.header.leader ≤ 6 = leb-true _ _ l in
     let number = within-is 1 (highest_in (version_in p)) p.header.number m in
-    let high : p.header.number ≤ 2000 = let most = number_low (version_in p) in omega (arith, number.1, most) in
+    let high : p.header.number ≤ 2000 = let most = highest_low (version_in p) in omega (arith, number.1, most) in
     let own = version_is p.header.version p.header.generation n.1.0 fits small_generation in
     let is_leader = leader_again p.header.leader p.header.number (omega (arith, high)) in
     let is_number = number_again p.header.leader p.header.number (omega (arith, high)) in
@@ -447,17 +448,17 @@ status0 p g =
     }
 
 -- the answer to a Prepare with this vote
-abbrev voted : Parts → Status → Message
+abbrev voted : Parts → VoteStatus → Message
 voted p st = PrepareOk (instance_in p.header) (ballot_in p.header) (Some (record { status = st; ballot = other_in p.header; decree = decree_of p }))
 
-record FoundVote (p : Parts) (s : ℕ) (st : Status) : Type 0 where
+record FoundVote (p : Parts) (s : ℕ) (st : VoteStatus) : Type 0 where
   version : HasItsGeneration (version_in p)
   origin : IsOrigin p.header.from (origin_in p.header)
   message : IsMessage (voted p st)
   sayable : CanSay (version_in p) (voted p st)
   is : parts_of (version_in p) p.header.from (origin_in p.header) (voted p st) ≡ with_status s p
 
-vote_found : (p : Parts) (s : ℕ) (st : Status) → status_code st ≡ s → eqb s 0 ≡ false → Good (with_status s p) → FoundVote p s st
+vote_found : (p : Parts) (s : ℕ) (st : VoteStatus) → status_code st ≡ s → eqb s 0 ≡ false → Good (with_status s p) → FoundVote p s st
 vote_found p s st code e g =
     let has = ap not e in
     let f = front p 7 g.names g.ballot.0 g.ballot.1.0 g.out g.entry g.late.0 g.generation in

@@ -1,9 +1,10 @@
 -- Bytes without a fault spell a message.
-use Rattle.std.proofs.Common.{◌≡◌, ℕ, ◌*◌, ◌^◌, ◌≤◌, ◌<◌, Bool, true, false, cond, eqb, leb, List, length, take, drop, Result, Ok, Err, refl, sym, ap, ◌∙◌, true≢false, arith}
+use Rattle.std.proofs.Common.{◌≡◌, ℕ, ◌*◌, ◌^◌, ◌≤◌, ◌<◌, Bool, true, false, cond, eqb, leb, List, length, take, drop, Result, Ok, Err, refl, sym, ap, ◌∙◌, arith}
 use Rattle.std.specs.Prelude.{not}
 use Rattle.ep_base.specs.Parts.{body_said}
 use Rattle.ep_base.specs.Versions.{version_of, highest_in}
-use Rattle.std.proofs.lemmas.Bool.{eqb-true, ltb-false, leb-true, and_parts}
+use Rattle.ep_base.proofs.Versions.{highest_low}
+use Rattle.std.proofs.lemmas.Bool.{eqb-true, ltb-false, leb-true, and_parts, not-false}
 use Rattle.std.proofs.lemmas.List.{length-take, length-drop}
 use Rattle.ep_frame.specs.declared.fault.FrameFault.{FrameFault}
 use Rattle.ep_frame.specs.declared.fault.FrameFault.TheVariants.{Short, Length, Order, SameKey, Body}
@@ -19,7 +20,6 @@ use Rattle.ep_frame.proofs.Headers.{parts-found, length-deps_in}
 use Rattle.ep_frame.proofs.Rows.{AllPass, fine, passes, within-is}
 use Rattle.ep_frame.proofs.Found.{Good, GoodRuns, found, rising_found}
 use Rattle.ep_frame.proofs.Reading.{readable}
-use Rattle.ep_frame.proofs.Saying.{number_low}
 
 then_fine : (r next : Result (Unit {0}) FrameFault) → (r >> next) ≡ fine → (r ≡ fine) × (next ≡ fine)
 then_fine (Ok x) next e = (refl, e)
@@ -28,10 +28,6 @@ then_fine (Err f) next e = absurd cc
 unless_fine : (b : Bool) (f : FrameFault) (r : Result (Unit {0}) FrameFault) → cond b (Err f) r ≡ fine → (b ≡ false) × (r ≡ fine)
 unless_fine true f r e = absurd cc
 unless_fine false f r e = (refl, e)
-
-if_fine : (b : Bool) (f : FrameFault) (r : Result (Unit {0}) FrameFault) → cond b r (Err f) ≡ fine → (b ≡ true) × (r ≡ fine)
-if_fine true f r e = (refl, e)
-if_fine false f r e = absurd cc
 
 record HeaderPasses (h : Header) : Type 0 where
   names : AllPass (names_rows h)
@@ -98,10 +94,6 @@ unfolding number_at
 generation_small b fits true = omega (arith, fits 40, fits 41, fits 42, fits 43)
 generation_small b fits false = omega arith
 
-was_not : (c : Bool) → not c ≡ false → c ≡ true
-was_not true e = refl
-was_not false e = absurd (true≢false e)
-
 run_bytes : (i n : ℕ) (b : List ℕ) → IsBytes b → IsBytes (take n (drop i b))
 run_bytes i n b fits = IsBytes-take n (drop i b) (IsBytes-drop i b fits)
 
@@ -117,7 +109,7 @@ good_runs b fits p =
       count = length-deps_in (drop (deps_place h) b) h.count (omega (arith, len, length-drop (deps_place h) b));
       deps = p.deps;
       once = p.keys_differ;
-      said = was_not (body_said (op_of h.op) (take h.body_len (drop (body_place h) b))) p.body_is;
+      said = not-false (body_said (op_of h.op) (take h.body_len (drop (body_place h) b))) p.body_is;
       key_bytes = run_bytes n h.key_len b fits;
       second_bytes = run_bytes (second_place h) h.second_len b fits;
       body_bytes = run_bytes (body_place h) h.body_len b fits;
@@ -166,7 +158,7 @@ frame_ranges b e =
     let to = and_parts (leb h.to 6) (not (eqb h.to h.from)) n.1.1.1.1.0 in
     let stamp = within-is 1 281474976710655 h.stamp n.1.1.1.1.1.1.0 in
     let number = within-is 1 (highest_in (version_in h)) h.number p.header.ballot.1.0 in
-    let most = number_low (version_in h) in
+    let most = highest_low (version_in h) in
     record {
       long = frame_long b e;
       sender = leb-true _ _ n.1.1.1.0;

@@ -9,8 +9,8 @@ use Rattle.ep_base.specs.declared.decree.Decree.{Decree}
 use Rattle.ep_base.specs.Commands.{Command}
 use Rattle.ep_base.specs.declared.version.Version.{Version}
 use Rattle.ep_base.specs.declared.vote.Vote.{Vote}
-use Rattle.ep_base.specs.declared.vote.Status.{Status}
-use Rattle.ep_base.specs.declared.vote.Status.TheVariants.{PreAccepted, Accepted, Committed}
+use Rattle.ep_base.specs.declared.vote.VoteStatus.{VoteStatus}
+use Rattle.ep_base.specs.declared.vote.VoteStatus.TheVariants.{PreAccepted, Accepted, Committed}
 use Rattle.ep_base.specs.declared.message.Message.{Message}
 use Rattle.ep_base.specs.declared.message.Message.TheVariants.{PreAccept, PreAcceptOk, Accept, AcceptOk, Commit, Prepare, PrepareOk, Nack}
 use Rattle.ep_frame.specs.declared.origin.Origin.{Origin}
@@ -25,21 +25,18 @@ use Rattle.ep_frame.proofs.Saying.{op_again}
 use Rattle.ep_frame.proofs.Packing.{instance_again, ballot_again}
 use Rattle.ep_frame.proofs.Again.{parts_again}
 use Rattle.ep_frame.proofs.Sound.{sound, has_status}
+use Rattle.ep_frame.proofs.Runs.{some_if}
 
 -- the command that the parts of a command in range, with the op's number, make
 abbrev numbered : Command → Command
 numbered c = command_with (op_of (op_number (command_parts c).op)) (command_parts c).first (command_parts c).second (command_parts c).body
-
-some_if : {X : Type 0} (b : Bool) (x y : X) → cond b (Some x) None ≡ Some y → x ≡ y
-some_if true x y e = cc
-some_if false x y e = absurd (cc)
 
 command_again : (c : Command) → IsCommand c → numbered c ≡ c
 command_again c h =
     let p = command_parts c in
     ap (λ (o : Op). command_with o p.first p.second p.body) (op_again p.op) ∙ some_if (are_parts p) (command_in p) c (parts_law_lem.forth c h.in_range)
 
-status_again : (s : Status) → status_of (status_code s) ≡ s
+status_again : (s : VoteStatus) → status_of (status_code s) ≡ s
 status_again PreAccepted = refl
 status_again Accepted = refl
 status_again Committed = refl
@@ -47,7 +44,7 @@ status_again Committed = refl
 decree_again : (x : Decree) → IsDecree x → record { command = numbered x.command; attrs = x.attrs } ≡ x
 decree_again x h = λ t. record { command = command_again x.command h.command t; attrs = x.attrs }
 
-abbrev vote_made : Status → ℕ → Decree → Option Vote
+abbrev vote_made : VoteStatus → ℕ → Decree → Option Vote
 vote_made s b x = Some (record { status = s; ballot = b; decree = x })
 
 vote_again : (v : Vote) → IsDecree v.decree → cond (eqb (status_code v.status) 0) None

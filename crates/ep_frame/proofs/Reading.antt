@@ -8,13 +8,11 @@ use Rattle.ep_frame.specs.Faults.{within, op_of, are_deps, are_in, counter_allow
 use Rattle.ep_frame.specs.Ranges.{Readable}
 use Rattle.ep_frame.specs.Spelling.{Parts}
 use Rattle.ep_base.specs.Parts.{are_parts}
+use Rattle.ep_base.proofs.Versions.{highest_low}
 use Rattle.ep_frame.specs.Meaning.{command_parts_of}
 use Rattle.ep_frame.proofs.Rows.{within-is, chosen, either}
 use Rattle.ep_frame.proofs.Found.{Good, version_in, parts_there}
-use Rattle.ep_frame.proofs.Saying.{number_low, text_is}
-
-at_zero : (n high : ℕ) → eqb n 0 ≡ true → n ≤ high
-at_zero n high e = let z = eqb-true n 0 e in omega (arith, z)
+use Rattle.ep_frame.proofs.Saying.{text_is, at_zero}
 
 up_to : (low high n : ℕ) → within low high n ≡ true → n ≤ high
 up_to low high n e = let r = within-is low high n e in r.1
@@ -52,7 +50,7 @@ readable p g =
     let leader : h.leader ≤ 6 = leb-true _ _ g.ballot.0 in
     let v = version_in p in
     let number = within-is 1 (highest_in v) h.number g.ballot.1.0 in
-    let most = number_low v in
+    let most = highest_low v in
     record {
       leader = leader;
       number_low = number.0;

@@ -97,7 +97,7 @@ test_self p =
     (and_from _ _ (eq-eqb (length p.first) (length p.first) refl)
     (and_from _ _ (eq-eqb (length p.second) (length p.second) refl) ((Decides-same_list ((p.first ++ p.second) ++ p.body) ((p.first ++ p.second) ++ p.body)).1 refl)))
 
-some_if : {X : Type 0} (b : Bool) (x y : X) → cond b (Some x) None ≡ Some y → x ≡ y
+pub some_if : {X : Type 0} (b : Bool) (x y : X) → cond b (Some x) None ≡ Some y → x ≡ y
 some_if true x y e = cc
 some_if false x y e = absurd (cc)
 

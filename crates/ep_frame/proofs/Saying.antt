@@ -5,7 +5,7 @@ use Rattle.std.proofs.lemmas.Bool.{eqb-true, leb-true, le-leb, le-ltb, ltb-false
 use Rattle.ep_base.specs.Deps.{AreInstances}
 use Rattle.ep_base.specs.Generations.{HasItsGeneration}
 use Rattle.ep_base.specs.Instances.{number_of}
-use Rattle.ep_base.specs.Versions.{version_number, generation_of, version_of, highest_in, most_deps_in, knows, AreDepsIn}
+use Rattle.ep_base.specs.Versions.{version_number, generation_of, version_of, most_deps_in, knows, AreDepsIn}
 use Rattle.ep_base.specs.Commands.{Command}
 use Rattle.ep_base.specs.Commands.{Noop, Get, Put, Del, Swap, Cas, Seal, Opaque}
 use Rattle.ep_base.specs.declared.version.Version.{Version}
@@ -19,16 +19,6 @@ use Rattle.ep_frame.specs.Faults.{highest_op, op_of, are_early, are_in, text_fit
 use Rattle.ep_frame.specs.Fields.{is_early_put, second_len_from, body_len_from}
 
 -- each version's limits are within those of the last one
-
-pub version_low : (v : Version) → version_number v ≤ 3
-version_low V1 = omega arith
-version_low V2 = omega arith
-version_low (V3 g) = omega arith
-
-pub number_low : (v : Version) → highest_in v ≤ 2000
-number_low V1 = omega arith
-number_low V2 = omega arith
-number_low (V3 g) = omega arith
 
 pub op_low : (v : Version) → highest_op v ≤ 9
 op_low V1 = omega arith
@@ -160,7 +150,7 @@ op_one op.Seal = omega arith
 
 -- how long what fits an op may be
 
-at_zero : (n high : ℕ) → eqb n 0 ≡ true → n ≤ high
+pub at_zero : (n high : ℕ) → eqb n 0 ≡ true → n ≤ high
 at_zero n high e = let z = eqb-true n 0 e in omega (arith, z)
 
 key_high : (n : ℕ) → is_key_len n ≡ true → n ≤ 255

@@ -1,8 +1,9 @@
 -- The frame of a message has no fault.
-use Rattle.std.proofs.Common.{◌≡◌, ℕ, ◌≤◌, ◌<◌, Bool, true, false, cond, eqb, leb, List, [], ◌∷◌, length, drop, Err, refl, sym, ap, subst, ◌∙◌, true≢false, arith}
+use Rattle.std.proofs.Common.{◌≡◌, ℕ, ◌≤◌, ◌<◌, Bool, true, false, cond, eqb, leb, List, [], ◌∷◌, length, drop, Err, refl, sym, ap, subst, ◌∙◌, arith}
 use Rattle.std.specs.Prelude.{◌&&◌, not, Some, None}
 use Rattle.std.specs.List.{AllByRecursion}
-use Rattle.std.proofs.lemmas.Bool.{eqb-true, eq-eqb, le-leb, lt-ltb, and_from, le-ltb}
+use Rattle.std.proofs.lemmas.Bool.{eqb-true, eq-eqb, le-leb, lt-ltb, and_from, le-ltb, not-true}
+use Rattle.std.proofs.lemmas.Option.{cond_some}
 use Rattle.ep_base.specs.Instances.{leader_of, number_of, IsInstance}
 use Rattle.ep_base.specs.Ballots.{counter_of, owner_of}
 use Rattle.ep_base.specs.Deps.{IsRising, IsBelowFirst}
@@ -14,12 +15,12 @@ use Rattle.ep_base.proofs.Partitions.{Fits, fits, parts_law_lem}
 use Rattle.ep_base.specs.Versions.{version_number, generation_of, highest_in, most_deps_in, IsInstanceIn, AreDepsIn, IsDecreeIn, CanSay}
 use Rattle.ep_base.specs.declared.version.Version.{Version}
 use Rattle.ep_base.specs.declared.version_kind.VersionKind.TheVariants.{V1, V2, V3}
-use Rattle.ep_base.proofs.Versions.{version_again, length_in}
+use Rattle.ep_base.proofs.Versions.{version_again, length_in, version_low}
 use Rattle.ep_base.specs.declared.attrs.Attrs.{Attrs}
 use Rattle.ep_base.specs.declared.decree.Decree.{Decree}
 use Rattle.ep_base.specs.Commands.{Command}
-use Rattle.ep_base.specs.declared.vote.Status.{Status}
-use Rattle.ep_base.specs.declared.vote.Status.TheVariants.{PreAccepted, Accepted, Committed}
+use Rattle.ep_base.specs.declared.vote.VoteStatus.{VoteStatus}
+use Rattle.ep_base.specs.declared.vote.VoteStatus.TheVariants.{PreAccepted, Accepted, Committed}
 use Rattle.ep_base.specs.declared.message.Message.{Message}
 use Rattle.ep_base.specs.declared.message.Message.TheVariants.{PreAccept, PreAcceptOk, Accept, AcceptOk, Commit, Prepare, PrepareOk, Nack}
 use Rattle.ep_frame.specs.declared.fault.FrameFault.{FrameFault}
@@ -31,7 +32,7 @@ use Rattle.ep_frame.specs.Faults.{◌>>◌, names_rows, ballot_rows, vote_rows, 
 use Rattle.ep_frame.specs.Spelling.{Parts, parts_at, parts_of, status_code, IsBallot, AreAttrs, IsDecree, IsMessage, IsOrigin, Spells}
 use Rattle.ep_frame.proofs.Rows.{AllPass, fine, all_pass, within-from, apart-from, choose, choose_other}
 use Rattle.ep_frame.proofs.Again.{PartsFit, parts_again, length-parts_bytes}
-use Rattle.ep_frame.proofs.Saying.{version_low, op_low, is_version, generation_again, IsShortIn, text_from, text_again, op_again, op_one, first_high, second_high, body_high, op_within, short_within, deps_within}
+use Rattle.ep_frame.proofs.Saying.{op_low, is_version, generation_again, IsShortIn, text_from, text_again, op_again, op_one, first_high, second_high, body_high, op_within, short_within, deps_within}
 
 -- parts with these fields
 abbrev frame : (v : Version) (k from : ℕ) (o : Origin) (i counter replica status other_counter other_replica seq op : ℕ) (key second body deps : List ℕ) → Parts
@@ -97,10 +98,6 @@ record BodyPart (v : Version) (rows : List (FrameFault × Bool)) (seq op : ℕ) 
   rising : deps_allowed v deps ≡ true
   instances : AllByRecursion IsInstance deps
 
-is_not : (b : Bool) → not b ≡ true → b ≡ false
-is_not true e = absurd (true≢false (sym e))
-is_not false e = refl
-
 generation_kept : (v : Version) → HasItsGeneration v → generation_from (version_number v) (generation_of v) ≡ generation_of v
 generation_kept V1 h = refl
 generation_kept V2 h = refl
@@ -151,7 +148,7 @@ sound_frame v k from o i counter replica status other_counter other_replica seq 
       };
       count = refl;
       deps = ap (λ (u : Version). deps_allowed u deps) (version_again v) ∙ y.rising;
-      once = is_not (is_twice key second) y.fits.once;
+      once = not-true (is_twice key second) y.fits.once;
       said = y.fits.said;
     }
 
@@ -199,17 +196,17 @@ vote_rows_of status counter replica = (Field 26, status) ∷ (Field 27, counter)
 no_vote : VotePart (vote_rows_of true true true) 0 0 0
 no_vote = record { pass = (refl, (refl, (refl, tt))); status_small = omega arith; counter_small = omega arith; replica_small = omega arith }
 
-pub has_status : (s : Status) → eqb (status_code s) 0 ≡ false
+pub has_status : (s : VoteStatus) → eqb (status_code s) 0 ≡ false
 has_status PreAccepted = refl
 has_status Accepted = refl
 has_status Committed = refl
 
-status_high : (s : Status) → status_code s ≤ 3
+status_high : (s : VoteStatus) → status_code s ≤ 3
 status_high PreAccepted = omega arith
 status_high Accepted = omega arith
 status_high Committed = omega arith
 
-some_vote : (i : ℕ) (s : Status) (b : ℕ) → IsBallot i 0 b
+some_vote : (i : ℕ) (s : VoteStatus) (b : ℕ) → IsBallot i 0 b
     → VotePart (vote_rows_of (leb (status_code s) 3) (cond (eqb (status_code s) 0) (eqb (counter_of b) 0) (leb (counter_of b) 60000)) (cond (eqb (counter_of b) 0) (eqb (owner_of b) (leader_of i)) (leb (owner_of b) 6)))
     (status_code s) (counter_of b) (owner_of b)
 some_vote i s b h =
@@ -235,15 +232,11 @@ rising_again (i ∷ is) r h =
 allowed_again : (v : Version) (ds : List ℕ) → IsRising ds → AllByRecursion IsInstance ds → AreDepsIn v ds → deps_allowed v ds ≡ true
 allowed_again v ds r h e = and_from (are_deps ds) (are_in v ds) (rising_again ds r h) (deps_within v ds e)
 
-is_some_if : {X : Type 0} (c : Bool) (x y : X) → cond c (Some x) None ≡ Some y → (c ≡ true) × (x ≡ y)
-is_some_if true x y e = (refl, cc)
-is_some_if false x y e = absurd (cc)
-
 -- a command in range is its parts
 pub command_fits : (c : Command) → IsInRange c → Fits (command_parts c).op (command_parts c).first (command_parts c).second (command_parts c).body
 command_fits c h =
     let p = command_parts c in
-    fits p.op p.first p.second p.body (is_some_if (are_parts p) (command_in p) c (parts_law_lem.forth c h)).0
+    fits p.op p.first p.second p.body (cond_some (are_parts p) (command_in p) c (parts_law_lem.forth c h)).0
 
 command_numbered : (c : Command) → IsInRange c → Fits (op_of (op_number (command_parts c).op)) (command_parts c).first (command_parts c).second (command_parts c).body
 command_numbered c h =
@@ -283,7 +276,7 @@ decree_body v attributes command ta tc x h e =
       instances = a.instances;
     }
 
-nothing_short : (v : Version) → IsShortIn v 0
+pub nothing_short : (v : Version) → IsShortIn v 0
 nothing_short V1 = omega arith
 nothing_short V2 = omega arith
 nothing_short (V3 g) = tt

@@ -7,6 +7,7 @@ use Rattle.ep_base.specs.Instances.{leader_of, instance_of}
 use Rattle.ep_base.specs.declared.message.Message.{Message}
 use Rattle.ep_base.specs.declared.message.Message.TheVariants.{PreAccept, PreAcceptOk, Accept, AcceptOk, Commit, Prepare, PrepareOk, Nack}
 use Rattle.ep_base.specs.declared.version.Version.{Version}
+use Rattle.ep_base.proofs.Tests.{and_true}
 use Rattle.ep_rules.specs.Steps.{are_within, message_within}
 use Rattle.ep_frame.specs.DepBytes.{AreDepBytes}
 use Rattle.ep_frame.specs.Faults.{HasNoFault}
@@ -22,10 +23,6 @@ use Rattle.ep_frame.proofs.Sound.{sound}
 after : (s x y : Bool) → (s ≡ true → x ≡ y) → (s && x) ≡ (s && y)
 after true x y h = h refl
 after false x y h = refl
-
-and_true : (x : Bool) → (x && true) ≡ x
-and_true true = refl
-and_true false = refl
 
 -- where a replica is below n, so is 0
 below : (r n : ℕ) → ltb r n ≡ true → ltb 0 n ≡ true

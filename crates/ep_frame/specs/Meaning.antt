@@ -7,8 +7,8 @@ use Rattle.ep_base.specs.declared.decree.Decree.{Decree}
 use Rattle.ep_base.specs.Commands.{Command}
 use Rattle.ep_base.specs.declared.version.Version.{Version}
 use Rattle.ep_base.specs.declared.vote.Vote.{Vote}
-use Rattle.ep_base.specs.declared.vote.Status.{Status}
-use Rattle.ep_base.specs.declared.vote.Status.TheVariants.{PreAccepted, Accepted, Committed}
+use Rattle.ep_base.specs.declared.vote.VoteStatus.{VoteStatus}
+use Rattle.ep_base.specs.declared.vote.VoteStatus.TheVariants.{PreAccepted, Accepted, Committed}
 use Rattle.ep_base.specs.declared.message.Message.{Message}
 use Rattle.ep_base.specs.declared.message.Message.TheVariants.{PreAccept, PreAcceptOk, Accept, AcceptOk, Commit, Prepare, PrepareOk, Nack}
 use Rattle.ep_rules.specs.Steps.{are_within, message_within}
@@ -45,7 +45,7 @@ command_parts_of p = record { op = op_of p.header.op; first = p.key; second = p.
 abbrev pub decree_of : Parts → Decree
 decree_of p = record { command = command_in (command_parts_of p); attrs = attrs_of p }
 
-abbrev pub status_of : ℕ → Status
+abbrev pub status_of : ℕ → VoteStatus
 status_of n = if n == 1 then PreAccepted else if n == 2 then Accepted else Committed
 
 abbrev pub vote_of : Parts → Option Vote

@@ -15,8 +15,8 @@ use Rattle.ep_base.specs.declared.message.Message.{Message}
 use Rattle.ep_base.specs.declared.message.Message.TheVariants.{PreAccept, PreAcceptOk, Accept, AcceptOk, Commit, Prepare, PrepareOk, Nack}
 use Rattle.ep_base.specs.declared.version.Version.{Version}
 use Rattle.ep_base.specs.declared.vote.Vote.{Vote}
-use Rattle.ep_base.specs.declared.vote.Status.{Status}
-use Rattle.ep_base.specs.declared.vote.Status.TheVariants.{PreAccepted, Accepted, Committed}
+use Rattle.ep_base.specs.declared.vote.VoteStatus.{VoteStatus}
+use Rattle.ep_base.specs.declared.vote.VoteStatus.TheVariants.{PreAccepted, Accepted, Committed}
 use Rattle.ep_frame.specs.declared.header.Header.{Header}
 use Rattle.ep_frame.specs.declared.origin.Origin.{Origin}
 use Rattle.ep_frame.specs.Faults.{second_place, body_place, deps_place}
@@ -112,7 +112,7 @@ with_command c p = with_parts (op_number (command_parts c).op) (command_parts c)
 abbrev pub with_decree : Decree → Parts → Parts
 with_decree x p = with_attrs x.attrs (with_command x.command p)
 
-abbrev pub status_code : Status → ℕ
+abbrev pub status_code : VoteStatus → ℕ
 status_code PreAccepted = 1
 status_code Accepted = 2
 status_code Committed = 3

@@ -7,7 +7,7 @@ ghost use Rattle.ep_frame.specs.Faults.{are_deps};
 ghost use Rattle.ep_frame.specs.Meaning.{status_of};
 
 use crate::view::{dep_of, made_replica};
-use ep_base::{Ballot, Deps, Seq, Status};
+use ep_base::{Ballot, Deps, Seq, VoteStatus};
 use std::alloc::{AllocError, Global};
 
 pub(crate) fn made_ballot(counter: u16, replica: u8) -> Ballot
@@ -32,13 +32,13 @@ pub(crate) fn made_seq(number: u32) -> Seq
     }
 }
 
-pub(crate) fn made_status(status: u8) -> Status
+pub(crate) fn made_status(status: u8) -> VoteStatus
     ensures { result ≡ status_of status }
 {
     match status {
-        1 => Status::PreAccepted,
-        2 => Status::Accepted,
-        _ => Status::Committed,
+        1 => VoteStatus::PreAccepted,
+        2 => VoteStatus::Accepted,
+        _ => VoteStatus::Committed,
     }
 }
 

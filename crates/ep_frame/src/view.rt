@@ -132,7 +132,7 @@ fn is_said(op: Op, body: &[u8]) -> bool
 }
 
 /// Whether the length is that of the fields, the dependencies are in order, two keys differ, and a comparison's body is one.
-#[tactic(auto, using(crate::proofs::Deps::rest_of, crate::proofs::Limits::same_deps), unfolding(crate::specs::Faults::rest_fault))]
+#[tactic(auto, using(std::proofs::lemmas::List::take_rest, crate::proofs::Limits::same_deps), unfolding(crate::specs::Faults::rest_fault))]
 fn check_rest(header: &Header, bytes: &[u8]) -> Result<(), FrameFault>
     ensures { result ≡ rest_fault header.now bytes.now }
 {
@@ -302,7 +302,7 @@ fn origin_in(bytes: &[u8]) -> Origin
 }
 
 // What stands after the body.
-#[tactic(auto, using(crate::proofs::Deps::rest_of))]
+#[tactic(auto, using(std::proofs::lemmas::List::take_rest))]
 pub(crate) fn dep_bytes_in(bytes: &[u8]) -> &[u8]
     requires { length bytes.now ≡ frame_len (header_at bytes.now) }
     ensures { result.now ≡ drop (deps_place (header_at bytes.now)) bytes.now }

@@ -19,13 +19,13 @@ use Rattle.ep_rules.specs.declared.receipt.Receipt.{Receipt}
 use Rattle.ep_rules.proofs.OwnReceipts.{clocked_accepted_lem}
 use Rattle.ep_rules.proofs.Merged.{in_split}
 use Rattle.ep_rules.proofs.Played.{frames_were_sent_lem}
-use Rattle.ep_journal.specs.Entries.{entry_of, entries_of, frames_at, IsJournal, IsOf, AreInOrder, Log, all_entries, first_opening, Collected, journals_of}
+use Rattle.ep_journal.specs.Entries.{entry_of, entries_of, frames_at, IsJournal, IsOf, AreInOrder, Log, all_entries, first_opening, Collected, journals_of, frames_of}
 use Rattle.ep_journal.specs.Events.{event_of, frame_at}
 use Rattle.ep_journal.specs.declared.entry.Entry.{Entry}
 use Rattle.ep_journal.specs.declared.event.Event.{Event as Happening}
 use Rattle.ep_journal.specs.declared.event.Event.TheVariants as taken
 use Rattle.ep_journal.specs.Openings.{Opening, OpensIn, opens}
-use Rattle.ep_replica.specs.Kept.{Kept, begun, start_of, first_version}
+use Rattle.ep_replica.specs.Kept.{Kept, begun, first_version}
 use Rattle.ep_replica.specs.Receipts.{receipts_after}
 use Rattle.ep_replica.proofs.Own.{receipts_are_own}
 use Rattle.ep_audit.specs.declared.verdict.Verdict.{Verdict}
@@ -34,14 +34,10 @@ use Rattle.ep_host.specs.Node.{Node, fresh_node}
 use Rattle.ep_host.specs.Pointwise.{Each}
 use Rattle.ep_host.specs.RingFinishing.{replicas_in, entries_in, their_journals, their_receipts}
 use Rattle.ep_host.specs.Rings.{handled_by, frames_handled, place}
-use Rattle.ep_host.specs.declared.link.Link.{Link}
 use Rattle.ep_host.proofs.Hosts.{all_taken, all_of_version}
-use Rattle.ep_host.specs.Sent.{frames_of}
+use Rattle.ep_host.proofs.Versioned.{none_in}
 
 -- From the code's lists.
-
-none_in : (x : List ℕ) → Contains [] x → ⊥
-none_in x c = let low = c.1 in absurd (omega arith)
 
 in_cons : (y x : List ℕ) (ys : List (List ℕ)) → Contains (y ∷ ys) x → (y ≡ x) ⊎ Contains ys x
 in_cons y x ys c = elim (Contains-append_cases (y ∷ []) ys x c) [
@@ -87,7 +83,7 @@ entries_is [] r = refl
 entries_is (n ∷ ns) zero = refl
 entries_is (n ∷ ns) (suc r) = entries_is ns r
 
-none_after : (nodes : List Node) (r : ℕ) → length nodes ≤ r → get_or (entries_in (replicas_in nodes)) r [] ≡ []
+pub none_after : (nodes : List Node) (r : ℕ) → length nodes ≤ r → get_or (entries_in (replicas_in nodes)) r [] ≡ []
 none_after [] r low = refl
 none_after (n ∷ ns) zero low = absurd (omega arith)
 none_after (n ∷ ns) (suc r) low = none_after ns r (omega arith)

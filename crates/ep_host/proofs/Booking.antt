@@ -8,6 +8,7 @@ use Rattle.rtrb.specs.Ring.{sent, received}
 use Rattle.ep_journal.specs.declared.entry.Entry.{Entry}
 use Rattle.ep_journal.specs.declared.event.Event.{Event}
 use Rattle.ep_journal.specs.declared.event.Event.TheVariants.{Handle, Execute}
+use Rattle.ep_journal.specs.Entries.{frames_of}
 use Rattle.ep_replica.specs.Applied.{Applied}
 use Rattle.ep_replica.specs.Kept.{Kept}
 use Rattle.ep_replica.specs.Pending.{ExecutesNext}
@@ -15,7 +16,6 @@ use Rattle.ep_host.specs.Acts.{Made, IsHandled}
 use Rattle.ep_host.specs.Fates.{Fate, frames_in, put_for, held_for, Sends, Carries}
 use Rattle.ep_host.specs.Pointwise.{Each}
 use Rattle.ep_host.specs.Rings.{KeepsLink, PopsAt, ArePeers, IsOut, IsTaken, IsBooked, IsFreshLink, handled_by, frames_handled, peer_at}
-use Rattle.ep_host.specs.Sent.{frames_of}
 use Rattle.ep_host.specs.declared.link.Link.{Link}
 use Rattle.ep_host.specs.declared.weather.Weather.{Weather}
 use Rattle.ep_host.proofs.Fated.{IsFated, put_all, held_all, carries_none, carries_keeps, sends_carries}

@@ -3,6 +3,7 @@ use Rattle.std.proofs.Common.{◌≡◌, ℕ, zero, suc, ◌+◌, eqb, Bool, tru
 use Rattle.std.proofs.lemmas.List.{append-nil}
 use Rattle.std.proofs.lemmas.Bool.Decides.{eqb_tells}
 use Rattle.std.proofs.lemmas.List.Elements.{Contains-append_right, All-append, All-weaker, All-nil, All-push}
+use Rattle.std.proofs.lemmas.Bool.{eqb-true}
 use mathlib.Core.List.{IsPrefix}
 use Rattle.ep_frame.specs.Meaning.{origin_at}
 use Rattle.rtrb.specs.Ring.{sent, received}
@@ -99,9 +100,6 @@ first_fated : (p : ℕ) (f : Fate) (fs : List Fate) (xs : List (List ℕ)) (to :
 first_fated p f fs xs true h same = All-weaker (λ (x : List ℕ). x ≡ f.frame) (IsFated p (f ∷ fs)) (λ b e. subst (IsFated p (f ∷ fs)) (sym e) (contains_here f.frame (frames_in fs), h refl)) xs same
 first_fated p f fs xs false h same = All-nil (IsFated p (f ∷ fs))
 
-eqb_is : (n m : ℕ) → eqb n m ≡ true → n ≡ m
-eqb_is n m e = ⊎_elim (λ (t : _). t.1) (λ (t : _). absurd (cc)) (eqb_tells n m)
-
 later_fated : (p : ℕ) (f : Fate) (fs : List Fate) (xs : List (List ℕ)) → All (IsFated p fs) xs → All (IsFated p (f ∷ fs)) xs
 later_fated p f fs xs h = All-weaker (IsFated p fs) (IsFated p (f ∷ fs)) (λ b h. (Contains-append_right (f.frame ∷ []) (frames_in fs) b h.0, h.1)) xs h
 
@@ -110,7 +108,7 @@ pub put_all : (p : ℕ) (fs : List Fate) → All (IsFated p fs) (put_for p fs)
 put_all p [] = All-nil (IsFated p [])
 put_all p (f ∷ fs) = let to = eqb (origin_at f.frame).to p in
     All-append (IsFated p (f ∷ fs)) (cond to (put_of f.frame f.delivery) []) (put_for p fs)
-    (first_fated p f fs (put_of f.frame f.delivery) to (eqb_is (origin_at f.frame).to p) (put_same f.frame f.delivery))
+    (first_fated p f fs (put_of f.frame f.delivery) to (eqb-true (origin_at f.frame).to p) (put_same f.frame f.delivery))
     (later_fated p f fs (put_for p fs) (put_all p fs))
 
 -- and so is what is held
@@ -118,7 +116,7 @@ pub held_all : (p : ℕ) (fs : List Fate) → All (IsFated p fs) (held_for p fs)
 held_all p [] = All-nil (IsFated p [])
 held_all p (f ∷ fs) = let to = eqb (origin_at f.frame).to p in
     All-append (IsFated p (f ∷ fs)) (cond to (held_of f.frame f.delivery) []) (held_for p fs)
-    (first_fated p f fs (held_of f.frame f.delivery) to (eqb_is (origin_at f.frame).to p) (held_same f.frame f.delivery))
+    (first_fated p f fs (held_of f.frame f.delivery) to (eqb-true (origin_at f.frame).to p) (held_same f.frame f.delivery))
     (later_fated p f fs (held_for p fs) (held_all p fs))
 
 pub sends_none : (ws : List Weather) (a : Link) → Sends ws [] a a

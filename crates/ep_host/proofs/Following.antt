@@ -1,16 +1,18 @@
 -- What turns leave of a node.
 use Rattle.std.proofs.Common.{◌≡◌, ℕ, zero, suc, ◌<◌, ◌≤◌, ◌+◌, ◌-◌, ◌||◌, List, [], ◌∷◌, ◌++◌, length, refl, arith, inl, inr, subst, sym, ap, ◌∙◌, append_assoc, Bool, true, false, Option, Some, None, min, cond}
 use Rattle.std.proofs.lemmas.List.{append-nil}
+use Rattle.std.proofs.lemmas.Bool.{or_parts}
 use Rattle.ep_rules.specs.Steps as rules
 use Rattle.ep_rules.specs.Journals as book
 use Rattle.ep_rules.specs.Journals.{asked_by, asked_in}
 use Rattle.ep_rules.proofs.JournalsGrow.{asked_grows_lem}
-use Rattle.ep_journal.specs.Entries.{entry_of, entries_of}
+use Rattle.ep_journal.specs.Entries.{entries_of, frames_of}
 use Rattle.ep_journal.specs.Events as journal
 use Rattle.ep_journal.specs.declared.entry.Entry.{Entry}
 use Rattle.ep_journal.specs.declared.event.Event.{Event}
 use Rattle.ep_journal.specs.declared.event.Event.TheVariants as event
 use Rattle.ep_journal.specs.declared.step_fault.StepFault.{StepFault}
+use Rattle.ep_journal.proofs.Growing.{entries_append}
 use Rattle.ep_replica.specs.Applied.{Applied}
 use Rattle.ep_replica.specs.Kept.{Kept, start_of}
 use Rattle.ep_host.specs.Acts.{Made}
@@ -19,7 +21,6 @@ use Rattle.ep_host.specs.Follows.{Follows, Runs, Settles, Rounds}
 use Rattle.ep_host.specs.Node.{Node}
 use Rattle.ep_host.specs.Pointwise.{Each}
 use Rattle.ep_host.specs.Rings.{PopsAt}
-use Rattle.ep_host.specs.Sent.{frames_of}
 use Rattle.ep_host.specs.Tasks.{Use, tasks_in, event_made, events_in, refusal_at, refusals_in, place_after, next_place, event_of}
 use Rattle.ep_host.specs.Turns.{with_links, TakesUp, TakesAt, Takes, BeginsTask, ExecutesOwn, IsTurn}
 use Rattle.ep_host.specs.declared.link.Link.{Link}
@@ -45,12 +46,8 @@ events_both (x ∷ xs) ys = ap (λ (l : List rules.Event). event_made x.task x.r
 abbrev asked_of : Event → List rules.Event
 asked_of event = asked_by (journal.event_of event)
 
-pub entries_both : (xs ys : List Entry) → entries_of (xs ++ ys) ≡ entries_of xs ++ entries_of ys
-entries_both [] ys = refl
-entries_both (x ∷ xs) ys = ap (λ (es : List book.Entry). entry_of x ∷ es) (entries_both xs ys)
-
 pub asked_both : (xs ys : List Entry) → asked_in (entries_of (xs ++ ys)) ≡ asked_in (entries_of xs) ++ asked_in (entries_of ys)
-asked_both xs ys = ap asked_in (entries_both xs ys) ∙ asked_grows_lem (entries_of xs) (entries_of ys)
+asked_both xs ys = ap asked_in (entries_append xs ys) ∙ asked_grows_lem (entries_of xs) (entries_of ys)
 
 pub refusals_both : (n : ℕ) (xs ys : List Use) → refusals_in n (xs ++ ys) ≡ refusals_in n xs ++ refusals_in (place_after n xs) ys
 refusals_both n [] ys = refl
@@ -367,12 +364,8 @@ settles_none a = record { follows = follows_self a; agenda = omega arith }
 pub turn_rounds : (moved : Bool) (a b : Node) → IsTurn moved a b → Rounds moved a b
 turn_rounds moved a b t = record { turn = turn_settles moved a b t; idle = λ none rounds. turn_idles rounds a b (subst (λ (m : Bool). IsTurn m a b) none t) }
 
-or_not : (now moved : Bool) → (now || moved) ≡ false → (now ≡ false) × (moved ≡ false)
-or_not true moved e = absurd (cc)
-or_not false moved e = (refl, e)
-
 pub rounds_before : (now moved : Bool) (a b : Node) → Rounds moved a b → Rounds (now || moved) a b
-rounds_before now moved a b h = record { turn = h.turn; idle = λ none. h.idle (or_not now moved none).1 }
+rounds_before now moved a b h = record { turn = h.turn; idle = λ none. h.idle (or_parts now moved none).1 }
 
 pub rounds_now : (now moved : Bool) (a b : Node) → Rounds now a b → Rounds (now || moved) a b
-rounds_now now moved a b h = record { turn = h.turn; idle = λ none. h.idle (or_not now moved none).0 }
+rounds_now now moved a b h = record { turn = h.turn; idle = λ none. h.idle (or_parts now moved none).0 }

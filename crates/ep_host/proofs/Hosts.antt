@@ -6,6 +6,7 @@ use Rattle.std.proofs.lemmas.Bool.{cases_lt}
 use Rattle.rtrb.specs.Ring.{sent, received, IsPair}
 use Rattle.ep_frame.specs.Meaning.{version_at}
 use Rattle.ep_journal.specs.Openings.{opens}
+use Rattle.ep_journal.specs.Entries.{frames_of}
 use Rattle.ep_replica.specs.Kept.{Kept, start_of}
 use Rattle.ep_rules.specs.States.{fresh_state}
 use Rattle.ep_host.specs.Follows.{Follows}
@@ -13,7 +14,6 @@ use Rattle.ep_host.specs.Host.{IsHost, Paired, PairedBoth, HasLink, Begins, AllB
 use Rattle.ep_host.specs.Node.{Node}
 use Rattle.ep_host.specs.Pointwise.{Each}
 use Rattle.ep_host.specs.Rings.{KeepsLink, IsTaken, IsOut, place, peer_at, frames_handled}
-use Rattle.ep_host.specs.Sent.{frames_of}
 use Rattle.ep_host.specs.declared.link.Link.{Link}
 use Rattle.ep_host.specs.Turns.{Assigns}
 use Rattle.ep_host.specs.declared.task.Task.{Task}

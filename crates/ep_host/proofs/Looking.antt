@@ -6,6 +6,7 @@ use mathlib.Core.List.{IsPrefix}
 use Rattle.rtrb.specs.Ring.{sent, received, IsPair}
 use Rattle.ep_frame.specs.Meaning.{sender_at}
 use Rattle.ep_journal.specs.declared.entry.Entry.{Entry}
+use Rattle.ep_journal.specs.Entries.{frames_of}
 use Rattle.ep_replica.specs.Kept.{Kept, start_of}
 use Rattle.ep_host.specs.Fates.{Carries}
 use Rattle.ep_host.proofs.Hosts.{Stays, host_stays, host_both}
@@ -13,7 +14,6 @@ use Rattle.ep_host.specs.Host.{IsHost, Quiet, Looked, Paired, Begins, HasLink, P
 use Rattle.ep_host.specs.Node.{Node}
 use Rattle.ep_host.specs.Pointwise.{Each}
 use Rattle.ep_host.specs.Rings.{KeepsLink, IsBooked, place, frames_handled}
-use Rattle.ep_host.specs.Sent.{frames_of}
 use Rattle.ep_host.specs.declared.link.Link.{Link}
 use Rattle.ep_host.specs.declared.weather.Weather.{Weather}
 use Rattle.ep_host.proofs.Booking.{carries_still}

@@ -1,11 +1,11 @@
 -- Outlets: what goes through them, what is held there and let go, and that each held frame stays in the outlet of its receiver.
 use Rattle.std.proofs.Common.{◌≡◌, ℕ, ◌+◌, ◌<◌, ◌≤◌, eqb, Bool, true, false, cond, List, [], ◌∷◌, ◌++◌, length, get_or, set, take, Option, refl, sym, ap, ◌∙◌, subst, arith, length-append, append_assoc, All, ⊎_elim}
 use Rattle.std.proofs.lemmas.List.{append-nil, set-get_or, take_more, get_or_append_left, get_or_push}
-use Rattle.std.proofs.lemmas.Bool.{cases_lt}
+use Rattle.std.proofs.lemmas.Bool.{cases_lt, eq-eqb, ne_eqb}
 use Rattle.std.proofs.lemmas.List.Elements.{All-nil, All-push, All-append, All-weaker, All-same}
 use Rattle.ep_frame.specs.Meaning.{origin_at}
 use Rattle.ep_host.specs.Fates.{Fate, fate, put_of, held_of, count_of, lost_of, put_for, held_for, counted_for, lost_in, counted_up, Keeps, Obeys}
-use Rattle.ep_host.specs.Outboxes.{Outbox, IsNewPort, IsNewOutlet, AreNew, AreAddressed, KeepsPort, PutsIn, Posts, Passes, IsLostPast, Mails, IsMailed, CountsFromNone, LetsGo}
+use Rattle.ep_host.specs.Outboxes.{Outbox, IsNewPort, AreNew, AreAddressed, KeepsPort, PutsIn, Posts, Passes, IsLostPast, Mails, IsMailed, CountsFromNone, LetsGo}
 use Rattle.ep_host.specs.Pointwise.{Each, EachAt}
 use Rattle.ep_host.specs.Sent.{IsCopied}
 use Rattle.ep_host.specs.Setting.{LosesAll}
@@ -20,7 +20,6 @@ use Rattle.ep_host.specs.declared.weather.Weather.{Weather}
 use Rattle.ep_host.specs.declared.weather_kind.WeatherKind.{WeatherKind}
 use Rattle.ep_host.proofs.Copying.{copied_none, copied_kept, copied_lost}
 use Rattle.ep_host.proofs.Fated.{IsFated, frames_in-append, put_for-append, held_for-append, counted_for-append, lost_in-append, counted_twice, obeys_both, held_all}
-use Rattle.ep_host.proofs.Naming.{eqb_same, eqb_apart}
 use Rattle.ep_host.proofs.Places.{place_at, place_self, place_place}
 use Rattle.ep_host.proofs.Releasing.{none_left, next_out}
 
@@ -52,7 +51,7 @@ passes_passes ws ps qs to a b c h k = record {
 -- one frame for it, by what it does with it, and one for another
 passes_here : (ws : List Weather) (b : List ℕ) (d : Delivery) (kind : Option WeatherKind) (to : ℕ) (a c : Outlet) → Posts kind b d a c → kind ≡ kind_at ws to (next 18446744073709551615 a.count) → (origin_at b).to ≡ to → Passes ws (fate b d ∷ []) to a c
 passes_here ws b d kind to a c h word is =
-    let own : eqb (origin_at b).to to ≡ true = eqb_same (origin_at b).to to is in record {
+    let own : eqb (origin_at b).to to ≡ true = eq-eqb (origin_at b).to to is in record {
       keeps = h.keeps;
       put = rw own (h.put ∙ ap (λ (l : List (List ℕ)). put_by a.port ++ l) (sym (append-nil (put_of b d))));
       held = rw own (h.held ∙ ap (λ (l : List (List ℕ)). a.held ++ l) (sym (append-nil (held_of b d))));
@@ -62,7 +61,7 @@ passes_here ws b d kind to a c h word is =
 
 passes_other : (ws : List Weather) (b : List ℕ) (d : Delivery) (to : ℕ) (a : Outlet) → ((origin_at b).to ≡ to → ⊥) → Passes ws (fate b d ∷ []) to a a
 passes_other ws b d to a other =
-    let own : eqb (origin_at b).to to ≡ false = eqb_apart (origin_at b).to to other in record {
+    let own : eqb (origin_at b).to to ≡ false = ne_eqb (origin_at b).to to other in record {
       keeps = port_self a;
       put = rw own (sym (append-nil (put_by a.port)));
       held = rw own (sym (append-nil a.held));
@@ -78,10 +77,6 @@ pub passes_at :
     kind ≡ kind_at ws p (next 18446744073709551615 (get_or outlets p e).count) → Posts kind b d (get_or outlets p e) c → EachAt (Passes ws (fate b d ∷ [])) outlets (set outlets p c)
 passes_at ws b d kind outlets p c e is low word h =
     place_at (Passes ws (fate b d ∷ [])) outlets p c e (λ k f below other. passes_other ws b d k (get_or outlets k f) (λ to. other (sym to ∙ sym is))) low (passes_here ws b d kind p (get_or outlets p e) c h word (sym is))
-
--- a frame that has no outlet
-pub passes_past : (ws : List Weather) (b : List ℕ) (d : Delivery) (outlets : List Outlet) → length outlets ≤ (origin_at b).to → EachAt (Passes ws (fate b d ∷ [])) outlets outlets
-passes_past ws b d outlets past = place_self (Passes ws (fate b d ∷ [])) outlets (λ k f below. passes_other ws b d k (get_or outlets k f) (λ to. absurd (omega (arith, to))))
 
 -- the outbox
 

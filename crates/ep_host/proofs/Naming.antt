@@ -1,16 +1,10 @@
 -- The weather of a frame, and whether a weather is one.
-use Rattle.std.proofs.Common.{◌≡◌, ℕ, ◌+◌, ◌<◌, ◌≤◌, Bool, true, false, not, eqb, ◌&&◌, List, ◌∷◌, length, get_or, take, drop, Some, None, refl, sym, ap, ◌∙◌, subst, arith, ⊎_elim}
+use Rattle.std.proofs.Common.{◌≡◌, ℕ, ◌+◌, ◌<◌, ◌≤◌, true, false, not, eqb, ◌&&◌, List, ◌∷◌, length, get_or, take, drop, Some, None, refl, sym, ap, ◌∙◌, subst, arith, ⊎_elim}
 use Rattle.std.proofs.lemmas.List.{get_or_default, get_or-take, length-take-le, at_drop_more, at_drop_all}
-use Rattle.std.proofs.lemmas.Bool.{false≢true}
+use Rattle.std.proofs.lemmas.Bool.{false≢true, eq-eqb}
 use Rattle.std.proofs.lemmas.Bool.Decides.{eqb_tells}
 use Rattle.ep_host.specs.Weathers.{kind_at, NameOne, IsFrameIn, IsWeather}
 use Rattle.ep_host.specs.declared.weather.Weather.{Weather}
-
-pub eqb_same : (n m : ℕ) → n ≡ m → eqb n m ≡ true
-eqb_same n m e = ⊎_elim (λ (t : _). t.0) (λ (t : _). absurd (t.1 e)) (eqb_tells n m)
-
-pub eqb_apart : (n m : ℕ) → (n ≡ m → ⊥) → eqb n m ≡ false
-eqb_apart n m differs = ⊎_elim (λ (t : _). absurd (differs t.1)) (λ (t : _). t.0) (eqb_tells n m)
 
 pub same_by : (n m : ℕ) → false ≡ not (eqb n m) → n ≡ m
 same_by n m e = ⊎_elim (λ (t : _). t.1) (λ (t : _). absurd (cc)) (eqb_tells n m)
@@ -30,7 +24,7 @@ pub kind_here :
 kind_here ws i w peer count low is so_far to n = sym (here w (drop (i + 1) ws)) ∙ rest_at ws i w peer count low is so_far
   where
     here : (v : Weather) (vs : List Weather) → kind_at (w ∷ vs) peer count ≡ Some w.kind
-    here v vs = rw (to, eqb_same w.count count n) refl
+    here v vs = rw (to, eq-eqb w.count count n) refl
 
 pub kind_past :
     (ws : List Weather) (i : ℕ) (w : Weather) (peer count : ℕ) → i < length ws → w ≡ get_or ws i w → kind_at (drop i ws) peer count ≡ kind_at ws peer count → (eqb w.to peer && eqb w.count count) ≡ false →
@@ -39,13 +33,6 @@ kind_past ws i w peer count low is so_far other = sym (past (drop (i + 1) ws)) �
   where
     past : (vs : List Weather) → kind_at (w ∷ vs) peer count ≡ kind_at vs peer count
     past vs = rw other refl
-
-pub other_peer : (a b : Bool) → a ≡ false → (a && b) ≡ false
-other_peer a b e = rw e refl
-
-pub other_count : (a b : Bool) → b ≡ false → (a && b) ≡ false
-other_count true b e = e
-other_count false b e = refl
 
 pub kind_none : (ws : List Weather) (i peer count : ℕ) → length ws ≤ i → kind_at (drop i ws) peer count ≡ kind_at ws peer count → None ≡ kind_at ws peer count
 kind_none ws i peer count all so_far = sym (at_drop_all (λ (l : List Weather). kind_at l peer count) ws i all) ∙ so_far

@@ -3,7 +3,7 @@ use Rattle.std.proofs.Common.{◌≡◌, inl, inr, ℕ, ◌+◌, Bool, true, fal
 use Rattle.std.proofs.lemmas.List.{append-nil}
 use Rattle.ep_rules.specs.Journals.{messages_of}
 use Rattle.ep_rules.specs.Steps.{Event, sends}
-use Rattle.ep_journal.specs.Entries.{frames_at}
+use Rattle.ep_journal.specs.Entries.{frames_at, frames_of}
 use Rattle.ep_journal.specs.Events.{event_of}
 use Rattle.ep_journal.specs.Leaving.{state_left}
 use Rattle.ep_journal.specs.declared.entry.Entry.{Entry}
@@ -11,7 +11,7 @@ use Rattle.ep_journal.specs.declared.event.Event.TheVariants.{Execute}
 use Rattle.ep_replica.specs.Applied.{Applied}
 use Rattle.ep_replica.specs.Kept.{Kept}
 use Rattle.ep_replica.specs.Pending.{ExecutesNext}
-use Rattle.ep_host.specs.Sent.{IsThinned, none, frames_of}
+use Rattle.ep_host.specs.Sent.{IsThinned, none}
 use Rattle.ep_host.specs.Tending.{Handled, Handles, Tends, lost_by}
 use Rattle.ep_host.specs.declared.tended.Tended.{Tended}
 

@@ -1,5 +1,5 @@
 -- What the parts of a turn do, of what they call.
-use Rattle.std.proofs.Common.{◌≡◌, ℕ, ◌+◌, ◌<◌, ◌≤◌, cond, List, [], ◌∷◌, ◌++◌, length, get_or, set, Bool, true, false, Option, Some, None, refl, sym, ap, ◌∙◌, subst, arith, inl, inr, All}
+use Rattle.std.proofs.Common.{◌≡◌, ℕ, ◌+◌, ◌<◌, ◌≤◌, cond, List, [], ◌∷◌, ◌++◌, length, get_or, set, Bool, true, false, Option, Some, refl, sym, ap, ◌∙◌, subst, arith, inl, inr, All}
 use Rattle.std.proofs.lemmas.List.Elements.{All-nil}
 use Rattle.ep_frame.specs.Meaning.{origin_at}
 use Rattle.ep_journal.specs.declared.event.Event.{Event}
@@ -76,9 +76,6 @@ each_passes ws b d me links p peers is other = record {
 }
 
 -- one frame taken
-
-pub takes_none : (place : ℕ) (a : Node) (links : List Link) → PopsAt place None a.links links → TakesAt place false a (record a { links = links })
-takes_none place a links p = record { frame = None; links = links; pops = p; handled = refl; moves = refl }
 
 pub takes_frame :
     (place : ℕ) (b : List ℕ) (a : Node) (links after : List Link) (k : Kept) (lost more : ℕ) → PopsAt place (Some b) a.links links → IsHandled a.weather b lost a.replica k links after →

@@ -1,11 +1,11 @@
 -- Frames that hosts carry, and that no replica refuses those of its own version for their version or generation.
-use Rattle.std.proofs.Common.{◌≡◌, ◌≢◌, ◌≤◌, ℕ, zero, suc, cond, eqb, List, [], ◌∷◌, Option, Some, None, inl, inr, refl, sym, ap, subst, ◌∙◌, arith, All, IfSome, Contains}
+use Rattle.std.proofs.Common.{◌≡◌, ◌≤◌, ℕ, zero, suc, cond, eqb, List, [], ◌∷◌, Option, Some, None, inl, inr, sym, ap, subst, ◌∙◌, arith, All, IfSome, Contains}
 use Rattle.std.proofs.lemmas.Bool.{eq-eqb}
 use Rattle.std.proofs.lemmas.List.Elements.{Contains-append_cases, Contains-push_cases}
 use Rattle.ep_base.specs.Versions.{version_number, generation_of}
 use Rattle.ep_base.specs.declared.version.Version.{Version}
 use Rattle.ep_frame.specs.Meaning.{version_at}
-use Rattle.ep_journal.specs.Entries.{AreFramesIn, AreEntriesIn}
+use Rattle.ep_journal.specs.Entries.{AreFramesIn, AreEntriesIn, frames_of}
 use Rattle.ep_journal.specs.Events.{event_of, spelled_in}
 use Rattle.ep_journal.specs.Refused.{named}
 use Rattle.ep_journal.specs.declared.entry.Entry.{Entry}
@@ -13,7 +13,6 @@ use Rattle.ep_journal.specs.declared.step_fault.StepFault.TheVariants.{OtherVers
 use Rattle.ep_rules.specs.States.{State}
 use Rattle.ep_rules.specs.Steps.{leaves}
 use Rattle.ep_host.specs.HostFrames.{AreHostFrames, AreOfVersion, IsOnly, NoneForVersion}
-use Rattle.ep_host.specs.Sent.{frames_of}
 
 frames_each : (v : Version) (bs : List (List ℕ)) → 2 ≤ version_number v → AreFramesIn v bs → AreHostFrames bs
 frames_each v [] known h i d low = absurd (omega arith)
@@ -62,7 +61,7 @@ entries_all v f me s (e ∷ es) h zero d low = frames_all v e.frames h.0.frames
 entries_all v f me s (e ∷ es) h (suc i) d low = entries_all v f me (leaves f me s (event_of e.event) e.done) es h.2 i d (omega arith)
 
 -- one frame that a journal sends is of its version
-none_in : (b : List ℕ) → Contains [] b → ⊥
+pub none_in : (b : List ℕ) → Contains [] b → ⊥
 none_in b c = let low = c.1 in absurd (omega arith)
 
 of_version : (v : Version) (bs : List (List ℕ)) (b : List ℕ) → AreFramesIn v bs → Contains bs b → version_at b ≡ v

@@ -1,13 +1,12 @@
 -- What turns leave of a node.
 use Rattle.std.specs.Prelude.{◌≡◌, ℕ, ◌+◌, ◌-◌, ◌<◌, ◌≤◌, Bool, true, false, List, [], ◌++◌, length, slice_index_or}
 use Rattle.ep_rules.specs.Journals.{asked_in}
-use Rattle.ep_journal.specs.Entries.{entries_of}
+use Rattle.ep_journal.specs.Entries.{entries_of, frames_of}
 use Rattle.ep_journal.specs.declared.entry.Entry.{Entry}
 use Rattle.ep_replica.specs.Kept.{start_of}
 use Rattle.ep_host.specs.Fates.{Fate, frames_in, lost_in, Carries, counted_up}
 use Rattle.ep_host.specs.Node.{Node}
 use Rattle.ep_host.specs.Pointwise.{Each}
-use Rattle.ep_host.specs.Sent.{frames_of}
 use Rattle.ep_host.specs.Tasks.{Use, tasks_in, events_in, refusals_in, place_after}
 
 -- the same replica's node with more entries

@@ -5,14 +5,13 @@ use Rattle.ep_base.specs.Quorums.{size}
 use Rattle.ep_base.specs.declared.version.Version.{Version}
 use Rattle.ep_frame.specs.Meaning.{sender_at, version_at}
 use Rattle.ep_rules.specs.Journals.{AreClocked}
-use Rattle.ep_journal.specs.Entries.{entries_of, IsJournal}
+use Rattle.ep_journal.specs.Entries.{entries_of, IsJournal, frames_of}
 use Rattle.ep_journal.specs.Openings.{Opening, OpensIn}
 use Rattle.ep_replica.specs.Kept.{start_of}
 use Rattle.rtrb.specs.Ring.{sent, received, known_free, producer_capacity, IsPair}
 use Rattle.ep_host.specs.Node.{Node}
 use Rattle.ep_host.specs.Pointwise.{Each}
 use Rattle.ep_host.specs.Rings.{KeepsLink, ArePeers, IsBooked, place, frames_handled}
-use Rattle.ep_host.specs.Sent.{frames_of}
 use Rattle.ep_host.specs.declared.link.Link.{Link}
 
 -- the link of a to b and that of b to a have the two ends of the ring from a to b

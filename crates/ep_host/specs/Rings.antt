@@ -4,9 +4,9 @@ use Rattle.ep_frame.specs.Meaning.{origin_at}
 use Rattle.ep_journal.specs.declared.entry.Entry.{Entry}
 use Rattle.ep_journal.specs.declared.event.Event.{Event}
 use Rattle.ep_journal.specs.declared.event.Event.TheVariants.{Propose, Handle, GiveUp, Recover, Execute}
+use Rattle.ep_journal.specs.Entries.{frames_of}
 use Rattle.rtrb.specs.Ring.{sent, received, SameProducer, SameConsumer}
 use Rattle.ep_host.specs.HostFrames.{IsHostFrame}
-use Rattle.ep_host.specs.Sent.{frames_of}
 use Rattle.ep_host.specs.declared.link.Link.{Link}
 
 -- where a node keeps its link to a peer: the links are in order of the other nodes' numbers

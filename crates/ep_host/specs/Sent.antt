@@ -1,6 +1,5 @@
 -- What is to be sent of the frames out of entries.
-use Rattle.std.specs.Prelude.{◌≡◌, ℕ, ◌+◌, List, [], ◌∷◌, ◌++◌, length}
-use Rattle.ep_journal.specs.declared.entry.Entry.{Entry}
+use Rattle.std.specs.Prelude.{◌≡◌, ℕ, ◌+◌, List, [], ◌∷◌, length}
 
 -- the first list is what is left of the second where some are lost
 pub data IsThinned : List (List ℕ) → List (List ℕ) → Type 0 where
@@ -12,8 +11,3 @@ pub data IsThinned : List (List ℕ) → List (List ℕ) → Type 0 where
 pub record IsCopied (out frames : List (List ℕ)) (lost : ℕ) : Type 0 where
   pub thin : IsThinned frames out
   pub counted : length frames + lost ≡ length out
-
--- the frames out of entries, in order
-abbrev pub frames_of : List Entry → List (List ℕ)
-frames_of [] = []
-frames_of (e ∷ es) = e.frames ++ frames_of es

@@ -6,10 +6,11 @@ use Rattle.ep_journal.specs.declared.event.Event.TheVariants as event
 use Rattle.ep_journal.specs.declared.event.Event.TheVariants.{Handle}
 use Rattle.ep_journal.specs.declared.step_fault.StepFault.{StepFault}
 use Rattle.ep_journal.specs.declared.step_fault.StepFault.TheVariants.{Memory, OtherVersion, OtherGeneration, OutOfRange, NotMine, StampFull, SpaceFull, SeqExhausted, NotLeading, TooFewAnswers, AlreadyCommitted, BallotsExhausted, NotCommitted}
+use Rattle.ep_journal.specs.Entries.{frames_of}
 use Rattle.ep_replica.specs.Applied.{Applied, IsDeclined}
 use Rattle.ep_replica.specs.Kept.{Kept}
 use Rattle.ep_replica.specs.Pending.{ExecutesNext}
-use Rattle.ep_host.specs.Sent.{IsThinned, IsCopied, frames_of}
+use Rattle.ep_host.specs.Sent.{IsThinned, IsCopied}
 use Rattle.ep_host.specs.declared.act.Act.{Act}
 use Rattle.ep_host.specs.declared.act.Act.TheVariants.{GiveUp, Recover}
 use Rattle.ep_host.specs.declared.tended.Tended.{Tended}

@@ -7,7 +7,7 @@ ghost use Rattle.ep_replica.specs.Kept.{first_version};
 ghost use Rattle.ep_host.specs.Finishing.{IsFinished};
 
 use crate::finished::Finished;
-use ep_audit::{Refusal, audit};
+use ep_audit::{VerdictFault, audit};
 use ep_journal::{Journal, Journals};
 use ep_rules::Receipt;
 use std::alloc::{AllocError, Global};
@@ -24,11 +24,11 @@ fn audited(alloc: Global, journals: Journals, receipts: &[Receipt]) -> Result<Fi
             journals,
             verdict: Ok(verdict),
         }),
-        Err(Refusal::Fault(fault)) => Ok(Finished {
+        Err(VerdictFault::Fault(fault)) => Ok(Finished {
             journals,
             verdict: Err(fault),
         }),
-        Err(Refusal::Memory) => Err(AllocError),
+        Err(VerdictFault::Memory) => Err(AllocError),
     }
 }
 

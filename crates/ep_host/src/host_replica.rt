@@ -5,8 +5,8 @@ ghost use Rattle.ep_host.specs.Asking.{IsKept};
 ghost use Rattle.ep_host.specs.Starts.{one_start};
 ghost use Rattle.ep_replica.specs.Kept.{start_of};
 
+use crate::frames_out::{FramesOut, sent_last};
 use crate::host_frame::{HostFrame, frame_in, only_of};
-use crate::sending::{Sending, sent_last};
 use crate::start::Start;
 use crate::tended::Tended;
 use crate::tending::tend;
@@ -103,7 +103,7 @@ impl<S: Start> HostReplica<S> {
     }
 
     /// The frames that its last entry sends.
-    pub fn sent_last(&self, alloc: Global) -> Sending
+    pub fn sent_last(&self, alloc: Global) -> FramesOut
         ensures copied { (before : List Entry) (e : Entry) → self.now.replica.entries ≡ before ++ e ∷ [] → IsCopied e.frames result.frames.items result.lost }
         ensures version { AreHostFrames result.frames.items }
     {
@@ -111,7 +111,7 @@ impl<S: Start> HostReplica<S> {
     }
 
     /// The replica takes the event, and what its entry sends is to be sent.
-    pub fn direct(&mut self, alloc: Global, event: Event) -> Result<Sending, StepFault>
+    pub fn direct(&mut self, alloc: Global, event: Event) -> Result<FramesOut, StepFault>
         ensures ok { OnOk result (IsTaken S.start event) }
         ensures version { IfOk result (λ s. AreHostFrames s.frames.items) }
         ensures declined { IfErr result (IsDeclinedThere S.start event) }

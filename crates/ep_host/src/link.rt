@@ -1,7 +1,7 @@
 //! The ends of the rings between a node and a peer.
 
 use crate::delivery::Delivery;
-use crate::held::Held;
+use crate::held_frames::HeldFrames;
 use crate::host_frame::{HostFrame, frame_in};
 use crate::weather_kind::WeatherKind;
 use ep_base::ReplicaId;
@@ -15,7 +15,7 @@ pub struct Link {
     pub to: Producer<HostFrame>,
     pub from: Consumer<HostFrame>,
     pub count: u64,
-    pub held: Held,
+    pub held: HeldFrames,
 }
 
 impl Link {

@@ -8,11 +8,11 @@ ghost use Rattle.ep_host.specs.Starts.{one_opening, one_version};
 use crate::act::Act;
 use crate::finished::Finished;
 use crate::finishing::finished;
+use crate::frames_out::FramesOut;
 use crate::host_fault::HostFault;
 use crate::making;
 use crate::seat::{Seat, inboxes_of, send};
 use crate::second::Second;
-use crate::sending::Sending;
 use crate::start::Start;
 use crate::tended::Tended;
 use crate::turn::Turn;
@@ -202,7 +202,7 @@ impl<S: Start> LockHost<S> {
             let mut replica = seat.cell.lock(rt);
             replica.pump(self.alloc, frame)
         };
-        send(rt, seat, Sending { frames, lost });
+        send(rt, seat, FramesOut { frames, lost });
         Ok(Turn::of(moved))
     }
 

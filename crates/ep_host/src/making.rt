@@ -7,7 +7,7 @@ ghost use Rattle.ep_replica.specs.Kept.{begun};
 
 use ep_base::{Generation, ReplicaId, Size};
 use ep_journal::Opening;
-use ep_replica::{OpeningFault, Replica};
+use ep_replica::{OpenedFault, Replica};
 use std::alloc::{AllocError, Global};
 
 /// The replica of this number, which is one of the cluster's, of version 2.
@@ -36,7 +36,7 @@ pub fn opened(
     let opening = opening.copy(alloc)?;
     match Replica::opened(alloc, cluster, me, generation, opening) {
         Ok(replica) => Ok(replica),
-        Err(OpeningFault::Memory) => Err(AllocError),
-        Err(OpeningFault::OutOfRange) => unreachable!(),
+        Err(OpenedFault::Memory) => Err(AllocError),
+        Err(OpenedFault::OutOfRange) => unreachable!(),
     }
 }

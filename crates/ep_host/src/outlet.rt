@@ -1,7 +1,7 @@
 //! What goes from one replica to another, behind locks.
 
 use crate::delivery::Delivery;
-use crate::held::Held;
+use crate::held_frames::HeldFrames;
 use crate::host_frame::HostFrame;
 use crate::weather_kind::WeatherKind;
 use ep_inbox::Port;
@@ -13,7 +13,7 @@ use std::sync::Wait;
 pub struct Outlet {
     pub port: Port<HostFrame>,
     pub count: u64,
-    pub held: Held,
+    pub held: HeldFrames,
 }
 
 impl Outlet {
@@ -29,7 +29,7 @@ impl Outlet {
         Outlet {
             port,
             count: 0,
-            held: Held::new(alloc),
+            held: HeldFrames::new(alloc),
         }
     }
 

@@ -14,7 +14,7 @@ ghost use Rattle.ep_replica.specs.Kept.{first_version};
 use crate::account::taken_was_sent;
 use crate::finished::Finished;
 use crate::ring_node::RingNode;
-use ep_audit::{Refusal, Verdict, audit};
+use ep_audit::{Verdict, VerdictFault, audit};
 use ep_journal::{Journal, Journals};
 use ep_rules::Receipt;
 use std::alloc::{AllocError, Global};
@@ -48,8 +48,8 @@ fn accepted(alloc: Global, journals: &Journals, receipts: &[Receipt]) -> Result<
 {
     match audit(alloc, journals, receipts) {
         Ok(verdict) => Ok(verdict),
-        Err(Refusal::Memory) => Err(AllocError),
-        Err(Refusal::Fault(_)) => unreachable!(),
+        Err(VerdictFault::Memory) => Err(AllocError),
+        Err(VerdictFault::Fault(_)) => unreachable!(),
     }
 }
 

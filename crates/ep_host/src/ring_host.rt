@@ -6,7 +6,7 @@ ghost use Rattle.ep_base.specs.declared.version_kind.VersionKind.TheVariants.{V2
 ghost use Rattle.ep_journal.specs.Openings.{no_opening};
 ghost use Rattle.ep_host.specs.Joins.{Joins, CanJoin};
 
-use crate::held::Held;
+use crate::held_frames::HeldFrames;
 use crate::host_fault::HostFault;
 use crate::link::Link;
 use crate::making;
@@ -36,14 +36,14 @@ fn join_nodes(
         to: a_to_b,
         from: a_from_b,
         count: 0,
-        held: Held::new(alloc),
+        held: HeldFrames::new(alloc),
     })?;
     b.add_link(Link {
         peer: a_me,
         to: b_to_a,
         from: b_from_a,
         count: 0,
-        held: Held::new(alloc),
+        held: HeldFrames::new(alloc),
     })?;
     Ok(())
 }

@@ -6,10 +6,10 @@ ghost use Rattle.ep_host.specs.HostFrames.{AreHostFrames};
 ghost use Rattle.ep_host.specs.Outboxes.{IsOpen};
 ghost use Rattle.ep_replica.specs.Kept.{start_of};
 
+use crate::frames_out::FramesOut;
 use crate::host_frame::HostFrame;
 use crate::host_replica::HostReplica;
 use crate::sender::Sender;
-use crate::sending::Sending;
 use crate::start::Start;
 use ep_base::Size;
 use ep_inbox::Port;
@@ -64,7 +64,7 @@ pub fn inboxes_of(
 }
 
 /// Sends frames of the replica of this seat, in order, under its sending lock, in its weather.
-pub fn send<S: Start, R: Wait>(rt: &R, from: &Seat<S>, sending: Sending)
+pub fn send<S: Start, R: Wait>(rt: &R, from: &Seat<S>, sending: FramesOut)
     requires { AreHostFrames sending.frames.items }
 {
     from.sender.lock(rt).send(rt, sending);

@@ -3,10 +3,10 @@
 ghost use Rattle.std.specs.Prelude.{◌≡◌};
 
 use crate::delivery::Delivery;
+use crate::frames_out::FramesOut;
 use crate::host_frame::HostFrame;
 use crate::outlet::Outlet;
 use crate::outlets::{count_anew, deliver, make_room, outlets_to, release_all};
-use crate::sending::Sending;
 use crate::weather::{Weather, own_of};
 use ep_base::ReplicaId;
 use ep_frame::Frame;
@@ -110,11 +110,11 @@ impl Sender {
     }
 
     /// Does with frames, in order, what the weather says, and counts those that are lost with those that were lost before.
-    pub fn send<R: Wait>(&mut self, rt: &R, sending: Sending)
+    pub fn send<R: Wait>(&mut self, rt: &R, sending: FramesOut)
         requires { AreHostFrames sending.frames.items }
         ensures { IsMailed sending.frames.items sending.lost self.old self.new }
     {
-        let Sending { frames, lost } = sending;
+        let FramesOut { frames, lost } = sending;
         self.send_all(rt, frames);
         self.lose(lost);
     }

@@ -4,7 +4,7 @@ ghost use Rattle.std.specs.Prelude.{◌≡◌};
 ghost use Rattle.ep_host.specs.HostFrames.{AreHostFrames, AreOfVersion};
 ghost use Rattle.ep_host.specs.Tending.{lost_by, Handles, Tends};
 
-use crate::sending::{Sending, nothing, sent_last};
+use crate::frames_out::{FramesOut, nothing, sent_last};
 use crate::tended::Tended;
 use ep_frame::Frame;
 use ep_journal::{Event, StepFault};
@@ -22,7 +22,7 @@ pub fn lost_by(fault: &StepFault) -> u64
 }
 
 /// The frame is handled, if there is one; what its entry sends is to be sent.
-fn handle(alloc: Global, replica: &mut Replica, frame: Option<Frame>) -> Sending
+fn handle(alloc: Global, replica: &mut Replica, frame: Option<Frame>) -> FramesOut
     ensures handles { Handles frame replica.old result.frames.items result.lost replica.new }
     ensures version { AreHostFrames result.frames.items }
     ensures same { AreOfVersion replica.old.version result.frames.items }
@@ -45,7 +45,7 @@ pub fn tend(alloc: Global, replica: &mut Replica, frame: Option<Frame>) -> Tende
     ensures same { AreOfVersion replica.old.version result.frames.items }
 {
     let given = frame.is_some();
-    let Sending { frames, lost } = handle(alloc, replica, frame);
+    let FramesOut { frames, lost } = handle(alloc, replica, frame);
     let executed = replica.execute_next();
     Tended {
         moved: given || executed,

@@ -1,7 +1,8 @@
 -- Each step of an inbox keeps its rule.
-use Rattle.std.proofs.Common.{◌≡◌, ◌≢◌, ℕ, ◌<◌, ◌≤◌, zero, suc, eqb, true, false, Bool, cond, List, [], ◌∷◌, ◌++◌, length, set, sym, refl, ap, ◌∙◌, subst, ⊎_elim, append_assoc, arith, length-append, ◌⊎◌, inl, inr}
+use Rattle.std.proofs.Common.{◌≡◌, ◌≢◌, ℕ, ◌<◌, ◌≤◌, zero, suc, eqb, true, false, Bool, cond, List, [], ◌∷◌, ◌++◌, length, sym, refl, ap, ◌∙◌, subst, ⊎_elim, append_assoc, arith, length-append, ◌⊎◌, inl, inr}
 use Rattle.std.proofs.lemmas.List.{append-nil, length-set}
 use Rattle.std.proofs.lemmas.Bool.Decides.{eqb_tells}
+use Rattle.std.proofs.lemmas.Bool.{ne_eqb}
 use mathlib.Core.Option.{some, some-injective, some-ne-none}
 use lib.ListN.{get_elem?}
 use Rattle.crossbeam_queue.specs.Fifo.{Pushes, Pops, Admits, Learns}
@@ -11,9 +12,6 @@ use Rattle.ep_inbox.specs.Order.{hand, items_of, of_port, Knows, InOrder, Held}
 
 same : (n : ℕ) → eqb n n ≡ true
 same n = ⊎_elim (λ (t : _). t.0) (λ (t : _). absurd (t.1 refl)) (eqb_tells n n)
-
-apart : (n m : ℕ) → (n ≡ m → ⊥) → eqb n m ≡ false
-apart n m differs = ⊎_elim (λ (t : _). absurd (differs t.1)) (λ (t : _). t.0) (eqb_tells n m)
 
 module _ {T : Type 0} where
   -- a port that is there has a number below the count of all
@@ -41,7 +39,7 @@ module _ {T : Type 0} where
   part_own es p x = part_more p es p x ∙ ap (λ (b : Bool). of_port p es ++ cond b (x ∷ []) []) (same p)
 
   part_other : (q : ℕ) (es : List (ℕ × T)) (p : ℕ) (x : T) → (p ≡ q → ⊥) → of_port q (es ++ (p, x) ∷ []) ≡ of_port q es
-  part_other q es p x other = part_more q es p x ∙ ap (λ (b : Bool). of_port q es ++ cond b (x ∷ []) []) (apart p q other) ∙ append-nil (of_port q es)
+  part_other q es p x other = part_more q es p x ∙ ap (λ (b : Bool). of_port q es ++ cond b (x ∷ []) []) (ne_eqb p q other) ∙ append-nil (of_port q es)
 
   -- The steps.
 

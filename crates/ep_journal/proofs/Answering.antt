@@ -8,8 +8,8 @@ use Rattle.ep_base.specs.declared.decree.Decree.{Decree}
 use Rattle.ep_base.specs.declared.reply.Answer.TheVariants.{Lost, Told}
 use Rattle.ep_base.specs.declared.version.Version.{Version}
 use Rattle.ep_base.specs.declared.version_kind.VersionKind.TheVariants.{V1, V2, V3}
-use Rattle.ep_base.specs.declared.vote.Status.{Status}
-use Rattle.ep_base.specs.declared.vote.Status.TheVariants.{PreAccepted, Accepted, Committed}
+use Rattle.ep_base.specs.declared.vote.VoteStatus.{VoteStatus}
+use Rattle.ep_base.specs.declared.vote.VoteStatus.TheVariants.{PreAccepted, Accepted, Committed}
 use Rattle.ep_base.specs.declared.vote.Vote.{Vote}
 use Rattle.ep_rules.specs.Cells.{committed_at, committed_decree}
 use Rattle.std.specs.FinMap.{get-empty}
@@ -26,7 +26,7 @@ knows_noop V2 = refl
 knows_noop (V3 g) = refl
 
 -- what is committed is known
-known_at : (v : Version) (status : Status) (x : Decree) → knows v x.command ≡ true → knows v (command_of (committed_at status x)) ≡ true
+known_at : (v : Version) (status : VoteStatus) (x : Decree) → knows v x.command ≡ true → knows v (command_of (committed_at status x)) ≡ true
 known_at v PreAccepted x h = knows_noop v
 known_at v Accepted x h = knows_noop v
 known_at v Committed x h = h

@@ -1,6 +1,6 @@
 -- What an event asks is what the rule book does with it.
 use Rattle.std.proofs.Common.{◌≡◌, ℕ, ◌+◌, ◌<◌, ◌≤◌, List, Option, Some, None, Err, refl, sym, ap, subst, ◌∙◌, arith}
-use Rattle.ep_base.specs.Instances.{instance_of, number_of}
+use Rattle.ep_base.specs.Instances.{instance_of}
 use Rattle.ep_base.specs.Versions.{highest_in}
 use Rattle.ep_base.specs.declared.version.Version.{Version}
 use Rattle.ep_journal.proofs.Holding.{below}
@@ -72,20 +72,6 @@ request_asked p client request seen c i n h free low next = record {
   asked = ap (proposed p.space.faults p.me (standing_of p).state c) free ∙ ap (λ j. at j (propose p.space.faults j c (interference p.space.records j c))) (sym next);
   executes = refl;
 }
-
--- the number of the least free instance is the highest for the command at most
-pub free_for : (v : Version) (c : Command) (me i n number : ℕ) → n < highest_in v → highest_in v ≤ 2000 → i ≡ instance_of me (n + 1) → number ≡ number_of i → number ≤ highest_for v c → n < highest_for v c
-free_for v c me i n number less most is named low =
-    let at : number_of i ≡ n + 1 = ap number_of is ∙ (let m : number_of (instance_of me (n + 1)) ≡ n + 1 = omega arith in m) in
-    omega arith
-
--- or it is above that
-pub full_for : (v : Version) (c : Command) (free : Option ℕ) (me i n number : ℕ) → free ≡ Some n → n < highest_in v → highest_in v ≤ 2000 → i ≡ instance_of me (n + 1) → number ≡ number_of i → highest_for v c < number → (m : ℕ) → free ≡ Some m → highest_for v c ≤ m
-full_for v c free me i n number found less most is named high m e =
-    let at : number_of i ≡ n + 1 = ap number_of is ∙ (let q : number_of (instance_of me (n + 1)) ≡ n + 1 = omega arith in q) in
-    let both : Some n ≡ Some m = sym found ∙ e in
-    let same : n ≡ m = cc in
-    omega arith
 
 -- where no number of the version is free, none is for the command
 pub none_for : (v : Version) (c : Command) (free : Option ℕ) → ((n : ℕ) → free ≡ Some n → highest_in v ≤ n) → (n : ℕ) → free ≡ Some n → highest_for v c ≤ n

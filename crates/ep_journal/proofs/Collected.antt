@@ -4,12 +4,8 @@ use Rattle.ep_base.specs.Quorums.{size}
 use Rattle.ep_base.specs.declared.version.Version.{Version}
 use Rattle.ep_journal.specs.Openings.{Opening}
 use Rattle.ep_journal.proofs.InOrder.{first_is}
+use Rattle.ep_journal.proofs.Collecting.{below_size}
 use Rattle.ep_journal.specs.Entries.{Log, IsJournal, AreInOrder, all_entries, AreJournals}
-
--- none comes after the cluster's last replica
-bounded : (v : Version) (o : Opening) (f r : ℕ) (ls : List Log) → AreInOrder v o f r ls → r ≤ size f
-bounded v o f r [] h = omega (arith, h)
-bounded v o f r (l ∷ ls) h = let b : suc r ≤ size f = bounded v o f (suc r) ls h.1 in omega arith
 
 mine : (v : Version) (o : Opening) (f r : ℕ) (ls : List Log) → AreInOrder v o f r ls → (k : ℕ) → r + k < size f → IsJournal v o f (r + k) (get_or (all_entries ls) k [])
 mine v o f r [] h k lt = let e : r ≡ size f = h in absurd (omega arith)
@@ -20,7 +16,7 @@ mine v o f r (l ∷ ls) h (suc k) lt =
 
 nobody : (v : Version) (o : Opening) (f r : ℕ) (ls : List Log) → AreInOrder v o f r ls → (k : ℕ) → size f ≤ r + k → get_or (all_entries ls) k [] ≡ []
 nobody v o f r [] h k le = refl
-nobody v o f r (l ∷ ls) h zero le = let b : suc r ≤ size f = bounded v o f (suc r) ls h.1 in absurd (omega arith)
+nobody v o f r (l ∷ ls) h zero le = let b : suc r ≤ size f = below_size v o f (suc r) ls h.1 in absurd (omega arith)
 nobody v o f r (l ∷ ls) h (suc k) le = nobody v o f (suc r) ls h.1 k (omega arith)
 
 counted : (v : Version) (o : Opening) (f r : ℕ) (ls : List Log) → AreInOrder v o f r ls → r + length (all_entries ls) ≡ size f

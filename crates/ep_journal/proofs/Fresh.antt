@@ -3,13 +3,12 @@ use Rattle.std.proofs.Common.{ℕ, inl, inr, List, [], ◌∷◌, ◌++◌, sym,
 use Rattle.std.proofs.lemmas.List.{append_assoc, append-nil}
 use Rattle.std.specs.List.{flat_map}
 use Rattle.ep_base.specs.Places.{Has}
+use Rattle.ep_base.proofs.Places.{Has-first}
 use Rattle.ep_rules.specs.Graph.{Graph}
 use Rattle.ep_rules.specs.Order.{Ranks, Rises, InBlocks, IsPlan}
-use Rattle.ep_rules.proofs.Places.{has_split, has_cons, has_tail, place_head}
+use Rattle.ep_rules.proofs.Places.{has_split, has_cons, has_tail}
+use Rattle.ep_rules.proofs.Ranks.{ranks_self}
 use Rattle.ep_journal.specs.Executing.{AreFresh}
-
-ranks_apart : (g : Graph) (i : ℕ) → Ranks g i i → ⊥
-ranks_apart g i h = omega arith
 
 fresh_append : (done xs ys : List ℕ) → AreFresh done xs → AreFresh (done ++ xs) ys → AreFresh done (xs ++ ys)
 fresh_append done [] ys p q = subst (λ d. AreFresh d ys) (append-nil done) q
@@ -20,15 +19,12 @@ after : (g : Graph) (done : List ℕ) (i : ℕ) (is : List ℕ) → ((j : ℕ) �
 after g done i is left ranks j h k =
     elim (has_split done (i ∷ []) j k) [
       | inl d ↦ left j (has_tail i j is h) d
-      | inr o ↦ elim (has_cons i j [] o) [ inl e ↦ ranks_apart g i (subst (λ n. Ranks g i n) (sym e) (ranks j h)) | inr n ↦ absurd (omega arith) ]
+      | inr o ↦ elim (has_cons i j [] o) [ inl e ↦ ranks_self g i (subst (λ n. Ranks g i n) (sym e) (ranks j h)) | inr n ↦ absurd (omega arith) ]
     ]
-
-head_of : (i : ℕ) (is : List ℕ) → Has (i ∷ is) i
-head_of i is = omega (arith, place_head i is)
 
 fresh_block : (g : Graph) (done block : List ℕ) → ((j : ℕ) → Has block j → ¬ Has done j) → Rises g block → AreFresh done block
 fresh_block g done [] left rises = tt
-fresh_block g done (i ∷ is) left rises = (left i (head_of i is), fresh_block g (done ++ (i ∷ [])) is (after g done i is left rises.0) rises.1)
+fresh_block g done (i ∷ is) left rises = (left i (Has-first i is), fresh_block g (done ++ (i ∷ [])) is (after g done i is left rises.0) rises.1)
 
 fresh_blocks : (g : Graph) (done : List ℕ) (root : ℕ) (blocks : List (List ℕ)) → InBlocks g done root blocks → AreFresh done (flat_map (λ b. b) blocks)
 fresh_blocks g done root [] h = tt

@@ -1,10 +1,10 @@
 -- Each step keeps what a version has of a state, and the version can say all that the step sends.
-use Rattle.std.proofs.Common.{◌≡◌, ℕ, zero, suc, ◌+◌, ◌<◌, ◌≤◌, Bool, true, false, cond, ◌&&◌, not, eqb, ltb, leb, List, [], ◌∷◌, ◌++◌, Option, Some, None, Result, Ok, Err, refl, sym, subst, ◌∙◌, arith, is_some}
+use Rattle.std.proofs.Common.{◌≡◌, ℕ, zero, suc, ◌+◌, ◌<◌, ◌≤◌, Bool, true, false, cond, ◌&&◌, eqb, ltb, leb, List, [], ◌∷◌, ◌++◌, Option, Some, None, Result, Ok, Err, refl, sym, subst, ◌∙◌, arith, is_some}
 use Rattle.std.proofs.lemmas.Bool.{eqb-true, eq-eqb}
 use Rattle.std.specs.FinMap as map
 use Rattle.std.specs.List.{AllByRecursion}
 use Rattle.ep_base.proofs.Members.{all_union}
-use Rattle.ep_base.proofs.Versions.{instance_later, deps_later, vote_later}
+use Rattle.ep_base.proofs.Versions.{instance_later, deps_later, vote_later, highest_low}
 use Rattle.ep_base.specs.Attributes.{join}
 use Rattle.ep_base.specs.Ballots.{ballot_of, highest_counter}
 use Rattle.ep_base.specs.Instances.{instance_of, leader_of}
@@ -20,9 +20,8 @@ use Rattle.ep_base.specs.declared.message.Message.TheVariants.{PreAccept, PreAcc
 use Rattle.ep_base.specs.declared.reply.Answer.{Answer}
 use Rattle.ep_base.specs.declared.version.Version.{Version}
 use Rattle.ep_base.specs.declared.version_kind.VersionKind.TheVariants.{V1, V2, V3}
-use Rattle.ep_base.specs.declared.vote.Status.TheVariants.{PreAccepted, Accepted}
+use Rattle.ep_base.specs.declared.vote.VoteStatus.TheVariants.{PreAccepted, Accepted}
 use Rattle.ep_base.specs.declared.vote.Vote.{Vote}
-use Rattle.ep_frame.proofs.Saying.{number_low}
 use Rattle.ep_rules.proofs.Lookups.{insert_same, insert_other, remove_same, remove_other, none_there}
 use Rattle.ep_rules.specs.Answers.{Answers, answer, with_answer}
 use Rattle.ep_rules.specs.Cells.{Change, nothing, answered, recorded, kept, voted, is_done_at, is_settled_at, record_or_fresh, is_committed, Refusal, TooFewAnswers, BallotsExhausted}
@@ -32,14 +31,14 @@ use Rattle.ep_rules.specs.Maps.{Map, none, get, insert, remove, entries}
 use Rattle.ep_rules.specs.Phases.{Outcome, others, fast_answered, all_equal, with_attrs, limited, first_phase, accept_phase, commit_phase, propose, on_pre_accept, on_accept, on_commit, is_usable, join_some, join_all, joined, slow_path, fast_path, count_pre_accept_ok, use_pre_accept_ok, more_proposing, give_up, give_up_with, commit_own, count_accept_ok, use_accept_ok, more_accepting}
 use Rattle.ep_rules.specs.Recovery.{answered_all, Choice, CommitIt, AcceptIt, AcceptFast, ProposeIt, ProposeNoop, votes, did_commit, did_accept_at, did_preaccept_at, is_fast_witness, top_ballot, with_vote_of, choose_at, choose, act_on, recover_with, prepare_phase, recover, next_counter, on_prepare, count_prepare_ok, use_prepare_ok, more_preparing}
 use Rattle.ep_rules.specs.States.{State, fresh_state, cell_in, command_in, record_in, free_number, with_entry, with_led}
-use Rattle.ep_rules.specs.Steps.{Event, Propose, Handle, GiveUp, Recover, Execute, order_of, at, handled, proposed, acts, leaves, changed_by, sends, sent_by, sent_from}
+use Rattle.ep_rules.specs.Steps.{Event, Propose, Handle, GiveUp, Recover, Execute, order_of, at, handled, proposed, acts, leaves, changed_by}
 use Rattle.ep_rules.specs.declared.led.Led.{Led}
 use Rattle.ep_rules.specs.declared.led.Led.TheVariants.{Proposing, Accepting, Preparing}
 use Rattle.ep_rules.specs.declared.record.Record.{Record}
 use Rattle.ep_space.proofs.Holders.{sorted_true, those-found}
 use Rattle.ep_space.proofs.Rising.{all_from}
 use Rattle.ep_journal.proofs.Answering.{knows_noop, known_vote, stays_in}
-use Rattle.ep_journal.specs.Holding.{IsLedIn, Holds, IsStoreIn, HasEvent, HasRoom, highest_for, AllSayable, AreSayable}
+use Rattle.ep_journal.specs.Holding.{IsLedIn, Holds, IsStoreIn, HasEvent, HasRoom, highest_for, AllSayable}
 use Rattle.ep_rules.specs.OneMap.{Store}
 
 -- Maps.
@@ -413,7 +412,7 @@ module _ (version : Version) where
     proposed_in f me c (Some n) plain room =
         let i : ℕ = instance_of me (n + 1) in
         let less : n < highest_in version = within version c n (room n refl) in
-        let most = number_low version in
+        let most = highest_low version in
         let low : IsInstanceIn version i = omega arith in
         placed_in i (propose f i c (interference s.records i c)) low (propose_in f i c (interference s.records i c) low plain (interference_in i c))
 
@@ -425,17 +424,6 @@ module _ (version : Version) where
     acts_in f me (Execute root) has room = (has, nothing_in)
 
   -- What is sent.
-
-  all_said : (me : ℕ) (out : List (ℕ × Message)) → AllSayable version out → AreSayable version (sent_from me out)
-  all_said me [] said = tt
-  all_said me (m ∷ ms) said = (said.0, all_said me ms said.1)
-
-  sent_said : (me : ℕ) (o : Result (ℕ × Change) Refusal) → IsPlacedIn o → AreSayable version (sent_by me o)
-  sent_said me (Ok p) held = all_said me p.1.out held.1.out
-  sent_said me (Err e) held = tt
-
-  pub sends_said : (f me : ℕ) (s : State) (e : Event) → Holds version s → HasEvent version e → HasRoom version me s e → AreSayable version (sends f me s e)
-  sends_said f me s e known has room = sent_said me (acts f me s e) (acts_in s known f me e has room)
 
   -- The state after a step.
 

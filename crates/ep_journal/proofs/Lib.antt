@@ -20,3 +20,5 @@ pub mod Pairs
 pub mod Upgrading
 pub mod Upgraded
 pub mod UpgradedLogs
+pub mod Fronts
+pub mod OneFrame

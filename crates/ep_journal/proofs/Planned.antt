@@ -1,28 +1,19 @@
 -- What an execution orders is recorded, so a version has its instances where it has the state.
-use Rattle.std.proofs.Common.{◌≡◌, ℕ, List, [], ◌∷◌, ◌++◌, Option, Some, None, inl, inr, refl, subst, arith}
-use Rattle.std.specs.List.{flat_map, AllByRecursion}
+use Rattle.std.proofs.Common.{◌≡◌, ℕ, List, Option, Some, None, inl, inr, refl, subst}
+use Rattle.std.specs.List.{AllByRecursion}
 use Rattle.ep_base.specs.Places.{Has}
 use Rattle.ep_base.specs.Versions.{IsInstanceIn}
 use Rattle.ep_base.specs.declared.attrs.Attrs.{Attrs}
 use Rattle.ep_base.specs.declared.version.Version.{Version}
-use Rattle.ep_rules.proofs.Places.{has_split}
-use Rattle.ep_rules.proofs.Reaching.{reach_trans}
+use Rattle.ep_rules.proofs.Closed.{listed_reached}
 use Rattle.ep_rules.specs.Cells.{record_or_fresh, committed_decree}
-use Rattle.ep_rules.specs.Graph.{Graph, Reaches}
+use Rattle.ep_rules.specs.Graph.{Reaches}
 use Rattle.ep_rules.specs.Maps.{Map, get}
-use Rattle.ep_rules.specs.Order.{InBlocks, IsPlan}
+use Rattle.ep_rules.specs.Order.{IsPlan}
 use Rattle.ep_rules.specs.States.{State, attrs_of, graph_in}
 use Rattle.ep_rules.specs.declared.record.Record.{Record}
 use Rattle.ep_space.proofs.Rising.{all_from}
 use Rattle.ep_journal.specs.Holding.{Holds}
-
--- the root reaches all that is ordered
-ordered_reached : (g : Graph) (done : List ℕ) (root : ℕ) (blocks : List (List ℕ)) → InBlocks g done root blocks → (j : ℕ) → Has (flat_map (λ b. b) blocks) j → Reaches g root j
-ordered_reached g done root [] h j has = absurd (omega arith)
-ordered_reached g done root (block ∷ blocks) h j has = elim (has_split block (flat_map (λ b. b) blocks) j has) [
-  | inl here ↦ reach_trans h.0.reached ((h.0.is.members j).0 here).0.0
-  | inr later ↦ ordered_reached g (done ++ block) root blocks h.1 j later
-]
 
 found : (i : ℕ) (o : Option Record) (a : Attrs) → attrs_of (committed_decree (record_or_fresh i o).vote) ≡ Some a → (r : Record) × (o ≡ Some r)
 found i None a e = absurd (cc)
@@ -32,7 +23,7 @@ found i (Some r) a e = (r, refl)
 pub planned_all : (P : ℕ → Type 0) (m : Map Record) (executed : List ℕ) (root : ℕ) (order : List ℕ) → ((i : ℕ) (r : Record) → get m i ≡ Some r → P i) → IsPlan (graph_in m) executed root order → AllByRecursion P order
 planned_all P m executed root order all (inl p) = rw p.1 tt
 planned_all P m executed root order all (inr p) = all_from P order (λ j has.
-    let reached : Reaches (graph_in m) root j = ordered_reached (graph_in m) executed root p.1.1.0 p.1.1.2 j (subst (λ xs. Has xs j) p.1.1.1 has) in
+    let reached : Reaches (graph_in m) root j = listed_reached (graph_in m) executed root p.1.1.0 p.1.1.2 j (subst (λ xs. Has xs j) p.1.1.1 has) in
     let committed = p.1.0 j reached in
     let r = found j (get m j) committed.0 committed.1 in
     all j r.0 r.1)

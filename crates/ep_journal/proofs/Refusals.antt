@@ -1,22 +1,12 @@
 -- A part's refusal is the step's.
 use Rattle.std.proofs.Common.{◌≡◌, ℕ, Result, Ok, Err, ap, sym, subst}
 use Rattle.std.specs.Prelude.{IfErr, IsErrAnd}
-use Rattle.ep_phase.specs.declared.decision_fault.DecisionFault.{DecisionFault}
 use Rattle.ep_phase.specs.declared.decision_fault.DecisionFault.TheVariants as decision
-use Rattle.ep_phase.specs.Refused.{IsRefused as RuleRefused}
 use Rattle.ep_rules.specs.Phases.{Outcome}
 use Rattle.ep_rules.specs.Steps.{at}
-use Rattle.ep_journal.specs.Refused.{of_decision, IsRefused}
+use Rattle.ep_journal.specs.Refused.{IsRefused}
 use Rattle.ep_journal.specs.declared.step_fault.StepFault.{StepFault}
 use Rattle.ep_journal.specs.declared.step_fault.StepFault.TheVariants.{Memory, OutOfRange, NotMine, OtherVersion, OtherGeneration, StampFull, SpaceFull, SeqExhausted, NotLeading, TooFewAnswers, AlreadyCommitted, BallotsExhausted, NotCommitted}
-
-pub refused_decision : (o : Outcome) (e : DecisionFault) → RuleRefused o e → IsRefused o (of_decision e)
-refused_decision o decision.Memory h = tt
-refused_decision o decision.SeqExhausted h = h
-refused_decision o decision.NotLeading h = h
-refused_decision o decision.TooFewAnswers h = h
-refused_decision o decision.AlreadyCommitted h = h
-refused_decision o decision.BallotsExhausted h = h
 
 -- a rule's refusal is one at its instance
 pub refused_at : (i : ℕ) (o : Outcome) (e : StepFault) → IsRefused o e → IsRefused (at i o) e

@@ -147,10 +147,6 @@ advanced_by p p' event mark t r a moves =
 
 -- Why there is no step.
 
--- what the version lacks
-pub refused_version : (s : Standing) (v : Version) (event : Happening) (mark : Option Mark) (fault : StepFault) → v ≡ s.version → IsReadable event → lacking v event ≡ Some fault → IsRefused s event mark fault
-refused_version s v event mark fault version readable h = inr (inl (readable, subst (λ w. lacking w event ≡ Some fault) version h))
-
 pub refused_screen : (s : Standing) (event : Happening) (mark : Option Mark) (fault : StepFault) → IsReadable event → lacking s.version event ≡ None → IsScreened (screened s.faults s.me (event_of event)) fault → IsRefused s event mark fault
 refused_screen s event mark fault readable has h = inr (inr (inr (inr (
   h.0,
@@ -307,11 +303,11 @@ refused_root p root mark m (NotCommitted i) given h why =
 
 -- What is handled fits.
 
-vote_fits : (i : ℕ) (v : Option Vote) → IsVote i v → VoteFits i v
+pub vote_fits : (i : ℕ) (v : Option Vote) → IsVote i v → VoteFits i v
 vote_fits i None h = tt
 vote_fits i (Some v) h = h.0.first
 
-message_fits : (m : Message) → IsMessage m → BallotsFit m
+pub message_fits : (m : Message) → IsMessage m → BallotsFit m
 message_fits (PreAccept i b x) h = h.1.first
 message_fits (PreAcceptOk i b a) h = h.1.first
 message_fits (Accept i b x) h = h.1.first
@@ -334,11 +330,11 @@ event_fits (Execute i) h = tt
 
 -- What the version has.
 
-said : (b : Bool) (fault : StepFault) → cond {A = Option StepFault} b None (Some fault) ≡ None → b ≡ true
+pub said : (b : Bool) (fault : StepFault) → cond {A = Option StepFault} b None (Some fault) ≡ None → b ≡ true
 said true fault e = refl
 said false fault e = absurd (cc)
 
-numbered : (v : Version) (i : ℕ) → numbered_in v i ≡ None → number_of i ≤ highest_in v
+pub numbered : (v : Version) (i : ℕ) → numbered_in v i ≡ None → number_of i ≤ highest_in v
 numbered v i e = leb-true (number_of i) (highest_in v) (said (leb (number_of i) (highest_in v)) OutOfRange e)
 
 pub same_version : (v w : Version) → spelled_in v w ≡ None → v ≡ w
@@ -352,7 +348,7 @@ same_version (V3 g) V1 e = absurd (cc)
 same_version (V3 g) V2 e = absurd (cc)
 same_version (V3 g) (V3 h) e = ap V3 (eqb→eq g h (subst T (sym (said (eqb g h) OtherGeneration e)) tt))
 
-event_had : (v : Version) (e : Happening) → IsReadable e → lacking v e ≡ None → HasEvent v (event_of e)
+pub event_had : (v : Version) (e : Happening) → IsReadable e → lacking v e ≡ None → HasEvent v (event_of e)
 event_had v (Propose client request c seen) h e = said (knows v c) OutOfRange e
 event_had v (Handle b) h e =
     let s = h.4 in

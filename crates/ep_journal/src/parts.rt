@@ -62,8 +62,14 @@ fn highest_for(version: Version, command: &Command) -> u16
 {
     match version.kind() {
         VersionKind::V1 => 1000,
-        VersionKind::V2 => 2000,
-        VersionKind::V3(_) => { if command.is_seal() { 2000 } else { 1990 } }
+        VersionKind::V2 => InstanceId::HIGHEST_NUMBER,
+        VersionKind::V3(_) => {
+            if command.is_seal() {
+                InstanceId::HIGHEST_NUMBER
+            } else {
+                1990
+            }
+        }
     }
 }
 

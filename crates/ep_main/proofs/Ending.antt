@@ -1,11 +1,15 @@
 -- How the program ends, by what became of what it was asked for.
-use Rattle.std.proofs.Common.{◌≡◌, ◌⊎◌, ◌≤◌, ◌<◌, inl, inr, ℕ, List, Option, Result, Ok, Err, sym, ap, ◌∙◌, subst, map, string_bytes, arith, ⊎_elim}
+use Rattle.std.proofs.Common.{◌≡◌, ◌⊎◌, ◌≤◌, ◌<◌, inl, inr, ℕ, Bool, List, Option, Result, Ok, Err, sym, ◌∙◌, subst, map, string_bytes, arith, ⊎_elim}
 use Rattle.std.proofs.lemmas.Bool.{cases_lt}
 use Rattle.ep_base.specs.Versions.{version_number}
 use Rattle.std.specs.Prelude.{IfOk, IsErrAnd}
 use Rattle.ep_base.specs.Devices.{FailsAsTold}
 use Rattle.ep_main.specs.Faults.{of_bundle, is_read, is_write}
-use Rattle.ep_cli.specs.Outputs.{Input, Output, WroteNothing}
+use Rattle.ep_cli.proofs.Printed.{not_made, put_to}
+use Rattle.ep_cli.specs.Endings.{IsOutOfMemory, TellsWhy}
+use Rattle.ep_cli.specs.Outputs.{Input, Output, Wrote, WroteNothing, became}
+use Rattle.ep_cli.specs.Printed.{IsPut, IsTextPut, Makes}
+use Rattle.ep_cli.specs.declared.made.Made.{Made}
 use Rattle.ep_bundle.specs.Journals.{Contents, Finds}
 use Rattle.ep_bundle.specs.Reading.{Left, Reading}
 use Rattle.ep_journal.specs.Entries.{Collected}
@@ -16,30 +20,29 @@ use Rattle.ep_main.specs.Tasks.{EndsBy, EndsSo, Works}
 use Rattle.ep_main.specs.Upgrades.{IsThirdFault, IsUnread, IsUnupgraded, Reads, ReadsEarly}
 use Rattle.ep_bundle.specs.declared.bundle_fault.BundleFault.{BundleFault}
 use Rattle.ep_bundle.specs.declared.bundle_fault.BundleFault.TheVariants as bundle
-use Rattle.ep_main.specs.Runs.{Plays, Leaves, Runs, RunsInThreads, Finishes, Rewrites, StopsBy, Prints, Does, Concludes, Declines, Ends, IsVerdict, Replays, Emits, Audits, Upgrades, Versions, Helps, IsHelped, IsOutOfMemory, Performs, TellsWhy, version_line}
+use Rattle.ep_main.specs.Runs.{Plays, Leaves, Runs, RunsInThreads, Finishes, Rewrites, StopsBy, Prints, Does, Concludes, Declines, Ends, IsVerdict, Replays, Emits, Audits, Upgrades, Versions, Helps, IsHelped, Performs, version_line}
 use Rattle.ep_main.specs.Words.{AskFor, IsAsked, IsChainAsked, IsHelp, IsHelpTask, IsTask}
 use Rattle.ep_main.specs.declared.target.Target.{Target}
 use Rattle.ep_main.specs.declared.target.Target.TheVariants.{Second, Third}
-use Rattle.ep_main.specs.declared.task.Task.{Task}
-use Rattle.ep_main.specs.declared.task.Task.TheVariants.{Streams, Chain}
+use Rattle.ep_main.specs.declared.job.Job.{Job}
+use Rattle.ep_main.specs.declared.job.Job.TheVariants.{Streams, Chain}
 use Rattle.ep_main.specs.declared.asked.Asked.{Asked}
 use Rattle.ep_main.specs.declared.asked.Asked.TheVariants.{Replay, Run, Audit, Upgrade, Version, Help}
-use Rattle.ep_cli.specs.declared.declined.Declined.{Declined}
-use Rattle.ep_cli.specs.declared.declined.Declined.TheVariants as declined
-use Rattle.ep_main.specs.declared.asked.Emit.{Emit}
+use Rattle.ep_cli.specs.declared.words_fault.WordsFault.{WordsFault}
+use Rattle.ep_cli.specs.declared.words_fault.WordsFault.TheVariants as declined
 use Rattle.ep_main.specs.declared.asked.Emit.TheVariants.{Report, Bundle}
 use Rattle.ep_main.specs.Options.{Options}
-use Rattle.ep_main.specs.declared.fault.Fault.{Fault}
-use Rattle.ep_main.specs.declared.fault.Fault.TheVariants.{Script, BadBundle, NotARun, Memory, Read, Write}
+use Rattle.ep_main.specs.declared.engine_fault.EngineFault.{EngineFault}
+use Rattle.ep_main.specs.declared.engine_fault.EngineFault.TheVariants.{Script, BadBundle, NotARun, Memory, Read, Write}
 use Rattle.ep_cli.specs.declared.status.Status.{Status}
 use Rattle.ep_cli.specs.declared.status.Status.TheVariants.{Done, AuditRefused, Refused, OutOfMemory, Failed}
 
 -- the reader and the output fail as the outcome tells
-pub record IsTold (outcome : Result Status Fault) (reader : Input) (out : Output) : Type 0 where
+pub record IsTold (outcome : Result Status EngineFault) (reader : Input) (out : Output) : Type 0 where
   pub read : FailsAsTold is_read outcome reader.had_failed reader.failed
   pub written : FailsAsTold is_write outcome out.had_failed out.failed
 
-replays : (outcome : Result Status Fault) (status : Status) (zs : List ℕ) (reader : Input) (out fault : Output) → Plays outcome zs out → IsTold outcome reader out → Concludes outcome status fault → Replays status zs reader out fault
+replays : (outcome : Result Status EngineFault) (status : Status) (zs : List ℕ) (reader : Input) (out fault : Output) → Plays outcome zs out → IsTold outcome reader out → Concludes outcome status fault → Replays status zs reader out fault
 replays (Ok said) status zs reader out fault p t c = subst (λ s. Replays s zs reader out fault) (sym (c.0 ∙ p.0)) (p.1, c.1)
 replays (Err (Script line)) status zs reader out fault p t c =
     subst (λ s. Replays s zs reader out fault) (sym c.0) (record { line = line; script = p.0; silent = p.1; told = c.1 })
@@ -49,7 +52,7 @@ replays (Err Memory) status zs reader out fault p t c = subst (λ s. Replays s z
 replays (Err Read) status zs reader out fault p t c = subst (λ s. Replays s zs reader out fault) (sym c.0) (inl ((t.read, t.written), p, c.1))
 replays (Err Write) status zs reader out fault p t c = subst (λ s. Replays s zs reader out fault) (sym c.0) (inr ((t.read, t.written), c.1))
 
-emits : (outcome : Result Status Fault) (status : Status) (zs : List ℕ) (reader : Input) (out fault : Output) → Leaves outcome zs out → IsTold outcome reader out → Concludes outcome status fault → Emits status zs reader out fault
+emits : (outcome : Result Status EngineFault) (status : Status) (zs : List ℕ) (reader : Input) (out fault : Output) → Leaves outcome zs out → IsTold outcome reader out → Concludes outcome status fault → Emits status zs reader out fault
 emits (Ok said) status zs reader out fault p t c = subst (λ s. Emits s zs reader out fault) (sym (c.0 ∙ p.0)) (p.1, c.1)
 emits (Err (Script line)) status zs reader out fault p t c =
     subst (λ s. Emits s zs reader out fault) (sym c.0) (record { line = line; script = p.0; silent = p.1; told = c.1 })
@@ -60,7 +63,7 @@ emits (Err Read) status zs reader out fault p t c = subst (λ s. Emits s zs read
 emits (Err Write) status zs reader out fault p t c = subst (λ s. Emits s zs reader out fault) (sym c.0) (inr ((t.read, t.written), c.1))
 
 runs :
-    (options : Options) (outcome : Result Status Fault) (status : Status) (zs : List ℕ) (reader : Input) (out fault : Output) → Runs options outcome zs out → IsTold outcome reader out →
+    (options : Options) (outcome : Result Status EngineFault) (status : Status) (zs : List ℕ) (reader : Input) (out fault : Output) → Runs options outcome zs out → IsTold outcome reader out →
     Concludes outcome status fault → RunsInThreads options status zs reader out fault
 runs options (Ok Done) status zs reader out fault p t c = subst (λ s. RunsInThreads options s zs reader out fault) (sym c.0) (p, c.1)
 runs options (Ok AuditRefused) status zs reader out fault p t c = subst (λ s. RunsInThreads options s zs reader out fault) (sym c.0) (p, c.1)
@@ -75,7 +78,7 @@ runs options (Err Memory) status zs reader out fault p t c = subst (λ s. RunsIn
 runs options (Err Read) status zs reader out fault p t c = subst (λ s. RunsInThreads options s zs reader out fault) (sym c.0) (inl ((t.read, t.written), p, c.1))
 runs options (Err Write) status zs reader out fault p t c = subst (λ s. RunsInThreads options s zs reader out fault) (sym c.0) (inr ((t.read, t.written), c.1))
 
-audits : (outcome : Result Status Fault) (status : Status) (zs : List ℕ) (reader : Input) (out fault : Output) → Finishes outcome zs out → IsTold outcome reader out → Concludes outcome status fault → Audits status zs reader out fault
+audits : (outcome : Result Status EngineFault) (status : Status) (zs : List ℕ) (reader : Input) (out fault : Output) → Finishes outcome zs out → IsTold outcome reader out → Concludes outcome status fault → Audits status zs reader out fault
 audits (Ok Done) status zs reader out fault p t c = subst (λ s. Audits s zs reader out fault) (sym c.0) (p, c.1)
 audits (Ok AuditRefused) status zs reader out fault p t c = subst (λ s. Audits s zs reader out fault) (sym c.0) (p, c.1)
 audits (Ok Refused) status zs reader out fault p t c = absurd p.says
@@ -91,7 +94,7 @@ audits (Err Read) status zs reader out fault p t c = subst (λ s. Audits s zs re
 audits (Err Write) status zs reader out fault p t c = subst (λ s. Audits s zs reader out fault) (sym c.0) (inr ((t.read, t.written), c.1))
 
 upgrades :
-    (target : Target) (outcome : Result Status Fault) (status : Status) (zs : List ℕ) (reader : Input) (out fault : Output) → Rewrites target outcome zs out → IsTold outcome reader out → Concludes outcome status fault → Upgrades target status zs reader out fault
+    (target : Target) (outcome : Result Status EngineFault) (status : Status) (zs : List ℕ) (reader : Input) (out fault : Output) → Rewrites target outcome zs out → IsTold outcome reader out → Concludes outcome status fault → Upgrades target status zs reader out fault
 upgrades target (Ok said) status zs reader out fault p t c = subst (λ s. Upgrades target s zs reader out fault) (sym (c.0 ∙ p.0)) (p.1, c.1)
 upgrades target (Err (Script line)) status zs reader out fault p t c = absurd p
 upgrades target (Err (BadBundle offset)) status zs reader out fault p t c =
@@ -102,7 +105,7 @@ upgrades target (Err Memory) status zs reader out fault p t c = subst (λ s. Upg
 upgrades target (Err Read) status zs reader out fault p t c = subst (λ s. Upgrades target s zs reader out fault) (sym c.0) (inl ((t.read, t.written), p, c.1))
 upgrades target (Err Write) status zs reader out fault p t c = subst (λ s. Upgrades target s zs reader out fault) (sym c.0) (inr ((t.read, t.written), c.1))
 
-helps : (outcome : Result Status Fault) (status : Status) (text : List ℕ) (out fault : Output) → Prints outcome text out → FailsAsTold is_write outcome out.had_failed out.failed → Concludes outcome status fault → Helps status text out fault
+helps : (outcome : Result Status EngineFault) (status : Status) (text : List ℕ) (out fault : Output) → Prints outcome text out → FailsAsTold is_write outcome out.had_failed out.failed → Concludes outcome status fault → Helps status text out fault
 helps (Ok said) status text out fault p t c = subst (λ s. Helps s text out fault) (sym (c.0 ∙ p.0)) (p.1, c.1)
 helps (Err (Script line)) status text out fault p t c = absurd p
 helps (Err (BadBundle offset)) status text out fault p t c = absurd p
@@ -111,7 +114,7 @@ helps (Err Memory) status text out fault p t c = absurd p
 helps (Err Read) status text out fault p t c = absurd p
 helps (Err Write) status text out fault p t c = subst (λ s. Helps s text out fault) (sym c.0) (t, c.1)
 
-versions : (outcome : Result Status Fault) (status : Status) (out fault : Output) → Prints outcome version_line out → FailsAsTold is_write outcome out.had_failed out.failed → Concludes outcome status fault → Versions status out fault
+versions : (outcome : Result Status EngineFault) (status : Status) (out fault : Output) → Prints outcome version_line out → FailsAsTold is_write outcome out.had_failed out.failed → Concludes outcome status fault → Versions status out fault
 versions (Ok said) status out fault p t c = subst (λ s. Versions s out fault) (sym (c.0 ∙ p.0)) (p.1, c.1)
 versions (Err (Script line)) status out fault p t c = absurd p
 versions (Err (BadBundle offset)) status out fault p t c = absurd p
@@ -121,7 +124,7 @@ versions (Err Read) status out fault p t c = absurd p
 versions (Err Write) status out fault p t c = subst (λ s. Versions s out fault) (sym c.0) (t, c.1)
 
 pub performs :
-    (asked : Asked) (outcome : Result Status Fault) (status : Status) (zs : List ℕ) (reader : Input) (out fault : Output) → Does asked outcome zs out →
+    (asked : Asked) (outcome : Result Status EngineFault) (status : Status) (zs : List ℕ) (reader : Input) (out fault : Output) → Does asked outcome zs out →
     IsTold outcome reader out → Concludes outcome status fault → Performs asked status zs reader out fault
 performs (Replay Report) outcome status zs reader out fault d t c = replays outcome status zs reader out fault d t c
 performs (Replay Bundle) outcome status zs reader out fault d t c = emits outcome status zs reader out fault d t c
@@ -143,11 +146,6 @@ is_helped (Help text) Refused zs reader out fault help p = absurd p
 is_helped (Help text) OutOfMemory zs reader out fault help p = absurd p
 is_helped (Help text) Failed zs reader out fault help p = p
 
-pub performs_asked :
-    (asked want : Asked) (status : Status) (zs : List ℕ) (reader : Input) (out fault : Output) → asked ≡ want → Performs asked status zs reader out fault →
-    Performs want status zs reader out fault
-performs_asked asked want status zs reader out fault is p = subst (λ a. Performs a status zs reader out fault) is p
-
 -- what stops the reading of a bundle
 
 finds :
@@ -159,7 +157,7 @@ finds R (bundle.BadBundle offset) place left out found silent = (found, silent)
 finds R (bundle.NotARun replica entry) place left out found silent = (found, silent)
 
 -- where there are more faults
-stops_more : (P Q : BundleFault → Type 0) (e : Fault) (out : Output) → ((b : BundleFault) → P b → Q b) → StopsBy P e out → StopsBy Q e out
+stops_more : (P Q : BundleFault → Type 0) (e : EngineFault) (out : Output) → ((b : BundleFault) → P b → Q b) → StopsBy P e out → StopsBy Q e out
 stops_more P Q (Script line) out more stop = absurd stop
 stops_more P Q (BadBundle offset) out more stop = (more (bundle.BadBundle offset) stop.0, stop.1)
 stops_more P Q (NotARun replica entry) out more stop = (more (bundle.NotARun replica entry) stop.0, stop.1)
@@ -167,41 +165,29 @@ stops_more P Q Memory out more stop = stop
 stops_more P Q Read out more stop = stop
 stops_more P Q Write out more stop = stop
 
+-- Of a bundle that isn't read nothing is made.
+
 pub finishes :
-    (b : BundleFault) (r : Result Status Fault) (zs : List ℕ) (place : ℕ) (left : Option (List ℕ)) (out : Output) → IsErrAnd r (λ e. e ≡ of_bundle b) →
-    Finds (Reads zs) (Err b) place left → WroteNothing out → Finishes r zs out
-finishes b (Ok status) zs place left out is found silent = absurd is
-finishes b (Err e) zs place left out is found silent = subst (λ x. StopsBy (IsUnread zs) x out) (sym is) (finds (Reads zs) b place left out found silent)
-
--- want of memory
-pub stops : (e : Fault) (r : Result Status Fault) (zs : List ℕ) (out : Output) → IsErrAnd r (λ x. x ≡ e) → e ≡ Memory → WroteNothing out → Finishes r zs out
-stops e (Ok status) zs out is memory silent = absurd is
-stops e (Err x) zs out is memory silent = subst (λ y. StopsBy (IsUnread zs) y out) (sym (is ∙ memory)) silent
-
--- the same of an upgrade
+    (b : BundleFault) (r : Result Made EngineFault) (zs : List ℕ) (place : ℕ) (left : Option (List ℕ)) → IsErrAnd r (λ e. e ≡ of_bundle b) → Finds (Reads zs) (Err b) place left → Makes (Does Audit) r zs
+finishes b r zs place left is found = not_made (Does Audit) r (of_bundle b) zs is (λ out silent. finds (Reads zs) b place left out found silent)
 
 pub second_not_read :
-    (b : BundleFault) (r : Result Status Fault) (zs : List ℕ) (place : ℕ) (left : Option (List ℕ)) (out : Output) → IsErrAnd r (λ e. e ≡ of_bundle b) →
-    Finds (ReadsEarly zs) (Err b) place left → WroteNothing out → Rewrites Second r zs out
-second_not_read b (Ok status) zs place left out is found silent = absurd is
-second_not_read b (Err e) zs place left out is found silent =
-    subst (λ x. StopsBy (IsUnupgraded Second zs) x out) (sym is) (finds (ReadsEarly zs) b place left out found silent)
+    (b : BundleFault) (r : Result Made EngineFault) (zs : List ℕ) (place : ℕ) (left : Option (List ℕ)) → IsErrAnd r (λ e. e ≡ of_bundle b) → Finds (ReadsEarly zs) (Err b) place left →
+    Makes (Does (Upgrade Second)) r zs
+second_not_read b r zs place left is found = not_made (Does (Upgrade Second)) r (of_bundle b) zs is (λ out silent. finds (ReadsEarly zs) b place left out found silent)
 
 pub third_not_read :
-    (b : BundleFault) (r : Result Status Fault) (zs : List ℕ) (place : ℕ) (left : Option (List ℕ)) (out : Output) → IsErrAnd r (λ e. e ≡ of_bundle b) →
-    Finds (Reads zs) (Err b) place left → WroteNothing out → Rewrites Third r zs out
-third_not_read b (Ok status) zs place left out is found silent = absurd is
-third_not_read b (Err e) zs place left out is found silent =
-    subst (λ x. StopsBy (IsUnupgraded Third zs) x out) (sym is)
-    (stops_more (IsUnread zs) (IsUnupgraded Third zs) (of_bundle b) out (λ x h. inl h) (finds (Reads zs) b place left out found silent))
+    (b : BundleFault) (r : Result Made EngineFault) (zs : List ℕ) (place : ℕ) (left : Option (List ℕ)) → IsErrAnd r (λ e. e ≡ of_bundle b) → Finds (Reads zs) (Err b) place left → Makes (Does (Upgrade Third)) r zs
+third_not_read b r zs place left is found =
+    not_made (Does (Upgrade Third)) r (of_bundle b) zs is (λ out silent. stops_more (IsUnread zs) (IsUnupgraded Third zs) (of_bundle b) out (λ x h. inl h) (finds (Reads zs) b place left out found silent))
 
-pub not_upgraded : (target : Target) (e : Fault) (r : Result Status Fault) (zs : List ℕ) (out : Output) → IsErrAnd r (λ x. x ≡ e) → e ≡ Memory → WroteNothing out → Rewrites target r zs out
-not_upgraded target e (Ok status) zs out is memory silent = absurd is
-not_upgraded target e (Err x) zs out is memory silent = subst (λ y. StopsBy (IsUnupgraded target zs) y out) (sym (is ∙ memory)) silent
+-- want of memory
+pub not_upgraded : (target : Target) (e : EngineFault) (zs : List ℕ) (out : Output) → e ≡ Memory → WroteNothing out → Rewrites target (Err e) zs out
+not_upgraded target e zs out is silent = subst (λ y. StopsBy (IsUnupgraded target zs) y out) (sym is) silent
 
 -- there is none in version 3
 no_third :
-    (e : Fault) (zs : List ℕ) (c : Collected) (rs : List Receipt) (end : Left) (out : Output) → Reads zs (Ok ((c, rs), end)) → version_number c.version ≤ 2 → IsThirdFault c rs e →
+    (e : EngineFault) (zs : List ℕ) (c : Collected) (rs : List Receipt) (end : Left) (out : Output) → Reads zs (Ok ((c, rs), end)) → version_number c.version ≤ 2 → IsThirdFault c rs e →
     WroteNothing out → StopsBy (IsUnupgraded Third zs) e out
 no_third (Script line) zs c rs end out read early fault silent = absurd fault
 no_third (BadBundle offset) zs c rs end out read early fault silent = (inr (record { journals = c; receipts = rs; end = end; read = read; early = early; refused = fault }), silent)
@@ -211,18 +197,61 @@ no_third Read zs c rs end out read early fault silent = absurd fault
 no_third Write zs c rs end out read early fault silent = absurd fault
 
 pub third_refused :
-    (e : Fault) (r : Result Status Fault) (zs : List ℕ) (c : Collected) (rs : List Receipt) (end : Left) (out : Output) → IsErrAnd r (λ x. x ≡ e) → Reads zs (Ok ((c, rs), end)) →
-    (version_number c.version ≤ 2 → IsThirdFault c rs e) → (3 ≤ version_number c.version → e ≡ Memory) → WroteNothing out → Rewrites Third r zs out
-third_refused e (Ok status) zs c rs end out is read early late silent = absurd is
-third_refused e (Err x) zs c rs end out is read early late silent = subst (λ y. StopsBy (IsUnupgraded Third zs) y out) (sym is) (⊎_elim
+    (e : EngineFault) (zs : List ℕ) (c : Collected) (rs : List Receipt) (end : Left) (out : Output) → Reads zs (Ok ((c, rs), end)) → (version_number c.version ≤ 2 → IsThirdFault c rs e) →
+    (3 ≤ version_number c.version → e ≡ Memory) → WroteNothing out → Rewrites Third (Err e) zs out
+third_refused e zs c rs end out read early late silent = ⊎_elim
     (λ (low : version_number c.version < 3). no_third e zs c rs end out read (omega arith) (early (omega arith)) silent)
     (λ (high : 3 ≤ version_number c.version). subst (λ y. StopsBy (IsUnupgraded Third zs) y out) (sym (late high)) silent)
-    (cases_lt (version_number c.version) 3))
+    (cases_lt (version_number c.version) 3)
+
+-- What was made is printed.
+
+-- where the output fails, nothing more is promised
+free : (asked : Asked) (zs : List ℕ) (out : Output) → Does asked (Err Write) zs out
+free (Replay Report) zs out = tt
+free (Replay Bundle) zs out = tt
+free (Run options) zs out = tt
+free Audit zs out = tt
+free (Upgrade target) zs out = tt
+free Version zs out = tt
+free (Help text) zs out = tt
+
+pub done_as :
+    (asked other : Asked) (made : Result Made EngineFault) (r : Result Status EngineFault) (zs : List ℕ) (out : Output) → asked ≡ other → Makes (Does other) made zs → IsPut Write made r out → Does asked r zs out
+done_as asked other made r zs out is makes put = subst (λ (a : Asked). Does a r zs out) (sym is) (put_to (Does other) Write made r zs out (free other zs out) makes put)
+
+text_put : (text : List ℕ) (r : Result Status EngineFault) (out : Output) → IsTextPut Write text Done r out → Prints r text out
+text_put text (Ok found) out put = (put.0, put.1)
+text_put text (Err e) out put = subst (λ (x : EngineFault). Prints (Err x) text out) (sym put.0) tt
+
+pub version_put : (asked : Asked) (r : Result Status EngineFault) (zs : List ℕ) (out : Output) → asked ≡ Version → IsTextPut Write version_line Done r out → Does asked r zs out
+version_put asked r zs out is put = subst (λ (a : Asked). Does a r zs out) (sym is) (text_put version_line r out put)
+
+-- help is asked for, with this text
+abbrev pub IsHelpText : Asked → List ℕ → Type 0
+IsHelpText (Replay emit) bytes = ⊥
+IsHelpText (Run options) bytes = ⊥
+IsHelpText Audit bytes = ⊥
+IsHelpText (Upgrade target) bytes = ⊥
+IsHelpText Version bytes = ⊥
+IsHelpText (Help text) bytes = bytes ≡ string_bytes text
+
+pub help_put :
+    (asked other : Asked) (bytes : List ℕ) (r : Result Status EngineFault) (zs : List ℕ) (out : Output) → asked ≡ other → IsHelpText other bytes → IsTextPut Write bytes Done r out → Does asked r zs out
+help_put asked other bytes r zs out is text put = subst (λ (a : Asked). Does a r zs out) (sym is) (go other text)
+  where
+    go : (a : Asked) → IsHelpText a bytes → Does a r zs out
+    go (Replay emit) h = absurd h
+    go (Run options) h = absurd h
+    go Audit h = absurd h
+    go (Upgrade target) h = absurd h
+    go Version h = absurd h
+    go (Help text) h = text_put (string_bytes text) r out (subst (λ (l : List ℕ). IsTextPut Write l Done r out) h put)
 
 -- The devices, whatever was read.
 
 pub ends :
-    (outcome : Result Status Fault) (status : Status) (reader : Input) (out fault : Output) → IfOk outcome IsVerdict → IsTold outcome reader out → Concludes outcome status fault → Ends status reader out fault
+    (outcome : Result Status EngineFault) (status : Status) (reader : Input) (out fault : Output) → IfOk outcome IsVerdict → IsTold outcome reader out → Concludes outcome status fault → Ends status reader out fault
 ends (Ok Done) status reader out fault d t c = subst (λ s. Ends s reader out fault) (sym c.0) ((t.read, t.written), c.2)
 ends (Ok AuditRefused) status reader out fault d t c = subst (λ s. Ends s reader out fault) (sym c.0) ((t.read, t.written), c.2)
 ends (Ok Refused) status reader out fault d t c = absurd d
@@ -237,7 +266,7 @@ ends (Err Write) status reader out fault d t c = subst (λ s. Ends s reader out 
 
 -- Nothing is done, and so neither the reader nor the output failed.
 
-pub declines : (why : Declined) (status : Status) (out fault : Output) → TellsWhy why status fault → WroteNothing out → Declines status out fault
+pub declines : (why : WordsFault) (status : Status) (out fault : Output) → TellsWhy why status fault → WroteNothing out → Declines status out fault
 declines (declined.Words text) status out fault told silent = subst (λ s. Declines s out fault) (sym told.0) (silent, (string_bytes text, told.1))
 declines declined.Memory status out fault told silent = subst (λ s. Declines s out fault) (sym told.0) (record { silent = silent; told = told.1 })
 
@@ -252,19 +281,19 @@ out_of_memory Version zs reader out fault words ask memory = memory
 out_of_memory (Help text) zs reader out fault words ask memory = absurd ask
 
 pub performs_none :
-    (want : Asked) (why : Declined) (status : Status) (zs : List ℕ) (reader : Input) (out fault : Output) (words : List (List ℕ)) → AskFor want words → why ≡ declined.Memory →
+    (want : Asked) (why : WordsFault) (status : Status) (zs : List ℕ) (reader : Input) (out fault : Output) (words : List (List ℕ)) → AskFor want words → why ≡ declined.Memory →
     TellsWhy why status fault → WroteNothing out → Performs want status zs reader out fault
 performs_none want why status zs reader out fault words ask is told silent =
     let why_told : TellsWhy declined.Memory status fault = subst (λ d. TellsWhy d status fault) is told in
     subst (λ s. Performs want s zs reader out fault) (sym why_told.0) (out_of_memory want zs reader out fault words ask (record { silent = silent; told = why_told.1 }))
 
-pub helps_none : (why : Declined) (status : Status) (out fault : Output) → why ≡ declined.Memory → TellsWhy why status fault → WroteNothing out → IsHelped status out fault
+pub helps_none : (why : WordsFault) (status : Status) (out fault : Output) → why ≡ declined.Memory → TellsWhy why status fault → WroteNothing out → IsHelped status out fault
 helps_none why status out fault is told silent =
     let why_told : TellsWhy declined.Memory status fault = subst (λ d. TellsWhy d status fault) is told in
     subst (λ s. IsHelped s out fault) (sym why_told.0) (record { silent = silent; told = why_told.1 })
 
 pub ends_declined :
-    (why : Declined) (status : Status) (reader : Input) (out fault : Output) → TellsWhy why status fault → reader.failed ≡ reader.had_failed → out.failed ≡ out.had_failed →
+    (why : WordsFault) (status : Status) (reader : Input) (out fault : Output) → TellsWhy why status fault → reader.failed ≡ reader.had_failed → out.failed ≡ out.had_failed →
     Ends status reader out fault
 ends_declined (declined.Words text) status reader out fault told r o = subst (λ s. Ends s reader out fault) (sym told.0) (r, o)
 ends_declined declined.Memory status reader out fault told r o = subst (λ s. Ends s reader out fault) (sym told.0) (r, o)
@@ -272,12 +301,12 @@ ends_declined declined.Memory status reader out fault told r o = subst (λ s. En
 -- Tasks.
 
 pub works_as :
-    (task other : Task) (status : Status) (zs : List ℕ) (reader : Input) (out fault : Output) → task ≡ other → Works other status zs reader out fault →
+    (task other : Job) (status : Status) (zs : List ℕ) (reader : Input) (out fault : Output) → task ≡ other → Works other status zs reader out fault →
     Works task status zs reader out fault
 works_as task other status zs reader out fault is works = subst (λ t. Works t status zs reader out fault) (sym is) works
 
 pub ends_as :
-    (task other : Task) (status : Status) (reader : Input) (out fault : Output) → task ≡ other → EndsBy other status reader out fault → EndsBy task status reader out fault
+    (task other : Job) (status : Status) (reader : Input) (out fault : Output) → task ≡ other → EndsBy other status reader out fault → EndsBy task status reader out fault
 ends_as task other status reader out fault is ends = subst (λ t. EndsBy t status reader out fault) (sym is) ends
 
 -- of the same names
@@ -287,22 +316,28 @@ pub files_as :
 files_as {S} text slice files status out fault same chains = subst (λ (l : List S). ChainsFiles (map text l) status out fault) same chains
 
 pub works_asked :
-    (task : Task) (want : Asked) (status : Status) (zs : List ℕ) (reader : Input) (out fault : Output) → task ≡ Streams want → Works task status zs reader out fault →
+    (task : Job) (want : Asked) (status : Status) (zs : List ℕ) (reader : Input) (out fault : Output) → task ≡ Streams want → Works task status zs reader out fault →
     Performs want status zs reader out fault
 works_asked task want status zs reader out fault is works = subst (λ t. Works t status zs reader out fault) is works
 
-pub task_helped : (task : Task) (status : Status) (zs : List ℕ) (reader : Input) (out fault : Output) → IsHelpTask task → Works task status zs reader out fault → IsHelped status out fault
+pub task_helped : (task : Job) (status : Status) (zs : List ℕ) (reader : Input) (out fault : Output) → IsHelpTask task → Works task status zs reader out fault → IsHelped status out fault
 task_helped (Streams asked) status zs reader out fault help works = is_helped asked status zs reader out fault help works
 task_helped (Chain files) status zs reader out fault help works = absurd help
 
 pub task_done :
-    (task : Task) (words : List (List ℕ)) (status : Status) (zs : List ℕ) (reader : Input) (out fault : Output) → IsTask task words → Works task status zs reader out fault →
+    (task : Job) (words : List (List ℕ)) (status : Status) (zs : List ℕ) (reader : Input) (out fault : Output) → IsTask task words → Works task status zs reader out fault →
     tasks.Does words status zs reader out fault
 task_done (Streams asked) words status zs reader out fault is works = inl (asked, is, works)
 task_done (Chain files) words status zs reader out fault is works = inr (map string_bytes files.items, is, works)
 
 pub task_ends :
-    (task : Task) (words : List (List ℕ)) (status : Status) (reader : Input) (out fault : Output) → IsTask task words → EndsBy task status reader out fault →
+    (task : Job) (words : List (List ℕ)) (status : Status) (reader : Input) (out fault : Output) → IsTask task words → EndsBy task status reader out fault →
     EndsSo words status reader out fault
 task_ends (Streams asked) words status reader out fault is ends = inl ends
 task_ends (Chain files) words status reader out fault is ends = inr (map string_bytes files.items, is, ends.0, ends.1)
+
+-- on a fault output that stayed as it was before
+pub concludes_from :
+    {F : Type 0} (held : F → Option (List ℕ)) (has_failed : F → Bool) (outcome : Result Status EngineFault) (status : Status) (a b c : F) → b ≡ a → Concludes outcome status (became held has_failed b c) →
+    Concludes outcome status (became held has_failed a c)
+concludes_from held has_failed outcome status a b c same h = subst (λ w. Concludes outcome status (became held has_failed w c)) same h

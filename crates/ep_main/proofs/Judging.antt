@@ -7,13 +7,13 @@ use Rattle.ep_rules.specs.Journals.{Journals}
 use Rattle.ep_rules.specs.declared.receipt.Receipt.{Receipt}
 use Rattle.ep_rules.proofs.OneFault.{faults_are_first_lem}
 use Rattle.ep_audit.specs.Audited.{IsRefused}
-use Rattle.ep_audit.specs.declared.refusal.Refusal.{Refusal}
-use Rattle.ep_audit.specs.declared.refusal.Refusal.TheVariants.{Fault}
+use Rattle.ep_audit.specs.declared.verdict_fault.VerdictFault.{VerdictFault}
+use Rattle.ep_audit.specs.declared.verdict_fault.VerdictFault.TheVariants.{Fault}
 use Rattle.ep_rules.specs.OneMap.{Store}
 
 -- what is accepted has no fault
 pub not_refused :
-    (base : Store) (f : ℕ) (journal : Journals) (slice receipts : List Receipt) (e : Refusal) (fault : AuditFault) →
+    (base : Store) (f : ℕ) (journal : Journals) (slice receipts : List Receipt) (e : VerdictFault) (fault : AuditFault) →
     e ≡ Fault fault → slice ≡ receipts → IsRefused base f journal slice e → IsAccepted base f journal receipts → ⊥
 not_refused base f journal slice receipts e fault is same refused accepted =
     (faults_are_first_lem base f journal receipts).none accepted (fault_of fault)

@@ -4,8 +4,8 @@ mod Choosing
 pub mod Ending
 mod Flags
 mod Judging
+mod Making
 mod Ranges
 mod Rewriting
 mod Verdicts
 pub mod Literals
-pub mod Pulling

@@ -1,14 +1,14 @@
 -- Files of a chain, and what is said of them.
-use Rattle.std.proofs.Common.{◌≡◌, ◌⊎◌, ◌+◌, ◌≤◌, ◌<◌, ◌^◌, inl, inr, ℕ, zero, suc, List, [], ◌∷◌, ◌++◌, Option, Some, None, Result, Ok, Err, IfOk, length, get_or, map, slice_get, slice_index_or, take, take_all, append-nil, append_assoc, codes, refl, sym, ap, ap₂, subst, ◌∙◌, arith}
-use Rattle.std.specs.Prelude.{All, IfErr, OnOk}
-use Rattle.std.specs.FinMap.{entries}
+use Rattle.std.proofs.Common.{◌≡◌, ◌+◌, ◌≤◌, ◌<◌, inl, inr, ℕ, zero, suc, List, [], ◌∷◌, ◌++◌, Option, Some, None, Result, Ok, Err, IfOk, length, get_or, map, slice_index_or, take, take_all, append-nil, append_assoc, codes, sym, ap, ap₂, subst, ◌∙◌, arith}
+use Rattle.std.specs.Prelude.{IfErr, OnOk}
 use Rattle.std.proofs.lemmas.List.Elements.{All-append}
-use Rattle.std.proofs.lemmas.Option.{slice_get-get_or}
-use Rattle.ep_assemble.specs.Files.{IsOfFile}
-use Rattle.ep_assemble.specs.declared.files.FilesFault.{FilesFault}
-use Rattle.ep_assemble.specs.declared.files.FilesFault.TheVariants as files
-use Rattle.ep_audit.specs.Chained.{AreLinked, IsChainFault, parted, refused, unclosed}
-use Rattle.ep_audit.specs.declared.link.Link.{Link}
+use Rattle.std.proofs.lemmas.Option.{slice_get-get_or, slice_get_within}
+use Rattle.ep_cli.specs.Files.{IsOfFile}
+use Rattle.ep_cli.specs.declared.files_fault.FilesFault.{FilesFault}
+use Rattle.ep_cli.specs.declared.files_fault.FilesFault.TheVariants as files
+use Rattle.ep_audit.specs.Chained.{IsChainFault, parted, refused, unclosed}
+use Rattle.ep_cli.proofs.NotRead.{IsAt, at}
+use Rattle.ep_audit.specs.declared.chain_link.ChainLink.{ChainLink}
 use Rattle.ep_bundle.specs.Journals.{Contents, Finds}
 use Rattle.ep_bundle.specs.declared.bundle_fault.BundleFault.{BundleFault}
 use Rattle.ep_bundle.specs.declared.bundle_fault.BundleFault.TheVariants as bundle
@@ -16,12 +16,13 @@ use Rattle.ep_report.specs.Lives.{Life, link_line}
 use Rattle.ep_audit.specs.declared.chain_fault.ChainFault.{ChainFault}
 use Rattle.ep_audit.specs.declared.verdict.Verdict.{Verdict}
 use Rattle.ep_main.specs.ChainLines.{IsRefusal, IsUnreadLate}
-use Rattle.ep_main.specs.Chains.{AreRead, Chains, EndsOfFiles, IsBadFile, IsOfBytes, IsLinkOf, IsNoFile, IsNoLink, IsStopped, IsToldChain, IsWritten, ReadsLate, SaysOfChain, TurnsAway, chain_text, file_line, life_text, link_text, links_text}
-use Rattle.ep_main.specs.Lives.{life_in}
+use Rattle.ep_main.specs.Chains.{AreRead, Chains, EndsOfFiles, IsBadFile, IsOfBytes, IsLinkOf, IsNoFile, IsNoLink, IsStopped, IsToldChain, IsWritten, ReadsLate, SaysOfChain, chain_text, file_line, life_text, link_text, links_text}
+use Rattle.ep_report.specs.Lives.{life_in}
+use Rattle.ep_cli.specs.Endings.{IsOutOfMemory, TurnsAway}
 use Rattle.ep_cli.specs.Outputs.{Output, Told, WroteNothing}
 use Rattle.ep_main.specs.Runs.{Concludes}
-use Rattle.ep_main.specs.declared.fault.Fault.{Fault}
-use Rattle.ep_main.specs.declared.fault.Fault.TheVariants.{Memory}
+use Rattle.ep_main.specs.declared.engine_fault.EngineFault.{EngineFault}
+use Rattle.ep_main.specs.declared.engine_fault.EngineFault.TheVariants.{Memory}
 use Rattle.ep_cli.specs.declared.status.Status.{Status}
 use Rattle.ep_cli.specs.declared.status.Status.TheVariants.{Done, AuditRefused, Refused, OutOfMemory, Failed}
 
@@ -52,26 +53,13 @@ of_file name files.Memory h = tt
 of_file name (files.ReadFailed line) h = h
 of_file name (files.Refused line) h = absurd h
 
-pub some_link : (zs : List ℕ) (r : Result Link FilesFault) → IfOk r (IsLinkOf zs) → IfOk r (λ l. (ys : List ℕ) × IsLinkOf ys l)
+pub some_link : (zs : List ℕ) (r : Result ChainLink FilesFault) → IfOk r (IsLinkOf zs) → IfOk r (λ l. (ys : List ℕ) × IsLinkOf ys l)
 some_link zs (Ok l) h = (zs, h)
 some_link zs (Err f) h = tt
 
-pub none_of_file : (name zs : List ℕ) (r : Result Link FilesFault) → IfErr r (IsNoLink name zs) → IfErr r (IsNoFile name)
+pub none_of_file : (name zs : List ℕ) (r : Result ChainLink FilesFault) → IfErr r (IsNoLink name zs) → IfErr r (IsNoFile name)
 none_of_file name zs (Ok l) h = tt
 none_of_file name zs (Err f) h = no_file name zs f h
-
--- a name's bytes stand at its place
-record IsAt (i : ℕ) (names : List (List ℕ)) (bytes default : List ℕ) : Type 0 where
-  pub less : i < length names
-  pub is : slice_index_or names i default ≡ bytes
-
-at : {S : Type 0} (f : S → List ℕ) (i : ℕ) (names : List S) (name : S) (default : List ℕ) → slice_get names i ≡ Some name → IsAt i (map f names) (f name) default
-at f i [] name default h = absurd (cc)
-at f zero (y ∷ names) name default h = let same : y ≡ name = (let s : Some y ≡ Some name = h in cc) in record { less = omega arith; is = ap f same }
-at f (suc i) (y ∷ names) name default h =
-    let rest = at f i names name default h in
-    let less = rest.less in
-    record { less = omega arith; is = rest.is }
 
 pub stopped_at :
     {S : Type 0} (f : S → List ℕ) (e : FilesFault) (i : ℕ) (names : List S) (name d : S) → i < length names → name ≡ get_or names i d → IsNoFile (f name) e → IsStopped (map f names) e
@@ -86,18 +74,18 @@ stopped_at f (files.Refused line) i names name d less is h =
 -- The lines of a chain that is accepted, one after the other.
 
 pub links_more :
-    (k : ℕ) (ls : List Link) (vs : List Verdict) (l dl : Link) (v dv : Verdict) → k < length ls → length vs ≡ length ls → l ≡ get_or ls k dl → v ≡ get_or vs k dv →
+    (k : ℕ) (ls : List ChainLink) (vs : List Verdict) (l dl : ChainLink) (v dv : Verdict) → k < length ls → length vs ≡ length ls → l ≡ get_or ls k dl → v ≡ get_or vs k dv →
     links_text (take (suc k) ls) (take (suc k) vs) ≡ links_text (take k ls) (take k vs) ++ link_text l v
 links_more k [] vs l dl v dv less same at_l at_v = absurd (omega arith)
 links_more k (x ∷ ls) [] l dl v dv less same at_l at_v = absurd (let bad : 0 ≡ suc (length ls) = same in cc)
-links_more zero (x ∷ ls) (y ∷ vs) l dl v dv less same at_l at_v = append-nil (link_text x y) ∙ ap (λ (z : Link). link_text z y) (sym at_l) ∙ ap (λ (w : Verdict). link_text l w) (sym at_v)
+links_more zero (x ∷ ls) (y ∷ vs) l dl v dv less same at_l at_v = append-nil (link_text x y) ∙ ap (λ (z : ChainLink). link_text z y) (sym at_l) ∙ ap (λ (w : Verdict). link_text l w) (sym at_v)
 links_more (suc k) (x ∷ ls) (y ∷ vs) l dl v dv less same at_l at_v =
     ap (λ (rest : List ℕ). link_text x y ++ rest) (links_more k ls vs l dl v dv (omega arith) (omega arith) at_l at_v) ∙ sym (append_assoc (link_text x y) (links_text (take k ls) (take k vs)) (link_text l v))
 
 -- What was written, by what the audit says.
 
 pub chains_written :
-    (links : List Link) (status result : Status) (text : List ℕ) (out fault : Output) → SaysOfChain links status text → IsWritten status text result out fault → Chains links result out fault
+    (links : List ChainLink) (status result : Status) (text : List ℕ) (out fault : Output) → SaysOfChain links status text → IsWritten status text result out fault → Chains links result out fault
 chains_written links Done result text out fault says (inl (is, wrote, kept, silent, same)) =
     subst (λ s. Chains links s out fault) (sym is) (record { text = text; says = says; wrote = wrote; silent = silent })
 chains_written links AuditRefused result text out fault says (inl (is, wrote, kept, silent, same)) =
@@ -109,18 +97,13 @@ chains_written links status result text out fault says (inr (is, failed, told)) 
 
 -- a fault's generation is one of them
 
-there_less : (ls : List Link) (k : ℕ) (l : Link) → slice_get ls k ≡ Some l → k < length ls
-there_less [] k l h = absurd (cc)
-there_less (x ∷ ls) zero l h = omega arith
-there_less (x ∷ ls) (suc k) l h = let rest : k < length ls = there_less ls k l h in omega arith
-
-pub fault_less : (ls : List Link) (k : ℕ) {fault : ChainFault} → IsChainFault ls k fault → k < length ls
-fault_less ls k (refused l fault reached is) = there_less ls k l reached.there
-fault_less ls k (parted l p v c fault reached before good is) = there_less ls k l reached.there
+pub fault_less : (ls : List ChainLink) (k : ℕ) {fault : ChainFault} → IsChainFault ls k fault → k < length ls
+fault_less ls k (refused l fault reached is) = slice_get_within ls k l reached.there
+fault_less ls k (parted l p v c fault reached before good is) = slice_get_within ls k l reached.there
 fault_less ls k (unclosed verdicts v count linked there none more) = omega arith
 
 pub ends_written :
-    (links : List Link) (status result : Status) (text : List ℕ) (out fault : Output) → SaysOfChain links status text → IsWritten status text result out fault → EndsOfFiles result out fault
+    (links : List ChainLink) (status result : Status) (text : List ℕ) (out fault : Output) → SaysOfChain links status text → IsWritten status text result out fault → EndsOfFiles result out fault
 ends_written links Done result text out fault says (inl (is, wrote, kept, silent, same)) = subst (λ s. EndsOfFiles s out fault) (sym is) (kept, same)
 ends_written links AuditRefused result text out fault says (inl (is, wrote, kept, silent, same)) = subst (λ s. EndsOfFiles s out fault) (sym is) (kept, same)
 ends_written links Refused result text out fault says (inl h) = absurd says
@@ -130,14 +113,14 @@ ends_written links status result text out fault says (inr (is, failed, told)) = 
 
 -- Memory was refused.
 
-pub chains_none : (links : List Link) (e : Fault) (result : Status) (out fault : Output) → e ≡ Memory → Concludes (Err e) result fault → WroteNothing out → Chains links result out fault
+pub chains_none : (links : List ChainLink) (e : EngineFault) (result : Status) (out fault : Output) → e ≡ Memory → Concludes (Err e) result fault → WroteNothing out → Chains links result out fault
 chains_none links e result out fault is concludes silent =
-    let why : Concludes (Err Memory) result fault = subst (λ (x : Fault). Concludes (Err x) result fault) is concludes in
+    let why : Concludes (Err Memory) result fault = subst (λ (x : EngineFault). Concludes (Err x) result fault) is concludes in
     subst (λ s. Chains links s out fault) (sym why.0) (record { silent = silent; told = why.1 })
 
-pub ends_none : (e : Fault) (result : Status) (out fault : Output) → e ≡ Memory → Concludes (Err e) result fault → out.failed ≡ out.had_failed → EndsOfFiles result out fault
+pub ends_none : (e : EngineFault) (result : Status) (out fault : Output) → e ≡ Memory → Concludes (Err e) result fault → out.failed ≡ out.had_failed → EndsOfFiles result out fault
 ends_none e result out fault is concludes kept =
-    let why : Concludes (Err Memory) result fault = subst (λ (x : Fault). Concludes (Err x) result fault) is concludes in
+    let why : Concludes (Err Memory) result fault = subst (λ (x : EngineFault). Concludes (Err x) result fault) is concludes in
     subst (λ s. EndsOfFiles s out fault) (sym why.0) kept
 
 -- The files aren't a chain.
@@ -152,33 +135,33 @@ ends_stopped names (files.Refused line) result out fault is turns kept = subst (
 
 -- one more was read
 
-all_one : (l : Link) → (zs : List ℕ) × IsLinkOf zs l → AreRead (l ∷ [])
+all_one : (l : ChainLink) → (zs : List ℕ) × IsLinkOf zs l → AreRead (l ∷ [])
 all_one l read zero d less = read
 all_one l read (suc k) d less = absurd (omega arith)
 
-pub read_more : (ls : List Link) (l : Link) → AreRead ls → (zs : List ℕ) × IsLinkOf zs l → AreRead (ls ++ l ∷ [])
-read_more ls l read one = All-append (λ (x : Link). (zs : List ℕ) × IsLinkOf zs x) ls (l ∷ []) read (all_one l one)
+pub read_more : (ls : List ChainLink) (l : ChainLink) → AreRead ls → (zs : List ℕ) × IsLinkOf zs l → AreRead (ls ++ l ∷ [])
+read_more ls l read one = All-append (λ (x : ChainLink). (zs : List ℕ) × IsLinkOf zs x) ls (l ∷ []) read (all_one l one)
 
 -- The lines of generations.
 
 pub link_told :
-    (l : Link) (v : Verdict) (life : Life) (old new : List ℕ) → Some life ≡ life_in l.journals v →
+    (l : ChainLink) (v : Verdict) (life : Life) (old new : List ℕ) → Some life ≡ life_in l.journals v →
     new ≡ old ++ link_line life (length v.committed.items) (length v.history.items) ++ codes "\n" → new ≡ old ++ link_text l v
 link_told l v life old new some is =
     is ∙ append_assoc old (link_line life (length v.committed.items) (length v.history.items)) (codes "\n") ∙ ap (λ (o : Option Life). old ++ life_text o v) some
 
 pub line_told :
-    {A E : Type 0} (r : Result A E) (l : Link) (v : Verdict) (life : Life) (n m : ℕ) (old new : List ℕ) → Some life ≡ life_in l.journals v → n ≡ length v.committed.items → m ≡ length v.history.items →
+    {A E : Type 0} (r : Result A E) (l : ChainLink) (v : Verdict) (life : Life) (n m : ℕ) (old new : List ℕ) → Some life ≡ life_in l.journals v → n ≡ length v.committed.items → m ≡ length v.history.items →
     OnOk r (new ≡ old ++ link_line life n m ++ codes "\n") → OnOk r (new ≡ old ++ link_text l v)
 line_told {A} {E} (Ok a) l v life n m old new some is is' h =
     link_told l v life old new some (h ∙ ap₂ (λ (x y : ℕ). old ++ link_line life x y ++ codes "\n") is is')
 line_told {A} {E} (Err e) l v life n m old new some is is' h = tt
 
-pub link_silent : (l : Link) (v : Verdict) (old : List ℕ) → None ≡ life_in l.journals v → old ≡ old ++ link_text l v
+pub link_silent : (l : ChainLink) (v : Verdict) (old : List ℕ) → None ≡ life_in l.journals v → old ≡ old ++ link_text l v
 link_silent l v old none = sym (append-nil old) ∙ ap (λ (o : Option Life). old ++ life_text o v) none
 
 pub line_more :
-    (k : ℕ) (ls : List Link) (vs : List Verdict) (l dl : Link) (v dv : Verdict) (text text' : List ℕ) → k < length ls → length vs ≡ length ls → l ≡ get_or ls k dl → v ≡ get_or vs k dv →
+    (k : ℕ) (ls : List ChainLink) (vs : List Verdict) (l dl : ChainLink) (v dv : Verdict) (text text' : List ℕ) → k < length ls → length vs ≡ length ls → l ≡ get_or ls k dl → v ≡ get_or vs k dv →
     text ≡ codes "verdict accepted\n" ++ links_text (take k ls) (take k vs) → text' ≡ text ++ link_text l v →
     text' ≡ codes "verdict accepted\n" ++ links_text (take (k + 1) ls) (take (k + 1) vs)
 line_more k ls vs l dl v dv text text' less same at_l at_v held more =
@@ -188,8 +171,8 @@ line_more k ls vs l dl v dv text text' less same at_l at_v held more =
     ∙ ap (λ (t : List ℕ). codes "verdict accepted\n" ++ t) (sym (links_more k ls vs l dl v dv less same at_l at_v)))
 
 pub line_all :
-    (k : ℕ) (ls : List Link) (vs : List Verdict) (text : List ℕ) → length ls ≤ k → length vs ≡ length ls →
+    (k : ℕ) (ls : List ChainLink) (vs : List Verdict) (text : List ℕ) → length ls ≤ k → length vs ≡ length ls →
     text ≡ codes "verdict accepted\n" ++ links_text (take k ls) (take k vs) → text ≡ chain_text ls vs
 line_all k ls vs text le same held =
     let enough : length vs ≤ k = omega arith in
-    held ∙ ap₂ (λ (xs : List Link) (ys : List Verdict). codes "verdict accepted\n" ++ links_text xs ys) (take_all k ls le) (take_all k vs enough)
+    held ∙ ap₂ (λ (xs : List ChainLink) (ys : List Verdict). codes "verdict accepted\n" ++ links_text xs ys) (take_all k ls le) (take_all k vs enough)

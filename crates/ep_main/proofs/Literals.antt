@@ -1,7 +1,7 @@
 -- What `clap` makes of the words that ask for something.
-use Rattle.std.proofs.Common.{◌≡◌, ◌⊎◌, inl, inr, List, [], ◌∷◌, map, string_bytes, Option, Some, None, Result, Ok, Err, MatchResult, IfOk, Bool, true, false, codes, refl, sym, ap, ap₂, subst, ◌∙◌, option_map}
+use Rattle.std.proofs.Common.{◌≡◌, ◌⊎◌, inl, inr, List, [], ◌∷◌, Option, Some, None, Result, Ok, Err, MatchResult, IfOk, true, codes, refl, sym, ap, ap₂, subst, ◌∙◌, option_map}
 use Rattle.clap.specs.Matches.{found_of, subcommand_name_of}
-use Rattle.clap.specs.Walk.{Row, Text, all_of, first_of, rows_of}
+use Rattle.clap.specs.Walk.{Row, Text, first_of, rows_of}
 use Rattle.clap.specs.declared.parser.matches.ArgMatches.{ArgMatches}
 use Rattle.clap.specs.declared.parser.matches.ArgMatches.TheViews.{out-ArgMatches, out-SubCommand}
 use Rattle.clap.specs.declared.parser.matches.SubCommand.{SubCommand}
@@ -15,7 +15,7 @@ use Rattle.clap.specs.Kinds.{IsAmong}
 use Rattle.clap.specs.Takes.{takes}
 use Rattle.clap.proofs.OnLiterals.{clap_on_literals}
 use Rattle.ep_main.specs.Options.{Options, plain}
-use Rattle.ep_main.specs.Words.{AskFor, AskForHelp, Chooses, IsAsked, IsHelp, IsMet, IsShown, AuditWords, IsAuditTask, IsBundleAudit, IsChainAudit, IsChainOf, IsHelpTask, IsMetTask, IsShownTask, IsTask, MetReplay, MetRun, MetAudit, MetChain, MetUpgrade, Names, NamesHost, NamesTarget, RunWords, audit_words, emit_word, epaxos, host_word, met, met_audit, met_to, met_with, run_words}
+use Rattle.ep_main.specs.Words.{AskFor, AskForHelp, Chooses, IsAsked, IsMet, IsShown, AuditWords, IsAuditTask, IsBundleAudit, IsChainAudit, IsHelpTask, IsMetTask, IsShownTask, IsTask, MetReplay, MetRun, MetAudit, MetChain, MetUpgrade, Names, NamesHost, NamesTarget, RunWords, audit_words, emit_word, epaxos, host_word, met, met_audit, met_to, met_with, run_words}
 use Rattle.ep_main.specs.declared.asked.Asked.{Asked}
 use Rattle.ep_main.specs.declared.asked.Asked.TheVariants.{Replay, Run, Audit, Upgrade, Version, Help}
 use Rattle.ep_main.specs.declared.asked.Emit.TheVariants.{Report, Bundle}
@@ -24,10 +24,10 @@ use Rattle.ep_main.specs.declared.host.Host.{Host}
 use Rattle.ep_main.specs.declared.host.Host.TheVariants.{Lock, Ring}
 use Rattle.ep_main.specs.declared.target.Target.{Target}
 use Rattle.ep_main.specs.declared.target.Target.TheVariants.{Second, Third}
-use Rattle.ep_main.specs.declared.task.Task.{Task}
-use Rattle.ep_main.specs.declared.task.Task.TheVariants.{Streams, Chain}
-use Rattle.ep_cli.specs.declared.declined.Declined.{Declined}
-use Rattle.ep_cli.specs.declared.declined.Declined.TheVariants.{Memory}
+use Rattle.ep_main.specs.declared.job.Job.{Job}
+use Rattle.ep_main.specs.declared.job.Job.TheVariants.{Streams, Chain}
+use Rattle.ep_cli.specs.declared.words_fault.WordsFault.{WordsFault}
+use Rattle.ep_cli.specs.declared.words_fault.WordsFault.TheVariants.{Memory}
 
 pub simple : is_simple epaxos ≡ true
 unfolding clap_on_literals
@@ -250,12 +250,12 @@ met_is_asked (Upgrade target) words met = met
 met_is_asked Version words met = absurd met
 met_is_asked (Help text) words met = absurd met
 
-task_met : (task : Task) (words : List Text) → IsMetTask task (subcommand_of epaxos words) → IsTask task words
+task_met : (task : Job) (words : List Text) → IsMetTask task (subcommand_of epaxos words) → IsTask task words
 task_met (Streams asked) words met = met_is_asked asked words met
 task_met (Chain files) words met = met
 
 pub task_of_met :
-    {X : Type 0} (app : App) (words : List Text) (found : Option (Text × List Row)) (r : Result Task Declined) → app ≡ epaxos →
+    {X : Type 0} (app : App) (words : List Text) (found : Option (Text × List Row)) (r : Result Job WordsFault) → app ≡ epaxos →
     (is_simple app ≡ true → X × (found ≡ subcommand_of app words)) → IfOk r (λ t. IsMetTask t found) → IfOk r (λ t. IsTask t words)
 task_of_met {X} app words found (Ok task) is has met =
     let same : found ≡ subcommand_of epaxos words = (subst (λ a. is_simple a ≡ true → X × (found ≡ subcommand_of a words)) is has simple).1 in
@@ -284,7 +284,7 @@ shown_is_asked Version words kind known shown = among words kind DisplayVersion 
 shown_is_asked (Help text) words kind known shown = among words kind DisplayHelp help_is_no_memory shown known
 
 pub task_of_shown :
-    (app : App) (words : List Text) (kind : ErrorKind) (r : Result Task Declined) → app ≡ epaxos →
+    (app : App) (words : List Text) (kind : ErrorKind) (r : Result Job WordsFault) → app ≡ epaxos →
     (is_simple_and_free app ≡ true → (kind ≡ OutOfMemory) ⊎ IsAmong kind (fault_of app words)) → IfOk r (λ t. IsShownTask t kind) → IfOk r (λ t. IsTask t words)
 task_of_shown app words kind (Ok (Streams asked)) is has shown =
     shown_is_asked asked words kind (subst (λ a. is_simple_and_free a ≡ true → (kind ≡ OutOfMemory) ⊎ IsAmong kind (fault_of a words)) is has free) shown
@@ -363,7 +363,7 @@ help_is_no_match {X} app words is none ask =
     cc
 
 helps_by :
-    (kind : ErrorKind) (kinds : List ErrorKind) (r : Result Task Declined) → kinds ≡ DisplayHelp ∷ [] → (kind ≡ OutOfMemory) ⊎ IsAmong kind kinds → (kind ≡ OutOfMemory → r ≡ Err Memory) →
+    (kind : ErrorKind) (kinds : List ErrorKind) (r : Result Job WordsFault) → kinds ≡ DisplayHelp ∷ [] → (kind ≡ OutOfMemory) ⊎ IsAmong kind kinds → (kind ≡ OutOfMemory → r ≡ Err Memory) →
     (kind ≡ DisplayHelp → MatchResult r IsHelpTask (λ d. d ≡ Memory)) → MatchResult r IsHelpTask (λ d. d ≡ Memory)
 helps_by kind kinds r is (inl none) memory help = subst (λ r. MatchResult r IsHelpTask (λ d. d ≡ Memory)) (sym (memory none)) refl
 helps_by kind kinds r is (inr known) memory help =
@@ -371,21 +371,21 @@ helps_by kind kinds r is (inr known) memory help =
     help (elim among [ inl h ↦ h | inr h ↦ absurd h ])
 
 pub help_is_met :
-    (app : App) (words : List Text) (kind : ErrorKind) (r : Result Task Declined) → app ≡ epaxos →
+    (app : App) (words : List Text) (kind : ErrorKind) (r : Result Job WordsFault) → app ≡ epaxos →
     (is_simple_and_free app ≡ true → (kind ≡ OutOfMemory) ⊎ IsAmong kind (fault_of app words)) → (kind ≡ OutOfMemory → r ≡ Err Memory) →
     (kind ≡ DisplayHelp → MatchResult r IsHelpTask (λ d. d ≡ Memory)) → AskForHelp words → MatchResult r IsHelpTask (λ d. d ≡ Memory)
 help_is_met app words kind r is has memory help ask =
     helps_by kind (fault_of epaxos words) r (help_known words ask)
     (subst (λ a. is_simple_and_free a ≡ true → (kind ≡ OutOfMemory) ⊎ IsAmong kind (fault_of a words)) is has free) memory help
 
-asks : (want : Asked) (r : Result Task Declined) → r ≡ Ok (Streams want) → MatchResult r (λ t. t ≡ Streams want) (λ d. d ≡ Memory)
+asks : (want : Asked) (r : Result Job WordsFault) → r ≡ Ok (Streams want) → MatchResult r (λ t. t ≡ Streams want) (λ d. d ≡ Memory)
 asks want r is = subst (λ r. MatchResult r (λ t. t ≡ Streams want) (λ d. d ≡ Memory)) (sym is) refl
 
-has_no_memory : (want : Asked) (r : Result Task Declined) → r ≡ Err Memory → MatchResult r (λ t. t ≡ Streams want) (λ d. d ≡ Memory)
+has_no_memory : (want : Asked) (r : Result Job WordsFault) → r ≡ Err Memory → MatchResult r (λ t. t ≡ Streams want) (λ d. d ≡ Memory)
 has_no_memory want r is = subst (λ r. MatchResult r (λ t. t ≡ Streams want) (λ d. d ≡ Memory)) (sym is) refl
 
 answers :
-    (want : Asked) (r : Result Task Declined) (found : Option (Text × List Row)) → ((emit : Emit) → MetReplay emit found → r ≡ Ok (Streams (Replay emit))) →
+    (want : Asked) (r : Result Job WordsFault) (found : Option (Text × List Row)) → ((emit : Emit) → MetReplay emit found → r ≡ Ok (Streams (Replay emit))) →
     ((options : Options) → MetRun options found → r ≡ Ok (Streams (Run options))) → (MetAudit found → r ≡ Ok (Streams Audit)) → ((target : Target) → MetUpgrade target found → r ≡ Ok (Streams (Upgrade target))) → IsMet want found →
     MatchResult r (λ t. t ≡ Streams want) (λ d. d ≡ Memory)
 answers (Replay emit) r found replay run audit upgrade is = asks (Replay emit) r (replay emit is)
@@ -397,7 +397,7 @@ answers (Help text) r found replay run audit upgrade is = absurd is
 
 -- the answer where `clap` finds a match
 pub asked_in_match :
-    {X : Type 0} (want : Asked) (app : App) (words : List Text) (found : Option (Text × List Row)) (r : Result Task Declined) → app ≡ epaxos →
+    {X : Type 0} (want : Asked) (app : App) (words : List Text) (found : Option (Text × List Row)) (r : Result Job WordsFault) → app ≡ epaxos →
     (is_simple app ≡ true → X × (found ≡ subcommand_of app words)) → (is_simple_and_free app ≡ true → fault_of app words ≡ []) →
     ((emit : Emit) → MetReplay emit found → r ≡ Ok (Streams (Replay emit))) → ((options : Options) → MetRun options found → r ≡ Ok (Streams (Run options))) → (MetAudit found → r ≡ Ok (Streams Audit)) →
     ((target : Target) → MetUpgrade target found → r ≡ Ok (Streams (Upgrade target))) → AskFor want words → MatchResult r (λ t. t ≡ Streams want) (λ d. d ≡ Memory)
@@ -415,13 +415,13 @@ asked_in_match Version app words found r is has none replay run audit upgrade as
 asked_in_match (Help text) app words found r is has none replay run audit upgrade ask = absurd ask
 
 no_match :
-    (want : Asked) (app : App) (words : List Text) (kind : ErrorKind) (r : Result Task Declined) → IsMatched want → app ≡ epaxos → (takes app words ≡ true → kind ≡ OutOfMemory) →
+    (want : Asked) (app : App) (words : List Text) (kind : ErrorKind) (r : Result Job WordsFault) → IsMatched want → app ≡ epaxos → (takes app words ≡ true → kind ≡ OutOfMemory) →
     (kind ≡ OutOfMemory → r ≡ Err Memory) → AskFor want words → MatchResult r (λ t. t ≡ Streams want) (λ d. d ≡ Memory)
 no_match want app words kind r matched is passes memory ask =
     has_no_memory want r (memory (passes (subst (λ a. takes a words ≡ true) (sym is) (taken want words matched ask))))
 
 versions_by :
-    (kind : ErrorKind) (kinds : List ErrorKind) (r : Result Task Declined) → kinds ≡ DisplayVersion ∷ [] → (kind ≡ OutOfMemory) ⊎ IsAmong kind kinds → (kind ≡ OutOfMemory → r ≡ Err Memory) →
+    (kind : ErrorKind) (kinds : List ErrorKind) (r : Result Job WordsFault) → kinds ≡ DisplayVersion ∷ [] → (kind ≡ OutOfMemory) ⊎ IsAmong kind kinds → (kind ≡ OutOfMemory → r ≡ Err Memory) →
     (kind ≡ DisplayVersion → r ≡ Ok (Streams Version)) → MatchResult r (λ t. t ≡ Streams Version) (λ d. d ≡ Memory)
 versions_by kind kinds r is (inl none) memory version = has_no_memory Version r (memory none)
 versions_by kind kinds r is (inr known) memory version =
@@ -430,7 +430,7 @@ versions_by kind kinds r is (inr known) memory version =
 
 -- the answer where it finds none
 pub asked_in_place :
-    (want : Asked) (app : App) (words : List Text) (kind : ErrorKind) (r : Result Task Declined) → app ≡ epaxos → (takes app words ≡ true → kind ≡ OutOfMemory) →
+    (want : Asked) (app : App) (words : List Text) (kind : ErrorKind) (r : Result Job WordsFault) → app ≡ epaxos → (takes app words ≡ true → kind ≡ OutOfMemory) →
     (is_simple_and_free app ≡ true → (kind ≡ OutOfMemory) ⊎ IsAmong kind (fault_of app words)) → (kind ≡ OutOfMemory → r ≡ Err Memory) →
     (kind ≡ DisplayVersion → r ≡ Ok (Streams Version)) → AskFor want words → MatchResult r (λ t. t ≡ Streams want) (λ d. d ≡ Memory)
 asked_in_place (Replay emit) app words kind r is passes has memory version ask = no_match (Replay emit) app words kind r tt is passes memory ask
@@ -447,7 +447,7 @@ is_report what o is (inl none) = let e : Some what ≡ None = is ∙ none in cc
 is_report what o is (inr some) = let e : Some what ≡ Some (codes "report") = is ∙ some in cc
 
 pub named_as :
-    (emit : Emit) (what : Text) (o : Option Text) (r : Result Emit Declined) → Some what ≡ o → (what ≡ codes "report" → r ≡ Ok Report) → (what ≡ codes "bundle" → r ≡ Ok Bundle) →
+    (emit : Emit) (what : Text) (o : Option Text) (r : Result Emit WordsFault) → Some what ≡ o → (what ≡ codes "report" → r ≡ Ok Report) → (what ≡ codes "bundle" → r ≡ Ok Bundle) →
     Names o emit → r ≡ Ok emit
 named_as Report what o r is report bundle names = report (is_report what o is names)
 named_as Bundle what o r is report bundle names = bundle (let e : Some what ≡ Some (codes "bundle") = is ∙ names in cc)
@@ -456,7 +456,7 @@ none_named : (emit : Emit) (o : Option Text) → None ≡ o → Names o emit →
 none_named Report o is names = refl
 none_named Bundle o is names = let bad : None ≡ Some (codes "bundle") = is ∙ names in cc
 
-pub not_named : (emit : Emit) (o : Option Text) (r : Result Emit Declined) → r ≡ Ok Report → None ≡ o → Names o emit → r ≡ Ok emit
+pub not_named : (emit : Emit) (o : Option Text) (r : Result Emit WordsFault) → r ≡ Ok Report → None ≡ o → Names o emit → r ≡ Ok emit
 not_named emit o r reports is names = subst (λ e. r ≡ Ok e) (none_named emit o is names) reports
 
 module _ {Z : Type 0} where
@@ -585,13 +585,13 @@ audit_no_upgrade m target named found = let bad : Some (codes "audit") ≡ Some 
 pub audit_no_replay : (m : ArgMatches) (emit : Emit) → subcommand_name_of m ≡ Some (codes "audit") → MetReplay emit (subcommand_rows_of m) → ⊥
 audit_no_replay m emit named found = let bad : Some (codes "audit") ≡ Some (codes "replay") = sym named ∙ replay_named m emit found in cc
 
-pub as_replay : (e emit : Emit) (r : Result Emit Declined) (x : Result Asked Declined) → r ≡ Ok e → x ≡ Ok (Replay e) → r ≡ Ok emit → x ≡ Ok (Replay emit)
+pub as_replay : (e emit : Emit) (r : Result Emit WordsFault) (x : Result Asked WordsFault) → r ≡ Ok e → x ≡ Ok (Replay e) → r ≡ Ok emit → x ≡ Ok (Replay emit)
 as_replay e emit r x is gives wants =
     let same : Ok e ≡ Ok emit = sym is ∙ wants in
     let equal : e ≡ emit = cc in
     gives ∙ ap (λ (y : Emit). Ok (Replay y)) equal
 
-pub err_not_ok : {A : Type 0} (e : Declined) (x : A) (r : Result A Declined) → r ≡ Err e → r ≡ Ok x → ⊥
+pub err_not_ok : {A : Type 0} (e : WordsFault) (x : A) (r : Result A WordsFault) → r ≡ Err e → r ≡ Ok x → ⊥
 err_not_ok {A} e x r is other = let bad : Err e ≡ Ok x = sym is ∙ other in cc
 
 -- a run
@@ -637,20 +637,20 @@ replay_no_run m options named found = let bad : Some (codes "replay") ≡ Some (
 pub audit_no_run : (m : ArgMatches) (options : Options) → subcommand_name_of m ≡ Some (codes "audit") → MetRun options (subcommand_rows_of m) → ⊥
 audit_no_run m options named found = let bad : Some (codes "audit") ≡ Some (codes "run") = sym named ∙ run_named m options found in cc
 
-pub as_run : (o options : Options) (r : Result Options Declined) (x : Result Asked Declined) → r ≡ Ok o → x ≡ Ok (Run o) → r ≡ Ok options → x ≡ Ok (Run options)
+pub as_run : (o options : Options) (r : Result Options WordsFault) (x : Result Asked WordsFault) → r ≡ Ok o → x ≡ Ok (Run o) → r ≡ Ok options → x ≡ Ok (Run options)
 as_run o options r x is gives wants =
     let same : Ok o ≡ Ok options = sym is ∙ wants in
     let equal : o ≡ options = cc in
     gives ∙ ap (λ (y : Options). Ok (Run y)) equal
 
-pub as_upgrade : (t target : Target) (r : Result Target Declined) (x : Result Asked Declined) → r ≡ Ok t → x ≡ Ok (Upgrade t) → r ≡ Ok target → x ≡ Ok (Upgrade target)
+pub as_upgrade : (t target : Target) (r : Result Target WordsFault) (x : Result Asked WordsFault) → r ≡ Ok t → x ≡ Ok (Upgrade t) → r ≡ Ok target → x ≡ Ok (Upgrade target)
 as_upgrade t target r x is gives wants =
     let same : Ok t ≡ Ok target = sym is ∙ wants in
     let equal : t ≡ target = cc in
     gives ∙ ap (λ (y : Target). Ok (Upgrade y)) equal
 
 -- of what is asked for streams serve
-pub as_streams : (a want : Asked) (r : Result Asked Declined) (x : Result Task Declined) → r ≡ Ok a → x ≡ Ok (Streams a) → r ≡ Ok want → x ≡ Ok (Streams want)
+pub as_streams : (a want : Asked) (r : Result Asked WordsFault) (x : Result Job WordsFault) → r ≡ Ok a → x ≡ Ok (Streams a) → r ≡ Ok want → x ≡ Ok (Streams want)
 as_streams a want r x is gives wants =
     let same : Ok a ≡ Ok want = sym is ∙ wants in
     let equal : a ≡ want = cc in
@@ -663,7 +663,7 @@ is_second what o is (inl none) = let e : Some what ≡ None = is ∙ none in cc
 is_second what o is (inr some) = let e : Some what ≡ Some (codes "2") = is ∙ some in cc
 
 pub target_as :
-    (target : Target) (what : Text) (o : Option Text) (r : Result Target Declined) → Some what ≡ o → (what ≡ codes "2" → r ≡ Ok Second) → (what ≡ codes "3" → r ≡ Ok Third) →
+    (target : Target) (what : Text) (o : Option Text) (r : Result Target WordsFault) → Some what ≡ o → (what ≡ codes "2" → r ≡ Ok Second) → (what ≡ codes "3" → r ≡ Ok Third) →
     NamesTarget o target → r ≡ Ok target
 target_as Second what o r is second third names = second (is_second what o is names)
 target_as Third what o r is second third names = third (let e : Some what ≡ Some (codes "3") = is ∙ names in cc)
@@ -672,7 +672,7 @@ none_targets : (target : Target) (o : Option Text) → None ≡ o → NamesTarge
 none_targets Second o is names = refl
 none_targets Third o is names = let bad : None ≡ Some (codes "3") = is ∙ names in cc
 
-pub no_target : (target : Target) (o : Option Text) (r : Result Target Declined) → r ≡ Ok Second → None ≡ o → NamesTarget o target → r ≡ Ok target
+pub no_target : (target : Target) (o : Option Text) (r : Result Target WordsFault) → r ≡ Ok Second → None ≡ o → NamesTarget o target → r ≡ Ok target
 no_target target o r seconds is names = subst (λ t. r ≡ Ok t) (none_targets target o is names) seconds
 
 -- the word that was found
@@ -696,23 +696,17 @@ chain_found words copies o is copied = sym is ∙ ap (λ (ws : List Text). Some 
 
 -- The task that the options of `audit` ask for.
 
-pub chain_isnt_bundle : (words : AuditWords) → words.chain ≡ Some (codes "true") → IsBundleAudit words → ⊥
-chain_isnt_bundle words chain h = h.chain chain
-
 pub met_audit_task :
-    (m : ArgMatches) (rows : List Row) (t : Task) → subcommand_name_of m ≡ Some (codes "audit") → option_map (λ p. p.1) (subcommand_rows_of m) ≡ Some rows →
+    (m : ArgMatches) (rows : List Row) (t : Job) → subcommand_name_of m ≡ Some (codes "audit") → option_map (λ p. p.1) (subcommand_rows_of m) ≡ Some rows →
     IsAuditTask t (audit_words rows) → IsMetTask t (subcommand_rows_of m)
 met_audit_task m rows (Streams asked) named has is = subst (λ (a : Asked). IsMet a (subcommand_rows_of m)) (sym is.0) (audit_words rows, met_audit_by m rows named has, is.1)
 met_audit_task m rows (Chain files) named has is = (audit_words rows, met_audit_by m rows named has, is)
 
 pub met_audit_tasks :
-    (m : ArgMatches) (rows : List Row) (r : Result Task Declined) → subcommand_name_of m ≡ Some (codes "audit") → option_map (λ p. p.1) (subcommand_rows_of m) ≡ Some rows →
+    (m : ArgMatches) (rows : List Row) (r : Result Job WordsFault) → subcommand_name_of m ≡ Some (codes "audit") → option_map (λ p. p.1) (subcommand_rows_of m) ≡ Some rows →
     IfOk r (λ t. IsAuditTask t (audit_words rows)) → IfOk r (λ t. IsMetTask t (subcommand_rows_of m))
 met_audit_tasks m rows (Ok t) named has is = met_audit_task m rows t named has is
 met_audit_tasks m rows (Err e) named has is = tt
 
 pub some_isnt : {A : Type 0} (given : A) (o : Option A) → Some given ≡ o → o ≡ None → ⊥
 some_isnt {A} given o is none = let bad : Some given ≡ None = is ∙ none in cc
-
-pub not_both : (b : Bool) → b ≡ false → b ≡ true → ⊥
-not_both b isnt is = let bad : false ≡ true = sym isnt ∙ is in cc

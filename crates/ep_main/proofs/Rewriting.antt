@@ -1,7 +1,7 @@
 -- The bundle of what was upgraded.
-use Rattle.std.proofs.Common.{◌≡◌, ◌≤◌, ◌<◌, ◌⊎◌, inl, inr, ℕ, Bool, false, List, [], ◌++◌, append-nil, Result, Ok, refl, ap, sym, subst, ◌∙◌, arith, ⊎_elim}
+use Rattle.std.proofs.Common.{◌≡◌, ◌≤◌, ◌<◌, ◌⊎◌, inl, inr, ℕ, Bool, false, List, [], ◌++◌, append-nil, Ok, Err, refl, ap, sym, subst, ◌∙◌, arith, ⊎_elim}
 use Rattle.std.proofs.lemmas.Bool.{cases_lt}
-use Rattle.std.specs.Prelude.{◌||◌, IsErrAnd}
+use Rattle.std.specs.Prelude.{◌||◌}
 use Rattle.ep_base.specs.Devices.{FailsAsTold}
 use Rattle.ep_base.specs.Versions.{version_number}
 use Rattle.ep_base.specs.declared.version.Version.{Version}
@@ -16,12 +16,12 @@ use Rattle.ep_journal.specs.Entries.{Collected}
 use Rattle.ep_journal.specs.Upgrading.{IsUpgraded}
 use Rattle.ep_rules.specs.declared.receipt.Receipt.{Receipt}
 use Rattle.ep_cli.specs.Outputs.{Output, Wrote}
+use Rattle.ep_cli.specs.declared.made.Made.{Made}
 use Rattle.ep_main.specs.Faults.{of_bundle, is_read, is_write}
 use Rattle.ep_main.specs.Upgrades.{IsSecond, IsEarlyInThird, IsLateAsItIs, IsThirdFault, Reads, ReadsEarly}
-use Rattle.ep_main.specs.declared.fault.Fault.{Fault}
-use Rattle.ep_main.specs.declared.fault.Fault.TheVariants.{Script, BadBundle, NotARun, Memory, Read, Write}
-use Rattle.ep_main.proofs.Flags.{as_told}
-use Rattle.ep_upgrade.specs.Respelled.{IsNoThird, IsThird}
+use Rattle.ep_main.specs.declared.engine_fault.EngineFault.{EngineFault}
+use Rattle.ep_main.specs.declared.engine_fault.EngineFault.TheVariants.{Script, BadBundle, NotARun, Memory, Read, Write}
+use Rattle.ep_bundle.specs.Respelled.{IsNoThird, IsThird}
 
 pub rewritten :
     (journals upgraded : Collected) (receipts kept : List Receipt) (zs text : List ℕ) (end : Left) (out : Output) →
@@ -75,7 +75,7 @@ third_fault_of c rs (bundle.BadBundle offset) h = h
 third_fault_of c rs (bundle.NotARun replica entry) h = h
 
 -- no device failed
-no_device : (c : Collected) (rs : List Receipt) (e : Fault) → IsThirdFault c rs e → (is_read e ≡ false) × (is_write e ≡ false)
+no_device : (c : Collected) (rs : List Receipt) (e : EngineFault) → IsThirdFault c rs e → (is_read e ≡ false) × (is_write e ≡ false)
 no_device c rs (Script line) h = absurd h
 no_device c rs (BadBundle offset) h = (refl, refl)
 no_device c rs (NotARun replica entry) h = (refl, refl)
@@ -84,7 +84,7 @@ no_device c rs Read h = absurd h
 no_device c rs Write h = absurd h
 
 third_device :
-    (c : Collected) (rs : List Receipt) (e : Fault) → (version_number c.version ≤ 2 → IsThirdFault c rs e) → (3 ≤ version_number c.version → e ≡ Memory) →
+    (c : Collected) (rs : List Receipt) (e : EngineFault) → (version_number c.version ≤ 2 → IsThirdFault c rs e) → (3 ≤ version_number c.version → e ≡ Memory) →
     (is_read e ≡ false) × (is_write e ≡ false)
 third_device c rs e early late = ⊎_elim
     (λ (low : version_number c.version < 3). no_device c rs e (early (omega arith)))
@@ -92,11 +92,9 @@ third_device c rs e early late = ⊎_elim
     (cases_lt (version_number c.version) 3)
 
 pub third_told :
-    {A : Type 0} (c : Collected) (rs : List Receipt) (e : Fault) (r : Result A Fault) (had has : Bool) → IsErrAnd r (λ x. x ≡ e) → (version_number c.version ≤ 2 → IsThirdFault c rs e) →
-    (3 ≤ version_number c.version → e ≡ Memory) → has ≡ (false || had) → FailsAsTold is_read r had has
-third_told c rs e r had has is early late flag = as_told is_read e false had has r is (third_device c rs e early late).0 flag
+    (c : Collected) (rs : List Receipt) (e : EngineFault) (had has : Bool) → (version_number c.version ≤ 2 → IsThirdFault c rs e) → (3 ≤ version_number c.version → e ≡ Memory) → has ≡ (false || had) →
+    FailsAsTold {T = Made} is_read (Err e) had has
+third_told c rs e had has early late flag = flag ∙ ap (λ (b : Bool). b || had) (sym (third_device c rs e early late).0)
 
-pub third_silent :
-    {A : Type 0} (c : Collected) (rs : List Receipt) (e : Fault) (r : Result A Fault) (had : Bool) → IsErrAnd r (λ x. x ≡ e) → (version_number c.version ≤ 2 → IsThirdFault c rs e) →
-    (3 ≤ version_number c.version → e ≡ Memory) → FailsAsTold is_write r had had
-third_silent c rs e r had is early late = as_told is_write e false had had r is (third_device c rs e early late).1 refl
+pub third_unwritten : (c : Collected) (rs : List Receipt) (e : EngineFault) → (version_number c.version ≤ 2 → IsThirdFault c rs e) → (3 ≤ version_number c.version → e ≡ Memory) → is_write e ≡ false
+third_unwritten c rs e early late = (third_device c rs e early late).1

@@ -7,11 +7,12 @@ use Rattle.ep_journal.specs.Entries.{Collected, journals_of}
 use Rattle.ep_journal.specs.Openings.{opens}
 use Rattle.ep_rules.specs.Audits.{Fault, IsFault}
 use Rattle.ep_rules.specs.declared.receipt.Receipt.{Receipt}
-use Rattle.ep_report.specs.Reports.{text_of, accepted_lines, run_lines, refusal_lines}
+use Rattle.ep_report.specs.Reports.{text_of, run_lines}
 use Rattle.ep_run.specs.declared.ran.Ran.{Ran}
 use Rattle.ep_audit.specs.declared.verdict.Verdict.{Verdict}
 use Rattle.ep_audit.specs.Audited.{IsAudited}
-use Rattle.ep_main.specs.Lives.{life_in}
+use Rattle.ep_report.specs.Judging.{accepted_text, refusal_text}
+use Rattle.ep_report.specs.Lives.{life_in}
 use Rattle.ep_cli.specs.Outputs.{Output, Wrote}
 use Rattle.ep_main.specs.declared.asked.Emit.{Emit}
 use Rattle.ep_main.specs.declared.asked.Emit.TheVariants.{Report, Bundle}
@@ -28,13 +29,10 @@ Judges journals receipts accepted refused Refused text = ⊥
 Judges journals receipts accepted refused OutOfMemory text = ⊥
 Judges journals receipts accepted refused Failed text = ⊥
 
-abbrev pub refusal_text : Fault → List ℕ
-refusal_text fault = text_of (refusal_lines fault)
-
 -- of a bundle: its verdict and the receipts, or the first fault
 abbrev pub Says : Collected → List Receipt → Status → List ℕ → Type 0
 Says journals receipts status text =
-    Judges journals receipts (λ v. text_of (accepted_lines (life_in journals v) v.committed.items v.history.items receipts)) refusal_text status text
+    Judges journals receipts (accepted_text journals receipts) refusal_text status text
 
 -- of a run: its report, or the first fault; or, whatever the audit says, the bundle of what the run left
 abbrev pub SaysOfRun : Emit → Ran → Status → List ℕ → Type 0

@@ -1,7 +1,7 @@
 -- The lines of files that are no bundles.
 use Rattle.std.specs.Prelude.{◌≡◌, ℕ, List, Err}
-use Rattle.ep_assemble.specs.declared.files.FilesFault.{FilesFault}
-use Rattle.ep_assemble.specs.declared.files.FilesFault.TheVariants as files
+use Rattle.ep_cli.specs.declared.files_fault.FilesFault.{FilesFault}
+use Rattle.ep_cli.specs.declared.files_fault.FilesFault.TheVariants as files
 use Rattle.ep_bundle.specs.declared.bundle_fault.BundleFault.{BundleFault}
 use Rattle.ep_bundle.specs.declared.bundle_fault.BundleFault.TheVariants as bundle
 use Rattle.ep_main.specs.Chains.{ReadsLate, file_line}

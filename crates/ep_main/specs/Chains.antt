@@ -1,11 +1,10 @@
 -- Audits of chains: of bundles, and of files with names. No contract can say which bytes a file gives.
 use Rattle.std.specs.Prelude.{◌≡◌, ◌⊎◌, ℕ, List, [], ◌∷◌, ◌++◌, Option, Some, None, true, All, Contains, Ok, Err, codes, length, slice_get}
-use Rattle.ep_assemble.specs.Files.{IsUnreadLine}
-use Rattle.ep_assemble.specs.Lines.{unread_line}
-use Rattle.ep_assemble.specs.declared.files.FilesFault.{FilesFault}
-use Rattle.ep_assemble.specs.declared.files.FilesFault.TheVariants as files
+use Rattle.ep_cli.specs.Files.{unread_line, IsUnreadLine}
+use Rattle.ep_cli.specs.declared.files_fault.FilesFault.{FilesFault}
+use Rattle.ep_cli.specs.declared.files_fault.FilesFault.TheVariants as files
 use Rattle.ep_audit.specs.Chained.{IsChained, IsChainFault, number_of}
-use Rattle.ep_audit.specs.declared.link.Link.{Link}
+use Rattle.ep_audit.specs.declared.chain_link.ChainLink.{ChainLink}
 use Rattle.ep_bundle.specs.Journals.{Contents, ReadsBundleOf}
 use Rattle.ep_bundle.specs.Reading.{Left, Reading}
 use Rattle.ep_bundle.specs.Texts.{fault_text}
@@ -15,8 +14,9 @@ use Rattle.ep_report.specs.Lives.{Life, link_line}
 use Rattle.ep_report.specs.Reports.{text_of, chain_refusal_lines}
 use Rattle.ep_audit.specs.declared.chain_fault.ChainFault.{ChainFault}
 use Rattle.ep_audit.specs.declared.verdict.Verdict.{Verdict}
-use Rattle.ep_cli.specs.Lines.{out_of_memory, writing_failed}
-use Rattle.ep_main.specs.Lives.{life_in}
+use Rattle.ep_cli.specs.Lines.{writing_failed}
+use Rattle.ep_report.specs.Lives.{life_in}
+use Rattle.ep_cli.specs.Endings.{IsOutOfMemory, TurnsAway}
 use Rattle.ep_cli.specs.Outputs.{Output, Told, Wrote, WroteNothing}
 use Rattle.ep_cli.specs.declared.status.Status.{Status}
 use Rattle.ep_cli.specs.declared.status.Status.TheVariants.{Done, AuditRefused, Refused, OutOfMemory, Failed}
@@ -28,12 +28,12 @@ abbrev pub ReadsLate : List ℕ → Reading Contents → Type 0
 ReadsLate zs o = ReadsBundleOf 3 3 (record { at = 0; bytes = zs }) o
 
 -- the bytes are one, of these journals and receipts
-abbrev pub IsLinkOf : List ℕ → Link → Type 0
+abbrev pub IsLinkOf : List ℕ → ChainLink → Type 0
 IsLinkOf zs l = (end : Left) × ReadsLate zs (Ok ((l.journals, l.receipts.items), end))
 
 -- each was read of some bytes
-abbrev pub AreRead : List Link → Type 0
-AreRead links = All (λ (l : Link). (zs : List ℕ) × IsLinkOf zs l) links
+abbrev pub AreRead : List ChainLink → Type 0
+AreRead links = All (λ (l : ChainLink). (zs : List ℕ) × IsLinkOf zs l) links
 
 -- the line of a file that isn't one
 abbrev pub file_line : List ℕ → BundleFault → List ℕ
@@ -78,28 +78,28 @@ life_text None v = []
 life_text (Some life) v = link_line life (length v.committed.items) (length v.history.items) ++ codes "\n"
 
 -- the line of a generation
-abbrev pub link_text : Link → Verdict → List ℕ
+abbrev pub link_text : ChainLink → Verdict → List ℕ
 link_text l v = life_text (life_in l.journals v) v
 
-abbrev pub links_text : List Link → List Verdict → List ℕ
+abbrev pub links_text : List ChainLink → List Verdict → List ℕ
 links_text [] vs = []
 links_text (l ∷ ls) [] = []
 links_text (l ∷ ls) (v ∷ vs) = link_text l v ++ links_text ls vs
 
-abbrev pub chain_text : List Link → List Verdict → List ℕ
+abbrev pub chain_text : List ChainLink → List Verdict → List ℕ
 chain_text ls vs = codes "verdict accepted\n" ++ links_text ls vs
 
 -- The first fault of these, and its lines.
-pub record IsFaultText (links : List Link) (text : List ℕ) : Type 0 where
+pub record IsFaultText (links : List ChainLink) (text : List ℕ) : Type 0 where
   pub place : ℕ
   pub fault : ChainFault
   pub refused : IsChainFault links place fault
-  pub link : Link
+  pub link : ChainLink
   pub there : slice_get links place ≡ Some link
   pub told : text ≡ text_of (chain_refusal_lines (number_of link) fault)
 
 -- the audit accepts, and the text has a line for each; or it refuses, and the text is that of the first fault
-abbrev pub SaysOfChain : List Link → Status → List ℕ → Type 0
+abbrev pub SaysOfChain : List ChainLink → Status → List ℕ → Type 0
 SaysOfChain links Done text = (verdicts : List Verdict) × IsChained links verdicts × (text ≡ chain_text links verdicts)
 SaysOfChain links AuditRefused text = IsFaultText links text
 SaysOfChain links Refused text = ⊥
@@ -107,19 +107,14 @@ SaysOfChain links OutOfMemory text = ⊥
 SaysOfChain links Failed text = ⊥
 
 -- What was written is what the audit says of them.
-pub record IsToldChain (links : List Link) (status : Status) (out fault : Output) : Type 0 where
+pub record IsToldChain (links : List ChainLink) (status : Status) (out fault : Output) : Type 0 where
   pub text : List ℕ
   pub says : SaysOfChain links status text
   pub wrote : Wrote out text
   pub silent : WroteNothing fault
 
--- Memory was refused, and nothing was written on the output.
-pub record IsOutOfMemory (out fault : Output) : Type 0 where
-  pub silent : WroteNothing out
-  pub told : Told fault out_of_memory
-
 -- of these bundles, by the status
-abbrev pub Chains : List Link → Status → Output → Output → Type 0
+abbrev pub Chains : List ChainLink → Status → Output → Output → Type 0
 Chains links Done out fault = IsToldChain links Done out fault
 Chains links AuditRefused out fault = IsToldChain links AuditRefused out fault
 Chains links Refused out fault = ⊥
@@ -132,15 +127,9 @@ IsWritten status text result out fault =
     ((result ≡ status) × Wrote out text × (out.failed ≡ out.had_failed) × WroteNothing fault × (fault.failed ≡ fault.had_failed))
     ⊎ ((result ≡ Failed) × (out.failed ≡ true) × Told fault writing_failed)
 
--- why the files aren't a chain is told, and decides on the status
-abbrev pub TurnsAway : FilesFault → Status → Output → Type 0
-TurnsAway files.Memory status fault = (status ≡ OutOfMemory) × Told fault out_of_memory
-TurnsAway (files.ReadFailed line) status fault = (status ≡ Failed) × Told fault line.items
-TurnsAway (files.Refused line) status fault = (status ≡ Refused) × Told fault line.items
-
 -- Each file is a bundle, and this became of them.
 pub record AreChained (names : List (List ℕ)) (status : Status) (out fault : Output) : Type 0 where
-  pub links : List Link
+  pub links : List ChainLink
   pub count : length links ≡ length names
   pub read : AreRead links
   pub chains : Chains links status out fault

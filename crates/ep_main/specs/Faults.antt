@@ -5,12 +5,12 @@ use Rattle.ep_bundle.specs.declared.bundle_fault.BundleFault.{BundleFault}
 use Rattle.ep_bundle.specs.declared.bundle_fault.BundleFault.TheVariants as bundle
 use Rattle.ep_script.specs.declared.script_fault.ScriptFault.{ScriptFault}
 use Rattle.ep_script.specs.declared.script_fault.ScriptFault.TheVariants as script
-use Rattle.ep_main.specs.declared.fault.Fault.{Fault}
-use Rattle.ep_main.specs.declared.fault.Fault.TheVariants.{Script, BadBundle, NotARun, Memory, Read, Write}
+use Rattle.ep_main.specs.declared.engine_fault.EngineFault.{EngineFault}
+use Rattle.ep_main.specs.declared.engine_fault.EngineFault.TheVariants.{Script, BadBundle, NotARun, Memory, Read, Write}
 use Rattle.ep_cli.specs.declared.status.Status.{Status}
 use Rattle.ep_cli.specs.declared.status.Status.TheVariants.{Done, AuditRefused, Refused, OutOfMemory, Failed}
 
-abbrev pub line_of : Fault → List ℕ
+abbrev pub line_of : EngineFault → List ℕ
 line_of (Script line) = script_refused line
 line_of (BadBundle offset) = bad_bundle offset
 line_of (NotARun replica entry) = not_a_run replica entry
@@ -18,7 +18,7 @@ line_of Memory = out_of_memory
 line_of Read = reading_failed
 line_of Write = writing_failed
 
-abbrev pub status_of : Fault → Status
+abbrev pub status_of : EngineFault → Status
 status_of (Script line) = Refused
 status_of (BadBundle offset) = Refused
 status_of (NotARun replica entry) = Refused
@@ -27,7 +27,7 @@ status_of Read = Failed
 status_of Write = Failed
 
 -- the reader's own fault
-abbrev pub is_read : Fault → Bool
+abbrev pub is_read : EngineFault → Bool
 is_read (Script line) = false
 is_read (BadBundle offset) = false
 is_read (NotARun replica entry) = false
@@ -36,7 +36,7 @@ is_read Read = true
 is_read Write = false
 
 -- the writer's own fault
-abbrev pub is_write : Fault → Bool
+abbrev pub is_write : EngineFault → Bool
 is_write (Script line) = false
 is_write (BadBundle offset) = false
 is_write (NotARun replica entry) = false
@@ -45,13 +45,13 @@ is_write Read = false
 is_write Write = true
 
 -- a script's fault as the program's
-abbrev pub of_script : ScriptFault → Fault
+abbrev pub of_script : ScriptFault → EngineFault
 of_script (script.Refused line) = Script line
 of_script script.Memory = Memory
 of_script script.ReadFailed = Read
 
 -- a bundle's fault as the program's
-abbrev pub of_bundle : BundleFault → Fault
+abbrev pub of_bundle : BundleFault → EngineFault
 of_bundle bundle.Memory = Memory
 of_bundle bundle.ReadFailed = Read
 of_bundle (bundle.BadBundle offset) = BadBundle offset

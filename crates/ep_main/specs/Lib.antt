@@ -4,7 +4,6 @@ pub mod ChainLines
 pub mod Chains
 pub mod Faults
 pub mod Hosts
-pub mod Lives
 pub mod Options
 pub mod Reported
 pub mod Runs

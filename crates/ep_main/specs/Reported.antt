@@ -1,13 +1,16 @@
 -- The report of a script.
 use Rattle.std.specs.Prelude.{◌≡◌, ℕ, List, ◌++◌}
+use Rattle.ep_bundle.specs.Bytes.{bundle_bytes}
 use Rattle.ep_journal.specs.Entries.{journals_of}
 use Rattle.ep_journal.specs.Openings.{opens}
 use Rattle.ep_report.specs.Reports.{text_of, accepted_lines, refused_lines}
 use Rattle.ep_script.specs.Plan.{Plan}
 use Rattle.ep_audit.specs.declared.verdict.Verdict.{Verdict}
 use Rattle.ep_audit.specs.Audited.{IsAudited}
-use Rattle.ep_main.specs.Lives.{life_in}
+use Rattle.ep_report.specs.Lives.{life_in}
 use Rattle.ep_replay.specs.Outcome.{IsReplay}
+use Rattle.ep_main.specs.declared.asked.Emit.{Emit}
+use Rattle.ep_main.specs.declared.asked.Emit.TheVariants.{Report, Bundle}
 use Rattle.ep_replay.specs.declared.replayed.Replayed.{Replayed}
 
 -- The audit accepts what the run left, and the text is the audit's verdict, the receipts, and the lines that were refused.
@@ -21,3 +24,8 @@ pub record IsReport (plan : Plan) (text : List ℕ) : Type 0 where
   pub played : Replayed
   pub replay : IsReplay plan played
   pub report : IsReportOf played text
+
+-- What is printed of what the run left: its report or its bundle.
+abbrev pub IsEmitted : Emit → Replayed → List ℕ → Type 0
+IsEmitted Report played text = IsReportOf played text
+IsEmitted Bundle played text = text ≡ bundle_bytes played.journals played.receipts.items

@@ -5,25 +5,24 @@ use Rattle.ep_bundle.specs.declared.bundle_fault.BundleFault.TheVariants as bund
 use Rattle.ep_script.specs.Plan.{Plan, RunPlan, script_of, run_of}
 use Rattle.ep_main.specs.Audits.{IsAudit, SaysOfRun}
 use Rattle.ep_main.specs.Bundled.{IsBundled}
-use Rattle.ep_cli.specs.Lines.{command_line_refused, script_refused, bad_bundle, not_a_run, out_of_memory, reading_failed, writing_failed}
+use Rattle.ep_cli.specs.Lines.{command_line_refused, script_refused, bad_bundle, not_a_run, reading_failed, writing_failed}
 use Rattle.ep_main.specs.Faults.{line_of, status_of}
 use Rattle.ep_main.specs.Hosts.{Promises}
 use Rattle.ep_main.specs.Options.{Options}
+use Rattle.ep_cli.specs.Endings.{IsOutOfMemory}
 use Rattle.ep_cli.specs.Outputs.{Input, Output, Wrote, WroteNothing, Told, NoneFailed, InputFailed, OutputFailed}
 use Rattle.ep_main.specs.Reported.{IsReport}
 use Rattle.ep_main.specs.Upgrades.{IsUnread, IsRewritten, IsUnupgraded}
 use Rattle.ep_main.specs.declared.asked.Asked.{Asked}
 use Rattle.ep_main.specs.declared.asked.Asked.TheVariants.{Replay, Run, Audit, Upgrade, Version, Help}
-use Rattle.ep_cli.specs.declared.declined.Declined.{Declined}
-use Rattle.ep_cli.specs.declared.declined.Declined.TheVariants as declined
 use Rattle.ep_main.specs.declared.asked.Emit.TheVariants.{Report, Bundle}
 use Rattle.ep_main.specs.declared.host.Host.{Host}
 use Rattle.ep_main.specs.declared.target.Target.{Target}
 use Rattle.ep_main.specs.declared.host.Host.TheVariants.{Lock, Ring}
 use Rattle.ep_run.specs.Rings.{IsBegun, begun_of}
 use Rattle.ep_run.specs.declared.ran.Ran.{Ran}
-use Rattle.ep_main.specs.declared.fault.Fault.{Fault}
-use Rattle.ep_main.specs.declared.fault.Fault.TheVariants.{Script, BadBundle, NotARun, Memory, Read, Write}
+use Rattle.ep_main.specs.declared.engine_fault.EngineFault.{EngineFault}
+use Rattle.ep_main.specs.declared.engine_fault.EngineFault.TheVariants.{Script, BadBundle, NotARun, Memory, Read, Write}
 use Rattle.ep_cli.specs.declared.status.Status.{Status}
 use Rattle.ep_cli.specs.declared.status.Status.TheVariants.{Done, AuditRefused, Refused, OutOfMemory, Failed}
 
@@ -74,11 +73,6 @@ pub record IsNotARun (Q : BundleFault → Type 0) (out fault : Output) : Type 0 
   pub read : Q (bundle.NotARun replica entry)
   pub silent : WroteNothing out
   pub told : Told fault (not_a_run replica entry)
-
--- Memory was refused.
-pub record IsOutOfMemory (out fault : Output) : Type 0 where
-  pub silent : WroteNothing out
-  pub told : Told fault out_of_memory
 
 -- The reader has failed, and nothing was written on the output; or the output has failed.
 abbrev pub HasFailed : Input → Output → Output → Type 0
@@ -188,7 +182,7 @@ IsVerdict Failed = ⊥
 
 -- Before a fault is told: what was written. Which device failed, the fault says itself.
 
-abbrev pub Plays : Result Status Fault → List ℕ → Output → Type 0
+abbrev pub Plays : Result Status EngineFault → List ℕ → Output → Type 0
 Plays (Ok status) zs out = (status ≡ Done) × IsReplayed zs out
 Plays (Err (Script line)) zs out = (script_of zs ≡ Err line) × WroteNothing out
 Plays (Err (BadBundle offset)) zs out = ⊥
@@ -197,7 +191,7 @@ Plays (Err Memory) zs out = WroteNothing out
 Plays (Err Read) zs out = WroteNothing out
 Plays (Err Write) zs out = Unit {0}
 
-abbrev pub Leaves : Result Status Fault → List ℕ → Output → Type 0
+abbrev pub Leaves : Result Status EngineFault → List ℕ → Output → Type 0
 Leaves (Ok status) zs out = (status ≡ Done) × IsBundled zs out
 Leaves (Err (Script line)) zs out = (script_of zs ≡ Err line) × WroteNothing out
 Leaves (Err (BadBundle offset)) zs out = ⊥
@@ -206,7 +200,7 @@ Leaves (Err Memory) zs out = WroteNothing out
 Leaves (Err Read) zs out = WroteNothing out
 Leaves (Err Write) zs out = Unit {0}
 
-abbrev pub Runs : Options → Result Status Fault → List ℕ → Output → Type 0
+abbrev pub Runs : Options → Result Status EngineFault → List ℕ → Output → Type 0
 Runs options (Ok Done) zs out = IsRan options Done zs out
 Runs options (Ok AuditRefused) zs out = IsRefusedRun options.host options zs out
 Runs options (Ok Refused) zs out = ⊥
@@ -220,7 +214,7 @@ Runs options (Err Read) zs out = WroteNothing out
 Runs options (Err Write) zs out = Unit {0}
 
 -- what stops the reading of a bundle, where it has such faults
-abbrev pub StopsBy : (BundleFault → Type 0) → Fault → Output → Type 0
+abbrev pub StopsBy : (BundleFault → Type 0) → EngineFault → Output → Type 0
 StopsBy Q (Script line) out = ⊥
 StopsBy Q (BadBundle offset) out = Q (bundle.BadBundle offset) × WroteNothing out
 StopsBy Q (NotARun replica entry) out = Q (bundle.NotARun replica entry) × WroteNothing out
@@ -228,15 +222,15 @@ StopsBy Q Memory out = WroteNothing out
 StopsBy Q Read out = WroteNothing out
 StopsBy Q Write out = Unit {0}
 
-abbrev pub Finishes : Result Status Fault → List ℕ → Output → Type 0
+abbrev pub Finishes : Result Status EngineFault → List ℕ → Output → Type 0
 Finishes (Ok status) zs out = IsAudit status zs out
 Finishes (Err e) zs out = StopsBy (IsUnread zs) e out
 
-abbrev pub Rewrites : Target → Result Status Fault → List ℕ → Output → Type 0
+abbrev pub Rewrites : Target → Result Status EngineFault → List ℕ → Output → Type 0
 Rewrites target (Ok status) zs out = (status ≡ Done) × IsRewritten target zs out
 Rewrites target (Err e) zs out = StopsBy (IsUnupgraded target zs) e out
 
-abbrev pub Prints : Result Status Fault → List ℕ → Output → Type 0
+abbrev pub Prints : Result Status EngineFault → List ℕ → Output → Type 0
 Prints (Ok status) text out = (status ≡ Done) × Wrote out text
 Prints (Err (Script line)) text out = ⊥
 Prints (Err (BadBundle offset)) text out = ⊥
@@ -245,7 +239,7 @@ Prints (Err Memory) text out = ⊥
 Prints (Err Read) text out = ⊥
 Prints (Err Write) text out = Unit {0}
 
-abbrev pub Does : Asked → Result Status Fault → List ℕ → Output → Type 0
+abbrev pub Does : Asked → Result Status EngineFault → List ℕ → Output → Type 0
 Does (Replay Report) outcome zs out = Plays outcome zs out
 Does (Replay Bundle) outcome zs out = Leaves outcome zs out
 Does (Run options) outcome zs out = Runs options outcome zs out
@@ -254,12 +248,7 @@ Does (Upgrade target) outcome zs out = Rewrites target outcome zs out
 Does Version outcome zs out = Prints outcome version_line out
 Does (Help text) outcome zs out = Prints outcome (string_bytes text) out
 
--- why nothing is done is told, and decides on the status
-abbrev pub TellsWhy : Declined → Status → Output → Type 0
-TellsWhy (declined.Words why) status fault = (status ≡ Refused) × Told fault (command_line_refused ++ string_bytes why)
-TellsWhy declined.Memory status fault = (status ≡ OutOfMemory) × Told fault out_of_memory
-
 -- a fault is told, and decides on the status
-abbrev pub Concludes : Result Status Fault → Status → Output → Type 0
+abbrev pub Concludes : Result Status EngineFault → Status → Output → Type 0
 Concludes (Ok said) status fault = (status ≡ said) × WroteNothing fault × (fault.failed ≡ fault.had_failed)
 Concludes (Err e) status fault = (status ≡ status_of e) × Told fault (line_of e)

@@ -6,15 +6,15 @@ use Rattle.ep_main.specs.Runs.{Ends, Performs}
 use Rattle.ep_main.specs.Words.{IsAsked, IsChainAsked}
 use Rattle.ep_main.specs.declared.asked.Asked.{Asked}
 use Rattle.ep_cli.specs.declared.status.Status.{Status}
-use Rattle.ep_main.specs.declared.task.Task.{Task}
-use Rattle.ep_main.specs.declared.task.Task.TheVariants.{Streams, Chain}
+use Rattle.ep_main.specs.declared.job.Job.{Job}
+use Rattle.ep_main.specs.declared.job.Job.TheVariants.{Streams, Chain}
 
-abbrev pub Works : Task → Status → List ℕ → Input → Output → Output → Type 0
+abbrev pub Works : Job → Status → List ℕ → Input → Output → Output → Type 0
 Works (Streams asked) status zs reader out fault = Performs asked status zs reader out fault
 Works (Chain files) status zs reader out fault = ChainsFiles (map string_bytes files.items) status out fault
 
 -- of a chain the input isn't read
-abbrev pub EndsBy : Task → Status → Input → Output → Output → Type 0
+abbrev pub EndsBy : Job → Status → Input → Output → Output → Type 0
 EndsBy (Streams asked) status reader out fault = Ends status reader out fault
 EndsBy (Chain files) status reader out fault = (reader.failed ≡ reader.had_failed) × EndsOfFiles status out fault
 

@@ -11,10 +11,10 @@ use Rattle.ep_frame.specs.Spelling.{AreBytes}
 use Rattle.ep_journal.specs.Entries.{Collected}
 use Rattle.ep_journal.specs.Upgrading.{IsUpgraded}
 use Rattle.ep_rules.specs.declared.receipt.Receipt.{Receipt}
-use Rattle.ep_upgrade.specs.Respelled.{IsThird, respelled_bytes}
+use Rattle.ep_bundle.specs.Respelled.{IsThird, respelled_bytes}
 use Rattle.ep_cli.specs.Outputs.{Output, Wrote}
-use Rattle.ep_main.specs.declared.fault.Fault.{Fault}
-use Rattle.ep_main.specs.declared.fault.Fault.TheVariants.{Script, BadBundle, NotARun, Memory, Read, Write}
+use Rattle.ep_main.specs.declared.engine_fault.EngineFault.{EngineFault}
+use Rattle.ep_main.specs.declared.engine_fault.EngineFault.TheVariants.{Script, BadBundle, NotARun, Memory, Read, Write}
 use Rattle.ep_main.specs.declared.target.Target.{Target}
 use Rattle.ep_main.specs.declared.target.Target.TheVariants.{Second, Third}
 
@@ -83,7 +83,7 @@ IsUnupgraded Second zs fault = ReadsEarly zs (Err fault)
 IsUnupgraded Third zs fault = IsUnread zs fault ⊎ HasNoThird zs fault
 
 -- those journals and receipts are no bundle in version 3, for this fault; or memory was refused
-abbrev pub IsThirdFault : Collected → List Receipt → Fault → Type 0
+abbrev pub IsThirdFault : Collected → List Receipt → EngineFault → Type 0
 IsThirdFault c rs (Script line) = ⊥
 IsThirdFault c rs (BadBundle offset) = ReadsBundle (record { at = 0; bytes = respelled_bytes c rs }) (Err (bundle.BadBundle offset))
 IsThirdFault c rs (NotARun replica entry) = ReadsBundle (record { at = 0; bytes = respelled_bytes c rs }) (Err (bundle.NotARun replica entry))

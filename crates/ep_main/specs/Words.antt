@@ -14,8 +14,8 @@ use Rattle.ep_main.specs.declared.host.Host.{Host}
 use Rattle.ep_main.specs.declared.host.Host.TheVariants.{Lock, Ring}
 use Rattle.ep_main.specs.declared.target.Target.{Target}
 use Rattle.ep_main.specs.declared.target.Target.TheVariants.{Second, Third}
-use Rattle.ep_main.specs.declared.task.Task.{Task}
-use Rattle.ep_main.specs.declared.task.Task.TheVariants.{Streams, Chain}
+use Rattle.ep_main.specs.declared.job.Job.{Job}
+use Rattle.ep_main.specs.declared.job.Job.TheVariants.{Streams, Chain}
 use Rattle.clap.specs.declared.builder.action.ArgAction.TheVariants.{Set, SetTrue, Append}
 use Rattle.clap.specs.declared.error.kind.ErrorKind.{ErrorKind}
 use Rattle.clap.specs.declared.error.kind.ErrorKind.TheVariants.{DisplayHelp, DisplayVersion}
@@ -233,22 +233,22 @@ IsShown (Help text) kind = kind ≡ DisplayHelp
 -- Tasks: what streams serve for, or a chain.
 
 -- the chain of files with these names
-abbrev pub IsChainOf : List Text → Task → Type 0
+abbrev pub IsChainOf : List Text → Job → Type 0
 IsChainOf names (Streams asked) = ⊥
 IsChainOf names (Chain files) = map string_bytes files.items ≡ names
 
 -- that of the files that were found
-abbrev pub IsChainFound : Task → Option (List Text) → Type 0
+abbrev pub IsChainFound : Job → Option (List Text) → Type 0
 IsChainFound (Streams asked) found = ⊥
 IsChainFound (Chain files) found = found ≡ Some (map string_bytes files.items)
 
 -- these words after the options of `audit` ask for this
-abbrev pub IsAuditTask : Task → AuditWords → Type 0
+abbrev pub IsAuditTask : Job → AuditWords → Type 0
 IsAuditTask (Streams asked) words = (asked ≡ Audit) × IsBundleAudit words
 IsAuditTask (Chain files) words = IsChainAudit (map string_bytes files.items) words
 
 -- what was met is this
-abbrev pub IsMetTask : Task → Option (Text × List Row) → Type 0
+abbrev pub IsMetTask : Job → Option (Text × List Row) → Type 0
 IsMetTask (Streams asked) found = IsMet asked found
 IsMetTask (Chain files) found = MetChain (map string_bytes files.items) found
 
@@ -256,14 +256,14 @@ IsMetTask (Chain files) found = MetChain (map string_bytes files.items) found
 abbrev pub IsChainAsked : List Text → List Text → Type 0
 IsChainAsked names words = MetChain names (subcommand_of epaxos words)
 
-abbrev pub IsTask : Task → List Text → Type 0
+abbrev pub IsTask : Job → List Text → Type 0
 IsTask (Streams asked) words = IsAsked asked words
 IsTask (Chain files) words = IsChainAsked (map string_bytes files.items) words
 
-abbrev pub IsHelpTask : Task → Type 0
+abbrev pub IsHelpTask : Job → Type 0
 IsHelpTask (Streams asked) = IsHelp asked
 IsHelpTask (Chain files) = ⊥
 
-abbrev pub IsShownTask : Task → ErrorKind → Type 0
+abbrev pub IsShownTask : Job → ErrorKind → Type 0
 IsShownTask (Streams asked) kind = IsShown asked kind
 IsShownTask (Chain files) kind = ⊥

@@ -4,10 +4,10 @@ ghost use Rattle.std.specs.Prelude.{◌≡◌, ◌++◌, ℕ, List, codes, lengt
 ghost use Rattle.ep_main.specs.Chains.{AreRead, IsLinkOf, IsNoFile, IsNoLink, IsStopped, file_line};
 ghost use Rattle.ep_main.specs.ChainLines.{IsRefusal, IsUnreadLate};
 
-use ep_assemble::{FilesFault, read_file};
-use ep_audit::Link;
+use ep_audit::ChainLink;
 use ep_base::Noted;
 use ep_bundle::{Bundle, BundleFault, read_bundle_of};
+use ep_cli::{FilesFault, read_file};
 use std::alloc::{AllocError, Global};
 use std::rt::Files;
 
@@ -46,19 +46,19 @@ fn no_link(alloc: Global, name: &str, fault: BundleFault) -> FilesFault
 }
 
 /// The generation that these bytes of the file with this name are the bundle of.
-pub(crate) fn link_of(alloc: Global, name: &str, bytes: &[u8]) -> Result<Link, FilesFault>
+pub(crate) fn link_of(alloc: Global, name: &str, bytes: &[u8]) -> Result<ChainLink, FilesFault>
     ensures ok { IfOk result (IsLinkOf bytes.now) }
     ensures err { IfErr result (IsNoLink name.now bytes.now) }
 {
     let mut source = Noted::new(bytes);
     match read_bundle_of(alloc, &mut source, 3, 3) {
-        Ok(Bundle { journals, receipts }) => Ok(Link { journals, receipts }),
+        Ok(Bundle { journals, receipts }) => Ok(ChainLink { journals, receipts }),
         Err(fault) => Err(no_link(alloc, name, fault)),
     }
 }
 
 /// The generation of which the file with this name has the bundle.
-fn read_link<R: Files + AllocGlobal>(rt: &R, name: &str) -> Result<Link, FilesFault>
+fn read_link<R: Files + AllocGlobal>(rt: &R, name: &str) -> Result<ChainLink, FilesFault>
     ensures ok { IfOk result (λ l. (zs : List ℕ) × IsLinkOf zs l) }
     ensures err { IfErr result (IsNoFile name.now) }
 {
@@ -70,7 +70,7 @@ fn read_link<R: Files + AllocGlobal>(rt: &R, name: &str) -> Result<Link, FilesFa
 pub(crate) fn read_links<R: Files + AllocGlobal>(
     rt: &R,
     names: &[String],
-) -> Result<Vec<Link>, FilesFault>
+) -> Result<Vec<ChainLink>, FilesFault>
     ensures count { IfOk result (λ links. length links.items ≡ length names.now) }
     ensures read { IfOk result (λ links. AreRead links.items) }
     ensures err { IfErr result (IsStopped (map string_bytes names.now)) }

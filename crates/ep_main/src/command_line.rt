@@ -11,24 +11,24 @@ ghost use Rattle.ep_main.specs.Options.{Options};
 ghost use Rattle.ep_main.specs.Words.{AskFor, AskForHelp, Chooses, IsAuditTask, IsBundleAudit, IsChainAudit, IsChainFound, IsChainOf, IsHelp, IsHelpTask, IsMet, IsMetTask, IsShown, IsShownTask, IsTask, MetReplay, MetRun, MetAudit, MetChain, MetUpgrade, Names, NamesHost, NamesTarget, audit as audit_app, audit_words, auditing, bounded, chained, emit as emit_rule, hosted, limit_in, replay as replay_app, replaying, run as run_app, run_words, epaxos, turned, upgrade as upgrade_app};
 ghost use Rattle.ep_main.specs.declared.asked.Asked.{Asked};
 ghost use Rattle.ep_main.specs.declared.asked.Asked.TheVariants.{Replay, Run, Audit, Upgrade, Version};
-ghost use Rattle.ep_cli.specs.declared.declined.Declined.TheVariants.{Memory};
+ghost use Rattle.ep_cli.specs.declared.words_fault.WordsFault.TheVariants.{Memory};
 ghost use Rattle.ep_main.specs.declared.asked.Emit.{Emit};
 ghost use Rattle.ep_main.specs.declared.asked.Emit.TheVariants.{Report, Bundle};
 ghost use Rattle.ep_main.specs.declared.host.Host.{Host};
 ghost use Rattle.ep_main.specs.declared.host.Host.TheVariants.{Lock, Ring};
 ghost use Rattle.ep_main.specs.declared.target.Target.{Target};
 ghost use Rattle.ep_main.specs.declared.target.Target.TheVariants.{Second, Third};
-ghost use Rattle.ep_main.specs.declared.task.Task.TheVariants.{Streams};
+ghost use Rattle.ep_main.specs.declared.job.Job.TheVariants.{Streams};
 ghost use Rattle.ep_script.specs.Grammar.{number_in as number_between};
 
 use crate::asked::{Asked, Emit};
 use crate::host::Host;
+use crate::job::Job;
 use crate::run_options::RunOptions;
 use crate::target::Target;
-use crate::task::Task;
 use clap::error::ErrorKind;
 use clap::{Arg, ArgAction, ArgMatches, Command, Error};
-use ep_cli::Declined;
+use ep_cli::WordsFault;
 use ep_script::number_in;
 use std::alloc::{AllocError, Global};
 use std::convert::AsStr;
@@ -106,7 +106,7 @@ Exit status:
   4  reading or writing failed";
 
 /// What the words ask for, of which the first is the program's own name. `Words` where they are none that the program knows.
-pub(crate) fn read_words<T: AsStr>(alloc: Global, words: &[T]) -> Result<Task, Declined>
+pub(crate) fn read_words<T: AsStr>(alloc: Global, words: &[T]) -> Result<Job, WordsFault>
     ensures asked { (asked : Asked) → AskFor asked (map T.text words.now) → MatchResult result (λ t. t ≡ Streams asked) (λ d. d ≡ Memory) }
     ensures help { AskForHelp (map T.text words.now) → MatchResult result IsHelpTask (λ d. d ≡ Memory) }
     ensures only { IfOk result (λ t. IsTask t (map T.text words.now)) }
@@ -119,18 +119,18 @@ pub(crate) fn read_words<T: AsStr>(alloc: Global, words: &[T]) -> Result<Task, D
 }
 
 /// What is to be done where `clap` finds no matches.
-fn task_instead(alloc: Global, error: &Error) -> Result<Task, Declined>
+fn task_instead(alloc: Global, error: &Error) -> Result<Job, WordsFault>
     ensures memory { kind_of error.now ≡ OutOfMemory → result ≡ Err Memory }
     ensures version { kind_of error.now ≡ DisplayVersion → result ≡ Ok (Streams Version) }
     ensures help { kind_of error.now ≡ DisplayHelp → MatchResult result IsHelpTask (λ d. d ≡ Memory) }
     ensures only { IfOk result (λ t. IsShownTask t (kind_of error.now)) }
 {
     let asked = asked_instead(alloc, error)?;
-    Ok(Task::Streams(asked))
+    Ok(Job::Streams(asked))
 }
 
 /// What is to be done by the subcommand that was met.
-fn task_by(alloc: Global, matches: &ArgMatches<'_>) -> Result<Task, Declined>
+fn task_by(alloc: Global, matches: &ArgMatches<'_>) -> Result<Job, WordsFault>
     ensures replay { (emit : Emit) → MetReplay emit (subcommand_rows_of matches.now) → result ≡ Ok (Streams (Replay emit)) }
     ensures run { (options : Options) → MetRun options (subcommand_rows_of matches.now) → result ≡ Ok (Streams (Run options)) }
     ensures audit { MetAudit (subcommand_rows_of matches.now) → result ≡ Ok (Streams Audit) }
@@ -142,13 +142,13 @@ fn task_by(alloc: Global, matches: &ArgMatches<'_>) -> Result<Task, Declined>
         Some(options) => audit_of(alloc, options),
         None => {
             let asked = asked_by(alloc, matches)?;
-            Ok(Task::Streams(asked))
+            Ok(Job::Streams(asked))
         }
     }
 }
 
 /// Which audit is asked for, by its options.
-fn audit_of(alloc: Global, options: &ArgMatches<'_>) -> Result<Task, Declined>
+fn audit_of(alloc: Global, options: &ArgMatches<'_>) -> Result<Job, WordsFault>
     ensures audit { IsBundleAudit (audit_words (rows_of (found_of options.now))) → result ≡ Ok (Streams Audit) }
     ensures chain { (names : List Text) → IsChainAudit names (audit_words (rows_of (found_of options.now))) → MatchResult result (IsChainOf names) (λ d. d ≡ Memory) }
     ensures only { IfOk result (λ t. IsAuditTask t (audit_words (rows_of (found_of options.now)))) }
@@ -157,8 +157,8 @@ fn audit_of(alloc: Global, options: &ArgMatches<'_>) -> Result<Task, Declined>
         return chain_of(alloc, options);
     }
     match options.get_raw("FILE") {
-        None => Ok(Task::Streams(Asked::Audit)),
-        Some(_) => Err(Declined::Words(String::from_str(
+        None => Ok(Job::Streams(Asked::Audit)),
+        Some(_) => Err(WordsFault::Words(String::from_str(
             alloc,
             "error: a FILE stands with '--chain' alone\n\nFor more information, try '--help'.\n",
         )?)),
@@ -177,16 +177,16 @@ fn is_chain(options: &ArgMatches<'_>) -> bool
 }
 
 /// The chain of the files that are named.
-fn chain_of(alloc: Global, options: &ArgMatches<'_>) -> Result<Task, Declined>
+fn chain_of(alloc: Global, options: &ArgMatches<'_>) -> Result<Job, WordsFault>
     ensures named { (names : List Text) → all_of (codes "FILE") (rows_of (found_of options.now)) ≡ Some names → MatchResult result (IsChainOf names) (λ d. d ≡ Memory) }
     ensures only { IfOk result (λ t. IsChainFound t (all_of (codes "FILE") (rows_of (found_of options.now)))) }
 {
     match options.get_raw("FILE") {
         Some(words) => {
             let names = copied(alloc, words)?;
-            Ok(Task::Chain(names))
+            Ok(Job::Chain(names))
         }
-        None => Err(Declined::Words(String::from_str(
+        None => Err(WordsFault::Words(String::from_str(
             alloc,
             "error: '--chain' takes one FILE or more\n\nFor more information, try '--help'.\n",
         )?)),
@@ -206,7 +206,7 @@ fn copied(alloc: Global, words: &[&str]) -> Result<Vec<String>, AllocError>
 }
 
 /// What is asked for where `clap` finds no matches: the version or help at most.
-fn asked_instead(alloc: Global, error: &Error) -> Result<Asked, Declined>
+fn asked_instead(alloc: Global, error: &Error) -> Result<Asked, WordsFault>
     ensures memory { kind_of error.now ≡ OutOfMemory → result ≡ Err Memory }
     ensures version { kind_of error.now ≡ DisplayVersion → result ≡ Ok Version }
     ensures help { kind_of error.now ≡ DisplayHelp → MatchResult result IsHelp (λ d. d ≡ Memory) }
@@ -215,12 +215,12 @@ fn asked_instead(alloc: Global, error: &Error) -> Result<Asked, Declined>
     match error.kind() {
         ErrorKind::DisplayVersion => Ok(Asked::Version),
         ErrorKind::DisplayHelp => Ok(Asked::Help(error.to_string(alloc)?)),
-        ErrorKind::OutOfMemory => Err(Declined::Memory),
-        _ => Err(Declined::Words(error.to_string(alloc)?)),
+        ErrorKind::OutOfMemory => Err(WordsFault::Memory),
+        _ => Err(WordsFault::Words(error.to_string(alloc)?)),
     }
 }
 
-fn asked_by(alloc: Global, matches: &ArgMatches<'_>) -> Result<Asked, Declined>
+fn asked_by(alloc: Global, matches: &ArgMatches<'_>) -> Result<Asked, WordsFault>
     ensures replay { (emit : Emit) → MetReplay emit (subcommand_rows_of matches.now) → result ≡ Ok (Replay emit) }
     ensures run { (options : Options) → MetRun options (subcommand_rows_of matches.now) → result ≡ Ok (Run options) }
     ensures upgrade { (target : Target) → MetUpgrade target (subcommand_rows_of matches.now) → result ≡ Ok (Upgrade target) }
@@ -232,7 +232,7 @@ fn asked_by(alloc: Global, matches: &ArgMatches<'_>) -> Result<Asked, Declined>
     }
 }
 
-fn run_by(alloc: Global, matches: &ArgMatches<'_>) -> Result<Asked, Declined>
+fn run_by(alloc: Global, matches: &ArgMatches<'_>) -> Result<Asked, WordsFault>
     ensures run { (options : Options) → MetRun options (subcommand_rows_of matches.now) → result ≡ Ok (Run options) }
     ensures upgrade { (target : Target) → MetUpgrade target (subcommand_rows_of matches.now) → result ≡ Ok (Upgrade target) }
     ensures only { IfOk result (λ a. IsMet a (subcommand_rows_of matches.now)) }
@@ -244,7 +244,7 @@ fn run_by(alloc: Global, matches: &ArgMatches<'_>) -> Result<Asked, Declined>
 }
 
 /// How a run is to be done, by its options.
-fn options_of(alloc: Global, options: &ArgMatches<'_>) -> Result<RunOptions, Declined>
+fn options_of(alloc: Global, options: &ArgMatches<'_>) -> Result<RunOptions, WordsFault>
     ensures chosen { (o : Options) → Chooses (run_words (rows_of (found_of options.now))) o → result ≡ Ok o }
     ensures only { IfOk result (Chooses (run_words (rows_of (found_of options.now)))) }
 {
@@ -256,7 +256,7 @@ fn options_of(alloc: Global, options: &ArgMatches<'_>) -> Result<RunOptions, Dec
 }
 
 /// Which host is to have the replicas.
-fn host_of(alloc: Global, options: &ArgMatches<'_>) -> Result<Host, Declined>
+fn host_of(alloc: Global, options: &ArgMatches<'_>) -> Result<Host, WordsFault>
     ensures named { (host : Host) → NamesHost (first_of (codes "host") (rows_of (found_of options.now))) host → result ≡ Ok host }
     ensures only { IfOk result (NamesHost (first_of (codes "host") (rows_of (found_of options.now)))) }
 {
@@ -266,7 +266,7 @@ fn host_of(alloc: Global, options: &ArgMatches<'_>) -> Result<Host, Declined>
     }
 }
 
-fn host_named(alloc: Global, name: &str) -> Result<Host, Declined>
+fn host_named(alloc: Global, name: &str) -> Result<Host, WordsFault>
     ensures lock { name.now ≡ codes "lock" → result ≡ Ok Lock }
     ensures ring { name.now ≡ codes "ring" → result ≡ Ok Ring }
     ensures only { IfOk result (NamesHost (Some name.now)) }
@@ -276,7 +276,7 @@ fn host_named(alloc: Global, name: &str) -> Result<Host, Declined>
     } else if name == "ring" {
         Ok(Host::Ring)
     } else {
-        Err(Declined::Words(format!(in alloc;
+        Err(WordsFault::Words(format!(in alloc;
             "error: invalid value {name:?} for '--host <HOST>'\n  [possible values: lock, ring]\n\nFor more information, try '--help'.\n"
         )?))
     }
@@ -289,7 +289,7 @@ fn limit_of(
     name: &str,
     most: u64,
     default: u64,
-) -> Result<u64, Declined>
+) -> Result<u64, WordsFault>
     requires { (1 ≤ default) × (default ≤ most) }
     ensures spelled { (n : ℕ) → limit_in most default (first_of name.now (rows_of (found_of options.now))) ≡ Some n → result ≡ Ok n }
     ensures only { IfOk result (λ n. limit_in most default (first_of name.now (rows_of (found_of options.now))) ≡ Some n) }
@@ -301,31 +301,31 @@ fn limit_of(
     }
 }
 
-fn limit_named(alloc: Global, word: &str, name: &str, most: u64) -> Result<u64, Declined>
+fn limit_named(alloc: Global, word: &str, name: &str, most: u64) -> Result<u64, WordsFault>
     ensures spelled { (n : ℕ) → number_between 1 most word.now ≡ Some n → result ≡ Ok n }
     ensures only { IfOk result (λ n. number_between 1 most word.now ≡ Some n) }
     ensures in_range { IfOk result (λ n. (1 ≤ n) × (n ≤ most)) }
 {
     match number_in(word.as_bytes(), 1, most) {
         Some(number) => Ok(number),
-        None => Err(Declined::Words(format!(in alloc;
+        None => Err(WordsFault::Words(format!(in alloc;
             "error: invalid value {word:?} for '--{name}': it takes a number from 1 to {most}\n\nFor more information, try '--help'.\n"
         )?)),
     }
 }
 
-fn upgrade_by(alloc: Global, matches: &ArgMatches<'_>) -> Result<Asked, Declined>
+fn upgrade_by(alloc: Global, matches: &ArgMatches<'_>) -> Result<Asked, WordsFault>
     ensures upgrade { (target : Target) → MetUpgrade target (subcommand_rows_of matches.now) → result ≡ Ok (Upgrade target) }
     ensures only { IfOk result (λ a. IsMet a (subcommand_rows_of matches.now)) }
 {
     match matches.subcommand_matches("upgrade") {
         Some(options) => Ok(Asked::Upgrade(target_of(alloc, options)?)),
-        None => Err(Declined::Words(String::new(alloc))),
+        None => Err(WordsFault::Words(String::new(alloc))),
     }
 }
 
 /// The version that a bundle is upgraded to.
-fn target_of(alloc: Global, options: &ArgMatches<'_>) -> Result<Target, Declined>
+fn target_of(alloc: Global, options: &ArgMatches<'_>) -> Result<Target, WordsFault>
     ensures named { (target : Target) → NamesTarget (first_of (codes "to") (rows_of (found_of options.now))) target → result ≡ Ok target }
     ensures only { IfOk result (NamesTarget (first_of (codes "to") (rows_of (found_of options.now)))) }
 {
@@ -335,7 +335,7 @@ fn target_of(alloc: Global, options: &ArgMatches<'_>) -> Result<Target, Declined
     }
 }
 
-fn target_named(alloc: Global, name: &str) -> Result<Target, Declined>
+fn target_named(alloc: Global, name: &str) -> Result<Target, WordsFault>
     ensures second { name.now ≡ codes "2" → result ≡ Ok Second }
     ensures third { name.now ≡ codes "3" → result ≡ Ok Third }
     ensures only { IfOk result (NamesTarget (Some name.now)) }
@@ -345,13 +345,13 @@ fn target_named(alloc: Global, name: &str) -> Result<Target, Declined>
     } else if name == "3" {
         Ok(Target::Third)
     } else {
-        Err(Declined::Words(format!(in alloc;
+        Err(WordsFault::Words(format!(in alloc;
             "error: invalid value {name:?} for '--to <VERSION>'\n  [possible values: 2, 3]\n\nFor more information, try '--help'.\n"
         )?))
     }
 }
 
-fn emit_of(alloc: Global, options: &ArgMatches<'_>) -> Result<Emit, Declined>
+fn emit_of(alloc: Global, options: &ArgMatches<'_>) -> Result<Emit, WordsFault>
     ensures named { (emit : Emit) → Names (first_of (codes "emit") (rows_of (found_of options.now))) emit → result ≡ Ok emit }
     ensures only { IfOk result (Names (first_of (codes "emit") (rows_of (found_of options.now)))) }
 {
@@ -361,7 +361,7 @@ fn emit_of(alloc: Global, options: &ArgMatches<'_>) -> Result<Emit, Declined>
     }
 }
 
-fn emit_named(alloc: Global, what: &str) -> Result<Emit, Declined>
+fn emit_named(alloc: Global, what: &str) -> Result<Emit, WordsFault>
     ensures report { what.now ≡ codes "report" → result ≡ Ok Report }
     ensures bundle { what.now ≡ codes "bundle" → result ≡ Ok Bundle }
     ensures only { IfOk result (Names (Some what.now)) }
@@ -371,7 +371,7 @@ fn emit_named(alloc: Global, what: &str) -> Result<Emit, Declined>
     } else if what == "bundle" {
         Ok(Emit::Bundle)
     } else {
-        Err(Declined::Words(format!(in alloc;
+        Err(WordsFault::Words(format!(in alloc;
             "error: invalid value {what:?} for '--emit <WHAT>'\n  [possible values: report, bundle]\n\nFor more information, try '--help'.\n"
         )?))
     }

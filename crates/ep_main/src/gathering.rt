@@ -2,9 +2,9 @@
 
 ghost use Rattle.std.specs.Prelude.{◌≡◌, ◌<◌, ◌^◌, length, IfOk, IfErr};
 ghost use Rattle.ep_bundle.specs.Bytes.{bundle_bytes};
-ghost use Rattle.ep_main.specs.declared.fault.Fault.TheVariants.{Memory};
+ghost use Rattle.ep_main.specs.declared.engine_fault.EngineFault.TheVariants.{Memory};
 
-use crate::fault::Fault;
+use crate::engine_fault::EngineFault;
 use ep_base::Noted;
 use ep_bundle::write_bundle;
 use ep_journal::Journals;
@@ -16,7 +16,7 @@ pub(crate) fn gather_bundle(
     alloc: Global,
     journals: &Journals,
     receipts: &[Receipt],
-) -> Result<Vec<u8>, Fault>
+) -> Result<Vec<u8>, EngineFault>
     requires receipts { length receipts.now < 2 ^ 32 }
     ensures value { IfOk result (λ bytes. bytes.items ≡ bundle_bytes journals.now receipts.now) }
     ensures memory { IfErr result (λ e. e ≡ Memory) }
@@ -24,6 +24,6 @@ pub(crate) fn gather_bundle(
     let mut gathered = Noted::new(Vec::new(alloc));
     match write_bundle(journals, receipts, &mut gathered) {
         Ok(()) => Ok(gathered.into_inner()),
-        Err(_) => Err(Fault::Memory),
+        Err(_) => Err(EngineFault::Memory),
     }
 }

@@ -3,24 +3,24 @@
 ghost use Rattle.std.specs.Prelude.{◌≡◌, ◌⊎◌, ℕ, List, Some, IfOk, map};
 ghost use Rattle.ep_base.specs.Devices.{FailsAsTold};
 ghost use Rattle.ep_main.specs.Faults.{is_read, is_write};
-ghost use Rattle.ep_cli.specs.Outputs.{input, output};
-ghost use Rattle.ep_main.specs.Runs.{Performs, IsHelped, Declines, Ends, Does as Attempts, Concludes, IsVerdict, TellsWhy};
+ghost use Rattle.ep_cli.specs.Outputs.{became, turned};
+ghost use Rattle.ep_main.specs.Runs.{Performs, IsHelped, Declines, Ends, Does as Attempts, Concludes, IsVerdict};
 ghost use Rattle.ep_main.specs.Tasks.{Does, EndsBy, EndsSo, Works};
 ghost use Rattle.ep_main.specs.Words.{AskFor, AskForHelp};
 ghost use Rattle.ep_main.specs.declared.asked.Asked.{Asked};
 
-use crate::asked::{Asked, Emit};
-use crate::auditing::print_audit;
+use crate::asked::Asked;
+use crate::auditing::audit_of;
 use crate::chaining::print_chain;
 use crate::command_line::read_words;
-use crate::fault::Fault;
-use crate::replaying::{emit_bundle, print_replay};
-use crate::running::print_run;
-use crate::task::Task;
+use crate::engine_fault::EngineFault;
+use crate::job::Job;
+use crate::replaying::replay_of;
+use crate::running::run_of;
 use crate::telling::tell;
-use crate::upgrading::print_upgraded;
+use crate::upgrading::upgraded_of;
 use ep_base::{Sink, Source};
-use ep_cli::{Declined, Status, tell_words};
+use ep_cli::{Status, Streams, decline, put_made, put_text};
 use std::alloc::Global;
 use std::convert::AsStr;
 use std::marker::Sync;
@@ -44,40 +44,33 @@ pub fn engine<
     S: Source,
     W: Sink,
     F: Sink,
->(
-    rt: &R,
-    alloc: Global,
-    words: &[T],
-    reader: &mut S,
-    writer: &mut W,
-    fault_writer: &mut F,
-) -> Status
+>(rt: &R, alloc: Global, words: &[T], streams: &mut Streams<S, W, F>) -> Status
     // where the words ask for a replay's or a run's report, for its bundle, for an audit, for an upgrade, or for the version, that is done
-    ensures asked { (asked : Asked) → AskFor asked (map T.text words.now) → (zs : List ℕ) → S.left reader.old ≡ Some zs → Performs asked result zs (input (S.has_failed reader.old) (S.has_failed reader.new))
-        (output (W.held writer.old) (W.held writer.new) (W.has_failed writer.old) (W.has_failed writer.new))
-        (output (F.held fault_writer.old) (F.held fault_writer.new) (F.has_failed fault_writer.old) (F.has_failed fault_writer.new)) }
+    ensures asked { (asked : Asked) → AskFor asked (map T.text words.now) → (zs : List ℕ) → S.left streams.old.reader ≡ Some zs → Performs asked result zs (turned S.has_failed streams.old.reader streams.new.reader)
+        (became W.held W.has_failed streams.old.writer streams.new.writer)
+        (became F.held F.has_failed streams.old.fault_writer streams.new.fault_writer) }
 
     // where they ask for help, it is printed
-    ensures help { AskForHelp (map T.text words.now) → (zs : List ℕ) → S.left reader.old ≡ Some zs → IsHelped result
-        (output (W.held writer.old) (W.held writer.new) (W.has_failed writer.old) (W.has_failed writer.new))
-        (output (F.held fault_writer.old) (F.held fault_writer.new) (F.has_failed fault_writer.old) (F.has_failed fault_writer.new)) }
+    ensures help { AskForHelp (map T.text words.now) → (zs : List ℕ) → S.left streams.old.reader ≡ Some zs → IsHelped result
+        (became W.held W.has_failed streams.old.writer streams.new.writer)
+        (became F.held F.has_failed streams.old.fault_writer streams.new.fault_writer) }
 
     // whatever the words are, they are refused, or what they ask for is done
-    ensures other { (zs : List ℕ) → S.left reader.old ≡ Some zs → Declines result
-        (output (W.held writer.old) (W.held writer.new) (W.has_failed writer.old) (W.has_failed writer.new))
-        (output (F.held fault_writer.old) (F.held fault_writer.new) (F.has_failed fault_writer.old) (F.has_failed fault_writer.new))
-        ⊎ Does (map T.text words.now) result zs (input (S.has_failed reader.old) (S.has_failed reader.new))
-        (output (W.held writer.old) (W.held writer.new) (W.has_failed writer.old) (W.has_failed writer.new))
-        (output (F.held fault_writer.old) (F.held fault_writer.new) (F.has_failed fault_writer.old) (F.has_failed fault_writer.new)) }
+    ensures other { (zs : List ℕ) → S.left streams.old.reader ≡ Some zs → Declines result
+        (became W.held W.has_failed streams.old.writer streams.new.writer)
+        (became F.held F.has_failed streams.old.fault_writer streams.new.fault_writer)
+        ⊎ Does (map T.text words.now) result zs (turned S.has_failed streams.old.reader streams.new.reader)
+        (became W.held W.has_failed streams.old.writer streams.new.writer)
+        (became F.held F.has_failed streams.old.fault_writer streams.new.fault_writer) }
 
     // whatever the words and the bytes are, status 4 is that of a device that failed in this run; or, where they ask for a chain, of a file of it
-    ensures ends { EndsSo (map T.text words.now) result (input (S.has_failed reader.old) (S.has_failed reader.new))
-        (output (W.held writer.old) (W.held writer.new) (W.has_failed writer.old) (W.has_failed writer.new))
-        (output (F.held fault_writer.old) (F.held fault_writer.new) (F.has_failed fault_writer.old) (F.has_failed fault_writer.new)) }
+    ensures ends { EndsSo (map T.text words.now) result (turned S.has_failed streams.old.reader streams.new.reader)
+        (became W.held W.has_failed streams.old.writer streams.new.writer)
+        (became F.held F.has_failed streams.old.fault_writer streams.new.fault_writer) }
 {
     match read_words(alloc, words) {
-        Ok(task) => work(rt, alloc, task, reader, writer, fault_writer),
-        Err(why) => decline(why, fault_writer),
+        Ok(task) => work(rt, alloc, task, streams),
+        Err(why) => decline(why, &mut streams.fault_writer),
     }
 }
 
@@ -85,34 +78,19 @@ pub fn engine<
 fn work<R: Files + AllocGlobal + Threads + Wait + Sync, S: Source, W: Sink, F: Sink>(
     rt: &R,
     alloc: Global,
-    task: Task,
-    reader: &mut S,
-    writer: &mut W,
-    fault_writer: &mut F,
+    task: Job,
+    streams: &mut Streams<S, W, F>,
 ) -> Status
-    ensures works { (zs : List ℕ) → S.left reader.old ≡ Some zs → Works task result zs (input (S.has_failed reader.old) (S.has_failed reader.new))
-        (output (W.held writer.old) (W.held writer.new) (W.has_failed writer.old) (W.has_failed writer.new))
-        (output (F.held fault_writer.old) (F.held fault_writer.new) (F.has_failed fault_writer.old) (F.has_failed fault_writer.new)) }
-    ensures ends { EndsBy task result (input (S.has_failed reader.old) (S.has_failed reader.new))
-        (output (W.held writer.old) (W.held writer.new) (W.has_failed writer.old) (W.has_failed writer.new))
-        (output (F.held fault_writer.old) (F.held fault_writer.new) (F.has_failed fault_writer.old) (F.has_failed fault_writer.new)) }
+    ensures works { (zs : List ℕ) → S.left streams.old.reader ≡ Some zs → Works task result zs (turned S.has_failed streams.old.reader streams.new.reader)
+        (became W.held W.has_failed streams.old.writer streams.new.writer)
+        (became F.held F.has_failed streams.old.fault_writer streams.new.fault_writer) }
+    ensures ends { EndsBy task result (turned S.has_failed streams.old.reader streams.new.reader)
+        (became W.held W.has_failed streams.old.writer streams.new.writer)
+        (became F.held F.has_failed streams.old.fault_writer streams.new.fault_writer) }
 {
     match task {
-        Task::Streams(asked) => perform(rt, alloc, asked, reader, writer, fault_writer),
-        Task::Chain(names) => print_chain(rt, &names, writer, fault_writer),
-    }
-}
-
-/// How the program ends where it does nothing. Why is told on the fault output; where that fails, the status stays.
-pub(crate) fn decline<F: Sink>(why: Declined, fault_writer: &mut F) -> Status
-    ensures { TellsWhy why result (output (F.held fault_writer.old) (F.held fault_writer.new) (F.has_failed fault_writer.old) (F.has_failed fault_writer.new)) }
-{
-    match why {
-        Declined::Words(text) => {
-            let _ = tell_words(text.as_str(), fault_writer);
-            Status::Refused
-        }
-        Declined::Memory => concluded(Err(Fault::Memory), fault_writer),
+        Job::Streams(asked) => perform(rt, alloc, asked, streams),
+        Job::Chain(names) => print_chain(rt, &names, streams),
     }
 }
 
@@ -121,55 +99,70 @@ pub fn perform<R: Threads + Wait + Sync, S: Source, W: Sink, F: Sink>(
     rt: &R,
     alloc: Global,
     asked: Asked,
-    reader: &mut S,
-    writer: &mut W,
-    fault_writer: &mut F,
+    streams: &mut Streams<S, W, F>,
 ) -> Status
-    ensures performs { (zs : List ℕ) → S.left reader.old ≡ Some zs → Performs asked result zs (input (S.has_failed reader.old) (S.has_failed reader.new))
-        (output (W.held writer.old) (W.held writer.new) (W.has_failed writer.old) (W.has_failed writer.new))
-        (output (F.held fault_writer.old) (F.held fault_writer.new) (F.has_failed fault_writer.old) (F.has_failed fault_writer.new)) }
-    ensures ends { Ends result (input (S.has_failed reader.old) (S.has_failed reader.new))
-        (output (W.held writer.old) (W.held writer.new) (W.has_failed writer.old) (W.has_failed writer.new))
-        (output (F.held fault_writer.old) (F.held fault_writer.new) (F.has_failed fault_writer.old) (F.has_failed fault_writer.new)) }
+    ensures performs { (zs : List ℕ) → S.left streams.old.reader ≡ Some zs → Performs asked result zs (turned S.has_failed streams.old.reader streams.new.reader)
+        (became W.held W.has_failed streams.old.writer streams.new.writer)
+        (became F.held F.has_failed streams.old.fault_writer streams.new.fault_writer) }
+    ensures ends { Ends result (turned S.has_failed streams.old.reader streams.new.reader)
+        (became W.held W.has_failed streams.old.writer streams.new.writer)
+        (became F.held F.has_failed streams.old.fault_writer streams.new.fault_writer) }
 {
-    let outcome = attempt(rt, alloc, asked, reader, writer);
-    concluded(outcome, fault_writer)
+    let outcome = attempt(rt, alloc, asked, streams);
+    concluded(outcome, &mut streams.fault_writer)
 }
 
 /// Does what is asked, as far as no fault stops it.
-fn attempt<R: Threads + Wait + Sync, S: Source, W: Sink>(
+fn attempt<R: Threads + Wait + Sync, S: Source, W: Sink, F>(
     rt: &R,
     alloc: Global,
     asked: Asked,
-    reader: &mut S,
-    writer: &mut W,
-) -> Result<Status, Fault>
-    ensures done { (zs : List ℕ) → S.left reader.old ≡ Some zs → Attempts asked result zs
-        (output (W.held writer.old) (W.held writer.new) (W.has_failed writer.old) (W.has_failed writer.new)) }
+    streams: &mut Streams<S, W, F>,
+) -> Result<Status, EngineFault>
+    ensures done { (zs : List ℕ) → S.left streams.old.reader ≡ Some zs → Attempts asked result zs (became W.held W.has_failed streams.old.writer streams.new.writer) }
     ensures verdict { IfOk result IsVerdict }
-    ensures read { FailsAsTold is_read result (S.has_failed reader.old) (S.has_failed reader.new) }
-    ensures written { FailsAsTold is_write result (W.has_failed writer.old) (W.has_failed writer.new) }
+    ensures read { FailsAsTold is_read result (S.has_failed streams.old.reader) (S.has_failed streams.new.reader) }
+    ensures written { FailsAsTold is_write result (W.has_failed streams.old.writer) (W.has_failed streams.new.writer) }
+    ensures untold { streams.new.fault_writer ≡ streams.old.fault_writer }
 {
     match asked {
-        Asked::Replay(Emit::Report) => print_replay(alloc, reader, writer),
-        Asked::Replay(Emit::Bundle) => emit_bundle(alloc, reader, writer),
-        Asked::Run(options) => print_run(rt, alloc, &options, reader, writer),
-        Asked::Audit => print_audit(alloc, reader, writer),
-        Asked::Upgrade(target) => print_upgraded(alloc, target, reader, writer),
-        Asked::Version => {
-            writer.put(b"epaxos 0.1.0\n")?;
-            Ok(Status::Done)
+        Asked::Replay(emit) => {
+            let made = replay_of(alloc, emit, &mut streams.reader);
+            put_made(made, EngineFault::Write, &mut streams.writer)
         }
-        Asked::Help(text) => {
-            writer.put(text.as_bytes())?;
-            Ok(Status::Done)
+        Asked::Run(options) => {
+            let made = run_of(rt, alloc, &options, &mut streams.reader);
+            put_made(made, EngineFault::Write, &mut streams.writer)
         }
+        Asked::Audit => {
+            let made = audit_of(alloc, &mut streams.reader);
+            put_made(made, EngineFault::Write, &mut streams.writer)
+        }
+        Asked::Upgrade(target) => {
+            let made = upgraded_of(alloc, target, &mut streams.reader);
+            put_made(made, EngineFault::Write, &mut streams.writer)
+        }
+        Asked::Version => put_text(
+            b"epaxos 0.1.0\n",
+            Status::Done,
+            EngineFault::Write,
+            &mut streams.writer,
+        ),
+        Asked::Help(text) => put_text(
+            text.as_bytes(),
+            Status::Done,
+            EngineFault::Write,
+            &mut streams.writer,
+        ),
     }
 }
 
 /// How the program ends. A fault is told on the fault output; where that fails, the status stays.
-pub(crate) fn concluded<F: Sink>(outcome: Result<Status, Fault>, fault_writer: &mut F) -> Status
-    ensures { Concludes outcome result (output (F.held fault_writer.old) (F.held fault_writer.new) (F.has_failed fault_writer.old) (F.has_failed fault_writer.new)) }
+pub(crate) fn concluded<F: Sink>(
+    outcome: Result<Status, EngineFault>,
+    fault_writer: &mut F,
+) -> Status
+    ensures { Concludes outcome result (became F.held F.has_failed fault_writer.old fault_writer.new) }
 {
     match outcome {
         Ok(status) => status,

@@ -1,73 +1,70 @@
 //! Replays.
 
-ghost use Rattle.std.specs.Prelude.{◌≡◌, ◌<◌, ◌^◌, ℕ, List, Some, length, IfOk, IfErr};
+ghost use Rattle.std.specs.Prelude.{◌≡◌, ◌<◌, ◌^◌, ℕ, List, Some, length, IfOk, IfErr, false};
 ghost use Rattle.ep_base.specs.Devices.{FailsAsTold};
 ghost use Rattle.ep_bundle.specs.Bytes.{bundle_bytes};
 ghost use Rattle.ep_main.specs.Faults.{is_read, is_write};
-ghost use Rattle.ep_cli.specs.Outputs.{output};
-ghost use Rattle.ep_main.specs.Reported.{IsReportOf};
+ghost use Rattle.ep_cli.specs.Printed.{Makes};
+ghost use Rattle.ep_main.specs.Reported.{IsEmitted, IsReportOf};
 ghost use Rattle.ep_journal.specs.Entries.{journals_of};
 ghost use Rattle.ep_journal.specs.Openings.{opens};
 ghost use Rattle.ep_rules.specs.Audits.{IsAccepted};
-ghost use Rattle.ep_main.specs.Runs.{Plays, Leaves, IsVerdict};
-ghost use Rattle.ep_main.specs.declared.fault.Fault.TheVariants.{Memory};
+ghost use Rattle.ep_main.specs.Runs.{Does, IsVerdict};
+ghost use Rattle.ep_main.specs.declared.asked.Asked.TheVariants.{Replay};
+ghost use Rattle.ep_main.specs.declared.engine_fault.EngineFault.TheVariants.{Memory};
 
-use crate::fault::Fault;
+use crate::asked::Emit;
+use crate::engine_fault::EngineFault;
 use crate::gathering::gather_bundle;
-use crate::life::{life_of, told_contents};
-use ep_audit::{Refusal, audit};
-use ep_base::{Sink, Source};
-use ep_cli::Status;
+use ep_audit::{VerdictFault, audit};
+use ep_base::Source;
+use ep_cli::{Made, Status};
 use ep_replay::{Replayed, replay};
-use ep_report::{Findings, report};
+use ep_report::{Findings, life_of, report, told_contents};
 use ep_script::read_script;
 use std::alloc::Global;
 use std::mem::forget;
 
-/// Reads a script to its end, plays it, audits what it leaves, and prints the report.
-pub(crate) fn print_replay<S: Source, W: Sink>(
+/// Reads a script to its end, and plays it: the report of what it leaves, or the bundle of that. An audit accepts either.
+pub(crate) fn replay_of<S: Source>(
     alloc: Global,
+    emit: Emit,
     reader: &mut S,
-    writer: &mut W,
-) -> Result<Status, Fault>
-    ensures plays { (zs : List ℕ) → S.left reader.old ≡ Some zs → Plays result zs
-        (output (W.held writer.old) (W.held writer.new) (W.has_failed writer.old) (W.has_failed writer.new)) }
-    ensures verdict { IfOk result IsVerdict }
+) -> Result<Made, EngineFault>
+    ensures plays { (zs : List ℕ) → S.left reader.old ≡ Some zs → Makes (Does (Replay emit)) result zs }
+    ensures verdict { IfOk result (λ m. IsVerdict m.status) }
     ensures read { FailsAsTold is_read result (S.has_failed reader.old) (S.has_failed reader.new) }
-    ensures written { FailsAsTold is_write result (W.has_failed writer.old) (W.has_failed writer.new) }
+    ensures unwritten { IfErr result (λ e. is_write e ≡ false) }
 {
     let script = read_script(alloc, reader)?;
     let played = replay(alloc, &script)?;
-    let text = report_of(alloc, &played)?;
-    writer.put(text.as_slice())?;
+    let text = emitted(alloc, emit, &played);
     // The system takes memory back at the process's end, all at once.
     forget((script, played));
-    Ok(Status::Done)
+    match text {
+        Ok(text) => Ok(Made {
+            text,
+            status: Status::Done,
+        }),
+        Err(fault) => Err(fault),
+    }
 }
 
-/// Reads a script to its end, plays it, and writes the bundle of what it leaves, which an audit accepts.
-pub(crate) fn emit_bundle<S: Source, W: Sink>(
-    alloc: Global,
-    reader: &mut S,
-    writer: &mut W,
-) -> Result<Status, Fault>
-    ensures leaves { (zs : List ℕ) → S.left reader.old ≡ Some zs → Leaves result zs
-        (output (W.held writer.old) (W.held writer.new) (W.has_failed writer.old) (W.has_failed writer.new)) }
-    ensures verdict { IfOk result IsVerdict }
-    ensures read { FailsAsTold is_read result (S.has_failed reader.old) (S.has_failed reader.new) }
-    ensures written { FailsAsTold is_write result (W.has_failed writer.old) (W.has_failed writer.new) }
+/// What is printed of what a script's run left.
+fn emitted(alloc: Global, emit: Emit, played: &Replayed) -> Result<Vec<u8>, EngineFault>
+    requires accepted { IsAccepted (opens played.now.journals.opening) played.now.journals.faults (journals_of played.now.journals) played.now.receipts.items }
+    requires receipts { length played.now.receipts.items < 2 ^ 32 }
+    ensures value { IfOk result (λ text. IsEmitted emit played.now text.items) }
+    ensures memory { IfErr result (λ e. e ≡ Memory) }
 {
-    let script = read_script(alloc, reader)?;
-    let played = replay(alloc, &script)?;
-    let bundle = bundle_of(alloc, &played)?;
-    writer.put(bundle.as_slice())?;
-    // The system takes memory back at the process's end, all at once.
-    forget((script, played));
-    Ok(Status::Done)
+    match emit {
+        Emit::Report => report_of(alloc, played),
+        Emit::Bundle => bundle_of(alloc, played),
+    }
 }
 
 /// The bytes of the bundle of what a script's run left.
-fn bundle_of(alloc: Global, played: &Replayed) -> Result<Vec<u8>, Fault>
+fn bundle_of(alloc: Global, played: &Replayed) -> Result<Vec<u8>, EngineFault>
     requires receipts { length played.now.receipts.items < 2 ^ 32 }
     ensures value { IfOk result (λ bytes. bytes.items ≡ bundle_bytes played.now.journals played.now.receipts.items) }
     ensures memory { IfErr result (λ e. e ≡ Memory) }
@@ -76,7 +73,7 @@ fn bundle_of(alloc: Global, played: &Replayed) -> Result<Vec<u8>, Fault>
 }
 
 /// The report of what a script's run left, which the audit accepts.
-fn report_of(alloc: Global, played: &Replayed) -> Result<Vec<u8>, Fault>
+fn report_of(alloc: Global, played: &Replayed) -> Result<Vec<u8>, EngineFault>
     requires { IsAccepted (opens played.now.journals.opening) played.now.journals.faults (journals_of played.now.journals) played.now.receipts.items }
     ensures value { IfOk result (λ text. IsReportOf played.now text.items) }
     ensures memory { IfErr result (λ e. e ≡ Memory) }
@@ -95,7 +92,7 @@ fn report_of(alloc: Global, played: &Replayed) -> Result<Vec<u8>, Fault>
             forget(verdict);
             Ok(text)
         }
-        Err(Refusal::Fault(_)) => unreachable!(),
-        Err(Refusal::Memory) => Err(Fault::Memory),
+        Err(VerdictFault::Fault(_)) => unreachable!(),
+        Err(VerdictFault::Memory) => Err(EngineFault::Memory),
     }
 }

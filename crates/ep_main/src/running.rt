@@ -1,29 +1,28 @@
 //! Runs in threads.
 
-ghost use Rattle.std.specs.Prelude.{◌≡◌, ◌<◌, ◌^◌, ℕ, List, Some, length, IfOk, IfErr, IsOk};
+ghost use Rattle.std.specs.Prelude.{◌≡◌, ◌<◌, ◌^◌, ℕ, List, Some, length, IfOk, IfErr, IsOk, false};
 ghost use Rattle.ep_base.specs.Devices.{FailsAsTold};
 ghost use Rattle.ep_bundle.specs.Bytes.{bundle_bytes};
 ghost use Rattle.ep_host.specs.Finishing.{IsFinished};
 ghost use Rattle.ep_main.specs.Audits.{SaysOfRun};
 ghost use Rattle.ep_main.specs.Faults.{is_read, is_write};
 ghost use Rattle.ep_main.specs.Hosts.{Promises};
-ghost use Rattle.ep_cli.specs.Outputs.{output};
-ghost use Rattle.ep_main.specs.Runs.{IsVerdict, Runs};
+ghost use Rattle.ep_cli.specs.Printed.{Makes};
+ghost use Rattle.ep_main.specs.Runs.{Does, IsVerdict};
+ghost use Rattle.ep_main.specs.declared.asked.Asked.TheVariants.{Run};
 ghost use Rattle.ep_run.specs.Rings.{IsBegun, begun_of};
 ghost use Rattle.ep_main.specs.declared.asked.Emit.TheVariants.{Report, Bundle};
-ghost use Rattle.ep_main.specs.declared.fault.Fault.TheVariants.{Memory};
+ghost use Rattle.ep_main.specs.declared.engine_fault.EngineFault.TheVariants.{Memory};
 ghost use Rattle.ep_cli.specs.declared.status.Status.TheVariants.{Done};
 
 use crate::asked::Emit;
-use crate::fault::Fault;
+use crate::engine_fault::EngineFault;
 use crate::gathering::gather_bundle;
 use crate::host::Host;
-use crate::judged::Judged;
-use crate::life::{life_of, told_contents};
 use crate::run_options::RunOptions;
-use ep_base::{Sink, Source};
-use ep_cli::Status;
-use ep_report::{Findings, Losses, refusal, run_report};
+use ep_base::Source;
+use ep_cli::{Made, Status};
+use ep_report::{Findings, Losses, life_of, refusal, run_report, told_contents};
 use ep_run::{Ran, RunFault, run, run_rings};
 use ep_script::{RunScript, read_run};
 use std::alloc::Global;
@@ -32,27 +31,24 @@ use std::mem::forget;
 use std::sync::Wait;
 use std::thread::Threads;
 
-/// Reads a script to its end, runs it in threads, audits what they leave, and prints what is asked for.
-pub(crate) fn print_run<R: Threads + Wait + Sync, S: Source, W: Sink>(
+/// Reads a script to its end, runs it in threads, and audits what they leave: what is asked for.
+pub(crate) fn run_of<R: Threads + Wait + Sync, S: Source>(
     rt: &R,
     alloc: Global,
     options: &RunOptions,
     reader: &mut S,
-    writer: &mut W,
-) -> Result<Status, Fault>
-    ensures runs { (zs : List ℕ) → S.left reader.old ≡ Some zs → Runs options.now result zs
-        (output (W.held writer.old) (W.held writer.new) (W.has_failed writer.old) (W.has_failed writer.new)) }
-    ensures verdict { IfOk result IsVerdict }
+) -> Result<Made, EngineFault>
+    ensures runs { (zs : List ℕ) → S.left reader.old ≡ Some zs → Makes (Does (Run options.now)) result zs }
+    ensures verdict { IfOk result (λ m. IsVerdict m.status) }
     ensures read { FailsAsTold is_read result (S.has_failed reader.old) (S.has_failed reader.new) }
-    ensures written { FailsAsTold is_write result (W.has_failed writer.old) (W.has_failed writer.new) }
+    ensures unwritten { IfErr result (λ e. is_write e ≡ false) }
 {
     let script = read_run(alloc, reader)?;
     let ran = run_on_host(rt, alloc, options, &script)?;
-    let judged = judge_run(alloc, options.emit(), &ran)?;
-    writer.put(judged.text.as_slice())?;
+    let judged = judge_run(alloc, options.emit(), &ran);
     // The system takes memory back at the process's end, all at once.
     forget((script, ran));
-    Ok(judged.status)
+    judged
 }
 
 /// Runs the script, by the host that is asked for.
@@ -74,7 +70,7 @@ fn run_on_host<R: Threads + Wait + Sync>(
 }
 
 /// What is printed of a run, and the status by what the audit says of it.
-fn judge_run(alloc: Global, emit: Emit, ran: &Ran) -> Result<Judged, Fault>
+fn judge_run(alloc: Global, emit: Emit, ran: &Ran) -> Result<Made, EngineFault>
     requires finished { IsFinished ran.now.receipts.items ran.now.finished }
     ensures value { IfOk result (λ j. SaysOfRun emit ran.now j.status j.text.items) }
     ensures accepted { IsOk ran.now.finished.verdict → IfOk result (λ j. j.status ≡ Done) }
@@ -87,7 +83,7 @@ fn judge_run(alloc: Global, emit: Emit, ran: &Ran) -> Result<Judged, Fault>
 }
 
 /// The report of a run that the audit accepts, or its first fault.
-fn judge_reported(alloc: Global, ran: &Ran) -> Result<Judged, Fault>
+fn judge_reported(alloc: Global, ran: &Ran) -> Result<Made, EngineFault>
     requires { IsFinished ran.now.receipts.items ran.now.finished }
     ensures value { IfOk result (λ j. SaysOfRun Report ran.now j.status j.text.items) }
     ensures accepted { IsOk ran.now.finished.verdict → IfOk result (λ j. j.status ≡ Done) }
@@ -108,12 +104,12 @@ fn judge_reported(alloc: Global, ran: &Ran) -> Result<Judged, Fault>
                 receipts: ran.receipts.as_slice(),
             };
             let text = run_report(alloc, &found, losses)?;
-            Ok(Judged {
+            Ok(Made {
                 status: Status::Done,
                 text,
             })
         }
-        Err(fault) => Ok(Judged {
+        Err(fault) => Ok(Made {
             status: Status::AuditRefused,
             text: refusal(alloc, *fault)?,
         }),
@@ -121,7 +117,7 @@ fn judge_reported(alloc: Global, ran: &Ran) -> Result<Judged, Fault>
 }
 
 /// The bundle of a run, whatever the audit says of it.
-fn judge_bundled(alloc: Global, ran: &Ran) -> Result<Judged, Fault>
+fn judge_bundled(alloc: Global, ran: &Ran) -> Result<Made, EngineFault>
     requires finished { IsFinished ran.now.receipts.items ran.now.finished }
     ensures value { IfOk result (λ j. SaysOfRun Bundle ran.now j.status j.text.items) }
     ensures accepted { IsOk ran.now.finished.verdict → IfOk result (λ j. j.status ≡ Done) }
@@ -129,11 +125,11 @@ fn judge_bundled(alloc: Global, ran: &Ran) -> Result<Judged, Fault>
 {
     let text = bundle_of(alloc, ran)?;
     match &ran.finished.verdict {
-        Ok(_) => Ok(Judged {
+        Ok(_) => Ok(Made {
             status: Status::Done,
             text,
         }),
-        Err(_) => Ok(Judged {
+        Err(_) => Ok(Made {
             status: Status::AuditRefused,
             text,
         }),
@@ -141,12 +137,12 @@ fn judge_bundled(alloc: Global, ran: &Ran) -> Result<Judged, Fault>
 }
 
 /// The bytes of the bundle of what a run left.
-fn bundle_of(alloc: Global, ran: &Ran) -> Result<Vec<u8>, Fault>
+fn bundle_of(alloc: Global, ran: &Ran) -> Result<Vec<u8>, EngineFault>
     ensures value { IfOk result (λ bytes. bytes.items ≡ bundle_bytes ran.now.finished.journals ran.now.receipts.items) }
     ensures memory { IfErr result (λ e. e ≡ Memory) }
 {
     if ran.receipts.len() >= 4_294_967_296 {
-        return Err(Fault::Memory);
+        return Err(EngineFault::Memory);
     }
     gather_bundle(alloc, &ran.finished.journals, ran.receipts.as_slice())
 }

@@ -3,20 +3,20 @@
 ghost use Rattle.ep_base.specs.Devices.{Puts};
 ghost use Rattle.ep_main.specs.Faults.{line_of};
 
-use crate::fault::Fault;
+use crate::engine_fault::EngineFault;
 use ep_base::{Sink, WriteFailed};
 use ep_cli::{tell_bad_bundle, tell_not_a_run, tell_script};
 
 /// Writes the line of a fault. It takes no memory.
-pub(crate) fn tell<F: Sink>(fault: Fault, sink: &mut F) -> Result<(), WriteFailed>
+pub(crate) fn tell<F: Sink>(fault: EngineFault, sink: &mut F) -> Result<(), WriteFailed>
     ensures { Puts (F.held sink.old) (F.held sink.new) (F.has_failed sink.old) (F.has_failed sink.new) result (line_of fault) }
 {
     match fault {
-        Fault::Script(line) => tell_script(line, sink),
-        Fault::BadBundle(offset) => tell_bad_bundle(offset, sink),
-        Fault::NotARun(replica, entry) => tell_not_a_run(replica, entry, sink),
-        Fault::Memory => sink.put(b"out of memory\n"),
-        Fault::Read => sink.put(b"reading failed\n"),
-        Fault::Write => sink.put(b"writing failed\n"),
+        EngineFault::Script(line) => tell_script(line, sink),
+        EngineFault::BadBundle(offset) => tell_bad_bundle(offset, sink),
+        EngineFault::NotARun(replica, entry) => tell_not_a_run(replica, entry, sink),
+        EngineFault::Memory => sink.put(b"out of memory\n"),
+        EngineFault::Read => sink.put(b"reading failed\n"),
+        EngineFault::Write => sink.put(b"writing failed\n"),
     }
 }

@@ -1,51 +1,30 @@
 -- What the journals of a cluster give.
-use Rattle.std.proofs.Common.{Some, ◌≡◌, ◌≢◌, ◌<◌, ◌≤◌, ◌+◌, ◌⊎◌, inl, inr, ℕ, zero, suc, List, [], ◌∷◌, Option, All, Contains, max, refl, sym, ap, subst, ◌∙◌, arith}
+use Rattle.std.proofs.Common.{Some, ◌≡◌, ◌≢◌, ◌<◌, ◌≤◌, ◌⊎◌, inl, inr, ℕ, List, [], Option, All, Contains, refl, sym, subst, arith}
 use Rattle.std.proofs.lemmas.Bool.{cases_lt}
 use Rattle.ep_base.specs.Places.{Has}
 use Rattle.ep_base.specs.Quorums.{size}
 use Rattle.ep_base.specs.declared.decree.Decree.{Decree}
 use Rattle.ep_exec.specs.Missing.{IsMissing}
-use Rattle.ep_journal.specs.Entries.{Collected, Log, entries_at, entries_of, journals_of}
+use Rattle.ep_journal.specs.Entries.{Collected, Log, journals_of}
 use Rattle.ep_journal.specs.Leaving.{standing}
 use Rattle.ep_journal.specs.Openings.{Opening, opens}
 use Rattle.ep_opening.specs.Files.{File}
 use Rattle.ep_rules.specs.Graph.{Reaches}
-use Rattle.ep_rules.specs.Journals.{AreLocalRuns, AreNumbered, Entry, left, stamp_after}
-use Rattle.ep_rules.specs.States.{State, fresh_state, graph_in}
+use Rattle.ep_rules.specs.Journals.{AreLocalRuns, left, stamp_after}
+use Rattle.ep_rules.specs.States.{State, graph_in}
 use Rattle.ep_rules.specs.Worlds.{In}
+use Rattle.ep_rules.proofs.Sorted.{stamp_reached}
 use Rattle.ep_audit.specs.Verdicts.{left_after}
 use Rattle.ep_audit.specs.declared.verdict.Verdict.{Verdict}
-use Rattle.ep_moving.specs.Ended.{commands_in, state_of, Accepts, IsLate, IsLeftOpen, IsOpeningAfter, IsUnended, IsWaiting}
+use Rattle.ep_moving.specs.Ended.{commands_in, state_of, Accepts, IsLate, IsLeftOpen, IsOpeningAfter, IsUnended}
 use Rattle.ep_moving.specs.declared.move_fault.MoveFault.{MoveFault}
-use Rattle.ep_moving.specs.declared.move_fault.MoveFault.TheVariants.{Assemble, NotClocked, Audit, Waits, Unexecuted}
-
--- the journal of r leaves the state of r
-pub leaves_state :
-    (c : Collected) (r : ℕ) (l : Log) → (r < size c.faults) × (l.version ≡ c.version) × (l.faults ≡ c.faults) × (l.me ≡ r) × (l.opening ≡ c.opening) × (l.entries ≡ entries_at c r) →
-    (standing l).state ≡ state_of c r
-leaves_state c r l is = λ t. left (is.2 t) (is.3 t) (fresh_state (opens (is.4 t))) (entries_of (is.5 t))
+use Rattle.ep_moving.specs.declared.move_fault.MoveFault.TheVariants.{Waits, Unexecuted}
 
 -- Stamps.
-
-stamp_least : (n last : ℕ) (es : List Entry) → AreNumbered n last es → last ≤ stamp_after last es
-stamp_least n last [] h = omega arith
-stamp_least n last (e ∷ es) h = let rest = stamp_least (suc n) e.stamp es h.3 in let low : last < e.stamp = h.1 in omega arith
-
--- the last stamp isn't below that of any entry
-stamp_reached : (n last x : ℕ) (es : List Entry) (e : Entry) → AreNumbered n last es → In e es → e.stamp ≤ stamp_after x es
-stamp_reached n last x [] e h k = absurd k
-stamp_reached n last x (z ∷ es) e h (inl is) = subst (λ (y : Entry). y.stamp ≤ stamp_after z.stamp es) is (stamp_least (suc n) z.stamp es h.3)
-stamp_reached n last x (z ∷ es) e h (inr k) = stamp_reached (suc n) z.stamp z.stamp es e h.3 k
 
 -- the last stamps of the first n replicas aren't above this
 abbrev pub AreLow : Collected → ℕ → ℕ → Type 0
 AreLow c n since = (r : ℕ) → r < n → stamp_after c.opening.since (journals_of c r) ≤ since
-
-pub low_next : (c : Collected) (n since last : ℕ) → AreLow c n since → last ≡ stamp_after c.opening.since (journals_of c n) → AreLow c (n + 1) (max since last)
-low_next c n since last h is r lt = elim (cases_lt r n) [
-  | inl less ↦ (let low : stamp_after c.opening.since (journals_of c r) ≤ since = h r less in omega arith)
-  | inr ge ↦ (let same : r ≡ n = omega arith in subst (λ (m : ℕ). stamp_after c.opening.since (journals_of c m) ≤ max since last) (sym same) (let e : last ≡ stamp_after c.opening.since (journals_of c n) = is in omega arith))
-]
 
 pub low_all : (c : Collected) (n since : ℕ) → AreLocalRuns (opens c.opening) c.faults (journals_of c) → size c.faults ≤ n → AreLow c n since → IsLate c since
 low_all c n since runs all h r e stands = elim (cases_lt r n) [

@@ -1,43 +1,29 @@
 -- What the logs of a cluster give, and why they give nothing.
-use Rattle.std.proofs.Common.{◌≡◌, ℕ, List, [], ◌∷◌}
-use Rattle.ep_assemble.specs.Logs.{AreRead, IsLogRefused}
+use Rattle.std.proofs.Common.{◌≡◌, ℕ, List, [], ◌∷◌, ◌++◌, sym, ◌∙◌}
+use Rattle.ep_assemble.specs.Logs.{AreRead}
 use Rattle.ep_assemble.specs.declared.assembled.End.{End}
-use Rattle.ep_assemble.specs.declared.assemble_fault.AssembleFault.{AssembleFault}
 use Rattle.ep_assemble.specs.declared.assemble_fault.AssembleFault.TheVariants.{Memory, Log as OfLog, Collect, Receipts, TooManyReceipts}
-use Rattle.ep_collect.specs.Clusters.{Collects}
-use Rattle.ep_collect.specs.Clusters.{IsRefused as IsUncollected}
-use Rattle.ep_collect.specs.declared.collect_fault.CollectFault.{CollectFault}
-use Rattle.ep_collect.specs.declared.collect_fault.CollectFault.TheVariants.{NoJournal, OtherCluster, Twice, Missing}
+use Rattle.ep_assemble.specs.Clusters.{Collects}
+use Rattle.ep_assemble.specs.Clusters.{IsRefused as IsUncollected}
+use Rattle.ep_assemble.specs.declared.collect_fault.CollectFault.{CollectFault}
+use Rattle.ep_assemble.specs.declared.collect_fault.CollectFault.TheVariants.{NoJournal, OtherCluster, Twice, Missing}
 use Rattle.ep_journal.specs.Entries.{Collected, Log}
 use Rattle.ep_opening.specs.Bytes.{opening_bytes}
 use Rattle.ep_opening.specs.Files.{File}
 use Rattle.ep_moving.specs.Ended.{IsOpeningAfter, IsUnended}
-use Rattle.ep_moving.specs.Moved.{AreUncollected, HaveGoneOn, IsMoved, IsUnmoved, OfGoneOn, OfJournals}
-use Rattle.ep_moving.specs.Settled.{AreNone, AreSettled, GoOn, IsUnsettled}
+use Rattle.ep_moving.specs.Moved.{HaveGoneOn, IsMoved, IsUnmoved, OfGoneOn}
+use Rattle.ep_moving.specs.Settled.{AreSettled, IsUnsettled}
 use Rattle.ep_moving.specs.declared.move_fault.MoveFault.{MoveFault}
 use Rattle.ep_moving.specs.declared.move_fault.MoveFault.TheVariants.{Assemble, NotClocked, Audit, Waits, Unexecuted}
 
--- a log isn't read
-pub not_read : (e : AssembleFault) (logs : List (List ℕ)) → IsLogRefused e logs → IsUnmoved logs (Assemble e)
-not_read Memory logs h = tt
-not_read (OfLog place fault) logs h = h
-not_read (Collect fault) logs h = absurd h
-not_read (Receipts place at) logs h = absurd h
-not_read TooManyReceipts logs h = absurd h
-
--- there is no journal
-none_there : (fault : CollectFault) (js : List Log) → AreNone js fault → AreUncollected fault js
-none_there NoJournal [] h = record { settled = []; go_on = tt; refused = h }
-none_there NoJournal (j ∷ js) h = absurd (let e : j ∷ js ≡ [] = h in cc)
-none_there (OtherCluster place) js h = absurd h
-none_there (Twice r) js h = absurd h
-none_there (Missing r) js h = absurd h
-
--- no replica has gone on
+-- the replica of the last journal doesn't go on
 pub not_settled : (e : MoveFault) (logs : List (List ℕ)) (js : List Log) (ends : List End) → AreRead logs js ends → IsUnsettled js e → IsUnmoved logs e
 not_settled (Assemble Memory) logs js ends read h = tt
 not_settled (Assemble (OfLog place fault)) logs js ends read h = absurd h
-not_settled (Assemble (Collect fault)) logs js ends read h = record { journals = js; ends = ends; read = read; holds = none_there fault js h }
+not_settled (Assemble (Collect NoJournal)) logs js ends read h = record { journals = js; ends = ends; read = read; holds = h }
+not_settled (Assemble (Collect (OtherCluster place))) logs js ends read h = absurd h
+not_settled (Assemble (Collect (Twice r))) logs js ends read h = absurd h
+not_settled (Assemble (Collect (Missing r))) logs js ends read h = absurd h
 not_settled (Assemble (Receipts place at)) logs js ends read h = absurd h
 not_settled (Assemble TooManyReceipts) logs js ends read h = absurd h
 not_settled (NotClocked r n) logs js ends read h = record { journals = js; ends = ends; read = read; holds = h }
@@ -45,16 +31,22 @@ not_settled (Audit fault) logs js ends read h = absurd h
 not_settled (Waits i k) logs js ends read h = absurd h
 not_settled (Unexecuted i) logs js ends read h = absurd h
 
--- the journals aren't a cluster's
+not_none : (others : List Log) (gone : Log) → others ++ gone ∷ [] ≡ [] → ⊥
+not_none [] gone h = cc
+not_none (j ∷ js) gone h = cc
+
+-- it does, and the journals are none of a cluster
 pub not_collected :
-    (fault : CollectFault) (logs : List (List ℕ)) (js ks : List Log) (ends : List End) (me : ℕ) → AreRead logs js ends → AreSettled js ks me → IsUncollected fault ks →
-    IsUnmoved logs (Assemble (Collect fault))
-not_collected fault logs js ks ends me read s h = record { journals = js; ends = ends; read = read; holds = record { settled = ks; go_on = s.go_on; refused = h } }
+    (fault : CollectFault) (logs : List (List ℕ)) (js ks : List Log) (ends : List End) (me : ℕ) → AreRead logs js ends → AreSettled js ks me → IsUncollected fault ks → IsUnmoved logs (Assemble (Collect fault))
+not_collected NoJournal logs js ks ends me read s h = absurd (not_none s.others s.gone (sym s.after ∙ h))
+not_collected (OtherCluster place) logs js ks ends me read s h = record { journals = js; ends = ends; read = read; holds = record { settled = ks; me = me; go_on = s; refused = h } }
+not_collected (Twice r) logs js ks ends me read s h = record { journals = js; ends = ends; read = read; holds = record { settled = ks; me = me; go_on = s; refused = h } }
+not_collected (Missing r) logs js ks ends me read s h = record { journals = js; ends = ends; read = read; holds = record { settled = ks; me = me; go_on = s; refused = h } }
 
 -- they are, and give no file
 module _ (logs : List (List ℕ)) (js ks : List Log) (ends : List End) (me : ℕ) (c : Collected) (read : AreRead logs js ends) (s : AreSettled js ks me) (h : Collects ks c) where
-  have_gone_on : HaveGoneOn logs ends c
-  have_gone_on = record { journals = js; read = read; settled = ks; go_on = s.go_on; collects = h }
+  have_gone_on : HaveGoneOn logs ends c me
+  have_gone_on = record { journals = js; read = read; settled = ks; go_on = s; collects = h }
 
   of_gone_on : (P : Collected → ℕ → Type 0) → P c me → OfGoneOn logs P
   of_gone_on P p = record { ends = ends; collected = c; gone_on = have_gone_on; me = me; holds = p }

@@ -4,6 +4,7 @@ use Rattle.std.proofs.lemmas.List.{drop_more}
 use Rattle.ep_base.specs.Deps.{IsBelowFirst, IsRising}
 use Rattle.ep_base.specs.Sameness.{is_noop}
 use Rattle.ep_base.specs.declared.decree.Decree.{Decree}
+use Rattle.ep_base.proofs.Rising.{rising_to}
 use Rattle.ep_rules.specs.Verdicts.{instances_of}
 use Rattle.ep_moving.specs.Ended.{command_at, commands_in}
 
@@ -12,11 +13,6 @@ use Rattle.ep_moving.specs.Ended.{command_at, commands_in}
 below_skip : (i j : ℕ) (js : List ℕ) → i < j → IsRising (j ∷ js) → IsBelowFirst i js
 below_skip i j [] lt h = tt
 below_skip i j (k ∷ ks) lt h = let m : j < k = h.0 in omega arith
-
-rising_front : (xs : List ℕ) (i : ℕ) (ys : List ℕ) → IsRising (xs ++ (i ∷ ys)) → IsRising (xs ++ (i ∷ []))
-rising_front [] i ys h = (tt, tt)
-rising_front (x ∷ []) i ys h = (h.0, (tt, tt))
-rising_front (x ∷ y ∷ xs) i ys h = (h.0, rising_front (y ∷ xs) i ys h.1)
 
 below_some : (b : Bool) (i j : ℕ) (js : List ℕ) → i < j → IsBelowFirst i js → IsBelowFirst i (cond b [] (j ∷ []) ++ js)
 below_some true i j js lt h = h
@@ -51,4 +47,4 @@ pub command_rises :
 command_rises t k i x list rise lt is h real =
     let whole : IsRising (list ++ command_at i x ++ commands_in (drop (k + 1) t)) = subst IsRising (sym (commands_next t k i x list lt is h)) (rising_commands t rise) in
     let shown : IsRising (list ++ (command_at i x ++ commands_in (drop (k + 1) t))) = subst IsRising (append_assoc list (command_at i x) (commands_in (drop (k + 1) t))) whole in
-    rising_front list i (commands_in (drop (k + 1) t)) (subst (λ (b : Bool). IsRising (list ++ (cond b [] (i ∷ []) ++ commands_in (drop (k + 1) t)))) real shown)
+    rising_to list i (commands_in (drop (k + 1) t)) (subst (λ (b : Bool). IsRising (list ++ (cond b [] (i ∷ []) ++ commands_in (drop (k + 1) t)))) real shown)

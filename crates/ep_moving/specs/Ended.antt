@@ -3,7 +3,7 @@ use Rattle.std.specs.Prelude.{◌≡◌, ◌≢◌, ℕ, ◌≤◌, false, cond,
 use Rattle.ep_assemble.specs.declared.assemble_fault.AssembleFault.TheVariants.{Memory, Log as OfLog, Collect, Receipts, TooManyReceipts}
 use Rattle.ep_audit.specs.Audited.{IsAudited}
 use Rattle.ep_audit.specs.Audited.{IsRefused as IsAuditRefused}
-use Rattle.ep_audit.specs.declared.refusal.Refusal.TheVariants.{Fault}
+use Rattle.ep_audit.specs.declared.verdict_fault.VerdictFault.TheVariants.{Fault}
 use Rattle.ep_base.specs.Places.{Has}
 use Rattle.ep_base.specs.Sameness.{is_noop}
 use Rattle.ep_base.specs.declared.decree.Decree.{Decree}

@@ -3,8 +3,6 @@ use Rattle.std.specs.Prelude.{◌≡◌, ℕ, List, [], ◌++◌, codes, decimal
 use Rattle.ep_assemble.specs.Files.{IsOfFiles}
 use Rattle.ep_assemble.specs.Lines.{refusal_line, torn_lines}
 use Rattle.ep_assemble.specs.declared.assembled.End.{End}
-use Rattle.ep_assemble.specs.declared.files.FilesFault.{FilesFault}
-use Rattle.ep_assemble.specs.declared.files.FilesFault.TheVariants as files
 use Rattle.ep_report.specs.Parts.{instance_text}
 use Rattle.ep_audit.specs.Faults.{fault_of, fault_text}
 use Rattle.ep_moving.specs.Moved.{IsMoved, IsUnmoved}
@@ -50,15 +48,3 @@ pub record IsNotUpgraded (names logs : List (List ℕ)) (line : List ℕ) : Type
   pub of : IsOfLogs fault
   pub refused : IsUnmoved logs fault
   pub told : line ≡ move_line names fault
-
--- why no file is made of logs with these bytes
-abbrev pub IsTurnedDown : List (List ℕ) → List (List ℕ) → FilesFault → Type 0
-IsTurnedDown names logs files.Memory = Unit {0}
-IsTurnedDown names logs (files.ReadFailed line) = ⊥
-IsTurnedDown names logs (files.Refused line) = IsNotUpgraded names logs line.items
-
--- the fault's line, or want of memory
-abbrev pub IsLineOf : List (List ℕ) → MoveFault → FilesFault → Type 0
-IsLineOf names fault files.Memory = Unit {0}
-IsLineOf names fault (files.ReadFailed line) = ⊥
-IsLineOf names fault (files.Refused line) = line.items ≡ move_line names fault

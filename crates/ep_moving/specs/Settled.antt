@@ -1,14 +1,13 @@
 -- Journals that go on.
-use Rattle.std.specs.Prelude.{◌≡◌, ℕ, List, [], ◌∷◌, ◌++◌, Some, Contains}
+use Rattle.std.specs.Prelude.{◌≡◌, ℕ, List, [], ◌∷◌, ◌++◌, Some}
 use Rattle.ep_assemble.specs.declared.assemble_fault.AssembleFault.TheVariants.{Memory, Log as OfLog, Collect, Receipts, TooManyReceipts}
-use Rattle.ep_collect.specs.declared.collect_fault.CollectFault.{CollectFault}
-use Rattle.ep_collect.specs.declared.collect_fault.CollectFault.TheVariants.{NoJournal, OtherCluster, Twice, Missing}
+use Rattle.ep_assemble.specs.declared.collect_fault.CollectFault.{CollectFault}
+use Rattle.ep_assemble.specs.declared.collect_fault.CollectFault.TheVariants.{NoJournal, OtherCluster, Twice, Missing}
 use Rattle.ep_journal.specs.Entries.{Log, entries_of}
 use Rattle.ep_journal.specs.Events.{event_of}
 use Rattle.ep_journal.specs.declared.entry.Entry.{Entry}
 use Rattle.ep_replica.specs.Resuming.{first_unclocked}
 use Rattle.ep_rules.specs.Journals.{asked_by}
-use Rattle.ep_rules.specs.Worlds.{In}
 use Rattle.ep_moving.specs.declared.move_fault.MoveFault.{MoveFault}
 use Rattle.ep_moving.specs.declared.move_fault.MoveFault.TheVariants.{Assemble, NotClocked, Audit, Waits, Unexecuted}
 
@@ -23,18 +22,15 @@ pub record GoesOn (j k : Log) : Type 0 where
   pub unasked : AreUnasked more
   pub is : k ≡ record j { entries = j.entries ++ more }
 
--- each journal goes on as the one in its place
-abbrev pub GoOn : List Log → List Log → Type 0
-GoOn [] [] = Unit {0}
-GoOn (j ∷ js) (k ∷ ks) = GoesOn j k × GoOn js ks
-GoOn _ _ = ⊥
-
--- some of the journals have gone on, and me is the replica of one of them
+-- The last of the journals has gone on, which is that of the replica me; the others are as they were.
 pub record AreSettled (js ks : List Log) (me : ℕ) : Type 0 where
-  pub go_on : GoOn js ks
-  pub own : Log
-  pub stands : Contains ks own
-  pub of : own.me ≡ me
+  pub others : List Log
+  pub last : Log
+  pub gone : Log
+  pub before : js ≡ others ++ last ∷ []
+  pub after : ks ≡ others ++ gone ∷ []
+  pub goes_on : GoesOn last gone
+  pub of : gone.me ≡ me
 
 -- why the replica of this journal doesn't go on: for want of memory, or by the first entry whose stamp isn't its clock's
 abbrev pub IsUnresumed : Log → MoveFault → Type 0
@@ -55,14 +51,14 @@ AreNone js (OtherCluster place) = ⊥
 AreNone js (Twice r) = ⊥
 AreNone js (Missing r) = ⊥
 
--- why no replica of these journals goes on
+-- why the replica of the last of these journals doesn't go on
 abbrev pub IsUnsettled : List Log → MoveFault → Type 0
 IsUnsettled js (Assemble Memory) = Unit {0}
 IsUnsettled js (Assemble (OfLog place fault)) = ⊥
 IsUnsettled js (Assemble (Collect fault)) = AreNone js fault
 IsUnsettled js (Assemble (Receipts place at)) = ⊥
 IsUnsettled js (Assemble TooManyReceipts) = ⊥
-IsUnsettled js (NotClocked r n) = (j : Log) × In j js × IsUnresumed j (NotClocked r n)
+IsUnsettled js (NotClocked r n) = (others : List Log) × (last : Log) × (js ≡ others ++ last ∷ []) × IsUnresumed last (NotClocked r n)
 IsUnsettled js (Audit fault) = ⊥
 IsUnsettled js (Waits i k) = ⊥
 IsUnsettled js (Unexecuted i) = ⊥

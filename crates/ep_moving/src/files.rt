@@ -2,13 +2,14 @@
 
 ghost use Rattle.std.specs.Prelude.{◌≡◌, map, string_bytes, IfOk, IfErr, IsErr};
 ghost use Rattle.ep_assemble.specs.Logs.{contents};
-ghost use Rattle.ep_moving.specs.MovedFiles.{IsLineOf, IsTurnedDown, IsUpgraded};
+ghost use Rattle.ep_cli.specs.Files.{IsReason};
+ghost use Rattle.ep_moving.specs.MovedFiles.{move_line, IsNotUpgraded, IsUpgraded};
 
 use crate::lines::push_fault;
 use crate::logs::opening_of_logs;
 use crate::move_fault::MoveFault;
-use crate::upgraded::Upgraded;
-use ep_assemble::{AssembleFault, FilesFault, push_torn};
+use ep_assemble::{AssembleFault, push_torn};
+use ep_cli::{FilesFault, Printout};
 use std::alloc::Global;
 
 /// The opening file of generation 2, of what these bytes hold, which the files of these names gave: the logs of a cluster of version 2.
@@ -16,16 +17,16 @@ pub fn upgrade_files(
     alloc: Global,
     names: &[String],
     logs: &[Vec<u8>],
-) -> Result<Upgraded, FilesFault>
-    ensures ok { IfOk result (λ u. IsUpgraded (map string_bytes names.now) (contents logs.now) u.opening.items u.lines.items) }
-    ensures err { IfErr result (IsTurnedDown (map string_bytes names.now) (contents logs.now)) }
+) -> Result<Printout, FilesFault>
+    ensures ok { IfOk result (λ u. IsUpgraded (map string_bytes names.now) (contents logs.now) u.text.items u.lines.items) }
+    ensures err { IfErr result (IsReason (IsNotUpgraded (map string_bytes names.now) (contents logs.now))) }
 {
     match opening_of_logs(alloc, logs) {
         Ok(moved) => {
             let mut lines = Vec::new(alloc);
             push_torn(names, &moved.ends, &mut lines)?;
-            Ok(Upgraded {
-                opening: moved.opening,
+            Ok(Printout {
+                text: moved.opening,
                 lines,
             })
         }
@@ -35,8 +36,8 @@ pub fn upgrade_files(
 }
 
 /// The fault, with its line.
-fn refused(alloc: Global, names: &[String], fault: MoveFault) -> Result<Upgraded, FilesFault>
-    ensures line { IfErr result (IsLineOf (map string_bytes names.now) fault) }
+fn refused(alloc: Global, names: &[String], fault: MoveFault) -> Result<Printout, FilesFault>
+    ensures line { IfErr result (IsReason (λ line. line ≡ move_line (map string_bytes names.now) fault)) }
     ensures never { IsErr result }
 {
     let mut line = Vec::new(alloc);

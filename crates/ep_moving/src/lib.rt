@@ -17,10 +17,8 @@ mod moved;
 mod opening;
 mod settled;
 mod settling;
-mod upgraded;
 
 pub use files::upgrade_files;
 pub use logs::opening_of_logs;
 pub use move_fault::MoveFault;
 pub use moved::Moved;
-pub use upgraded::Upgraded;

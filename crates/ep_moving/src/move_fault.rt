@@ -4,10 +4,9 @@ ghost use Rattle.std.specs.Prelude.{◌≡◌};
 ghost use Rattle.ep_assemble.specs.declared.assemble_fault.AssembleFault.TheVariants.{Memory as NoMemory, Collect as NotCollected};
 ghost use Rattle.ep_moving.specs.declared.move_fault.MoveFault.TheVariants.{Assemble as NotAssembled};
 
-use ep_assemble::AssembleFault;
+use ep_assemble::{AssembleFault, CollectFault};
 use ep_audit::AuditFault;
 use ep_base::{InstanceId, ReplicaId};
-use ep_collect::CollectFault;
 use std::alloc::{AllocError, AllocFailed};
 use thiserror::Error;
 

@@ -13,7 +13,7 @@ ghost use Rattle.ep_moving.specs.declared.move_fault.MoveFault.TheVariants.{Wait
 
 use crate::commands::{commands_of, first_undone, is_listed};
 use crate::move_fault::MoveFault;
-use ep_audit::{Refusal, Verdict, audit};
+use ep_audit::{Verdict, VerdictFault, audit};
 use ep_base::{Deps, Generation, InstanceId, ReplicaId, Size, Value};
 use ep_journal::{Journal, Journals, Opening};
 use ep_opening::OpeningFile;
@@ -28,8 +28,8 @@ fn accepted(alloc: Global, journals: &Journals, me: ReplicaId) -> Result<Verdict
     let receipts = Vec::new(alloc);
     match audit(alloc, journals, &receipts) {
         Ok(verdict) => Ok(verdict),
-        Err(Refusal::Memory) => Err(MoveFault::from(AllocError)),
-        Err(Refusal::Fault(fault)) => Err(MoveFault::Audit(fault)),
+        Err(VerdictFault::Memory) => Err(MoveFault::from(AllocError)),
+        Err(VerdictFault::Fault(fault)) => Err(MoveFault::Audit(fault)),
     }
 }
 

@@ -11,8 +11,8 @@ ghost use Rattle.ep_moving.specs.Settled.{AreSettled, GoesOn, IsUnresumed, IsUns
 
 use crate::move_fault::MoveFault;
 use crate::settled::Settled;
+use ep_assemble::CollectFault;
 use ep_base::{InstanceId, ReplicaId};
-use ep_collect::CollectFault;
 use ep_frame::Frame;
 use ep_journal::{Entry, Event, Journal, StepFault};
 use ep_replica::{Replica, ResumeFault};

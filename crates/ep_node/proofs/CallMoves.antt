@@ -5,6 +5,7 @@ use Rattle.ep_journal.specs.Entries.{entry_of, entries_of}
 use Rattle.ep_journal.specs.Events.{event_of}
 use Rattle.ep_journal.specs.declared.entry.Entry.{Entry}
 use Rattle.ep_journal.specs.declared.event.Event.{Event as Happening}
+use Rattle.ep_journal.proofs.Growing.{count_entries}
 use Rattle.ep_log.specs.Crashing.{AreFirst}
 use Rattle.ep_replica.specs.Applied.{Applied}
 use Rattle.ep_replica.specs.Kept.{Kept}
@@ -15,7 +16,7 @@ use Rattle.ep_node.specs.Calls.{CallsAreMoves, IsNode, Makes, StartsFrom}
 use Rattle.ep_node.specs.Crashes.{Cluster, Start, IsTaken, Move, Take, HandOut, ComeBack, mover, moved}
 use Rattle.ep_node.proofs.CrashMoves.{at_same}
 use Rattle.ep_node.proofs.CrashTraces.{at_other}
-use Rattle.ep_node.proofs.Opened.{entries_of-take, length-entries_of}
+use Rattle.ep_node.proofs.Opened.{entries_of-take}
 use Rattle.ep_rules.specs.OneMap.{Contents, opened}
 
 entries_of-push : (es : List Entry) (e : Entry) → entries_of (es ++ e ∷ []) ≡ entries_of es ++ (entry_of e ∷ [])
@@ -24,7 +25,7 @@ entries_of-push (x ∷ es) e = ap (λ (l : List rules.Entry). entry_of x ∷ l) 
 
 module _ (start : Start) (f n : ℕ) (c : Cluster) (k : Kept) (h : IsNode start f c k n) where
   count : length (c.journal k.me) ≡ length k.entries
-  count = ap (λ (es : List rules.Entry). length es) h.journal ∙ length-entries_of k.entries
+  count = ap (λ (es : List rules.Entry). length es) h.journal ∙ count_entries k.entries
 
   taken : (event : Happening) (e : Entry) (k' : Kept) → Applied k event e k' → IsTaken start f k.me (c.journal k.me) (entry_of e)
   taken event e k' a = record {

@@ -1,5 +1,5 @@
 -- When an instance turns to committed in a replica's records: exactly when the replica handles a Commit of it, or sends one.
-use Rattle.std.proofs.Common.{◌≡◌, ℕ, zero, suc, ◌+◌, ◌*◌, ◌<◌, Bool, true, false, ◌&&◌, ◌||◌, not, eqb, ltb, leb, cond, List, [], ◌∷◌, ◌++◌, Option, Some, None, is_some, Ok, Err, refl, sym, ap, subst, ◌∙◌, arith}
+use Rattle.std.proofs.Common.{◌≡◌, ℕ, zero, suc, ◌+◌, ◌*◌, ◌<◌, Bool, true, false, ◌||◌, not, eqb, ltb, leb, cond, List, [], ◌∷◌, ◌++◌, Option, Some, None, is_some, Ok, Err, refl, sym, ap, subst, ◌∙◌, arith}
 use Rattle.std.proofs.lemmas.Bool.{false≢true, ne_eqb}
 use Rattle.ep_base.specs.Ballots.{ballot_of, highest_counter}
 use Rattle.ep_base.specs.Instances.{leader_of}
@@ -11,10 +11,11 @@ use Rattle.ep_base.specs.declared.decree.Decree.{Decree}
 use Rattle.ep_base.specs.declared.message.Message.{Message}
 use Rattle.ep_base.specs.declared.message.Message.TheVariants.{PreAccept, PreAcceptOk, Accept, AcceptOk, Commit, Prepare, PrepareOk, Nack}
 use Rattle.ep_base.specs.Attributes.{join}
-use Rattle.ep_base.specs.declared.vote.Status.TheVariants.{PreAccepted, Accepted}
+use Rattle.ep_base.specs.declared.vote.VoteStatus.TheVariants.{PreAccepted, Accepted}
 use Rattle.ep_base.specs.declared.vote.Vote.{Vote}
+use Rattle.ep_base.proofs.Tests.{or_false}
 use Rattle.ep_rules.specs.Answers.{Answers, answer, with_answer}
-use Rattle.ep_rules.specs.Cells.{is_accept, is_commit, is_committed, is_done_at, is_settled_at, Change, nothing, answered, recorded, kept, voted}
+use Rattle.ep_rules.specs.Cells.{is_committed, is_done_at, is_settled_at, Change, nothing, answered, recorded, kept, voted}
 use Rattle.ep_rules.specs.Counting.{is_other, to_those}
 use Rattle.ep_rules.specs.InterferenceSet.{interference}
 use Rattle.ep_rules.specs.Maps.{get}
@@ -27,6 +28,7 @@ use Rattle.ep_rules.specs.declared.led.Led.TheVariants.{Proposing, Accepting, Pr
 use Rattle.ep_rules.specs.declared.record.Record.{Record}
 use Rattle.ep_rules.proofs.Keeping.{split}
 use Rattle.ep_rules.proofs.Leading.{usable}
+use Rattle.ep_rules.proofs.Votes.{not_settled, not_committed}
 
 abbrev pub is_commit_message : Message → Bool
 is_commit_message (PreAccept i b x) = false
@@ -55,10 +57,6 @@ Told x ch = after_entry x ch.entry ≡ (is_committed x.vote || says_commit ch.ou
 abbrev pub ToldOk : Record → Outcome → Type 0
 ToldOk x (Ok ch) = Told x ch
 ToldOk x (Err e) = Unit {0}
-
-pub or_false : (b : Bool) → (b || false) ≡ b
-or_false true = refl
-or_false false = refl
 
 -- What is sent.
 
@@ -96,22 +94,6 @@ commits_say (suc f) i me d more =
     subst (λ (k : ℕ). says_commit (to_those (is_other me) k (Commit i d)) ≡ true) (sym n) (others_say me (2 * f + 1) i d)
 
 -- Votes.
-
-undone_at : (b : ℕ) (v : Option Vote) → is_done_at b v ≡ false → is_committed v ≡ false
-undone_at b None e = refl
-undone_at b (Some v) e = go (is_commit v.status) e
-  where
-    go : (c : Bool) → (c || eqb v.ballot b) ≡ false → c ≡ false
-    go true e = e
-    go false e = refl
-
-unsettled_at : (b : ℕ) (v : Option Vote) → is_settled_at b v ≡ false → is_committed v ≡ false
-unsettled_at b None e = refl
-unsettled_at b (Some v) e = go (is_commit v.status) e
-  where
-    go : (c : Bool) → (c || (is_accept v.status && eqb v.ballot b)) ≡ false → c ≡ false
-    go true e = e
-    go false e = refl
 
 -- Each rule but that for a Commit.
 module _ (f i me : ℕ) (x : Record) (more : 0 < f) where
@@ -159,13 +141,13 @@ module _ (f i me : ℕ) (x : Record) (more : 0 < f) where
   told_pre_accept from b d own =
       split (ToldOk x) (ltb b x.promised) _ _ (λ e. told_answered from (Nack i b x.promised) refl) (λ e.
       split (ToldOk x) (is_done_at b x.vote) _ _ (λ u. told_nothing) (λ u.
-      told_limited own _ (told_voted (undone_at b x.vote u) (voted b PreAccepted (with_attrs d (join d.attrs own))) from (PreAcceptOk i b (join d.attrs own)) refl refl)))
+      told_limited own _ (told_voted (not_committed b x.vote u) (voted b PreAccepted (with_attrs d (join d.attrs own))) from (PreAcceptOk i b (join d.attrs own)) refl refl)))
 
   told_accept : (from b : ℕ) (d : Decree) → Told x (on_accept i from b d x)
   told_accept from b d =
       split (Told x) (ltb b x.promised) _ _ (λ e. told_answered from (Nack i b x.promised) refl) (λ e.
       split (Told x) (is_settled_at b x.vote) _ _ (λ u. told_nothing) (λ u.
-      told_voted (unsettled_at b x.vote u) (voted b Accepted d) from (AcceptOk i b) refl refl))
+      told_voted (not_settled b x.vote u) (voted b Accepted d) from (AcceptOk i b) refl refl))
 
   told_slow : Live → (b : ℕ) (answers : Answers Attrs) (v : Option Vote) → Told x (slow_path f i me b answers v)
   told_slow live b answers None = told_nothing

@@ -6,9 +6,10 @@ use Rattle.ep_base.specs.Instances.{instance_of}
 use Rattle.ep_base.specs.Messages.{instance_of_message}
 use Rattle.ep_base.specs.declared.message.Message.{Message}
 use Rattle.ep_base.specs.declared.message.Message.TheVariants.{PreAccept, PreAcceptOk, Accept, AcceptOk, Commit, Prepare, PrepareOk, Nack}
-use Rattle.ep_base.specs.declared.vote.Status.{Status}
-use Rattle.ep_base.specs.declared.vote.Status.TheVariants.{PreAccepted, Accepted, Committed}
+use Rattle.ep_base.specs.declared.vote.VoteStatus.{VoteStatus}
+use Rattle.ep_base.specs.declared.vote.VoteStatus.TheVariants.{PreAccepted, Accepted, Committed}
 use Rattle.ep_base.specs.declared.vote.Vote.{Vote}
+use Rattle.ep_base.proofs.Tests.{or_false}
 use Rattle.ep_frame.specs.Meaning.{instance_in, kind_of, message_at, message_of, ballot_in, other_in, attrs_of, decree_of, vote_of}
 use Rattle.ep_frame.specs.Spelling.{Parts, parts_at}
 use Rattle.ep_frame.specs.declared.kind.Kind.{Kind}
@@ -32,7 +33,7 @@ use Rattle.ep_rules.proofs.Keeping.{AllSent}
 use Rattle.ep_rules.proofs.Local.{free_found, local_acts, LocalAct}
 use Rattle.ep_rules.proofs.Lookups.{insert_other, insert_same, none_there}
 use Rattle.ep_node.specs.Telling.{committed_as, first_number, first_said, learnt_by, learnt_in, number_for, or_other, said_by, CommitsAreTold}
-use Rattle.ep_node.proofs.Decided.{after_entry, handled_told, is_commit_message, of_told, or_false, says_commit, told_give_up, told_propose, told_recover, CommitOk}
+use Rattle.ep_node.proofs.Decided.{after_entry, handled_told, is_commit_message, of_told, says_commit, told_give_up, told_propose, told_recover, CommitOk}
 
 -- What a frame says.
 
@@ -92,7 +93,7 @@ some_committed : (v : Option Vote) → is_some (committed_decree v) ≡ is_commi
 some_committed None = refl
 some_committed (Some v) = go v.status
   where
-    go : (s : Status) → is_some (committed_at s v.decree) ≡ is_commit s
+    go : (s : VoteStatus) → is_some (committed_at s v.decree) ≡ is_commit s
     go PreAccepted = refl
     go Accepted = refl
     go Committed = refl

@@ -12,6 +12,7 @@ use Rattle.ep_journal.specs.Openings.{Opening}
 use Rattle.ep_journal.specs.declared.entry.Entry.{Entry}
 use Rattle.ep_journal.specs.declared.event.Event.{Event as Happening}
 use Rattle.ep_journal.specs.declared.event.Event.TheVariants.{Handle}
+use Rattle.ep_journal.proofs.Growing.{count_entries}
 use Rattle.ep_log.specs.Crashing.{AreFirst}
 use Rattle.ep_opening.specs.Closing.{IsClosing, store_of}
 use Rattle.ep_opening.specs.Files.{File}
@@ -22,6 +23,7 @@ use Rattle.ep_rules.specs.Journals as rules
 use Rattle.ep_rules.specs.OneMap.{Contents, Store, opened, is_closed}
 use Rattle.ep_rules.specs.States.{fresh_state}
 use Rattle.ep_rules.specs.Worlds.{In}
+use Rattle.ep_rules.proofs.Sorted.{stamp_reached}
 use Rattle.ep_node.specs.Calls.{IsNode, Makes, StartsFrom}
 use Rattle.ep_node.specs.CrashLives.{Generations, newborn, start_of, store_out, HasSealed, LifeMove, Within, OpensNext, IsLifeMove, after_move, AreLifeMoves, life_after, stand_on, IsLifeInRealTime, AreOpen, AreChained}
 use Rattle.ep_node.specs.Crashes.{Start, Cluster, Move, Take, HandOut, ComeBack, mover, IsMove, with_at, moved, handed_out, standing}
@@ -32,8 +34,7 @@ use Rattle.ep_node.proofs.CrashMoves.{at_same}
 use Rattle.ep_node.proofs.LifeChains.{crashing_lives_are_chains_lem}
 use Rattle.ep_node.proofs.LifeFrames.{among_lem, frame_out, framed_in, in_entries_of, stays_out_lem}
 use Rattle.ep_node.proofs.LifeStays.{IsUntouched, AreUntouched, untouched_after, untouched_first, AllNumbered, numbered_after, store_stays, sealed_stays, at_opened, has_now}
-use Rattle.ep_node.proofs.Opened.{length-entries_of}
-use Rattle.ep_node.proofs.Sealed.{Seals, sealing, stamp_reached}
+use Rattle.ep_node.proofs.Sealed.{Seals, sealing}
 
 -- One move more.
 
@@ -142,7 +143,7 @@ module _ (first : ℕ) (f : ℕ → ℕ) (l : Generations) (g : ℕ) (k : Kept) 
       ap (λ (c : Cluster). handed_out c k.me) (at_same g (moved (l.cluster g) (HandOut k.me (length k.entries))) l.cluster)
       ∙ ap (λ (n : ℕ). take n ((l.cluster g).journal k.me)) (at_same k.me (length k.entries) (l.cluster g).out)
       ∙ ap (λ (es : List rules.Entry). take (length k.entries) es) h.node.journal
-      ∙ take_all (length k.entries) (entries_of k.entries) (let same = length-entries_of k.entries in omega arith)
+      ∙ take_all (length k.entries) (entries_of k.entries) (let same = count_entries k.entries in omega arith)
 
   sends_lem : (start : Start) (e : Entry) (b : List ℕ) → HasLived start f l → In e k.entries → IsEntryIn k.version e → In b e.frames → WasHandedOut first (after_move f l lent) (Handle b)
   sends_lem start e b lived stands is out =

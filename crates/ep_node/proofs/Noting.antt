@@ -1,12 +1,12 @@
 -- What a node has noted of its first entries, as they grow and as more of them are noted.
-use Rattle.std.proofs.Common.{◌≡◌, ◌≢◌, inl, inr, cond, ◌*◌, ◌/◌, ◌%◌, get_or, ℕ, zero, suc, ◌+◌, ◌-◌, ◌≤◌, ◌<◌, length, take, drop, List, [], ◌∷◌, ◌++◌, refl, sym, ap, subst, ◌∙◌, arith, append_assoc, length-append}
-use Rattle.std.specs.Prelude.{Option, Some, None, slice_get}
-use Rattle.std.proofs.lemmas.List.{append-nil, drop_more, take-append-le, take_all}
+use Rattle.std.proofs.Common.{◌≡◌, ◌≢◌, inl, inr, cond, ◌*◌, ◌/◌, ◌%◌, get_or, ℕ, ◌+◌, ◌-◌, ◌≤◌, ◌<◌, length, take, drop, List, [], ◌∷◌, ◌++◌, refl, sym, ap, subst, ◌∙◌, arith, append_assoc, length-append}
+use Rattle.std.specs.Prelude.{Option, Some, None}
+use Rattle.std.proofs.lemmas.List.{drop_more, take-append-le}
 use Rattle.std.proofs.lemmas.Bool.{cases_eq, eq-eqb, ne_eqb}
 use Rattle.ep_base.specs.Instances.{IsInstance}
-use Rattle.ep_replica.specs.Blockers.{slot}
 use Rattle.ep_journal.specs.declared.entry.Entry.{Entry}
 use Rattle.ep_node.specs.Telling.{about_by, commits_by, first_number, learnt_by, new_commit, noted, number_for, or_other, AreFirst, Knows}
+use Rattle.ep_space.specs.Entries.{slot}
 
 or_none : (o : Option ℕ) → or_other o None ≡ o
 or_none None = refl
@@ -72,30 +72,7 @@ none_known es seen about commits none =
     subst (λ (n : ℕ). Knows es n about commits) (sym none.0) (subst (λ (l : List (Option ℕ)). Knows es 0 l commits) (sym none.1) (subst (λ (l : List (Option ℕ)). Knows es 0 [] l) (sym none.2)
     (record { within = omega arith; first_about = λ i is. refl; first_learnt = λ i is. refl })))
 
--- the tables say the same
-pub same_known : (es : List Entry) (seen : ℕ) (about commits about' commits' : List (Option ℕ)) → ((i : ℕ) → noted about' i ≡ noted about i) → ((i : ℕ) → noted commits' i ≡ noted commits i)
-    → Knows es seen about commits → Knows es seen about' commits'
-same_known es seen about commits about' commits' a c k = record { within = k.within; first_about = λ i is. a i ∙ k.first_about i is; first_learnt = λ i is. c i ∙ k.first_learnt i is }
-
 -- Places.
-
-pub take_next : (es : List Entry) (n : ℕ) (e : Entry) → slice_get es n ≡ Some e → take (n + 1) es ≡ take n es ++ e ∷ []
-take_next es n e is = ap (λ m. take m es) (let s : n + 1 ≡ suc n = omega arith in s) ∙ go es n is
-  where
-    go : (es : List Entry) (n : ℕ) → slice_get es n ≡ Some e → take (suc n) es ≡ take n es ++ e ∷ []
-    go [] n is = absurd (cc is)
-    go (x ∷ es) zero is = let same : x ≡ e = cc is in ap (λ (y : Entry). y ∷ []) same
-    go (x ∷ es) (suc n) is = ap (λ (l : List Entry). x ∷ l) (go es n is)
-
--- all were noted
-pub all_known : (es : List Entry) (seen : ℕ) (about commits : List (Option ℕ)) → seen ≡ length es → AreFirst about_by (take seen es) about → AreFirst learnt_by (take seen es) commits → Knows es seen about commits
-all_known es seen about commits all a c = record { within = omega (arith, all); first_about = a; first_learnt = c }
-
--- of all entries
-pub of_all : (es : List Entry) (seen : ℕ) (about commits : List (Option ℕ)) → Knows es seen about commits → seen ≡ length es → AreFirst about_by es about × AreFirst learnt_by es commits
-of_all es seen about commits k all =
-    let whole : take seen es ≡ es = take_all seen es (omega (arith, all)) in
-    (subst (λ (l : List Entry). AreFirst about_by l about) whole k.first_about, subst (λ (l : List Entry). AreFirst learnt_by l commits) whole k.first_learnt)
 
 -- whatever the others commit completes the whole, with one entry more
 pub commits_more : (all es : List Entry) (n : ℕ) (e : Entry) (old new whole : List ℕ) → n < length es → e ≡ get_or es n e → new ≡ old ++ new_commit all e.number (learnt_by e) → old ++ commits_by all (drop n es) ≡ whole

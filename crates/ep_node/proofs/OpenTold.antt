@@ -1,5 +1,5 @@
 -- The open instances that are told, one more and to their end.
-use Rattle.std.proofs.Common.{◌≡◌, ℕ, zero, suc, ◌+◌, ◌-◌, ◌≤◌, ◌<◌, List, [], ◌∷◌, ◌++◌, refl, sym, ap, subst, ◌∙◌, arith, append_assoc, append-nil}
+use Rattle.std.proofs.Common.{◌≡◌, ℕ, suc, ◌+◌, ◌-◌, ◌≤◌, ◌<◌, List, [], ◌∷◌, ◌++◌, sym, ap, subst, ◌∙◌, arith, append_assoc, append-nil}
 use Rattle.std.specs.Prelude.{Option, Some, None}
 use Rattle.ep_replica.specs.Kept.{Kept}
 use Rattle.ep_replica.specs.Pending.{state_of}
@@ -10,11 +10,6 @@ use Rattle.ep_node.specs.declared.open_instance.OpenInstance.{OpenInstance}
 -- whatever is told of the others, after so many turns, completes the whole
 abbrev pub Completes : Kept → ℕ → ℕ → Option ℕ → List OpenInstance → Type 0
 Completes k most turn above told = (rest : List OpenInstance) → AreOpen k (most - turn) above rest → AreOpen k most None (told ++ rest)
-
-pub none_told : (k : Kept) (most : ℕ) (told : List OpenInstance) → told ≡ [] → Completes k most 0 None told
-none_told k most told none rest r =
-    let all : most - 0 ≡ most = omega arith in
-    subst (λ (xs : List OpenInstance). AreOpen k most None (xs ++ rest)) (sym none) (subst (λ (n : ℕ). AreOpen k n None rest) all r)
 
 -- one more
 pub one_told : (k : Kept) (most turn i : ℕ) (above : Option ℕ) (x : OpenInstance) (told : List OpenInstance) → turn < most → IsNextOpen (state_of k).records above (Some i) → x ≡ open_as k i

@@ -1,17 +1,18 @@
 -- Entries that leave a closed map have one that executed a seal.
-use Rattle.std.proofs.Common.{◌≡◌, ℕ, suc, ◌<◌, ◌≤◌, Bool, true, false, not, is_none, inl, inr, Option, Some, None, List, [], ◌∷◌, refl, sym, subst, ◌∙◌, arith}
+use Rattle.std.proofs.Common.{◌≡◌, ℕ, Bool, true, false, not, is_none, inl, inr, Option, Some, None, List, [], ◌∷◌, refl, sym, ◌∙◌}
 use Rattle.std.proofs.lemmas.Bool.{false≢true}
 use Rattle.ep_base.specs.Commands.{Command, Noop, Get, Put, Del, Swap, Cas, Seal, Opaque}
 use Rattle.ep_base.specs.Interference.{is_seal}
 use Rattle.ep_base.specs.Places.{Has}
 use Rattle.ep_base.specs.declared.decree.Decree.{Decree}
-use Rattle.ep_rules.specs.Journals.{Entry, left, stamp_after, AreNumbered}
+use Rattle.ep_base.proofs.Places.{Has-first}
+use Rattle.ep_rules.specs.Journals.{Entry, left}
 use Rattle.ep_rules.specs.OneMap.{Contents, Store, is_closed, sealed_by, after, after_all}
 use Rattle.ep_rules.specs.States.{State, committed_in, command_of, command_in}
 use Rattle.ep_rules.specs.Steps.{order_of, leaves}
 use Rattle.ep_rules.specs.Worlds.{In}
 use Rattle.ep_rules.proofs.JournalsKeep.{left_stays}
-use Rattle.ep_rules.proofs.Places.{place_head, has_tail}
+use Rattle.ep_rules.proofs.Places.{has_tail}
 
 -- One command.
 
@@ -29,16 +30,13 @@ closes_it : (seal : Option (List ℕ)) (m : Contents) (c : Command) → not (is_
 closes_it None m c unshut closed = seals_it c closed
 closes_it (Some v) m c unshut closed = absurd (false≢true (sym unshut))
 
-has_head : (i : ℕ) (is : List ℕ) → Has (i ∷ is) i
-has_head i is = let at = place_head i is in omega arith
-
 -- one of them is a seal
 sealed_in : (c : ℕ → Command) (s : Store) (is : List ℕ) → is_closed s ≡ false → is_closed (after_all c s is) ≡ true → (i : ℕ) × Has is i × (is_seal (c i) ≡ true)
 sealed_in c s [] unshut closed = absurd (false≢true (sym unshut ∙ closed))
 sealed_in c s (i ∷ is) unshut closed = go (is_closed (after s (c i))) refl (λ e. sealed_in c (after s (c i)) is e closed)
   where
     go : (b : Bool) → is_closed (after s (c i)) ≡ b → (is_closed (after s (c i)) ≡ false → (j : ℕ) × Has is j × (is_seal (c j) ≡ true)) → (j : ℕ) × Has (i ∷ is) j × (is_seal (c j) ≡ true)
-    go true e rec = (i, has_head i is, closes_it s.seal s.contents (c i) unshut e)
+    go true e rec = (i, Has-first i is, closes_it s.seal s.contents (c i) unshut e)
     go false e rec = let t = rec e in (t.0, has_tail i t.0 is t.1, t.2)
 
 -- what isn't committed is no seal
@@ -71,13 +69,3 @@ sealing f me s (e ∷ es) unshut closed = go (is_closed (leaves f me s e.event e
         record { entry = e; stands = inl refl; instance = t.0; executes = t.1; decree = d.0; committed = left_stays f me s (e ∷ es) t.0 d.0 d.1; seals = d.2 }
 
 -- Stamps.
-
-stamp_least : (n last : ℕ) (es : List Entry) → AreNumbered n last es → last ≤ stamp_after last es
-stamp_least n last [] h = omega arith
-stamp_least n last (e ∷ es) h = let rest = stamp_least (suc n) e.stamp es h.3 in let low : last < e.stamp = h.1 in omega arith
-
--- the last stamp isn't below that of any entry
-pub stamp_reached : (n last x : ℕ) (es : List Entry) (e : Entry) → AreNumbered n last es → In e es → e.stamp ≤ stamp_after x es
-stamp_reached n last x [] e h k = absurd k
-stamp_reached n last x (z ∷ es) e h (inl is) = subst (λ (y : Entry). y.stamp ≤ stamp_after z.stamp es) is (stamp_least (suc n) z.stamp es h.3)
-stamp_reached n last x (z ∷ es) e h (inr k) = stamp_reached (suc n) z.stamp z.stamp es e h.3 k

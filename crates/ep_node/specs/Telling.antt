@@ -13,24 +13,20 @@ use Rattle.ep_rules.specs.States.{committed_in}
 use Rattle.ep_journal.specs.declared.entry.Entry.{Entry}
 use Rattle.ep_journal.specs.declared.event.Event.{Event as Happening}
 use Rattle.ep_journal.specs.declared.event.Event.TheVariants.{Propose, Handle, GiveUp, Recover, Execute}
+use Rattle.ep_journal.specs.Events.{first_named}
 use Rattle.ep_phase.specs.Progress.{progress_in}
-use Rattle.ep_replica.specs.Blockers.{slot}
 use Rattle.ep_replica.specs.Kept.{Kept}
-use Rattle.ep_replica.specs.Pending.{first_named, state_of}
+use Rattle.ep_replica.specs.Pending.{state_of}
 use Rattle.ep_rules.specs.Maps.{get}
 use Rattle.ep_rules.specs.Steps.{order_of}
 use Rattle.ep_space.specs.Open.{IsNextOpen}
+use Rattle.ep_space.specs.Entries.{slot}
 use Rattle.ep_node.specs.Nodes.{Logged, IsQuiet}
 use Rattle.ep_node.specs.declared.open_instance.OpenInstance.{OpenInstance}
 use Rattle.ep_node.specs.declared.ready_fault.ReadyFault.{ReadyFault}
 use Rattle.ep_node.specs.declared.ready_fault.ReadyFault.TheVariants.{Memory, Unsynced, Closed}
 
 -- What entries send and execute.
-
--- the frames that they send, in their order
-abbrev pub frames_of : List Entry → List (List ℕ)
-frames_of [] = []
-frames_of (e ∷ es) = e.frames ++ frames_of es
 
 -- the instances that they execute, in order
 abbrev pub executed_by : List Entry → List ℕ

@@ -2,7 +2,7 @@
 
 ghost use Rattle.std.specs.Prelude.{◌≡◌, ◌≢◌, ◌≤◌, ◌<◌, ℕ, Some, None, length, slice_index_or, OnOk};
 ghost use Rattle.ep_base.specs.Instances.{IsInstance};
-ghost use Rattle.ep_replica.specs.Blockers.{slot};
+ghost use Rattle.ep_space.specs.Entries.{slot};
 ghost use Rattle.ep_node.specs.Telling.{or_other};
 
 use ep_base::InstanceId;

@@ -2,7 +2,7 @@
 
 ghost use Rattle.std.specs.Prelude.{◌≡◌};
 ghost use Rattle.ep_node.specs.Telling.{about_by, committed_as, learnt_by, first_said, or_other, said_by};
-ghost use Rattle.ep_replica.specs.Pending.{first_named};
+ghost use Rattle.ep_journal.specs.Events.{first_named};
 
 use ep_base::InstanceId;
 use ep_frame::{Frame, Kind};

@@ -3,7 +3,7 @@
 ghost use Rattle.std.specs.Prelude.{◌≡◌};
 ghost use Rattle.ep_node.specs.declared.node_fault.NodeFault.TheVariants.{Failed as DeviceFault, Memory as NoMemory, Refused as Untaken};
 
-use ep_device::{Cause, DeviceFailed};
+use ep_device::{DeviceFailed, SystemFault};
 use ep_journal::StepFault;
 use std::alloc::AllocError;
 use thiserror::Error;
@@ -19,7 +19,7 @@ pub enum NodeFault {
     Memory,
     /// The device failed, and why. The node takes nothing more, and hands nothing out, until it is opened again.
     #[error("{0}")]
-    Failed(Cause),
+    Failed(SystemFault),
     /// The device failed before.
     #[error("the node is closed")]
     Closed,

@@ -5,7 +5,7 @@ ghost use Rattle.ep_node.specs.OpenFaults.{of_device, of_log, of_resume};
 ghost use Rattle.ep_node.specs.declared.open_fault.OpenFault.TheVariants.{Failed as DeviceFailure, Memory as NoMemory, OutOfRange as NoReplica};
 
 use ep_base::OutOfRange;
-use ep_device::{Cause, DeviceFailed, DeviceFault};
+use ep_device::{DeviceFailed, DeviceFault, SystemFault};
 use ep_log::LogFault;
 use ep_replica::ResumeFault;
 use std::alloc::AllocError;
@@ -21,7 +21,7 @@ pub enum OpenFault {
     Memory,
     /// The device failed, and why.
     #[error("{0}")]
-    Failed(Cause),
+    Failed(SystemFault),
     /// `Existing` was asked for, and the device is empty.
     #[error("there is none")]
     NoLog,

@@ -1,8 +1,8 @@
 //! What a node tells of its entries.
 
 ghost use Rattle.std.specs.Prelude.{◌≡◌, ◌≤◌, ◌++◌, ℕ, List, None, drop, is_some, length, min, IfOk, OnOk};
-ghost use Rattle.ep_journal.specs.Entries.{entries_of};
-ghost use Rattle.ep_node.specs.Telling.{new_commit, commits_by, learnt_by, about_by, executed_by, frames_of, is_number, noted, open_as, AreFirst, AreOpen};
+ghost use Rattle.ep_journal.specs.Entries.{entries_of, frames_of};
+ghost use Rattle.ep_node.specs.Telling.{new_commit, commits_by, learnt_by, about_by, executed_by, is_number, noted, open_as, AreFirst, AreOpen};
 ghost use Rattle.ep_replica.specs.Pending.{state_of};
 ghost use Rattle.ep_replica.specs.Receipts.{receipts_after};
 ghost use Rattle.ep_rules.specs.Steps.{order_of};

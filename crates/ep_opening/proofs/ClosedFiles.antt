@@ -1,14 +1,13 @@
 -- Journals of one generation that are closed: an entry of each executed a seal, and they are closed alike.
-use Rattle.std.proofs.Common.{◌≡◌, ℕ, zero, suc, ◌<◌, ◌≤◌, ◌⊎◌, Bool, true, false, cond, ◌||◌, inl, inr, List, [], ◌∷◌, refl, sym, ap, subst, ◌∙◌, arith}
+use Rattle.std.proofs.Common.{◌≡◌, ℕ, suc, ◌≤◌, ◌⊎◌, Bool, true, false, cond, ◌||◌, inl, inr, List, [], ◌∷◌, refl, sym, ap, subst, ◌∙◌, arith}
 use Rattle.std.proofs.lemmas.Bool.{false≢true}
 use Rattle.ep_base.specs.Commands.{Command}
 use Rattle.ep_base.specs.Interference.{is_seal}
 use Rattle.ep_base.specs.Places.{Has}
-use Rattle.ep_base.specs.Quorums.{size}
 use Rattle.ep_base.specs.Sameness.{is_noop}
 use Rattle.ep_base.specs.Versions.{generation_of}
 use Rattle.ep_base.specs.declared.reply.Answer.{Answer}
-use Rattle.ep_base.specs.declared.reply.Answer.TheVariants.{Lost, Told}
+use Rattle.ep_base.specs.declared.reply.Answer.TheVariants.{Told}
 use Rattle.ep_base.specs.declared.reply.Reply.{Reply}
 use Rattle.ep_base.proofs.Members.{same_members}
 use Rattle.ep_journal.specs.Entries.{Log, entries_of}
@@ -17,38 +16,30 @@ use Rattle.ep_opening.specs.Closings.{ClosingsAgree, ClosingsGoOn, GoesOn, IsOne
 use Rattle.ep_opening.specs.Files.{File}
 use Rattle.ep_rules.specs.Chains.{store_left, history_from}
 use Rattle.ep_rules.specs.Closing.{has_seal, up_to_seal, HasClosed}
-use Rattle.ep_rules.specs.Journals.{Entry, left, stamp_after, AreNumbered, Journals, Scheduled, act_of, acts_of}
+use Rattle.ep_rules.specs.Journals.{Entry, left, stamp_after, Journals, Scheduled, act_of, acts_of}
 use Rattle.ep_rules.specs.Merging.{Merges}
 use Rattle.ep_rules.specs.OneMap.{Contents, Store, opened, is_closed}
 use Rattle.ep_rules.specs.Operations.{Operation}
-use Rattle.ep_rules.specs.States.{State, fresh_state, committed_in, command_of}
+use Rattle.ep_rules.specs.States.{State, fresh_state}
 use Rattle.ep_rules.specs.Steps.{order_of, leaves}
-use Rattle.ep_rules.specs.Verdicts.{agreed_below, command_at, history_of, merged_of, or_else, IsReply}
+use Rattle.ep_rules.specs.Verdicts.{command_at, history_of, merged_of, IsReply}
 use Rattle.ep_rules.specs.Worlds.{World, opening, In, Act, IsRun, ends}
 use Rattle.ep_rules.proofs.AllExecuted.{runs_execute_all_lem}
-use Rattle.ep_rules.proofs.ChainsExplained.{closes_left}
+use Rattle.ep_rules.proofs.ChainsExplained.{closes_left, in_acts_of, told_same}
 use Rattle.ep_rules.proofs.Closings.{is_history}
 use Rattle.ep_rules.proofs.CutHistories.{cut_of}
 use Rattle.ep_rules.proofs.JournalsCommitted.{is_run, is_run_nil, state_is}
-use Rattle.ep_rules.proofs.JournalsReplies.{each_reply_lem, real}
+use Rattle.ep_rules.proofs.JournalsReplies.{each_reply_lem}
 use Rattle.ep_rules.proofs.Merged.{in_left, of_in}
 use Rattle.ep_rules.proofs.Places.{has_filter, has_split}
-use Rattle.ep_rules.proofs.RunCommits.{committed_below, told_in}
+use Rattle.ep_rules.proofs.RunCommits.{told_in}
 use Rattle.ep_rules.proofs.RunHistories.{command_is}
-use Rattle.ep_rules.proofs.RunsLinear.{has_in}
+use Rattle.ep_rules.proofs.RunsLinear.{has_in, told_lost}
 use Rattle.ep_rules.proofs.Settling.{one_settling_lem}
+use Rattle.ep_rules.proofs.Sorted.{stamp_reached}
+use Rattle.ep_rules.proofs.Answered.{is_real}
 
 -- Stamps.
-
-stamp_least : (n last : ℕ) (es : List Entry) → AreNumbered n last es → last ≤ stamp_after last es
-stamp_least n last [] h = omega arith
-stamp_least n last (e ∷ es) h = let rest = stamp_least (suc n) e.stamp es h.3 in let low : last < e.stamp = h.1 in omega arith
-
--- the last stamp isn't below that of any entry
-reached : (n last x : ℕ) (es : List Entry) (e : Entry) → AreNumbered n last es → In e es → e.stamp ≤ stamp_after x es
-reached n last x [] e h k = absurd k
-reached n last x (z ∷ es) e h (inl is) = subst (λ (y : Entry). y.stamp ≤ stamp_after z.stamp es) is (stamp_least (suc n) z.stamp es h.3)
-reached n last x (z ∷ es) e h (inr k) = reached (suc n) z.stamp z.stamp es e h.3 k
 
 -- Entries.
 
@@ -59,11 +50,6 @@ executed_from f me s (e ∷ es) i h = elim (executed_from f me (leaves f me s e.
   | inl old ↦ elim (has_split s.executed (order_of e.done) i old) [ inl a ↦ inl a | inr b ↦ inr (e, inl refl, b) ]
   | inr t ↦ inr (t.0, inr t.1, t.2)
 ]
-
-in_acts_of : (a : Scheduled) (schedule : List Scheduled) → In a schedule → In (act_of a) (acts_of schedule)
-in_acts_of a [] k = absurd k
-in_acts_of a (b ∷ schedule) (inl e) = inl (ap act_of e)
-in_acts_of a (b ∷ schedule) (inr k) = inr (in_acts_of a schedule k)
 
 -- a seal stands among the operations up to the first one
 sealed_cut : (h : List Operation) → has_seal h ≡ true → (s : Operation) × In s (up_to_seal h) × (is_seal s.command ≡ true)
@@ -77,10 +63,7 @@ sealed_cut (o ∷ os) e = go (is_seal o.command) refl e (sealed_cut os)
 
 -- Answers.
 
-told_lost : {X : Type 0} (y : Reply) → Told y ≡ Lost → X
-told_lost y e = absurd (cc)
-
-not_real : {X : Type 0} (c : ℕ → Command) (i : ℕ) → is_noop (c i) ≡ true → real c i ≡ true → X
+not_real : {X : Type 0} (c : ℕ → Command) (i : ℕ) → is_noop (c i) ≡ true → is_real c i ≡ true → X
 not_real c i noop is = absurd (false≢true (sym (ap (λ (b : Bool). cond b false true) noop) ∙ is))
 
 module _ (m : Contents) (f : ℕ) (journal : Journals) (schedule : List Scheduled) (given : Merges (opened m) f journal schedule) where
@@ -95,15 +78,6 @@ module _ (m : Contents) (f : ℕ) (journal : Journals) (schedule : List Schedule
 
   run : IsRun f (opening (opened m)) acts
   run = is_run (opened m) f journal schedule given
-
-  decrees_below : (n i : ℕ) → committed_below n w i ≡ agreed_below (opened m) n f journal i
-  decrees_below zero i = refl
-  decrees_below (suc n) i =
-      ap (λ o. or_else o (committed_in (w.states n).records i)) (decrees_below n i)
-      ∙ ap (λ (s : State). or_else (agreed_below (opened m) n f journal i) (committed_in s.records i)) (state_is (opened m) f journal schedule given n)
-
-  told_same : (i : ℕ) → told_in (opened m) f acts i ≡ c i
-  told_same i = ap command_of (decrees_below (size f) i)
 
   -- what the replica executed stands in its journal
   entry_for : (r i : ℕ) → Has (w.states r).executed i → (e : Entry) × In e (journal r) × Has (order_of e.done) i
@@ -124,12 +98,12 @@ module _ (m : Contents) (f : ℕ) (journal : Journals) (schedule : List Schedule
 
     seal_is : is_seal (c sealed.0.instance) ≡ true
     seal_is =
-        ap is_seal (sym (command_is (told_in (opened m) f acts) (history_from m f schedule) sealed.0 (is_history (opened m) f given.some given.few acts run).commands (cut_of (history_from m f schedule) sealed.0 sealed.1) ∙ told_same sealed.0.instance))
+        ap is_seal (sym (command_is (told_in (opened m) f acts) (history_from m f schedule) sealed.0 (is_history (opened m) f given.some given.few acts run).commands (cut_of (history_from m f schedule) sealed.0 sealed.1) ∙ told_same m f journal schedule given sealed.0.instance))
         ∙ sealed.2
 
     pub goes_on : (x : ℕ) → GoesOn m f journal r (stamp_after x (journal r))
     goes_on x =
-        let least : seal_executed.0.stamp ≤ stamp_after x (journal r) = reached 1 0 x (journal r) seal_executed.0 (given.local.local r).0 seal_executed.1 in
+        let least : seal_executed.0.stamp ≤ stamp_after x (journal r) = stamp_reached 1 0 x (journal r) seal_executed.0 (given.local.local r).0 seal_executed.1 in
         record {
           entry = seal_executed.0;
           stands = seal_executed.1;
@@ -163,7 +137,7 @@ module _ (m : Contents) (f : ℕ) (journal : Journals) (schedule : List Schedule
       where
         one_answer : (i : ℕ) (told : Reply) (x : Answer) → IsReply (opened m) c (history_of c schedule) i (Told told) → IsReply (opened m) c (history_of c schedule) i x → x ≡ Told told
         one_answer i told x (inl lost) other = told_lost told lost.1
-        one_answer i told x (inr p) (inl lost) = not_real c i lost.0 (has_filter (real c) (merged_of [] schedule) i p.0).1
+        one_answer i told x (inr p) (inl lost) = not_real c i lost.0 (has_filter (is_real c) (merged_of [] schedule) i p.0).1
         one_answer i told x (inr p) (inr k) = k.1 ∙ sym p.1
 
 -- The journal among the others.

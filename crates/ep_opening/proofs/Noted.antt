@@ -1,44 +1,24 @@
 -- A set that gains instances, one execution after the other.
-use Rattle.std.proofs.Common.{◌≡◌, ℕ, ◌+◌, ◌<◌, ◌≤◌, ◌⊎◌, ◌↔◌, inl, inr, List, [], ◌∷◌, ◌++◌, length, take, take_all, get_or, refl, sym, ap, ap₂, subst, ◌∙◌, arith}
+use Rattle.std.proofs.Common.{◌≡◌, ℕ, ◌+◌, ◌<◌, ◌⊎◌, ◌↔◌, inl, inr, List, [], ◌∷◌, ◌++◌, length, take, get_or, refl, sym, ap, ap₂, subst, ◌∙◌, arith}
 use Rattle.std.proofs.lemmas.List.{take_more}
 use Rattle.ep_base.specs.Instances.{IsInstance}
 use Rattle.ep_base.specs.Places.{Has}
 use Rattle.ep_base.specs.declared.reply.Answer.{Answer}
-use Rattle.ep_base.specs.declared.reply.Answer.TheVariants.{Lost, Told}
-use Rattle.ep_base.specs.declared.reply.Reply.{Reply}
-use Rattle.ep_base.specs.declared.reply.Reply.TheVariants.{Closed}
-use Rattle.ep_exec.proofs.Counts.{has_single, single_has}
+use Rattle.ep_base.specs.declared.reply.Answer.TheVariants.{Told}
+use Rattle.ep_exec.proofs.Counts.{single_has}
 use Rattle.ep_journal.specs.Entries.{entries_of, entry_of}
 use Rattle.ep_journal.specs.declared.entry.Entry.{Entry}
 use Rattle.ep_journal.proofs.Growing.{entries_grow}
 use Rattle.ep_rules.specs.Journals as rules
 use Rattle.ep_rules.specs.Worlds.{In}
 use Rattle.ep_rules.proofs.Merged.{in_left, in_right, in_split}
-use Rattle.ep_rules.proofs.Places.{has_left, has_or, has_right, has_split}
+use Rattle.ep_rules.proofs.Places.{has_left, has_or, has_right, has_split, has_single}
 use Rattle.ep_opening.specs.Closing.{WasAnswered}
 use Rattle.ep_opening.specs.Gathering.{Gains, WasAnsweredIn, WasDone}
 
 -- answers
 
-pub lost_undone : WasDone Lost → ⊥
-lost_undone d = let e : Lost ≡ Told d.0 = d.1 in absurd (cc)
-
-told_from : (x y : Reply) → Told x ≡ Told y → x ≡ y
-told_from x y e = cc
-
-pub told_done : (told : Reply) → (told ≡ Closed → ⊥) → WasDone (Told told)
-told_done told not = (told, refl, not)
-
-pub closed_undone : (told : Reply) → told ≡ Closed → WasDone (Told told) → ⊥
-closed_undone told is d = d.2 (sym (told_from told d.0 d.1) ∙ is)
-
 -- sets
-
-pub gains_none : (P : ℕ → Type 0) (xs ys : List ℕ) → ys ≡ xs → ((i : ℕ) → P i → ⊥) → Gains P xs ys
-gains_none P xs ys same none = record {
-  has = λ i. (λ h. inl (subst (λ zs. Has zs i) same h), λ h. elim h [ inl a ↦ subst (λ zs. Has zs i) (sym same) a | inr p ↦ absurd (none i p) ]);
-  instances = λ i p. absurd (none i p);
-}
 
 pub gains_more : (P Q R : ℕ → Type 0) (a b c : List ℕ) → ((i : ℕ) → R i ↔ (P i ⊎ Q i)) → Gains P a b → Gains Q b c → Gains R a c
 gains_more P Q R a b c parts p q = record {
@@ -81,19 +61,6 @@ gains_one old mid new j known same fresh there = record {
           λ k. subst (λ zs. Has zs i) (sym e) (elim k [ inl a ↦ has_left old (j ∷ []) i a | inr is ↦ subst (λ m. Has (old ++ j ∷ []) m) (sym is) here ]),
         )
 
--- an execution whose command was done, or was not
-pub gains_done : (old new : List ℕ) (j : ℕ) (x : Answer) → WasDone x → Gains (λ i. i ≡ j) old new → Gains (λ i. (i ≡ j) × WasDone x) old new
-gains_done old new j x done g = record {
-  has = λ i. (
-    λ h. elim ((g.has i).0 h) [ inl a ↦ inl a | inr is ↦ inr (is, done) ],
-    λ h. elim h [ inl a ↦ (g.has i).1 (inl a) | inr p ↦ (g.has i).1 (inr p.0) ],
-  );
-  instances = λ i p. g.instances i p.0;
-}
-
-pub gains_undone : (old new : List ℕ) (j : ℕ) (x : Answer) → new ≡ old → (WasDone x → ⊥) → Gains (λ i. (i ≡ j) × WasDone x) old new
-gains_undone old new j x same not = gains_none (λ i. (i ≡ j) × WasDone x) old new same (λ i p. not p.1)
-
 -- executions
 
 answered_there : (done : List (ℕ × Answer)) (j : ℕ) (x : Answer) (i : ℕ) → WasAnsweredIn (done ++ (j, x) ∷ []) i → WasAnsweredIn done i ⊎ ((i ≡ j) × WasDone x)
@@ -116,18 +83,12 @@ answered_last done j x i is d =
 answered_push : (done : List (ℕ × Answer)) (j : ℕ) (x : Answer) (i : ℕ) → WasAnsweredIn (done ++ (j, x) ∷ []) i ↔ (WasAnsweredIn done i ⊎ ((i ≡ j) × WasDone x))
 answered_push done j x i = (answered_there done j x i, λ h. elim h [ inl a ↦ answered_before done j x i a | inr p ↦ answered_last done j x i p.0 p.1 ])
 
-pub noted_none : (done : List (ℕ × Answer)) (xs : List ℕ) → Gains (WasAnsweredIn (take 0 done)) xs xs
-noted_none done xs = gains_none (WasAnsweredIn []) xs xs refl (λ i a. a.1)
-
 pub noted_more : (done : List (ℕ × Answer)) (k j : ℕ) (x : Answer) (a b c : List ℕ) → k < length done → (j, x) ≡ get_or done k (j, x) → Gains (WasAnsweredIn (take k done)) a b → Gains (λ i. (i ≡ j) × WasDone x) b c
     → Gains (WasAnsweredIn (take (k + 1) done)) a c
 noted_more done k j x a b c lt is p q =
     let next : take (k + 1) done ≡ take k done ++ (j, x) ∷ [] = take_more done k (j, x) lt ∙ ap (λ (y : ℕ × Answer). take k done ++ y ∷ []) (sym is) in
     subst (λ (ds : List (ℕ × Answer)). Gains (WasAnsweredIn ds) a c) (sym next)
     (gains_more (WasAnsweredIn (take k done)) (λ i. (i ≡ j) × WasDone x) (WasAnsweredIn (take k done ++ (j, x) ∷ [])) a b c (answered_push (take k done) j x) p q)
-
-pub noted_all : (done : List (ℕ × Answer)) (k : ℕ) (a b : List ℕ) → length done ≤ k → Gains (WasAnsweredIn (take k done)) a b → Gains (WasAnsweredIn done) a b
-noted_all done k a b le g = subst (λ (ds : List (ℕ × Answer)). Gains (WasAnsweredIn ds) a b) (take_all k done le) g
 
 -- entries
 
@@ -149,9 +110,6 @@ entry_last es e i a = (e, a.0, in_right e es (e ∷ []) (inl refl), a.1, a.2)
 entry_push : (es : List rules.Entry) (e : rules.Entry) (i : ℕ) → WasAnswered (es ++ e ∷ []) i ↔ (WasAnswered es i ⊎ WasAnsweredIn e.done i)
 entry_push es e i = (entry_there es e i, λ h. elim h [ inl a ↦ entry_before es e i a | inr b ↦ entry_last es e i b ])
 
-pub gathered_none : (es : List Entry) (xs : List ℕ) → xs ≡ [] → Gains (WasAnswered (entries_of (take 0 es))) [] xs
-gathered_none es xs none = gains_none (WasAnswered []) [] xs none (λ i a. a.2)
-
 pub gathered_more : (es : List Entry) (k : ℕ) (e : Entry) (a b c : List ℕ) → k < length es → e ≡ get_or es k e → Gains (WasAnswered (entries_of (take k es))) a b → Gains (WasAnsweredIn e.done) b c
     → Gains (WasAnswered (entries_of (take (k + 1) es))) a c
 gathered_more es k e a b c lt is p q =
@@ -160,13 +118,6 @@ gathered_more es k e a b c lt is p q =
     in
     subst (λ (these : List rules.Entry). Gains (WasAnswered these) a c) (sym next)
     (gains_more (WasAnswered (entries_of (take k es))) (WasAnsweredIn e.done) (WasAnswered (entries_of (take k es) ++ entry_of e ∷ [])) a b c (entry_push (entries_of (take k es)) (entry_of e)) p q)
-
-pub gathered_all : (es : List Entry) (k : ℕ) (a b : List ℕ) → length es ≤ k → Gains (WasAnswered (entries_of (take k es))) a b → Gains (WasAnswered (entries_of es)) a b
-gathered_all es k a b le g = subst (λ (these : List Entry). Gains (WasAnswered (entries_of these)) a b) (take_all k es le) g
-
--- all of a set that was empty are instances
-pub all_instances : (P : ℕ → Type 0) (xs : List ℕ) → Gains P [] xs → (i : ℕ) → Has xs i → IsInstance i
-all_instances P xs g i h = elim ((g.has i).0 h) [ inl none ↦ absurd (omega (arith, none)) | inr p ↦ g.instances i p ]
 
 -- and in any list that has them too
 pub all_of : (P : ℕ → Type 0) (set list : List ℕ) → Gains P [] set → ((i : ℕ) → Has list i ↔ Has set i) → (i : ℕ) → Has list i ↔ P i

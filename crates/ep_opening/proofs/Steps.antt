@@ -1,22 +1,20 @@
 -- What single calls of the reader make of the bytes.
-use Rattle.std.proofs.Common.{◌≡◌, ℕ, ◌+◌, ◌-◌, ◌≤◌, ◌<◌, Bool, true, false, cond, eqb, ltb, List, length, length-drop, take, take_all, drop, Option, Some, None, Result, Ok, Err, refl, sym, ap, ◌∙◌, subst, arith}
+use Rattle.std.proofs.Common.{◌≡◌, ℕ, ◌-◌, ◌≤◌, Bool, true, false, cond, eqb, List, length, take, drop, Option, Some, None, Result, Ok, Err, sym, ap, ◌∙◌, subst, arith}
 use Rattle.std.specs.Prelude.{IsErrAnd, ◌↔◌, IsTrue}
-use Rattle.std.proofs.lemmas.Bool.{lt-ltb, le-ltb}
+use Rattle.std.proofs.lemmas.Bool.{le-ltb}
 use Rattle.ep_base.specs.Attributes.{same_list}
 use Rattle.ep_base.specs.Instances.{IsInstance, number_of}
 use Rattle.ep_base.specs.declared.version.Version.{Version}
 use Rattle.ep_base.specs.declared.version_kind.VersionKind.TheVariants.{V3}
-use Rattle.ep_journal.specs.Openings.{Opening}
 use Rattle.ep_rules.specs.OneMap.{Contents}
 use Rattle.sha2.specs.Sha256.{sha256}
 use Rattle.ep_bundle.specs.Headers.{map_in}
-use Rattle.ep_bundle.specs.Reading.{Left, Reading, Reads, and_then}
+use Rattle.ep_bundle.specs.Reading.{Left, Reading, Reads}
 use Rattle.ep_bundle.specs.Stages.{instance}
 use Rattle.ep_bundle.specs.declared.bundle_fault.BundleFault.{BundleFault}
 use Rattle.ep_bundle.proofs.Readings.{same_reading}
 use Rattle.ep_opening.specs.Files.{File}
-use Rattle.ep_opening.specs.Reading.{IsTold, Telling, Tells, and_told, body_in, file, file_of, lead, lead_field, marked, parts, some_value, telling}
-use Rattle.ep_opening.specs.declared.front.Front.{Front}
+use Rattle.ep_opening.specs.Reading.{IsTold, Telling, Tells, and_told, body_in, file, lead, lead_field, marked, parts, some_value, telling}
 use Rattle.ep_opening.specs.declared.opening_fault.OpeningFault.{OpeningFault}
 use Rattle.ep_opening.specs.declared.opening_fault.OpeningFault.TheVariants.{CutShort, Damaged}
 use Rattle.ep_opening.proofs.Tellings.{fails_told, goes_on_told, is_told}
@@ -45,12 +43,6 @@ not_so b e h p = absurd (let t : true ≡ false = sym (h.1 p) ∙ e in cc)
 
 -- the parts of a file
 
-pub made_is : (h : Front) (m : Contents) (is : List ℕ) (o : Opening) (f : File) → o ≡ record { contents = m; since = h.since } → f ≡ record { faults = h.size; generation = h.generation; opening = o; seal = h.seal; executed = is } → f ≡ file_of h m is
-made_is h m is o f open_is file_is = file_is ∙ ap (λ (x : Opening). made x) open_is
-  where
-    made : Opening → File
-    made x = record { faults = h.size; generation = h.generation; opening = x; seal = h.seal; executed = is }
-
 -- the whole
 
 abbrev pub after_lead : List ℕ → List ℕ → ℕ → Left → Telling File
@@ -76,13 +68,6 @@ sealed bs digest x p left r q left' h e next = is_told (body_in bs digest) r q l
     (λ ys k. subst (λ (b : Bool). Tells {A = File} (cond b (parts (record { at = p; bytes = ys })) (Err (Damaged (length bs)))) r q left') (sym e) (next ys k)))
 
 -- the length of the whole
-
-pub too_short : (bs : List ℕ) → length bs < 59 → file bs ≡ Err (CutShort (length bs))
-too_short bs lt = ap (λ (b : Bool). cond {A = Telling File} b (Err (CutShort (length bs))) (body_in (take (length bs - 32) bs) (drop (length bs - 32) bs))) (lt-ltb (length bs) 59 lt)
-
--- a list from a place on
-pub all_behind : (n : ℕ) (bs : List ℕ) → take (length bs - n) (drop n bs) ≡ drop n bs
-all_behind n bs = take_all (length bs - n) (drop n bs) (let e = length-drop n bs in omega arith)
 
 pub long_enough : (bs front back : List ℕ) (r : Result File OpeningFault) → 59 ≤ length bs → front ≡ take (length bs - 32) bs → back ≡ drop (length bs - 32) bs → IsTold (body_in front back) r → IsTold (file bs) r
 long_enough bs front back r le is at h = subst (λ (o : Telling File). IsTold o r) (sym whole) (subst (λ (xs : List ℕ). IsTold (body_in xs (drop (length bs - 32) bs)) r) is (subst (λ (ys : List ℕ). IsTold (body_in front ys) r) at h))

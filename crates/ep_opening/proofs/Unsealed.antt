@@ -1,48 +1,24 @@
 -- No seal closes a map of versions 1 and 2.
-use Rattle.std.proofs.Common.{◌≡◌, ℕ, ◌≤◌, Bool, true, false, cond, leb, List, [], ◌∷◌, Option, Some, None, refl, sym, ap, subst, ◌∙◌}
-use Rattle.std.proofs.lemmas.Bool.{false≢true, leb-true}
-use Rattle.ep_base.specs.Instances.{number_of}
-use Rattle.ep_base.specs.Versions.{highest_in, knows, version_number, CanSay}
+use Rattle.std.proofs.Common.{◌≡◌, ℕ, true, false, List, [], ◌∷◌, Option, refl, sym, ap, subst, ◌∙◌}
+use Rattle.std.proofs.lemmas.Bool.{false≢true}
+use Rattle.ep_base.specs.Versions.{version_number}
 use Rattle.ep_base.specs.declared.version.Version.{Version}
 use Rattle.ep_base.specs.declared.version_kind.VersionKind.TheVariants.{V1, V2, V3}
-use Rattle.ep_frame.specs.Meaning.{version_at}
-use Rattle.ep_frame.proofs.Meanings.{version_spelled, message_spelled}
 use Rattle.ep_journal.specs.Entries.{entries_of, AreEntriesIn, AreReadable, IsJournal}
-use Rattle.ep_journal.specs.Events.{event_of, IsReadable, lacking, numbered_in}
-use Rattle.ep_journal.specs.Holding.{HasEvent, Holds, IsEarly, IsStoreIn}
+use Rattle.ep_journal.specs.Events.{event_of}
+use Rattle.ep_journal.specs.Holding.{Holds, IsEarly, IsStoreIn}
 use Rattle.ep_journal.specs.Leaving.{state_left}
 use Rattle.ep_journal.specs.Openings.{Opening, opens, OpensIn}
 use Rattle.ep_journal.specs.declared.entry.Entry.{Entry}
-use Rattle.ep_journal.specs.declared.event.Event.{Event as Happening}
-use Rattle.ep_journal.specs.declared.event.Event.TheVariants.{Propose, Handle, GiveUp, Recover, Execute}
-use Rattle.ep_journal.specs.declared.step_fault.StepFault.{StepFault}
-use Rattle.ep_journal.specs.declared.step_fault.StepFault.TheVariants.{OutOfRange}
 use Rattle.ep_journal.proofs.Answering.{begins_in}
 use Rattle.ep_journal.proofs.Holding.{fresh_held, leaves_held}
-use Rattle.ep_journal.proofs.Whole.{same_version}
+use Rattle.ep_journal.proofs.Whole.{event_had}
 use Rattle.ep_rules.specs.Journals.{left}
 use Rattle.ep_rules.specs.OneMap.{Store, is_closed}
 use Rattle.ep_rules.specs.States.{State, fresh_state}
 use Rattle.ep_rules.specs.Steps.{leaves}
 
 -- the version has what its entries speak of
-
-said : (b : Bool) (fault : StepFault) → cond {A = Option StepFault} b None (Some fault) ≡ None → b ≡ true
-said true fault e = refl
-said false fault e = absurd (cc)
-
-numbered : (v : Version) (i : ℕ) → numbered_in v i ≡ None → number_of i ≤ highest_in v
-numbered v i e = leb-true (number_of i) (highest_in v) (said (leb (number_of i) (highest_in v)) OutOfRange e)
-
-event_had : (v : Version) (e : Happening) → IsReadable e → lacking v e ≡ None → HasEvent v (event_of e)
-event_had v (Propose client request c seen) h e = said (knows v c) OutOfRange e
-event_had v (Handle b) h e =
-    let s = h.4 in
-    let is : h.0 ≡ v = sym (version_spelled h.0 b _ _ _ s) ∙ same_version (version_at b) v e in
-    subst (λ m. CanSay v m) (sym (message_spelled h.0 b _ _ _ s)) (subst (λ w. CanSay w h.3) is s.sayable)
-event_had v (GiveUp i) h e = numbered v i e
-event_had v (Recover i) h e = numbered v i e
-event_had v (Execute i) h e = numbered v i e
 
 -- and so what they leave
 

@@ -1,5 +1,5 @@
 -- What is written is read back.
-use Rattle.std.proofs.Common.{◌≡◌, ℕ, zero, suc, ◌+◌, ◌-◌, ◌^◌, ◌≤◌, ◌<◌, Bool, true, false, cond, eqb, ltb, List, [], ◌∷◌, ◌++◌, length, length-append, take, take_all, drop, drop_at, append-nil, append_assoc, Option, Some, None, Ok, Err, refl, sym, ap, ◌∙◌, subst, arith}
+use Rattle.std.proofs.Common.{◌≡◌, ℕ, suc, ◌+◌, ◌-◌, ◌≤◌, ◌<◌, Bool, true, false, cond, eqb, ltb, List, [], ◌∷◌, ◌++◌, length, length-append, take, take_all, drop, drop_at, append-nil, append_assoc, Option, Some, None, Ok, Err, refl, sym, ap, ◌∙◌, subst, arith}
 use Rattle.std.specs.FinMap.{entries}
 use Rattle.std.specs.List.{flat_map}
 use Rattle.std.proofs.lemmas.Bool.{eqb-true, ne_eqb, lt-ltb, le-ltb}
@@ -13,21 +13,22 @@ use Rattle.ep_base.specs.Values.{most_value}
 use Rattle.ep_base.specs.declared.version_kind.VersionKind.TheVariants.{V3}
 use Rattle.ep_base.proofs.Bound.{length-instances}
 use Rattle.ep_base.proofs.Same.{Decides-same_list}
+use Rattle.ep_base.proofs.Rising.{rising_front}
 use Rattle.ep_exec.specs.Bytes.{contents_bytes, pair_bytes}
 use Rattle.ep_frame.specs.Fields.{number_bytes, dep_bytes}
+use Rattle.ep_frame.proofs.Again.{length-number_bytes}
 use Rattle.sha2.specs.Sha256.{sha256}
 use Rattle.sha2.proofs.Facts256.{length-sha256}
-use Rattle.ep_bundle.specs.Headers.{cluster, map_in}
+use Rattle.ep_bundle.specs.Headers.{cluster}
 use Rattle.ep_bundle.specs.Reading.{Left, Reading, and_then, run, field}
 use Rattle.ep_bundle.specs.declared.bundle_fault.BundleFault.TheVariants.{BadBundle}
 use Rattle.ep_bundle.proofs.MapBytes.{contents_are}
-use Rattle.ep_bundle.proofs.ReadNumbers.{length_number}
 use Rattle.ep_bundle.proofs.WrittenHeaders.{clustered, map_given}
 use Rattle.ep_bundle.proofs.WrittenStages.{Gives, respelled, then_gives, made_of, ran, fielded, instanced}
 use Rattle.ep_rules.specs.OneMap.{Contents}
-use Rattle.ep_opening.specs.Bytes.{body_bytes, executed_bytes, front_bytes, lead_bytes, magic, opening_bytes, seal_bytes}
+use Rattle.ep_opening.specs.Bytes.{body_bytes, executed_bytes, front_bytes, lead_bytes, magic, seal_bytes}
 use Rattle.ep_opening.specs.Files.{File, HasItsPast, HasItsSeal, IsFile, SealFits}
-use Rattle.ep_opening.specs.Reading.{FilesAreReadBack, Telling, above, and_told, body_in, executed, executed_field, file, file_of, front, front_field, last_of, lead, lead_field, most_of, parts, rising, seal, seal_value, telling}
+use Rattle.ep_opening.specs.Reading.{FilesAreReadBack, Telling, above, and_told, body_in, executed, executed_field, file, front, front_field, last_of, lead, lead_field, most_of, parts, rising, seal, seal_value, telling}
 use Rattle.ep_opening.specs.declared.front.Front.{Front}
 use Rattle.ep_opening.specs.declared.opening_fault.OpeningFault.TheVariants.{CutShort, Damaged}
 use Rattle.ep_opening.specs.declared.opening_field.OpeningField.TheVariants.{Map}
@@ -87,11 +88,6 @@ above_given g is i h lt at rest =
           ∙ ap (λ (b : Bool). cond b (Ok (i, record { at = p.0; bytes = rest })) (Err (BadBundle at))) (lt-ltb (last_of 0 is) i lt),
     )
 
-rises_front : (xs ys : List ℕ) → IsRising (xs ++ ys) → IsRising xs
-rises_front [] ys h = tt
-rises_front (x ∷ []) ys h = (tt, tt)
-rises_front (x ∷ y ∷ xs) ys h = (h.0, rises_front (y ∷ xs) ys h.1)
-
 rising_given : (g : ℕ) (before items : List ℕ) → IsRising (before ++ items) → AreInstances items → Gives (rising g (length items) before) (flat_map dep_bytes items) (before ++ items)
 rising_given g before [] r a = λ at rest. (at, ap (λ (zs : List ℕ). Ok (zs, record { at = at; bytes = rest })) (sym (append-nil before)))
 rising_given g before (i ∷ items) r a =
@@ -101,7 +97,7 @@ rising_given g before (i ∷ items) r a =
     let least : 1 ≤ i = positive i is in
     respelled (rising g (suc (length items)) before) (dep_bytes i ++ flat_map dep_bytes items) (flat_map dep_bytes (i ∷ items)) (before ++ i ∷ items) (sym (flat_map-cons dep_bytes i items))
     (then_gives (above g before) (λ j l. rising g (length items) (before ++ j ∷ []) l) (dep_bytes i) (flat_map dep_bytes items) i (before ++ i ∷ items)
-    (above_given g before i is (last_is_below before i least (rises_front (before ++ i ∷ []) items rises)))
+    (above_given g before i is (last_is_below before i least (rising_front (before ++ i ∷ []) items rises)))
     (subst (λ (zs : List ℕ). Gives (rising g (length items) (before ++ i ∷ [])) (flat_map dep_bytes items) zs) grouped (rising_given g (before ++ i ∷ []) items rises a.1)))
   where
     positive : (i : ℕ) → IsInstance i → 1 ≤ i
@@ -166,11 +162,11 @@ long4 : (a b c d : List ℕ) → length (a ++ b ++ c ++ d) ≡ length a + length
 long4 a b c d = let e = length-append (a ++ b ++ c) d in let k = length-append (a ++ b) c in let m = length-append a b in omega arith
 
 long_seal : (s : Option (List ℕ)) → 1 ≤ length (seal_bytes s)
-long_seal None = let e = length_number 1 0 in omega arith
-long_seal (Some v) = let e = length_number 1 1 in let k = length-append (number_bytes 1 1) (number_bytes 4 (length v) ++ v) in omega arith
+long_seal None = let e = length-number_bytes 1 0 in omega arith
+long_seal (Some v) = let e = length-number_bytes 1 1 in let k = length-append (number_bytes 1 1) (number_bytes 4 (length v) ++ v) in omega arith
 
 long_counted : (n : ℕ) (bs : List ℕ) → 4 ≤ length (number_bytes 4 n ++ bs)
-long_counted n bs = let e = length_number 4 n in let k = length-append (number_bytes 4 n) bs in omega arith
+long_counted n bs = let e = length-number_bytes 4 n in let k = length-append (number_bytes 4 n) bs in omega arith
 
 long_map : (m : Contents) → 4 ≤ length (contents_bytes m)
 long_map m = subst (λ (zs : List ℕ). 4 ≤ length zs) (sym (contents_are m)) (long_counted (length (entries m)) (flat_map pair_bytes (entries m)))
@@ -179,12 +175,12 @@ long_body : (f : File) → 27 ≤ length (body_bytes f)
 long_body f =
     let all = long4 lead_bytes (front_bytes f) (contents_bytes f.opening.contents) (executed_bytes f.executed) in
     let lead_is = length-append (number_bytes 4 magic) (number_bytes 1 3) in
-    let four = length_number 4 magic in
-    let one = length_number 1 3 in
+    let four = length-number_bytes 4 magic in
+    let one = length-number_bytes 1 3 in
     let front_is = long4 (number_bytes 1 (size f.faults)) (number_bytes 4 f.generation) (number_bytes 8 f.opening.since) (seal_bytes f.seal) in
-    let a = length_number 1 (size f.faults) in
-    let b = length_number 4 f.generation in
-    let c = length_number 8 f.opening.since in
+    let a = length-number_bytes 1 (size f.faults) in
+    let b = length-number_bytes 4 f.generation in
+    let c = length-number_bytes 8 f.opening.since in
     let d = long_seal f.seal in
     let e = long_map f.opening.contents in
     let k = long_counted (length f.executed) (flat_map dep_bytes f.executed) in

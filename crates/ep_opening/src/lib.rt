@@ -6,7 +6,8 @@
 //!
 //! A journal that has executed a seal gives the next generation's file (`closing.rt`, specs/Closing.antt).
 //!
-//! Start with `opening_file.rt` and specs/Bytes.antt; then `writing.rt`, and `reading.rt` with specs/Reading.antt.
+//! Start with `opening_file.rt` and specs/Bytes.antt; then `writing.rt`, and `reading.rt` with specs/Reading.antt. `SpelledFile` is a file with
+//! its bytes, by its type.
 //!
 //! The digest is judged before all fields behind the version: a field's fault says that somebody wrote it so.
 #![tactic(auto)]
@@ -23,6 +24,7 @@ mod opening_file;
 mod parts;
 mod parts_fault;
 mod reading;
+mod spelled_file;
 mod stages;
 mod writing;
 
@@ -35,4 +37,5 @@ pub use opening_field::OpeningField;
 pub use opening_file::OpeningFile;
 pub use parts_fault::PartsFault;
 pub use reading::read_opening;
+pub use spelled_file::SpelledFile;
 pub use writing::write_opening;

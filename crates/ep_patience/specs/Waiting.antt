@@ -1,9 +1,10 @@
 -- When a replica waits no longer for an instance: what is asked for then, and how long it waits again.
-use Rattle.std.specs.Prelude.{◌≡◌, ◌⊎◌, ◌≤◌, ◌<◌, ◌+◌, ◌*◌, ℕ, ◌&&◌, eqb, leb, cond, min, List, [], ◌∷◌, ◌++◌, Option, Some, None}
+use Rattle.std.specs.Prelude.{◌≡◌, ◌≤◌, ◌+◌, ◌*◌, ◌%◌, ℕ, zero, suc, ◌&&◌, eqb, leb, ltb, cond, min, List, [], length, map, find, filter_map, slice_get, All, Contains, Option, Some, None}
 use Rattle.ep_base.specs.Instances.{leader_of}
-use Rattle.ep_base.specs.Places.{Has}
 use Rattle.ep_phase.specs.declared.progress.LeadPhase.{LeadPhase}
 use Rattle.ep_phase.specs.declared.progress.LeadPhase.TheVariants.{Proposing, Accepting, Preparing}
+use Rattle.rand_xoshiro.specs.SplitMix64.{mix_u64, next_state}
+use Rattle.ep_patience.specs.declared.patience.Patience.{Patience}
 use Rattle.ep_patience.specs.declared.remedy.Remedy.{Remedy}
 use Rattle.ep_patience.specs.declared.remedy.Remedy.TheVariants.{GiveUp, Recover}
 use Rattle.ep_patience.specs.declared.seen.Seen.{Seen}
@@ -33,64 +34,66 @@ begun_wait w me i = cond (eqb (leader_of i) me) w.own w.others
 abbrev pub next_wait : Waits → ℕ → ℕ
 next_wait w wait = cond (eqb wait 0) (min w.again w.longest) (min (wait * 2) w.longest)
 
--- once to twice so long after now; times stop at 2^64 - 1
+-- when such a wait ends that begins now, by a random number; times stop at 2^64 - 1
+unfoldable pub later : ℕ → ℕ → ℕ → ℕ
+later now wait random = min (now + (wait + random % (wait + 1))) 18446744073709551615
+
+-- once to twice so long after now
 abbrev pub IsWithin : ℕ → ℕ → ℕ → Type 0
 IsWithin now wait due = (min (now + wait) 18446744073709551615 ≤ due) × (due ≤ now + 2 * wait)
 
--- What is waited for.
+-- The random numbers are those of SplitMix64 (Steele, Lea and Flood, 2014), which the seed begins.
+
+-- the generator's state after so many numbers
+abbrev pub state_after : ℕ → ℕ → ℕ
+state_after seed zero = seed
+state_after seed (suc n) = next_state (state_after seed n)
+
+-- the number that it gives in this state
+unfoldable pub random_of : ℕ → ℕ
+random_of state = (mix_u64 state).0
+
+-- One open instance in a turn at a time, by how it was waited for before, if it was.
+
+-- how it is waited for from now on: anew where it is seen for the first time, again where its wait is over, else as before
+abbrev pub waiting_after : Waits → ℕ → ℕ → ℕ → Seen → Option Waiting → Waiting
+waiting_after w me now random x None = record { instance = x.instance; due = later now (begun_wait w me x.instance) random; wait = 0 }
+waiting_after w me now random x (Some old) = cond (ltb now old.due) old (record { instance = x.instance; due = later now (next_wait w old.wait) random; wait = next_wait w old.wait })
+
+-- what is asked for, where its wait is over
+abbrev pub remedy_for : ℕ → ℕ → ℕ → Seen → Option Waiting → Option Remedy
+remedy_for faults me now x None = None
+remedy_for faults me now x (Some old) = cond (ltb now old.due) None (remedy_of faults me old.wait x)
 
 -- how the instance is waited for, if it is
 abbrev pub waiting_for : List Waiting → ℕ → Option Waiting
-waiting_for [] i = None
-waiting_for (w ∷ ws) i = cond (eqb w.instance i) (Some w) (waiting_for ws i)
+waiting_for ws i = find (λ (w : Waiting). eqb w.instance i) ws
 
--- One open instance in a turn at a time: how it was waited for, how it is now, and what is asked for.
+-- the same by what is known of it before the turn
+abbrev pub waiting_next : Patience → ℕ → ℕ → Seen → Waiting
+waiting_next p now random x = waiting_after p.waits p.me now random x (waiting_for p.all.items x.instance)
 
--- it is seen for the first time, and waited for
-pub record Begins (w : Waits) (me now : ℕ) (x : Seen) (new : Waiting) (asked : Option Remedy) : Type 0 where
-  pub instance : new.instance ≡ x.instance
-  pub wait : new.wait ≡ 0
-  pub due : IsWithin now (begun_wait w me x.instance) new.due
-  pub says : asked ≡ None
+abbrev pub remedy_next : Patience → ℕ → Seen → Option Remedy
+remedy_next p now x = remedy_for p.size p.me now x (waiting_for p.all.items x.instance)
 
--- its wait is over: something is asked for, and it is waited for again
-pub record IsLate (w : Waits) (faults me now : ℕ) (x : Seen) (old new : Waiting) (asked : Option Remedy) : Type 0 where
-  pub late : old.due ≤ now
-  pub instance : new.instance ≡ x.instance
-  pub wait : new.wait ≡ next_wait w old.wait
-  pub due : IsWithin now (next_wait w old.wait) new.due
-  pub says : asked ≡ remedy_of faults me old.wait x
+-- A turn at a time, at which these instances are open: what is waited for after it, what it asks for, and the generator's state.
+pub record Turns (p : Patience) (now : ℕ) (seen : List Seen) (all : List Waiting) (asked : List Remedy) (random : ℕ) : Type 0 where
+  -- each open instance is waited for, at its place, and nothing else is
+  pub many : length all ≡ length seen
+  pub waited : (i : ℕ) (x : Seen) → slice_get seen i ≡ Some x → slice_get all i ≡ Some (waiting_next p now (random_of (state_after p.random i)) x)
+  -- what is late is asked for, in their order
+  pub late : asked ≡ filter_map (remedy_next p now) seen
+  -- each took a random number
+  pub drawn : random ≡ state_after p.random (length seen)
 
--- as it was, where its wait isn't over
-abbrev pub IsTurn : Waits → ℕ → ℕ → ℕ → Seen → Option Waiting → Waiting → Option Remedy → Type 0
-IsTurn w faults me now x None new asked = Begins w me now x new asked
-IsTurn w faults me now x (Some old) new asked = ((now < old.due) × (new ≡ old) × (asked ≡ None)) ⊎ IsLate w faults me now x old new asked
-
-abbrev pub listed : Option Remedy → List Remedy
-listed None = []
-listed (Some r) = r ∷ []
-
--- all open instances in a turn: each is waited for, nothing else is, and what is late is asked for, in their order
-abbrev pub Turns : Waits → ℕ → ℕ → ℕ → List Waiting → List Seen → List Waiting → List Remedy → Type 0
-Turns w faults me now old [] [] asked = asked ≡ []
-Turns w faults me now old [] (v ∷ vs) asked = ⊥
-Turns w faults me now old (x ∷ xs) [] asked = ⊥
-Turns w faults me now old (x ∷ xs) (v ∷ vs) asked =
-    (r : Option Remedy) × (rest : List Remedy) × IsTurn w faults me now x (waiting_for old x.instance) v r × Turns w faults me now old xs vs rest × (asked ≡ listed r ++ rest)
-
--- What is asked for names open instances alone.
+-- What is asked for names an open instance.
 
 abbrev pub named : Remedy → ℕ
 named (GiveUp i) = i
 named (Recover i) = i
 
-abbrev pub instances_of : List Seen → List ℕ
-instances_of [] = []
-instances_of (x ∷ xs) = x.instance ∷ instances_of xs
-
-abbrev pub AllNamed : List ℕ → List Remedy → Type 0
-AllNamed is [] = Unit {0}
-AllNamed is (r ∷ rs) = Has is (named r) × AllNamed is rs
+abbrev pub AreOpen : List Seen → List Remedy → Type 0
+AreOpen seen asked = All (λ (r : Remedy). Contains (map (λ (x : Seen). x.instance) seen) (named r)) asked
 
 -- When something is due next.
 
@@ -98,6 +101,7 @@ abbrev pub earlier : Option ℕ → ℕ → ℕ
 earlier None due = due
 earlier (Some other) due = min other due
 
-abbrev pub first_due : Option ℕ → List Waiting → Option ℕ
-first_due found [] = found
-first_due found (w ∷ ws) = first_due (Some (earlier found w.due)) ws
+-- the time at which the first of these waits ends: none of nothing, else that of one of them, and none ends before
+abbrev pub IsFirst : List Waiting → Option ℕ → Type 0
+IsFirst ws None = ws ≡ []
+IsFirst ws (Some due) = Contains (map (λ (w : Waiting). w.due) ws) due × All (λ (w : Waiting). due ≤ w.due) ws

@@ -1,7 +1,7 @@
 //! What is asked for, and how long is waited then.
 
 ghost use Rattle.std.specs.Prelude.{◌≡◌, ◌≤◌, ◌+◌, ◌*◌, min};
-ghost use Rattle.ep_patience.specs.Waiting.{begun_wait, first_remedy, next_wait, remedy_of, IsWithin};
+ghost use Rattle.ep_patience.specs.Waiting.{begun_wait, first_remedy, later, next_wait, remedy_of, IsWithin};
 
 use crate::remedy::Remedy;
 use crate::seen::Seen;
@@ -60,8 +60,10 @@ pub(crate) fn next_wait(waits: &Waits, wait: u32) -> u32
 }
 
 /// A time that is at least once and at most twice so long after this one, by this random number.
+#[tactic(auto, unfolding(crate::specs::Waiting::later))]
 pub(crate) fn later(now: u64, wait: u32, random: u64) -> u64
-    ensures { IsWithin now wait result }
+    ensures value { result ≡ later now wait random }
+    ensures within { IsWithin now wait result }
 {
     let least = u64::from(wait);
     now.saturating_add(least + random % (least + 1))

@@ -7,10 +7,10 @@
 #![tactic(auto)]
 
 mod choosing;
+mod one_turn;
 mod patience;
 mod remedy;
 mod seen;
-mod turn;
 mod waiting;
 mod waits;
 

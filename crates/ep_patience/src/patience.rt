@@ -1,15 +1,18 @@
 //! A machine that tells when to wait no longer.
 
-ghost use Rattle.std.specs.Prelude.{◌≡◌, ◌++◌, None, OnOk};
-ghost use Rattle.ep_patience.specs.Waiting.{earlier, first_due, listed, waiting_for};
+ghost use Rattle.std.specs.Prelude.{◌≡◌, ◌++◌, option_to_list, OnOk};
+ghost use Rattle.ep_patience.specs.Waiting.{earlier, waiting_for, IsFirst};
 
 use crate::choosing::{begun_wait, later, next_wait, remedy_of};
+use crate::one_turn::OneTurn;
 use crate::remedy::Remedy;
 use crate::seen::Seen;
-use crate::turn::Turn;
 use crate::waiting::Waiting;
 use crate::waits::Waits;
 use ep_base::{InstanceId, ReplicaId, Size};
+use rand_core::SeedableRng;
+use rand_core::utils::NextWord;
+use rand_xoshiro::SplitMix64;
 use std::alloc::{AllocError, Global};
 
 /// How the instance is waited for, if it is.
@@ -26,7 +29,7 @@ fn waiting_for(all: &[Waiting], instance: InstanceId) -> Option<Waiting>
 
 /// Adds what is asked for, if something is.
 fn add(asked: &mut Vec<Remedy>, remedy: Option<Remedy>) -> Result<(), AllocError>
-    ensures { OnOk result (asked.new.items ≡ asked.old.items ++ listed remedy) }
+    ensures { OnOk result (asked.new.items ≡ asked.old.items ++ option_to_list remedy) }
 {
     if let Some(remedy) = remedy {
         asked.push(remedy)?;
@@ -46,7 +49,7 @@ fn earlier(found: Option<u64>, due: u64) -> u64
 
 /// When the first of these waits is over.
 fn first_due(all: &[Waiting]) -> Option<u64>
-    ensures { result ≡ first_due None all.now }
+    ensures { IsFirst all.now result }
 {
     let mut found = None;
     for waiting in all {
@@ -55,49 +58,43 @@ fn first_due(all: &[Waiting]) -> Option<u64>
     found
 }
 
-/// The next number of a sequence that looks random, by the numbers before it: each seed gives another one, of 2^64.
-fn next_random(random: u64) -> u64 {
-    let mut mixed = random.wrapping_add(0x9e37_79b9_7f4a_7c15);
-    mixed = (mixed ^ (mixed >> 30)).wrapping_mul(0xbf58_476d_1ce4_e5b9);
-    mixed = (mixed ^ (mixed >> 27)).wrapping_mul(0x94d0_49bb_1331_11eb);
-    mixed ^ (mixed >> 31)
-}
-
 /// Which open instances a replica waits for, and until when. Times are numbers of the caller's, in a unit of its own.
 #[derive(Drop)]
 pub struct Patience {
     size: Size,
     me: ReplicaId,
     waits: Waits,
-    random: u64,
+    random: SplitMix64,
     all: Vec<Waiting>,
 }
 
 impl Patience {
-    ghost use Rattle.std.specs.Prelude.{◌≡◌, [], None, IfOk, OnOk, OnErr};
-    ghost use Rattle.ep_patience.specs.Waiting.{first_due, instances_of, waiting_for, AllNamed, IsTurn, Turns};
+    ghost use Rattle.std.specs.Prelude.{◌≡◌, [], IfOk, OnErr};
+    ghost use Rattle.ep_patience.specs.Waiting.{remedy_next, waiting_next, AreOpen, IsFirst, Turns};
 
-    /// That of this replica of a cluster, which waits so long, by chance from this seed. Nothing is waited for.
+    /// That of this replica of a cluster, which waits so long, by the numbers of SplitMix64 from this seed. Nothing is waited for.
     pub fn new(alloc: Global, size: Size, me: ReplicaId, waits: Waits, seed: u64) -> Patience
-        ensures { (result.size ≡ size) × (result.me ≡ me) × (result.waits ≡ waits) × (result.all.items ≡ []) }
+        ensures given { (result.size ≡ size) × (result.me ≡ me) × (result.waits ≡ waits) × (result.random ≡ seed) }
+        ensures none { result.all.items ≡ [] }
     {
         Patience {
             size,
             me,
             waits,
-            random: seed,
+            random: SplitMix64::seed_from_u64(seed),
             all: Vec::new(alloc),
         }
     }
 
     /// What comes of a turn at this time for an open instance, by this random number.
-    fn turn_of(&self, now: u64, seen: &Seen, random: u64) -> Turn
-        ensures { IsTurn self.now.waits self.now.size self.now.me now seen.now (waiting_for self.now.all.items seen.now.instance) result.waiting result.asked }
+    fn turn_of(&self, now: u64, seen: &Seen, random: u64) -> OneTurn
+        ensures waiting { result.waiting ≡ waiting_next self.now now random seen.now }
+        ensures asked { result.asked ≡ remedy_next self.now now seen.now }
     {
         let instance = seen.instance;
         let Some(old) = waiting_for(&self.all, instance) else {
             let wait = begun_wait(&self.waits, self.me, instance);
-            return Turn {
+            return OneTurn {
                 waiting: Waiting {
                     instance,
                     due: later(now, wait, random),
@@ -107,13 +104,13 @@ impl Patience {
             };
         };
         if now < old.due {
-            return Turn {
+            return OneTurn {
                 waiting: old,
                 asked: None,
             };
         }
         let wait = next_wait(&self.waits, old.wait);
-        Turn {
+        OneTurn {
             waiting: Waiting {
                 instance,
                 due: later(now, wait, random),
@@ -132,17 +129,17 @@ impl Patience {
         now: u64,
         seen: &[Seen],
     ) -> Result<Vec<Remedy>, AllocError>
-        ensures ok { IfOk result (λ asked. Turns self.old.waits self.old.size self.old.me now self.old.all.items seen.now self.new.all.items asked.items) }
-        ensures named { IfOk result (λ asked. AllNamed (instances_of seen.now) asked.items) }
+        ensures ok { IfOk result (λ asked. Turns self.old now seen.now self.new.all.items asked.items self.new.random) }
+        ensures named { IfOk result (λ asked. AreOpen seen.now asked.items) }
         ensures same { (self.new.waits ≡ self.old.waits) × (self.new.size ≡ self.old.size) × (self.new.me ≡ self.old.me) }
-        ensures err { OnErr result (self.new.all.items ≡ self.old.all.items) }
+        ensures err { OnErr result ((self.new.all.items ≡ self.old.all.items) × (self.new.random ≡ self.old.random)) }
     {
         let mut all = Vec::new(alloc);
         let mut asked = Vec::new(alloc);
-        let mut random = self.random;
+        let mut random = self.random.clone()?;
         for one in seen {
-            random = next_random(random);
-            let turn = self.turn_of(now, one, random);
+            let number = random.next_word();
+            let turn = self.turn_of(now, one, number);
             all.push(turn.waiting)?;
             add(&mut asked, turn.asked)?;
         }
@@ -153,7 +150,7 @@ impl Patience {
 
     /// When the first wait is over; none where nothing is waited for. Before it a turn with the same open instances asks for nothing.
     pub fn next_due(&self) -> Option<u64>
-        ensures { result ≡ first_due None self.now.all.items }
+        ensures { IsFirst self.now.all.items result }
     {
         first_due(&self.all)
     }

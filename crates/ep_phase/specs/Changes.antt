@@ -7,7 +7,7 @@ use Rattle.ep_base.specs.declared.attrs.Attrs.{Attrs}
 use Rattle.ep_base.specs.declared.decree.Decree.{Decree}
 use Rattle.ep_base.specs.declared.message.Message.{Message}
 use Rattle.ep_base.specs.declared.message.Message.TheVariants as message
-use Rattle.ep_base.specs.declared.vote.Status.TheVariants.{PreAccepted, Accepted}
+use Rattle.ep_base.specs.declared.vote.VoteStatus.TheVariants.{PreAccepted, Accepted}
 use Rattle.ep_base.specs.declared.vote.Vote.{Vote}
 use Rattle.ep_rules.specs.Answers.{with_answer}
 use Rattle.ep_rules.specs.Cells as rules
@@ -18,6 +18,7 @@ use Rattle.ep_rules.specs.declared.led.Led.{Led}
 use Rattle.ep_rules.specs.declared.led.Led.TheVariants.{Proposing, Accepting, Preparing}
 use Rattle.ep_rules.specs.declared.record.Record.{Record}
 use Rattle.ep_space.specs.Held.{Places, HasPlace}
+use Rattle.ep_space.specs.Records.{Records, IsReady}
 use Rattle.ep_space.specs.Settled.{settled}
 use Rattle.ep_phase.specs.Known.{Known, record_of}
 use Rattle.ep_phase.specs.declared.change.Change.{Change}
@@ -41,15 +42,6 @@ entry_of i r (recorded.PreAccepts b x) = Some (voted b PreAccepted x)
 entry_of i r (recorded.Accepts b x) = Some (voted b Accepted x)
 entry_of i r (recorded.Commits x) = Some (with_commit i r x)
 entry_of i r recorded.Settles = settled i r r.vote
-
--- what is voted for, if something new is
-abbrev pub voted_for : Recorded → Option Decree
-voted_for recorded.Stays = None
-voted_for (recorded.Joins b) = None
-voted_for (recorded.PreAccepts b x) = Some x
-voted_for (recorded.Accepts b x) = Some x
-voted_for (recorded.Commits x) = Some x
-voted_for recorded.Settles = None
 
 -- an answer more is kept, which is all that changes then: nothing is recorded
 abbrev pub adds_answer : Leading → Bool
@@ -144,15 +136,15 @@ new_record i r ch = cond (adds_answer ch.led) None (entry_of i r ch.entry)
 abbrev pub change_of : Known → Change → rules.Change
 change_of k ch = record { entry = new_record k.instance (record_of k) ch; led = led_of k.led ch.led; told = ch.told; out = sends k ch }
 
--- The places that a change needs: i has one for what is written.
+-- The places that a change needs: i has one for what is written, and a vote has room in the index.
 
-abbrev pub HasRecordPlace : Recorded → Places → ℕ → Type 0
-HasRecordPlace recorded.Stays p i = Unit {0}
-HasRecordPlace (recorded.Joins b) p i = HasPlace p i
-HasRecordPlace (recorded.PreAccepts b x) p i = HasPlace p i
-HasRecordPlace (recorded.Accepts b x) p i = HasPlace p i
-HasRecordPlace (recorded.Commits x) p i = HasPlace p i
-HasRecordPlace recorded.Settles p i = HasPlace p i
+abbrev pub HasRecordPlace : Recorded → Records → ℕ → Type 0
+HasRecordPlace recorded.Stays s i = Unit {0}
+HasRecordPlace (recorded.Joins b) s i = HasPlace s.places i
+HasRecordPlace (recorded.PreAccepts b x) s i = IsReady s i x.command
+HasRecordPlace (recorded.Accepts b x) s i = IsReady s i x.command
+HasRecordPlace (recorded.Commits x) s i = IsReady s i x.command
+HasRecordPlace recorded.Settles s i = HasPlace s.places i
 
 abbrev pub HasLeadPlace : Leading → Places → ℕ → Type 0
 HasLeadPlace leading.Stays p i = Unit {0}

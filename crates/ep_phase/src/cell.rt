@@ -6,7 +6,7 @@ ghost use Rattle.ep_rules.specs.Cells.{voted_ballot, is_committed, is_done_at, i
 ghost use Rattle.ep_phase.specs.Known.{known_of, record_of};
 
 use crate::lead::Lead;
-use ep_base::{Ballot, InstanceId, ReplicaId, Size, Status, Vote};
+use ep_base::{Ballot, InstanceId, ReplicaId, Size, Vote, VoteStatus};
 use ep_rules::{Led, Record};
 use ep_space::Space;
 use std::marker::Model;
@@ -109,7 +109,7 @@ impl<'a> Cell<'a> {
     {
         match self.vote() {
             None => false,
-            Some(vote) => matches!(vote.status, Status::Committed),
+            Some(vote) => matches!(vote.status, VoteStatus::Committed),
         }
     }
 
@@ -119,7 +119,7 @@ impl<'a> Cell<'a> {
     {
         match self.vote() {
             None => false,
-            Some(vote) => matches!(vote.status, Status::Committed) || vote.ballot == ballot,
+            Some(vote) => matches!(vote.status, VoteStatus::Committed) || vote.ballot == ballot,
         }
     }
 
@@ -130,9 +130,9 @@ impl<'a> Cell<'a> {
         match self.vote() {
             None => false,
             Some(vote) => match vote.status {
-                Status::PreAccepted => false,
-                Status::Accepted => vote.ballot == ballot,
-                Status::Committed => true,
+                VoteStatus::PreAccepted => false,
+                VoteStatus::Accepted => vote.ballot == ballot,
+                VoteStatus::Committed => true,
             },
         }
     }

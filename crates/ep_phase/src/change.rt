@@ -7,9 +7,8 @@ ghost use Rattle.ep_rules.specs.Cells as rules;
 ghost use Rattle.ep_rules.specs.Maps.{get};
 ghost use Rattle.ep_rules.specs.States.{with_entry, with_led};
 ghost use Rattle.ep_space.specs.Held.{HasPlace};
-ghost use Rattle.ep_space.specs.Keys.{index_keys, keys_at, NeedsNoRoom};
 ghost use Rattle.ep_space.specs.Records.{record_at};
-ghost use Rattle.ep_phase.specs.Changes.{adds_answer, change_of, decree_in, entry_of, led_of, message_in, new_record, sends, to_receivers, voted_decree, voted_for, HasRecordPlace, HasLeadPlace, HasToldPlace};
+ghost use Rattle.ep_phase.specs.Changes.{adds_answer, change_of, decree_in, entry_of, led_of, message_in, new_record, sends, to_receivers, voted_decree, HasRecordPlace, HasLeadPlace, HasToldPlace};
 ghost use Rattle.ep_phase.specs.Known.{Known, record_of};
 ghost use Rattle.ep_base.specs.Messages.{says};
 
@@ -91,17 +90,17 @@ impl Change {
         }
     }
 
-    /// Makes the places that the change needs. Nothing else has changed then, at want of memory either.
+    /// Makes the places that the change needs, and the room in the index. Nothing else has changed then, at want of memory either.
     pub fn reserve(
         &self,
         space: &mut Space,
         lead: &mut Lead,
         id: InstanceId,
     ) -> Result<(), AllocError>
-        ensures record { OnOk result (HasRecordPlace self.now.entry space.new.places id) }
+        ensures record { OnOk result (HasRecordPlace self.now.entry space.new id) }
         ensures led { OnOk result (HasLeadPlace self.now.led lead.new.places id) }
         ensures told { OnOk result (HasToldPlace self.now.told lead.new.told_places id) }
-        ensures same_space { space.new ≡ record space.old { places = space.new.places } }
+        ensures same_space { space.new ≡ record space.old { places = space.new.places; room = space.new.room } }
         ensures same_lead { lead.new ≡ record lead.old { places = lead.new.places; told_places = lead.new.told_places } }
     {
         reserve_record(&self.entry, space, id)?;
@@ -109,8 +108,8 @@ impl Change {
         reserve_told(&self.told, lead, id)
     }
 
-    /// Puts the change in place. A vote for another key than before may take memory, and so may an answer more, which is all that changes
-    /// then: at want of memory nothing has changed.
+    /// Puts the change in place. It takes no memory, but for an answer more, which is all that changes then: at want of memory nothing has
+    /// changed.
     #[inline(always)]
     pub fn install(
         self,
@@ -118,14 +117,14 @@ impl Change {
         lead: &mut Lead,
         id: InstanceId,
     ) -> Result<(), AllocError>
-        requires record { HasRecordPlace self.entry space.old.places id }
+        requires record { HasRecordPlace self.entry space.old id }
         requires led { HasLeadPlace self.led lead.old.places id }
         requires told { HasToldPlace self.told lead.old.told_places id }
-        ensures records { OnOk result (space.new ≡ record space.old { records = with_entry space.old.records id (new_record id (record_at space.old id) self) }) }
+        ensures records { OnOk result (space.new ≡ record space.old { records = with_entry space.old.records id (new_record id (record_at space.old id) self); room = space.new.room }) }
         ensures leads { OnOk result (lead.new ≡ record lead.old { leads = with_led lead.old.leads id (led_of (get lead.old.leads id) self.led); told = with_entry lead.old.told id self.told }) }
         ensures records_stay { OnErr result (space.new ≡ space.old) }
         ensures leads_stay { OnErr result (lead.new ≡ lead.old) }
-        ensures succeeds { adds_answer self.led ≡ false → IfSome (voted_for self.entry) (λ x. NeedsNoRoom (keys_at space.old.records id) (index_keys x.command)) → IsOk result }
+        ensures succeeds { adds_answer self.led ≡ false → IsOk result }
     {
         let Change {
             entry,
@@ -185,12 +184,16 @@ fn voted_decree<'a>(cell: &Cell<'a>) -> Option<&'a Decree>
 }
 
 fn reserve_record(entry: &Recorded, space: &mut Space, id: InstanceId) -> Result<(), AllocError>
-    ensures place { OnOk result (HasRecordPlace entry.now space.new.places id) }
-    ensures same { space.new ≡ record space.old { places = space.new.places } }
+    ensures place { OnOk result (HasRecordPlace entry.now space.new id) }
+    ensures same { space.new ≡ record space.old { places = space.new.places; room = space.new.room } }
 {
     match entry {
         Recorded::Stays => Ok(()),
-        _ => space.reserve(id),
+        Recorded::Joins(_) => space.reserve(id),
+        Recorded::PreAccepts(_, decree) => space.reserve_for(id, &decree.command),
+        Recorded::Accepts(_, decree) => space.reserve_for(id, &decree.command),
+        Recorded::Commits(decree) => space.reserve_for(id, &decree.command),
+        Recorded::Settles => space.reserve(id),
     }
 }
 
@@ -215,7 +218,7 @@ fn reserve_told(told: &Option<u16>, lead: &mut Lead, id: InstanceId) -> Result<(
     }
 }
 
-/// Writes what is recorded and led. All that may fail comes first.
+/// Writes what is recorded and led. An answer more is written alone, and it alone may fail.
 #[inline(always)]
 fn write(
     space: &mut Space,
@@ -224,49 +227,44 @@ fn write(
     entry: Recorded,
     led: Leading,
 ) -> Result<(), AllocError>
-    requires record { HasRecordPlace entry space.old.places id }
+    requires record { HasRecordPlace entry space.old id }
     requires led { HasLeadPlace led lead.old.places id }
-    ensures records { OnOk result (space.new ≡ record space.old { records = with_entry space.old.records id (cond (adds_answer led) None (entry_of id (record_at space.old id) entry)) }) }
+    ensures records { OnOk result (space.new ≡ record space.old { records = with_entry space.old.records id (cond (adds_answer led) None (entry_of id (record_at space.old id) entry)); room = space.new.room }) }
     ensures leads { OnOk result (lead.new ≡ record lead.old { leads = with_led lead.old.leads id (led_of (get lead.old.leads id) led) }) }
     ensures records_stay { OnErr result (space.new ≡ space.old) }
     ensures leads_stay { OnErr result (lead.new ≡ lead.old) }
-    ensures succeeds { adds_answer led ≡ false → IfSome (voted_for entry) (λ x. NeedsNoRoom (keys_at space.old.records id) (index_keys x.command)) → IsOk result }
+    ensures succeeds { adds_answer led ≡ false → IsOk result }
 {
     match led {
-        Leading::Stays => write_record(space, id, entry),
+        Leading::Stays => {
+            write_record(space, id, entry);
+            Ok(())
+        }
         Leading::Leads(led) => {
-            write_record(space, id, entry)?;
+            write_record(space, id, entry);
             lead.lead(id, led);
             Ok(())
         }
         Leading::PreAccepted(from, attrs) => lead.add_pre_accepted(id, from, attrs),
         Leading::Accepted(from) => lead.add_accepted(id, from),
         Leading::Ends => {
-            write_record(space, id, entry)?;
+            write_record(space, id, entry);
             lead.end(id);
             Ok(())
         }
     }
 }
 
-fn write_record(space: &mut Space, id: InstanceId, entry: Recorded) -> Result<(), AllocError>
-    requires { HasRecordPlace entry space.old.places id }
-    ensures ok { OnOk result (space.new ≡ record space.old { records = with_entry space.old.records id (entry_of id (record_at space.old id) entry) }) }
-    ensures err { OnErr result (space.new ≡ space.old) }
-    ensures succeeds { IfSome (voted_for entry) (λ x. NeedsNoRoom (keys_at space.old.records id) (index_keys x.command)) → IsOk result }
+fn write_record(space: &mut Space, id: InstanceId, entry: Recorded)
+    requires { HasRecordPlace entry space.old id }
+    ensures { space.new ≡ record space.old { records = with_entry space.old.records id (entry_of id (record_at space.old id) entry); room = space.new.room } }
 {
     match entry {
-        Recorded::Stays => Ok(()),
-        Recorded::Joins(ballot) => {
-            space.join_ballot(id, ballot);
-            Ok(())
-        }
+        Recorded::Stays => (),
+        Recorded::Joins(ballot) => space.join_ballot(id, ballot),
         Recorded::PreAccepts(ballot, decree) => space.vote_pre(id, ballot, decree),
         Recorded::Accepts(ballot, decree) => space.vote_accept(id, ballot, decree),
         Recorded::Commits(decree) => space.commit(id, decree),
-        Recorded::Settles => {
-            space.settle(id);
-            Ok(())
-        }
+        Recorded::Settles => space.settle(id),
     }
 }

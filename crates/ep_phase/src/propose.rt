@@ -3,7 +3,7 @@
 ghost use Rattle.std.specs.Prelude.{◌≡◌, ◌≤◌, ◌<◌, ℕ, ◌+◌, Bool, [], Some, None, Ok, IfOk, IfErr, IsErr};
 ghost use Rattle.ep_base.specs.Instances.{instance_of};
 ghost use Rattle.ep_base.specs.declared.message.Message.TheVariants.{PreAccept};
-ghost use Rattle.ep_base.specs.declared.vote.Status.TheVariants.{PreAccepted};
+ghost use Rattle.ep_base.specs.declared.vote.VoteStatus.TheVariants.{PreAccepted};
 ghost use Rattle.ep_rules.specs.declared.led.Led.TheVariants.{Proposing};
 ghost use Rattle.ep_rules.specs.Answers.{with_answer};
 ghost use Rattle.ep_rules.specs.Cells as cells;

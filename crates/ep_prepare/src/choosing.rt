@@ -10,7 +10,7 @@ ghost use Rattle.ep_prepare.specs.Chosen as parts;
 ghost use Rattle.ep_prepare.specs.Chosen.{chosen};
 
 use crate::choice::Choice;
-use ep_base::{Ballot, Decree, ReplicaId, Size, Status, Vote};
+use ep_base::{Ballot, Decree, ReplicaId, Size, Vote, VoteStatus};
 
 /// What a replica answered to a Prepare: its last vote, if it voted.
 pub type PrepareAnswer = (ReplicaId, Option<Vote>);
@@ -131,7 +131,7 @@ fn has_committed(answers: &[PrepareAnswer], replica: u8) -> bool
     ensures { result ≡ rules.votes rules.did_commit (answer answers.now replica) }
 {
     match answer_of(answers, replica) {
-        Some(Some(vote)) => matches!(vote.status, Status::Committed),
+        Some(Some(vote)) => matches!(vote.status, VoteStatus::Committed),
         _ => false,
     }
 }
@@ -153,7 +153,7 @@ fn has_accepted(answers: &[PrepareAnswer], ballot: Ballot, replica: u8) -> bool
     ensures { result ≡ rules.votes (rules.did_accept_at ballot) (answer answers.now replica) }
 {
     match answer_of(answers, replica) {
-        Some(Some(vote)) => matches!(vote.status, Status::Accepted) && vote.ballot == ballot,
+        Some(Some(vote)) => matches!(vote.status, VoteStatus::Accepted) && vote.ballot == ballot,
         _ => false,
     }
 }
@@ -183,7 +183,7 @@ fn has_preaccepted(answers: &[PrepareAnswer], ballot: Ballot, replica: u8) -> bo
 fn did_preaccept_at(vote: &Vote, ballot: Ballot) -> bool
     ensures { result ≡ rules.did_preaccept_at ballot vote.now }
 {
-    matches!(vote.status, Status::PreAccepted) && vote.ballot == ballot
+    matches!(vote.status, VoteStatus::PreAccepted) && vote.ballot == ballot
 }
 
 /// The least replica that stands for F answers which may have been the fast quorum's, if no ballot is greater.

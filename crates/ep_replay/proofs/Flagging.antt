@@ -9,7 +9,7 @@ use Rattle.ep_replay.specs.Replays.{AreUngiven}
 use Rattle.ep_replay.specs.Tables.{AreFlagged}
 use Rattle.ep_replay.specs.declared.given.Given.{Given}
 
-in_one : (m n : ℕ) → In m (n ∷ []) → n ≡ m
+pub in_one : (m n : ℕ) → In m (n ∷ []) → n ≡ m
 in_one m n (inl is) = is
 in_one m n (inr h) = absurd h
 
@@ -59,9 +59,6 @@ flagged old new mid n given some room same sets floors are = record { flag = fla
     flag place = subst (λ (fs : List Bool). (get_or fs place false ≡ true) ↔ In (suc place) (given ++ n ∷ [])) (sym sets) (go place (eqb (suc place) n) refl)
 
 -- The messages that were never given.
-
-pub none_ungiven : (flags : Given) (given : List ℕ) (n : ℕ) → n ≤ flags.floor → AreFlagged flags given → AreUngiven given n []
-none_ungiven flags given n low are = record { rising = tt; these = (λ m. ((λ h. absurd h), (λ h. h.2 (are.floor m h.0 (omega arith))))) }
 
 below : (given : List ℕ) (n : ℕ) (ms : List ℕ) → AreUngiven given n ms → (m : ℕ) → In m ms → m ≤ n
 below given n ms are m h = (((are.these m).0 h)).1

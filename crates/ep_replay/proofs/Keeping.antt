@@ -5,14 +5,16 @@ use Rattle.ep_journal.specs.Entries.{Collected}
 use Rattle.ep_journal.specs.Openings.{Opening}
 use Rattle.ep_rules.specs.declared.receipt.Receipt.{Receipt}
 use Rattle.ep_script.specs.Plan.{Plan}
+use Rattle.ep_script.specs.declared.agenda_line.AgendaLine.{AgendaLine}
+use Rattle.ep_script.specs.declared.agenda_line.AgendaLine.TheVariants.{Propose, GiveUp, Recover}
 use Rattle.ep_script.specs.declared.line.Line.{Line}
-use Rattle.ep_script.specs.declared.line.Line.TheVariants.{Propose, GiveUp, Recover, Execute, Deliver, Flush}
+use Rattle.ep_script.specs.declared.line.Line.TheVariants.{Agenda, Execute, Deliver, Flush}
 use Rattle.ep_world.specs.Played.{Played}
 use Rattle.ep_world.specs.declared.world_event.WorldEvent.{WorldEvent}
 use Rattle.ep_world.specs.declared.world_event.WorldEvent.TheVariants as event
 use Rattle.ep_replay.specs.Heads.{opening_of}
 use Rattle.ep_replay.specs.Outcome.{EndsAt, HasEnded, IsReplay}
-use Rattle.ep_replay.specs.Replays.{Replay, Takes, Tries, Gives, Plays, PlayAll, with_given, with_proposer}
+use Rattle.ep_replay.specs.Replays.{Replay, Takes, Tries, Asks, Gives, Plays, PlayAll, with_given, with_proposer}
 use Rattle.ep_replay.specs.declared.ended.Ended.{Ended}
 use Rattle.ep_replay.specs.declared.replayed.Replayed.{Replayed}
 
@@ -32,10 +34,13 @@ module _ (P : Played → List Receipt → Type 0) (keeps : KeepsOf P) where
   gives_keep p q line [] is s = subst At (sym is) s
   gives_keep p q line (m ∷ ms) g s = gives_keep g.0 q line ms g.2 (tries_keep (with_given p m) g.0 line (event.Deliver m) g.1 s)
 
+  asks_keep : (p q : Replay) (line : ℕ) (asked : AgendaLine) → Asks p line asked q → At p → At q
+  asks_keep p q line (Propose replica client command) g s = tries_keep (with_proposer p client) q line _ g s
+  asks_keep p q line (GiveUp replica instance) g s = tries_keep p q line _ g s
+  asks_keep p q line (Recover replica instance) g s = tries_keep p q line _ g s
+
   plays_keep : (p q : Replay) (line : ℕ) (what : Line) → Plays p line what q → At p → At q
-  plays_keep p q line (Propose replica client command) g s = tries_keep (with_proposer p client) q line _ g s
-  plays_keep p q line (GiveUp replica instance) g s = tries_keep p q line _ g s
-  plays_keep p q line (Recover replica instance) g s = tries_keep p q line _ g s
+  plays_keep p q line (Agenda asked) g s = asks_keep p q line asked g s
   plays_keep p q line (Execute replica instance) g s = tries_keep p q line _ g s
   plays_keep p q line (Deliver messages) g s = gives_keep p q line messages g s
   plays_keep p q line Flush g s = gives_keep p q line g.0 g.2 s

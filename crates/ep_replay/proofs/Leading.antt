@@ -8,15 +8,15 @@ use Rattle.ep_rules.specs.declared.receipt.Receipt.{Receipt}
 use Rattle.ep_journal.specs.Entries.{entry_of}
 use Rattle.ep_journal.specs.declared.step_fault.StepFault.TheVariants.{Memory}
 use Rattle.ep_replica.specs.Receipts.{receipts_of}
-use Rattle.ep_report.specs.declared.cause.Cause.{Cause}
+use Rattle.ep_report.specs.declared.event_fault.EventFault.{EventFault}
 use Rattle.ep_script.specs.Heads.{Head}
 use Rattle.ep_script.specs.Plan.{Plan}
 use Rattle.ep_script.specs.declared.line.Line.{Line}
 use Rattle.ep_script.specs.declared.line.Line.TheVariants as asked
 use Rattle.ep_world.specs.Played.{Played, journals_in, collected}
 use Rattle.ep_world.specs.Playing.{Happens, IsNotEnabled}
-use Rattle.ep_world.specs.declared.cause.Cause.{Cause as Refusal}
-use Rattle.ep_world.specs.declared.cause.Cause.TheVariants.{Step}
+use Rattle.ep_world.specs.declared.world_fault.WorldFault.{WorldFault as Refusal}
+use Rattle.ep_world.specs.declared.world_fault.WorldFault.TheVariants.{Step}
 use Rattle.ep_world.specs.declared.world_event.WorldEvent.{WorldEvent}
 use Rattle.ep_world.specs.declared.world_event.WorldEvent.TheVariants as event
 use Rattle.ep_replay.specs.Causes.{cause_of}
@@ -39,7 +39,7 @@ use Rattle.ep_replay.proofs.Receiving.{own_still}
 
 refusals_more : (ts : List Tried) (t : Tried) → refusals (ts ++ t ∷ []) ≡ refusals ts ++ refusal t.line t.outcome
 refusals_more [] t = append-nil (refusal t.line t.outcome)
-refusals_more (x ∷ ts) t = ap (λ (rs : List (ℕ × Cause)). refusal x.line x.outcome ++ rs) (refusals_more ts t) ∙ sym (append_assoc (refusal x.line x.outcome) (refusals ts) (refusal t.line t.outcome))
+refusals_more (x ∷ ts) t = ap (λ (rs : List (ℕ × EventFault)). refusal x.line x.outcome ++ rs) (refusals_more ts t) ∙ sym (append_assoc (refusal x.line x.outcome) (refusals ts) (refusal t.line t.outcome))
 
 -- the event happened
 pub took : (s s' : Player) (line : ℕ) (event : WorldEvent) (h : Happens s.world event s'.world)
@@ -77,7 +77,7 @@ took_so line first k event copied o w v h old new same at is kept =
     kept ∙ (λ i. old ++ one_tried line (same i) (outcome i) ∷ [])
 
 -- and of one that was refused
-pub refused_so : (line : ℕ) (event copied : WorldEvent) (cause : Refusal) (named : Cause) (old new : List Tried) → copied ≡ event → named ≡ cause_of cause → new ≡ old ++ one_tried line copied (Refused named) ∷ []
+pub refused_so : (line : ℕ) (event copied : WorldEvent) (cause : Refusal) (named : EventFault) (old new : List Tried) → copied ≡ event → named ≡ cause_of cause → new ≡ old ++ one_tried line copied (Refused named) ∷ []
     → new ≡ old ++ one_tried line event (Refused (cause_of cause)) ∷ []
 refused_so line event copied cause named old new same is kept = kept ∙ (λ i. old ++ one_tried line (same i) (Refused (is i)) ∷ [])
 
@@ -96,7 +96,7 @@ listed s s' line event cause why is refused world clients receipts given keeps k
         clients = subst (λ (ts : List Receipt). AreCounted s'.clients b.proposers ts) (sym receipts) (subst (λ (cs : Clients). AreCounted cs b.proposers s.receipts.items) (sym clients) t.clients);
         flags = subst (λ (g : Given). AreFlagged g b.given) (sym given) t.flags;
         own = subst (λ (ts : List Receipt). AreOwn s'.world ts) (sym receipts) (subst (λ (w : Played). AreOwn w s.receipts.items) (sym world) t.own);
-        refused = refused ∙ ap (λ (rs : List (ℕ × Cause)). rs ++ (line, cause_of cause) ∷ []) t.refused ∙ sym (refusals_more b.tried one);
+        refused = refused ∙ ap (λ (rs : List (ℕ × EventFault)). rs ++ (line, cause_of cause) ∷ []) t.refused ∙ sym (refusals_more b.tried one);
         log = (λ k. kept (sym keeps ∙ k) ∙ ap (λ (ts : List Tried). ts ++ one ∷ []) (t.log (sym keeps ∙ k)));
       };
       keeps = keeps;

@@ -1,8 +1,8 @@
 mod Counting
-mod Flagging
+pub mod Flagging
 mod Receiving
 mod Leading
-mod Beginning
+pub mod Beginning
 mod Keeping
 mod OneReceipt
 mod ReceiptsOnce

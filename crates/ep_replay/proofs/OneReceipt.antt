@@ -1,18 +1,17 @@
 -- Each instance has one receipt at most, and so there are at most 14,000.
-use Rattle.std.proofs.Common.{◌≡◌, ◌≢◌, inl, inr, ℕ, zero, suc, ◌+◌, ◌<◌, ◌≤◌, Bool, true, false, cond, eqb, List, [], ◌∷◌, ◌++◌, length, Option, Some, None, refl, sym, ap, subst, ◌∙◌, arith}
+use Rattle.std.proofs.Common.{◌≡◌, ◌≢◌, inl, inr, ℕ, suc, ◌+◌, ◌<◌, ◌≤◌, Bool, true, false, cond, eqb, List, [], ◌∷◌, ◌++◌, length, Option, Some, None, refl, sym, ap, subst, ◌∙◌, arith}
 use Rattle.std.specs.Prelude.{is_some}
 use Rattle.std.proofs.lemmas.Bool.{cases_eq, eqb-true, false≢true}
 use Rattle.std.specs.List.{filter}
 use Rattle.ep_base.specs.Deps.{most_deps}
-use Rattle.ep_base.specs.Instances.{instance_of, leader_of, number_of, highest_number, IsInstance}
+use Rattle.ep_base.specs.Instances.{instance_of, leader_of, highest_number, IsInstance}
 use Rattle.ep_base.specs.Places.{Has}
 use Rattle.ep_base.specs.Quorums.{size}
 use Rattle.ep_base.specs.declared.reply.Answer.{Answer}
 use Rattle.ep_rules.specs.Audits.{IsAccepted}
-use Rattle.ep_rules.specs.Counts.{AreOnce}
 use Rattle.ep_rules.specs.Journals.{Entry, Journals, IsEntry, AreSteps, AreLocalRuns, left}
 use Rattle.ep_rules.specs.States.{State, fresh_state}
-use Rattle.ep_rules.specs.Steps.{leaves, order_of}
+use Rattle.ep_rules.specs.Steps.{order_of}
 use Rattle.ep_rules.specs.Verdicts.{Proposes}
 use Rattle.ep_rules.specs.Worlds.{In}
 use Rattle.ep_rules.specs.declared.receipt.Receipt.{Receipt}
@@ -20,8 +19,9 @@ use Rattle.ep_rules.proofs.FewInstances.{few_instances}
 use Rattle.ep_rules.proofs.JournalsGrow.{left_grows, steps_grow}
 use Rattle.ep_rules.proofs.Local.{free_found}
 use Rattle.ep_rules.proofs.Merged.{in_journal, in_right}
-use Rattle.ep_rules.proofs.OnceDone.{as_once, event_once, once_right, steps_once}
+use Rattle.ep_rules.proofs.OnceDone.{event_once, once_right, steps_once}
 use Rattle.ep_rules.proofs.Places.{Once, once-append, once_filter, has_cons, has_filter, has_left, has_right, has_split}
+use Rattle.ep_rules.proofs.Interleaved.{apart}
 use Rattle.ep_replica.specs.Receipts.{own_proposal, proposal_of, receipt_of, receipts_for, receipts_of}
 use Rattle.ep_replica.specs.declared.proposal.Proposal.{Proposal}
 use Rattle.ep_replay.specs.Told.{instances_of}
@@ -32,13 +32,6 @@ use Rattle.ep_rules.specs.OneMap.{Store}
 both_told : (ts us : List Receipt) → instances_of (ts ++ us) ≡ instances_of ts ++ instances_of us
 both_told [] us = refl
 both_told (t ∷ ts) us = ap (λ is. t.instance ∷ is) (both_told ts us)
-
-once_apart : (xs ys : List ℕ) (i : ℕ) → Once (xs ++ ys) → Has xs i → Has ys i → ⊥
-once_apart [] ys i o h k = omega arith
-once_apart (x ∷ xs) ys i o h k = elim (has_cons x i xs h) [
-  | inl is ↦ o.0 (has_right xs ys x (subst (λ j. Has ys j) (sym is) k))
-  | inr later ↦ once_apart xs ys i o.1 later k
-]
 
 -- The receipts of one entry.
 
@@ -99,7 +92,7 @@ module _ (base : Store) (f : ℕ) (old new : Journals) (ts : List Receipt) (r : 
   not_before : (i : ℕ) → Has (instances_of ts) i → ¬ Has told i
   not_before i h k =
       let t = told_here i k in
-      once_apart (executed_by base f old r) (order_of e.done) i once_here (subst (λ q. Has (executed_by base f old q) i) t.1 (s.done i h)) t.0
+      apart (executed_by base f old r) (order_of e.done) i once_here (subst (λ q. Has (executed_by base f old q) i) t.1 (s.done i h)) t.0
 
   steps_after : (q : ℕ) → AreSteps f q (fresh_state base) (new q)
   steps_after q = elim (cases_eq r q) [

@@ -1,10 +1,10 @@
 -- A replay gives each instance one receipt at most.
-use Rattle.std.proofs.Common.{◌≡◌, ◌≢◌, inl, inr, ℕ, List, [], ◌∷◌, ◌++◌, sym, ap, subst, ◌∙◌}
+use Rattle.std.proofs.Common.{◌≡◌, ◌≢◌, ℕ, List, [], ◌∷◌, ◌++◌, sym, ap, subst, ◌∙◌}
 use Rattle.ep_rules.specs.Journals as rules
 use Rattle.ep_rules.specs.declared.receipt.Receipt.{Receipt}
 use Rattle.ep_journal.specs.Entries.{entry_of, entries_of}
 use Rattle.ep_journal.specs.Openings.{Opening, opens}
-use Rattle.ep_journal.specs.declared.entry.Entry.{Entry}
+use Rattle.ep_journal.proofs.Growing.{entries_append}
 use Rattle.ep_replica.specs.Kept.{Kept}
 use Rattle.ep_replica.specs.Receipts.{receipts_of}
 use Rattle.ep_rules.proofs.Places.{Once}
@@ -19,7 +19,6 @@ use Rattle.ep_replay.specs.Told.{instances_of}
 use Rattle.ep_replay.specs.declared.replayed.Replayed.{Replayed}
 use Rattle.ep_replay.proofs.Keeping.{KeepsOf, all_keep}
 use Rattle.ep_replay.proofs.OneReceipt.{Sole, none_sole, more_sole}
-use Rattle.ep_replay.proofs.Receiving.{entries_append}
 
 abbrev SoleIn : Played → List Receipt → Type 0
 SoleIn w ts = Sole (opens w.opening) w.faults (journals_in w) ts

@@ -10,16 +10,13 @@ use Rattle.ep_rules.proofs.OwnReceipts.{own_stays_lem}
 use Rattle.ep_journal.specs.Entries.{entry_of, entries_of}
 use Rattle.ep_journal.specs.Openings.{opens}
 use Rattle.ep_journal.specs.declared.entry.Entry.{Entry}
+use Rattle.ep_journal.proofs.Growing.{entries_append}
 use Rattle.ep_replica.specs.Kept.{Kept}
-use Rattle.ep_replica.specs.Receipts.{receipts_of, receipts_for, receipts_by, receipts_after}
+use Rattle.ep_replica.specs.Receipts.{receipts_of, receipts_by, receipts_after}
 use Rattle.ep_world.specs.Played.{Played, entries_in, replica_in, journals_in}
 use Rattle.ep_world.specs.Playing.{Happens, with_entry}
 use Rattle.ep_world.specs.declared.world_event.WorldEvent.{WorldEvent}
 use Rattle.ep_replay.specs.Tables.{AreOwn}
-
-pub entries_append : (xs ys : List Entry) → entries_of (xs ++ ys) ≡ entries_of xs ++ entries_of ys
-entries_append [] ys = refl
-entries_append (x ∷ xs) ys = ap (λ es. entry_of x ∷ es) (entries_append xs ys)
 
 -- The last step.
 
@@ -38,38 +35,12 @@ last_given w v event h r n k rs is_r is_n is_k gives =
     let kept : k ≡ replica_in v h.replica = is_k ∙ ap (replica_in v) is_r in
     gives ∙ ap (λ (z : Kept). receipts_after z.me (n - 1) (entries_of z.entries)) kept ∙ ap (receipts_by h.replica (journals_in v h.replica)) rest ∙ append-nil (receipts_of h.replica (journals_in v h.replica) (entry_of h.entry))
 
--- where the last entry executed nothing there are no receipts of it
-pub none_given : (w v : Played) (event : WorldEvent) (h : Happens w event v) (r : ℕ) (k : Kept) (es : List Entry) (e : Entry) → r ≡ h.replica → k ≡ replica_in v r → es ≡ k.entries → e ≡ get_or es (length es - 1) e → e.done ≡ []
-    → receipts_of h.replica (journals_in v h.replica) (entry_of h.entry) ≡ []
-none_given w v event h r k es e is_r is_k is_es at none =
-    let before : List Entry = entries_in w h.replica in
-    let more : entries_in v h.replica ≡ before ++ h.entry ∷ [] = ap (λ (z : Kept). z.entries) h.applied.appended in
-    let kept : k ≡ replica_in v h.replica = is_k ∙ ap (replica_in v) is_r in
-    let all : es ≡ before ++ h.entry ∷ [] = is_es ∙ ap (λ (z : Kept). z.entries) kept ∙ more in
-    let n : length before ≡ length es - 1 = (let l : length es ≡ length before + 1 = ap length all ∙ length-append before (h.entry ∷ []) in omega arith) in
-    let same : e ≡ h.entry = at ∙ ap (λ (xs : List Entry). get_or xs (length es - 1) e) all ∙ get_or_push before h.entry e (length es - 1) n in
-    ap (receipts_for h.replica (journals_in v h.replica) (entry_of h.entry)) (sym (ap (λ (z : Entry). z.done) same) ∙ none)
-
--- the replica of the last step has an entry
-pub some_entry : (w v : Played) (event : WorldEvent) (h : Happens w event v) (r : ℕ) (k : Kept) (es : List Entry) → r ≡ h.replica → k ≡ replica_in v r → es ≡ k.entries → es ≡ [] → ⊥
-some_entry w v event h r k es is_r is_k is_es none =
-    let before : List Entry = entries_in w h.replica in
-    let more : entries_in v h.replica ≡ before ++ h.entry ∷ [] = ap (λ (z : Kept). z.entries) h.applied.appended in
-    let kept : k ≡ replica_in v h.replica = is_k ∙ ap (replica_in v) is_r in
-    let all : [] ≡ before ++ h.entry ∷ [] = sym none ∙ is_es ∙ ap (λ (z : Kept). z.entries) kept ∙ more in
-    let l : 0 ≡ length before + 1 = ap length all ∙ length-append before (h.entry ∷ []) in
-    omega arith
-
 -- the last step is the event's
 pub last_step : (w v : Played) (event : WorldEvent) (h : Happens w event v) (steps : List (ℕ × ℕ)) (p : ℕ × ℕ) → steps ≡ v.steps → p ≡ get_or steps (length steps - 1) p → p ≡ (h.replica, h.entry.number)
 last_step w v event h steps p same at =
     let is : steps ≡ w.steps ++ (h.replica, h.entry.number) ∷ [] = same ∙ ap (λ (u : Played). u.steps) h.becomes in
     let n : length w.steps ≡ length steps - 1 = (let l : length steps ≡ length w.steps + 1 = ap length is ∙ length-append w.steps ((h.replica, h.entry.number) ∷ []) in omega arith) in
     at ∙ ap (λ (xs : List (ℕ × ℕ)). get_or xs (length steps - 1) p) is ∙ get_or_push w.steps (h.replica, h.entry.number) p (length steps - 1) n
-
--- there was a last step
-pub some_step : (w v : Played) (event : WorldEvent) → Happens w event v → v.steps ≡ [] → ⊥
-some_step w v event h none = let is : length v.steps ≡ length (w.steps ++ (h.replica, h.entry.number) ∷ []) = ap (λ (u : Played). length u.steps) h.becomes in let more : length (w.steps ++ (h.replica, h.entry.number) ∷ []) ≡ length w.steps + 1 = length-append w.steps ((h.replica, h.entry.number) ∷ []) in let zero : length v.steps ≡ 0 = ap length none in omega arith
 
 pub own_here : (v : Played) (r : ℕ) (k : Kept) (rs : List Receipt) → k ≡ replica_in v r → ((t : Receipt) → In t rs → IsOwn (opens k.opening) k.faults k.me (entries_of k.entries) t) → AreOwn v rs
 own_here v r k rs is own t h = (r, subst (λ (z : Kept). IsOwn (opens z.opening) z.faults z.me (entries_of z.entries) t) is (own t h))

@@ -1,12 +1,12 @@
 -- The causes of a world's refusals, as a report names them.
 use Rattle.ep_journal.specs.declared.step_fault.StepFault.{StepFault}
 use Rattle.ep_journal.specs.declared.step_fault.StepFault.TheVariants as step
-use Rattle.ep_report.specs.declared.cause.Cause.{Cause}
-use Rattle.ep_report.specs.declared.cause.Cause.TheVariants as named
-use Rattle.ep_world.specs.declared.cause.Cause.{Cause as Refusal}
-use Rattle.ep_world.specs.declared.cause.Cause.TheVariants as world
+use Rattle.ep_report.specs.declared.event_fault.EventFault.{EventFault}
+use Rattle.ep_report.specs.declared.event_fault.EventFault.TheVariants as named
+use Rattle.ep_world.specs.declared.world_fault.WorldFault.{WorldFault as Refusal}
+use Rattle.ep_world.specs.declared.world_fault.WorldFault.TheVariants as world
 
-abbrev pub cause_of_step : StepFault → Cause
+abbrev pub cause_of_step : StepFault → EventFault
 cause_of_step step.Memory = named.Memory
 cause_of_step step.OutOfRange = named.OutOfRange
 cause_of_step step.OtherVersion = named.BadFrame
@@ -21,6 +21,6 @@ cause_of_step step.AlreadyCommitted = named.AlreadyCommitted
 cause_of_step step.BallotsExhausted = named.BallotsExhausted
 cause_of_step (step.NotCommitted instance) = named.NotCommitted instance
 
-abbrev pub cause_of : Refusal → Cause
+abbrev pub cause_of : Refusal → EventFault
 cause_of (world.Step fault) = cause_of_step fault
 cause_of (world.NoSuchMessage message) = named.NoSuchMessage message

@@ -8,17 +8,19 @@ use Rattle.ep_journal.specs.Entries.{entry_of}
 use Rattle.ep_journal.specs.declared.step_fault.StepFault.TheVariants.{Memory}
 use Rattle.ep_replica.specs.Receipts.{receipts_of}
 use Rattle.ep_script.specs.Heads.{Head}
+use Rattle.ep_script.specs.declared.agenda_line.AgendaLine.{AgendaLine}
+use Rattle.ep_script.specs.declared.agenda_line.AgendaLine.TheVariants.{Propose, GiveUp, Recover}
 use Rattle.ep_script.specs.declared.line.Line.{Line}
-use Rattle.ep_script.specs.declared.line.Line.TheVariants.{Propose, GiveUp, Recover, Execute, Deliver, Flush}
+use Rattle.ep_script.specs.declared.line.Line.TheVariants.{Agenda, Execute, Deliver, Flush}
 use Rattle.ep_world.specs.Played.{Played, entries_in, journals_in}
 use Rattle.ep_world.specs.Playing.{Happens, IsNotEnabled}
-use Rattle.ep_world.specs.declared.cause.Cause.{Cause as Refusal}
-use Rattle.ep_world.specs.declared.cause.Cause.TheVariants.{Step}
+use Rattle.ep_world.specs.declared.world_fault.WorldFault.{WorldFault as Refusal}
+use Rattle.ep_world.specs.declared.world_fault.WorldFault.TheVariants.{Step}
 use Rattle.ep_world.specs.declared.world_event.WorldEvent.{WorldEvent}
 use Rattle.ep_world.specs.declared.world_event.WorldEvent.TheVariants as event
 use Rattle.ep_replay.specs.Causes.{cause_of}
 use Rattle.ep_replay.specs.Clients.{times, greatest}
-use Rattle.ep_report.specs.declared.cause.Cause.{Cause}
+use Rattle.ep_report.specs.declared.event_fault.EventFault.{EventFault}
 use Rattle.ep_replay.specs.Heads.{opening_of}
 use Rattle.ep_replay.specs.declared.outcome.Outcome.{Outcome}
 use Rattle.ep_replay.specs.declared.outcome.Outcome.TheVariants.{Took, Refused}
@@ -40,12 +42,12 @@ pub record Replay : Type 0 where
   pub tried : List Tried
 
 -- the event of this line, where it was refused
-abbrev pub refusal : ℕ → Outcome → List (ℕ × Cause)
+abbrev pub refusal : ℕ → Outcome → List (ℕ × EventFault)
 refusal line (Took replica entry first) = []
 refusal line (Refused cause) = (line, cause) ∷ []
 
 -- the events that were refused, each by its line and the cause
-abbrev pub refusals : List Tried → List (ℕ × Cause)
+abbrev pub refusals : List Tried → List (ℕ × EventFault)
 refusals [] = []
 refusals (t ∷ ts) = refusal t.line t.outcome ++ refusals ts
 
@@ -114,11 +116,15 @@ pub record AreUngiven (given : List ℕ) (sent : ℕ) (ms : List ℕ) : Type 0 w
 
 -- Lines.
 
+-- what an agenda would have a replica do was tried
+abbrev pub Asks : Replay → ℕ → AgendaLine → Replay → Type 0
+Asks p line (Propose replica client command) p' = Tries (with_proposer p client) line (proposal p replica client command) p'
+Asks p line (GiveUp replica instance) p' = Tries p line (event.GiveUp replica instance) p'
+Asks p line (Recover replica instance) p' = Tries p line (event.Recover replica instance) p'
+
 -- what the line of this number asks for was done
 abbrev pub Plays : Replay → ℕ → Line → Replay → Type 0
-Plays p line (Propose replica client command) p' = Tries (with_proposer p client) line (proposal p replica client command) p'
-Plays p line (GiveUp replica instance) p' = Tries p line (event.GiveUp replica instance) p'
-Plays p line (Recover replica instance) p' = Tries p line (event.Recover replica instance) p'
+Plays p line (Agenda asked) p' = Asks p line asked p'
 Plays p line (Execute replica instance) p' = Tries p line (event.Execute replica instance) p'
 Plays p line (Deliver messages) p' = Gives p line messages p'
 Plays p line Flush p' = (messages : List ℕ) × AreUngiven p.given (length p.world.messages) messages × Gives p line messages p'

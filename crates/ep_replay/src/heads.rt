@@ -11,7 +11,7 @@ ghost use Rattle.ep_replay.specs.Heads.{opening_of};
 use ep_base::{Command, CommandFault, Generation, Key, Value, VersionKind};
 use ep_exec::{Contents, Store};
 use ep_journal::Opening;
-use ep_script::{Head, Opening as Said};
+use ep_script::{Head, ScriptOpening as Said};
 use ep_world::World;
 use std::alloc::{AllocError, Global};
 

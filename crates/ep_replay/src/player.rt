@@ -26,9 +26,9 @@ use crate::outcome::Outcome;
 use crate::replayed::Replayed;
 use crate::tried::Tried;
 use ep_base::{Command, ReplicaId};
-use ep_report::Cause;
+use ep_report::EventFault;
 use ep_rules::Receipt;
-use ep_script::{Head, Line, Messages, Script};
+use ep_script::{AgendaLine, Head, Line, Messages, Script};
 use ep_world::{World, WorldEvent};
 use std::alloc::{AllocError, Global};
 
@@ -107,7 +107,7 @@ fn last_step(world: &World, first: u64) -> Outcome
             entry: *entry,
             first,
         },
-        None => Outcome::Refused(Cause::OutOfRange),
+        None => Outcome::Refused(EventFault::OutOfRange),
     }
 }
 
@@ -135,7 +135,7 @@ pub(crate) struct Player {
     clients: Clients,
     given: Given,
     receipts: Vec<Receipt>,
-    refused: Vec<(u32, Cause)>,
+    refused: Vec<(u32, EventFault)>,
     /// Whether each event that is tried is kept.
     keeps: bool,
     tried: Vec<Tried>,
@@ -150,7 +150,7 @@ impl Player {
     ghost use Rattle.ep_world.specs.Played.{collected};
     ghost use Rattle.ep_script.specs.declared.line.Line.TheVariants as asked;
     ghost use Rattle.ep_world.specs.declared.world_event.WorldEvent.TheVariants as event;
-    ghost use Rattle.ep_replay.specs.Replays.{IsOpening, Tries, Gives, Plays, PlayAll, AreUngiven, proposal, with_proposer, with_given};
+    ghost use Rattle.ep_replay.specs.Replays.{Asks, IsOpening, Tries, Gives, Plays, PlayAll, AreUngiven, proposal, with_proposer, with_given};
     ghost use Rattle.ep_replay.specs.Tables.{AreFlagged, AreOwn, Tells, nothing, told, Leads};
 
     /// A player before any line, with the world of this head, that keeps each event that it tries, or doesn't.
@@ -337,30 +337,39 @@ impl Player {
         Ok(())
     }
 
-    /// Plays one line.
-    fn play(&mut self, line: u32, what: &Line) -> Result<(), AllocError>
-        ensures { OnOk result (Leads (λ p q. Plays p line what.now q) self.old self.new) }
+    /// Has a replica do what an agenda would have it do.
+    fn ask(&mut self, line: u32, asked: &AgendaLine) -> Result<(), AllocError>
+        ensures { OnOk result (Leads (λ p q. Asks p line asked.now q) self.old self.new) }
     {
-        match what {
-            Line::Propose {
+        match asked {
+            AgendaLine::Propose {
                 replica,
                 client,
                 command,
             } => self.propose(line, *replica, *client, command),
-            Line::GiveUp(replica, instance) => self.attempt(
+            AgendaLine::GiveUp(replica, instance) => self.attempt(
                 line,
                 WorldEvent::GiveUp {
                     replica: *replica,
                     instance: *instance,
                 },
             ),
-            Line::Recover(replica, instance) => self.attempt(
+            AgendaLine::Recover(replica, instance) => self.attempt(
                 line,
                 WorldEvent::Recover {
                     replica: *replica,
                     instance: *instance,
                 },
             ),
+        }
+    }
+
+    /// Plays one line.
+    fn play(&mut self, line: u32, what: &Line) -> Result<(), AllocError>
+        ensures { OnOk result (Leads (λ p q. Plays p line what.now q) self.old self.new) }
+    {
+        match what {
+            Line::Agenda(asked) => self.ask(line, asked),
             Line::Execute(replica, instance) => self.attempt(
                 line,
                 WorldEvent::Execute {

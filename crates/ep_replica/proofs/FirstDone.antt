@@ -1,6 +1,7 @@
 -- Where a replica's own instances were first executed, with one entry more, and the receipts of these executions.
 use Rattle.std.proofs.Common.{◌≡◌, ℕ, suc, ◌+◌, ◌≤◌, length, cond, Bool, true, false, eqb, Option, Some, None, List, [], ◌∷◌, ◌++◌, refl, sym, ap, subst, ◌∙◌, arith, slice_get}
 use Rattle.std.proofs.lemmas.Bool.{eqb-true}
+use Rattle.std.proofs.lemmas.Option.{same_Some}
 use Rattle.ep_base.specs.Instances.{instance_of, leader_of, number_of, highest_number}
 use Rattle.ep_base.specs.declared.reply.Answer.{Answer}
 use Rattle.ep_rules.specs.Journals as rules
@@ -55,9 +56,6 @@ firsts_next j j' event r me n old mid new a is count h same marked =
 
 -- The receipt.
 
-spot_is : (a b : Spot) → Some a ≡ Some b → a ≡ b
-spot_is a b is = cc
-
 -- an execution at the place, counted from the k-th, is the one that is told of
 record ToldAmong (me i : ℕ) (p : Proposal) (e : Entry) (k : ℕ) (ds : List (ℕ × Answer)) (place : ℕ) : Type 0 where
   steps : ℕ
@@ -82,7 +80,7 @@ among_some me i n k p e (d ∷ ds) s is = go (eqb d.0 i) refl is (among_some me 
     go : (b : Bool) → eqb d.0 i ≡ b → cond b (Some (record { entry = n; place = k })) (first_among n (suc k) ds i) ≡ Some s
         → (first_among n (suc k) ds i ≡ Some s → ToldAmong me i p e (suc k) ds s.place × (s.entry ≡ n)) → ToldAmong me i p e k (d ∷ ds) s.place × (s.entry ≡ n)
     go true test is rest =
-        let this : record { entry = n; place = k } ≡ s = spot_is (record { entry = n; place = k }) s is in
+        let this : record { entry = n; place = k } ≡ s = same_Some (record { entry = n; place = k }) s is in
         let at : k ≡ s.place = ap (λ (z : Spot). z.place) this in
         (record { steps = 0; counted = omega (arith, at); done = d; at = refl; told = ap (λ b. cond b (Some (receipt me i p (entry_of e) d.1)) (told_among me i p (entry_of e) ds)) test }, sym (ap (λ (z : Spot). z.entry) this))
     go false test is rest =
@@ -117,7 +115,7 @@ told_some me i n p (e ∷ es) s is = go (first_among n 0 e.done i) refl is (told
         let at : s.entry ≡ suc n + r.steps = r.counted in
         record { steps = suc r.steps; counted = omega (arith, at); told = ap (λ t. or_this t rest) (among_none me i n 0 p e e.done none) ∙ r.told }
     go (Some t) some is later =
-        let same : t ≡ s = spot_is t s is in
+        let same : t ≡ s = same_Some t s is in
         let found = among_some me i n 0 p e e.done s (some ∙ ap (λ (z : Spot). Some z) same) in
         let here : s.entry ≡ n = found.1 in
         let steps : s.place ≡ 0 + found.0.steps = found.0.counted in

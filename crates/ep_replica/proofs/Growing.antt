@@ -4,7 +4,7 @@ use Rattle.std.proofs.lemmas.List.{get_or_push}
 use Rattle.std.proofs.lemmas.Option.{none-some}
 use Rattle.std.specs.Prelude.{IfSome}
 use Rattle.ep_base.specs.Versions.{version_number}
-use Rattle.ep_rules.specs.Journals.{AreClocked, stamp_after, heard}
+use Rattle.ep_rules.specs.Journals.{AreClocked, heard}
 use Rattle.ep_rules.proofs.JournalsGrow.{clocks_grow_lem}
 use Rattle.ep_journal.specs.Holding.{HasRoom}
 use Rattle.ep_journal.specs.Entries.{entry_of, entries_of, IsJournal}
@@ -115,15 +115,9 @@ last_made k k' event r p is =
 pub lent : (k k' : Kept) (event : Happening) (r : Entry) → (e : Entry) × Applied k event e k' → r ≡ get_or k'.entries (length k'.entries - 1) r → Applied k event r (record k { entries = k.entries ++ r ∷ [] })
 lent k k' event r p is = let a = last_made k k' event r p is in subst (λ (z : Kept). Applied k event r z) a.appended a
 
-pub some_entry : (k k' : Kept) (event : Happening) → (e : Entry) × Applied k event e k' → 0 < length k'.entries
-some_entry k k' event p = let n : length k'.entries ≡ length k.entries + 1 = ap length (ap (λ (z : Kept). z.entries) p.1.appended) ∙ length-append k.entries (p.0 ∷ []) in omega arith
-
 -- where the entries are read off the journal that the step left
 pub read_off : (j j' : Kept) (es' : List Entry) (event : Happening) (mark : Option Mark) (r : Entry) → mark ≡ mark_after j event → MarkedBy (λ m. Continues j m event j') mark → es' ≡ j'.entries → r ≡ get_or es' (length es' - 1) r → Applied j event r j'
 read_off j j' es' event mark r clock a same' is = last_made j j' event r (applied j j' event mark clock a) (subst (λ (xs : List Entry). r ≡ get_or xs (length xs - 1) r) same' is)
-
-pub some_read : (j j' : Kept) (es' : List Entry) (event : Happening) (mark : Option Mark) → mark ≡ mark_after j event → MarkedBy (λ m. Continues j m event j') mark → es' ≡ j'.entries → 0 < length es'
-some_read j j' es' event mark clock a same' = subst (λ (xs : List Entry). 0 < length xs) (sym same') (some_entry j j' event (applied j j' event mark clock a))
 
 -- what the entry proposes is noted
 pub tells_next : (j j' : Kept) (event : Happening) (r : Entry) (me : ℕ) (old mid new : List (Option Proposal)) → Applied j event r j' → me ≡ j'.me → Tells j.me j.entries old → ((n : ℕ) → found mid n ≡ found old n)

@@ -8,7 +8,7 @@ use Rattle.ep_base.specs.declared.attrs.Attrs.{Attrs}
 use Rattle.ep_base.specs.Commands.{Command}
 use Rattle.ep_base.specs.declared.decree.Decree.{Decree}
 use Rattle.ep_base.specs.declared.reply.Answer.{Answer}
-use Rattle.ep_base.specs.declared.vote.Status.TheVariants.{PreAccepted}
+use Rattle.ep_base.specs.declared.vote.VoteStatus.TheVariants.{PreAccepted}
 use Rattle.ep_base.specs.Quorums.{is_fast}
 use Rattle.ep_rules.specs.Cells.{SeqExhausted, committed_decree, record_or_fresh, voted}
 use Rattle.ep_rules.specs.Graph.{Graph, Reaches}

@@ -8,13 +8,13 @@ use Rattle.ep_rules.specs.Steps.{Frame}
 use Rattle.ep_rules.proofs.Merged.{at_in}
 use Rattle.ep_rules.proofs.Named.{proposals_name_lem}
 use Rattle.ep_journal.specs.Entries.{entry_of, frames_at}
-use Rattle.ep_journal.specs.Events.{event_of, frame_at}
+use Rattle.ep_journal.specs.Events.{event_of, frame_at, first_named}
 use Rattle.ep_journal.specs.declared.entry.Entry.{Entry}
 use Rattle.ep_journal.specs.declared.event.Event.{Event as Happening}
 use Rattle.ep_journal.specs.declared.event.Event.TheVariants.{Propose}
 use Rattle.ep_replica.specs.Applied.{Applied}
 use Rattle.ep_replica.specs.Kept.{Kept}
-use Rattle.ep_replica.specs.Pending.{state_of, first_named, Submits}
+use Rattle.ep_replica.specs.Pending.{state_of, Submits}
 
 -- the first frame of the entry names the instance
 first_is : (fs : List (List ℕ)) (m : Frame) (i : ℕ) → slice_get (frames_at fs) 0 ≡ Some m → instance_of_message m.sent.message ≡ i → first_named fs ≡ Some i

@@ -1,10 +1,12 @@
 -- What a try to execute an own instance comes to.
-use Rattle.std.proofs.Common.{◌≡◌, ℕ, ◌+◌, ◌<◌, ◌≤◌, inl, inr, List, true, false, Option, Some, None, sym, ap, subst, ◌∙◌, arith, length, get_or, IfSome}
+use Rattle.std.proofs.Common.{◌≡◌, ℕ, ◌+◌, ◌<◌, ◌≤◌, ◌⊎◌, inl, inr, List, Bool, true, false, Ok, Err, Option, Some, None, sym, ap, subst, ◌∙◌, arith, length, get_or, IfSome}
 use Rattle.std.proofs.lemmas.Bool.{cases_lt}
 use Rattle.ep_base.specs.Instances.{instance_of, leader_of, number_of, highest_number}
 use Rattle.ep_journal.specs.declared.entry.Entry.{Entry}
 use Rattle.ep_journal.specs.declared.event.Event.TheVariants.{Execute}
-use Rattle.ep_replica.specs.Applied.{Applied}
+use Rattle.ep_journal.specs.declared.step_fault.StepFault.{StepFault}
+use Rattle.ep_journal.specs.declared.step_fault.StepFault.TheVariants.{Memory, StampFull}
+use Rattle.ep_replica.specs.Applied.{Applied, IsDeclined}
 use Rattle.ep_replica.specs.Kept.{Kept}
 use Rattle.ep_base.specs.Places.{Has}
 use Rattle.ep_exec.proofs.Counts.{place_at}
@@ -13,7 +15,8 @@ use Rattle.ep_rules.specs.States.{graph_in}
 use Rattle.ep_replica.specs.Blockers.{IsBlockedBy}
 use Rattle.ep_rules.proofs.Reaching.{reach_trans}
 use Rattle.ep_rules.specs.Graph.Reaches.{itself, onward}
-use Rattle.ep_replica.specs.Pending.{state_of, IsPending, IsWaiting, IsShort, LesserWait, IsAbove, IsNext, ExecutesNext}
+use Rattle.ep_replica.specs.Pending.{state_of, IsPending, IsWaiting, LesserWait, IsNext, ExecutesNext, TriesNext}
+use Rattle.ep_space.specs.Open.{IsAbove}
 
 -- Instances by their numbers.
 
@@ -29,38 +32,14 @@ pending_again k j p = subst (λ z. IsPending k z) (sym (own_again k.me j p.own))
 abbrev pub NoneBelow : Kept → Option ℕ → ℕ → Type 0
 NoneBelow k after n = (m : ℕ) → 1 ≤ m → m < n → IsAbove after (instance_of k.me m) → ¬ IsPending k (instance_of k.me m)
 
-pub none_first : (k : Kept) (after : Option ℕ) → NoneBelow k after 1
-none_first k after m some low = absurd (omega arith)
-
-pub none_more : (k : Kept) (after : Option ℕ) (n i : ℕ) → i ≡ instance_of k.me n → (IsAbove after i → ¬ IsPending k i) → NoneBelow k after n → NoneBelow k after (n + 1)
-none_more k after n i is not_this h m some low above p = elim (cases_lt m n) [
-  | inl l ↦ h m some l above p
-  | inr l ↦ (let same : m ≡ n = omega arith in
-      let here : instance_of k.me m ≡ i = ap (λ z. instance_of k.me z) same ∙ sym is in
-      not_this (subst (λ z. IsAbove after z) here above) (subst (λ z. IsPending k z) here p))
-]
-
 pub next_none : (k : Kept) (after : Option ℕ) (n : ℕ) → highest_number < n → NoneBelow k after n → IsNext k after None
 next_none k after n past h j p above = h (number_of j) p.named.1 (let le = p.named.2 in omega arith) (subst (λ z. IsAbove after z) (sym (own_again k.me j p.own)) above) (pending_again k j p)
-
-pub next_some : (k : Kept) (after : Option ℕ) (n i : ℕ) → i ≡ instance_of k.me n → n ≤ highest_number → NoneBelow k after n → IsPending k i → IsAbove after i → IsNext k after (Some i)
-next_some k after n i is few h pending over = (
-  pending,
-  over,
-  λ j p above low. (
-      let own = own_again k.me j p.own in
-      let le = p.named.2 in
-      h (number_of j) p.named.1 (omega arith) (subst (λ z. IsAbove after z) (sym own) above) (pending_again k j p)),
-)
 
 -- The least one that doesn't wait.
 
 -- each pending instance below this number waits
 abbrev pub AllWait : Kept → ℕ → Type 0
 AllWait k n = (m : ℕ) → 1 ≤ m → m < n → IsPending k (instance_of k.me m) → IsWaiting k (instance_of k.me m)
-
-pub wait_first : (k : Kept) → AllWait k 1
-wait_first k m some low = absurd (omega arith)
 
 pub wait_more : (k : Kept) (n m : ℕ) → AllWait k n → ((l : ℕ) → n ≤ l → l < m → IsPending k (instance_of k.me l) → IsWaiting k (instance_of k.me l)) → AllWait k m
 wait_more k n m h more l some low p = elim (cases_lt l n) [
@@ -94,10 +73,20 @@ executed_next k s k' n i same is few h t =
     let here : i ≡ instance_of k.me n = is ∙ ap (λ (z : Kept). instance_of z.me n) same in
     (i, subst (λ (z : Kept). IsPending z i) same t.0, subst (λ (z : Kept). (e : Entry) × Applied z (Execute i) e k') same t.1, lesser_wait k n i here few h)
 
-pub refused_next : (k s k' : Kept) (n i : ℕ) → s ≡ k → i ≡ instance_of s.me n → n ≤ highest_number → AllWait k n → IsPending s i × IsShort s i × (k' ≡ s) → ExecutesNext k false k'
-refused_next k s k' n i same is few h t =
+pub refused_next : (k s k' : Kept) (n i : ℕ) (fault : StepFault) → s ≡ k → i ≡ instance_of s.me n → n ≤ highest_number → AllWait k n → (fault ≡ Memory) ⊎ (fault ≡ StampFull)
+    → IsPending s i × IsDeclined s (Execute i) fault × (k' ≡ s) → TriesNext k (Err fault) k'
+refused_next k s k' n i fault same is few h short t =
     let here : i ≡ instance_of k.me n = is ∙ ap (λ (z : Kept). instance_of z.me n) same in
-    (inr (i, subst (λ (z : Kept). IsPending z i) same t.0, subst (λ (z : Kept). IsShort z i) same t.1, lesser_wait k n i here few h), t.2 ∙ same)
+    ((i, subst (λ (z : Kept). IsPending z i) same t.0, subst (λ (z : Kept). IsDeclined z (Execute i) fault) same t.1, short, lesser_wait k n i here few h), t.2 ∙ same)
+
+-- What isn't told apart.
+
+pub told_next : (k k' : Kept) (executed : Bool) → TriesNext k (Ok executed) k' → ExecutesNext k executed k'
+told_next k k' true t = t
+told_next k k' false t = (inl t.0, t.1)
+
+pub held_next : (k k' : Kept) (fault : StepFault) → TriesNext k (Err fault) k' → ExecutesNext k false k'
+held_next k k' fault t = let h = t.0 in (inr (h.0, h.1, (fault, h.2, h.3), h.4), t.1)
 
 -- what depends on a blocked instance is blocked
 pub blocked_on : (k : Kept) (i : ℕ) (a : Attrs) (o : Option ℕ) → graph_in (state_of k).records i ≡ Some a → IfSome o (λ j. (d : ℕ) × Has a.deps d × IsBlockedBy k d j) → IfSome o (IsBlockedBy k i)

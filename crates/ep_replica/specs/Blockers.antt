@@ -1,6 +1,6 @@
 -- What a replica remembers of its own instances that it hasn't executed yet: which are due to be tried, and what blocks the others.
-use Rattle.std.specs.Prelude.{◌≡◌, ◌≢◌, ◌⊎◌, ◌≤◌, ◌+◌, ◌*◌, ℕ, Bool, true, false, List, Option, Some, None, IfSome, IsSome, slice_index_or as get_or}
-use Rattle.ep_base.specs.Instances.{instance_of, leader_of, number_of, highest_number}
+use Rattle.std.specs.Prelude.{◌≡◌, ◌≢◌, ◌⊎◌, ◌≤◌, ℕ, Bool, true, false, List, Option, Some, None, IfSome, IsSome, slice_index_or as get_or}
+use Rattle.ep_base.specs.Instances.{instance_of, highest_number}
 use Rattle.ep_base.specs.Messages.{instance_of_message}
 use Rattle.ep_base.specs.Places.{Has}
 use Rattle.ep_base.specs.declared.decree.Decree.{Decree}
@@ -9,6 +9,7 @@ use Rattle.ep_rules.specs.States.{committed_in, graph_in}
 use Rattle.ep_rules.specs.Steps.{Event, Propose, Handle, GiveUp, Recover, Execute}
 use Rattle.ep_replica.specs.Kept.{Kept}
 use Rattle.ep_replica.specs.Pending.{state_of, IsPending}
+use Rattle.ep_space.specs.Entries.{slot}
 
 -- whether the own instance of this number is due
 abbrev pub is_due : List Bool → ℕ → Bool
@@ -17,10 +18,6 @@ is_due flags number = get_or flags number false
 -- what blocks it, if something is known to
 abbrev pub blocker_of : List (Option ℕ) → ℕ → Option ℕ
 blocker_of blockers number = get_or blockers number None
-
--- where an instance has its flag among those of all instances, and whether it is set
-abbrev pub slot : ℕ → ℕ
-slot i = number_of i * 8 + leader_of i
 
 abbrev pub is_flagged : List Bool → ℕ → Bool
 is_flagged flags i = get_or flags (slot i) false

@@ -1,10 +1,8 @@
 -- What a replica may execute of its own, and what it executes next.
-use Rattle.std.specs.Prelude.{◌≡◌, ◌⊎◌, ℕ, ◌<◌, ◌+◌, Bool, true, false, List, [], ◌∷◌, Option, Some, None}
+use Rattle.std.specs.Prelude.{◌≡◌, ◌⊎◌, ℕ, ◌<◌, ◌+◌, Bool, true, false, Option, Some, None, Result, Ok, Err}
 use Rattle.ep_base.specs.Instances.{instance_of, leader_of, IsInstance}
-use Rattle.ep_base.specs.Messages.{instance_of_message}
 use Rattle.ep_base.specs.Places.{Has}
 use Rattle.ep_base.specs.declared.decree.Decree.{Decree}
-use Rattle.ep_frame.specs.Meaning.{message_at}
 use Rattle.ep_rules.specs.Graph.{Reaches}
 use Rattle.ep_rules.specs.States.{State, committed_in, graph_in, free_number}
 use Rattle.ep_journal.specs.declared.entry.Entry.{Entry}
@@ -15,8 +13,9 @@ use Rattle.ep_journal.specs.declared.step_fault.StepFault.TheVariants.{Memory, S
 use Rattle.ep_journal.specs.Leaving.{state_left}
 use Rattle.ep_replica.specs.Applied.{Applied, IsDeclined}
 use Rattle.ep_replica.specs.Kept.{Kept}
-use Rattle.ep_replica.specs.declared.pending.Tried.{Tried}
-use Rattle.ep_replica.specs.declared.pending.Tried.TheVariants.{Executed, Passed, Refused}
+use Rattle.ep_replica.specs.declared.pending.Attempt.{Attempt}
+use Rattle.ep_replica.specs.declared.pending.Attempt.TheVariants.{Executed, Passed, Refused, Full}
+use Rattle.ep_space.specs.Open.{IsAbove}
 
 -- the state that the replica's journal leaves
 abbrev pub state_of : Kept → State
@@ -38,20 +37,17 @@ IsWaiting k i = (j : ℕ) × Reaches (graph_in (state_of k).records) i j × (gra
 abbrev pub IsShort : Kept → ℕ → Type 0
 IsShort k i = (fault : StepFault) × IsDeclined k (Execute i) fault × ((fault ≡ Memory) ⊎ (fault ≡ StampFull))
 
-abbrev pub IsAbove : Option ℕ → ℕ → Type 0
-IsAbove None i = Unit {0}
-IsAbove (Some j) i = j < i
-
 -- the least pending instance above this one, or none
 abbrev pub IsNext : Kept → Option ℕ → Option ℕ → Type 0
 IsNext k after None = (j : ℕ) → IsPending k j → ¬ IsAbove after j
 IsNext k after (Some i) = IsPending k i × IsAbove after i × ((j : ℕ) → IsPending k j → IsAbove after j → ¬ (j < i))
 
--- a try to execute an instance: it was executed; or it isn't pending or waits; or it was refused for another reason
-abbrev pub Tries : Kept → ℕ → Tried → Kept → Type 0
+-- a try to execute an instance: it was executed; or it isn't pending or waits; or it was refused, for want of memory or a full stamp
+abbrev pub Tries : Kept → ℕ → Attempt → Kept → Type 0
 Tries k i Executed k' = IsPending k i × ((e : Entry) × Applied k (Execute i) e k')
 Tries k i Passed k' = (IsPending k i → IsWaiting k i) × (k' ≡ k)
-Tries k i Refused k' = IsPending k i × IsShort k i × (k' ≡ k)
+Tries k i Refused k' = IsPending k i × IsDeclined k (Execute i) Memory × (k' ≡ k)
+Tries k i Full k' = IsPending k i × IsDeclined k (Execute i) StampFull × (k' ≡ k)
 
 -- each lesser pending instance waits
 abbrev pub LesserWait : Kept → ℕ → Type 0
@@ -62,10 +58,15 @@ abbrev pub ExecutesNext : Kept → Bool → Kept → Type 0
 ExecutesNext k true k' = (i : ℕ) × IsPending k i × ((e : Entry) × Applied k (Execute i) e k') × LesserWait k i
 ExecutesNext k false k' = (((j : ℕ) → IsPending k j → IsWaiting k j) ⊎ ((i : ℕ) × IsPending k i × IsShort k i × LesserWait k i)) × (k' ≡ k)
 
--- the instance that the first of these frames is about
-abbrev pub first_named : List (List ℕ) → Option ℕ
-first_named [] = None
-first_named (b ∷ bs) = Some (instance_of_message (message_at b))
+-- the least pending instance that may not wait is refused, for want of memory or a full stamp
+abbrev pub IsHeldUp : Kept → StepFault → Type 0
+IsHeldUp k fault = (i : ℕ) × IsPending k i × IsDeclined k (Execute i) fault × ((fault ≡ Memory) ⊎ (fault ≡ StampFull)) × LesserWait k i
+
+-- the same, told apart: the least was executed; or each waits; or it was refused
+abbrev pub TriesNext : Kept → Result Bool StepFault → Kept → Type 0
+TriesNext k (Ok true) k' = ExecutesNext k true k'
+TriesNext k (Ok false) k' = ((j : ℕ) → IsPending k j → IsWaiting k j) × (k' ≡ k)
+TriesNext k (Err fault) k' = IsHeldUp k fault × (k' ≡ k)
 
 -- the event's entry proposes a command as instance i, the least own one that was free
 pub record Submits (k : Kept) (event : Happening) (i : ℕ) (k' : Kept) : Type 0 where

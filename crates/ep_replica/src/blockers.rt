@@ -2,10 +2,11 @@
 
 ghost use Rattle.std.specs.Prelude.{◌≡◌, ◌≢◌, ◌≤◌, ◌<◌, ℕ, [], None, true, false, length, slice_index_or, OnOk, IfSome, IsTrue, IsFalse};
 ghost use Rattle.ep_base.specs.Instances.{highest_number};
-ghost use Rattle.ep_replica.specs.Blockers.{is_due, blocker_of, is_flagged, slot, Wakes};
+ghost use Rattle.ep_replica.specs.Blockers.{is_due, blocker_of, is_flagged, Wakes};
+ghost use Rattle.ep_space.specs.Entries.{slot};
 ghost use Rattle.ep_replica.specs.Spans.{IsWithin};
 
-use crate::due::Due;
+use crate::due_numbers::DueNumbers;
 use crate::span::Span;
 use ep_base::InstanceId;
 use std::alloc::{AllocError, Global};
@@ -52,7 +53,7 @@ fn wake_one(
     items: &mut Vec<Option<InstanceId>>,
     number: u16,
     instance: InstanceId,
-    due: &mut Due,
+    due: &mut DueNumbers,
 ) -> bool
     requires room { (highest_number < length items.old.items) × (highest_number < length due.old) }
     requires low { number ≤ highest_number }
@@ -78,7 +79,7 @@ fn wake_within(
     items: &mut Vec<Option<InstanceId>>,
     span: Span,
     instance: InstanceId,
-    due: &mut Due,
+    due: &mut DueNumbers,
 ) -> Span
     requires room { (highest_number < length items.old.items) × (highest_number < length due.old) }
     ensures each { (n : ℕ) → IsWithin span n → n ≤ highest_number → Wakes instance (blocker_of items.old.items n) (blocker_of items.new.items n) (is_due due.new n) × (blocker_of items.new.items n ≢ None → IsWithin result n) }
@@ -165,7 +166,7 @@ impl Blockers {
     }
 
     /// What this instance blocked is due.
-    pub(crate) fn wake(&mut self, instance: InstanceId, due: &mut Due)
+    pub(crate) fn wake(&mut self, instance: InstanceId, due: &mut DueNumbers)
         requires room { (highest_number < length self.old) × (highest_number < length due.old) }
         ensures each { (n : ℕ) → Wakes instance (blocker_of self.old n) (blocker_of self.new n) (is_due due.new n) }
         ensures more { (n : ℕ) → is_due due.old n ≡ true → is_due due.new n ≡ true }

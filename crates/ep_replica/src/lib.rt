@@ -15,10 +15,10 @@
 mod asking;
 mod blockers;
 mod clock;
-mod due;
+mod due_numbers;
 mod entry_receipts;
 mod firsts;
-mod opening_fault;
+mod opened_fault;
 mod pending;
 mod proposal;
 mod proposing;
@@ -32,7 +32,7 @@ mod span;
 mod spot;
 
 pub use ep_phase::LeadPhase;
-pub use opening_fault::OpeningFault;
+pub use opened_fault::OpenedFault;
 pub use proposal::Proposal;
 pub use receipt_view::ReceiptView;
 pub use replica::Replica;

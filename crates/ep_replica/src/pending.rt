@@ -2,22 +2,24 @@
 
 ghost use Rattle.std.specs.Prelude.{◌≡◌, ◌≤◌, ◌↔◌, IsTrue};
 ghost use Rattle.ep_base.specs.Instances.{instance_of, highest_number};
-ghost use Rattle.ep_replica.specs.Pending.{IsAbove};
+ghost use Rattle.ep_space.specs.Open.{IsAbove};
 
 use crate::replica::Replica;
 use ep_base::{InstanceId, ReplicaId};
-use ep_journal::Event;
+use ep_journal::{Event, StepFault};
 use std::alloc::AllocError;
 
 /// What came of a try to execute an instance.
 #[derive(Clone, Copy, Debug, PartialEq, Eq)]
-enum Tried {
+enum Attempt {
     /// It was executed.
     Executed,
     /// It isn't committed, or was executed before, or waits for one that isn't committed.
     Passed,
-    /// It was refused for want of memory or a full stamp.
+    /// It was refused for want of memory.
     Refused,
+    /// It was refused, as no stamp is left.
+    Full,
 }
 
 /// The replica's instance of this number.
@@ -43,7 +45,7 @@ impl Replica {
     ghost use Rattle.ep_base.specs.Places.{Has};
     ghost use Rattle.ep_base.specs.Instances.{leader_of};
     ghost use Rattle.ep_replica.specs.Blockers.{IsBlockedBy};
-    ghost use Rattle.ep_replica.specs.Pending.{state_of, IsPending, IsNext, Tries, ExecutesNext};
+    ghost use Rattle.ep_replica.specs.Pending.{state_of, IsPending, IsNext, Tries, TriesNext, ExecutesNext};
 
     /// Whether the instance was executed here.
     pub fn has_executed(&self, instance: InstanceId) -> bool
@@ -75,13 +77,14 @@ impl Replica {
     }
 
     /// Executes an instance that is pending, or leaves the replica as it was.
-    fn execute(&mut self, instance: InstanceId) -> Tried
+    fn execute(&mut self, instance: InstanceId) -> Attempt
         requires { IsPending self.old instance }
         ensures { Tries self.old instance result self.new }
     {
         match self.take(Event::Execute(instance)) {
-            Ok(()) => Tried::Executed,
-            Err(_) => Tried::Refused,
+            Ok(()) => Attempt::Executed,
+            Err(StepFault::StampFull) => Attempt::Full,
+            Err(_) => Attempt::Refused,
         }
     }
 
@@ -118,38 +121,49 @@ impl Replica {
 
     /// Executes an own instance, if it is pending and waits for none. Otherwise the replica is left as it was, and where it waits it isn't tried
     /// again before what it waits for is committed.
-    fn try_execute(&mut self, instance: InstanceId) -> Tried
+    fn try_execute(&mut self, instance: InstanceId) -> Attempt
         requires { leader_of instance ≡ self.old.me }
         ensures { Tries self.old instance result self.new }
     {
         if !self.is_pending(instance) {
             self.set_aside(instance, None);
-            return Tried::Passed;
+            return Attempt::Passed;
         }
         match self.obstacle(instance) {
             Ok(None) => self.execute(instance),
             Ok(Some(blocker)) => {
                 self.set_aside(instance, Some(blocker));
-                Tried::Passed
+                Attempt::Passed
             }
-            Err(_) => Tried::Refused,
+            Err(_) => Attempt::Refused,
         }
     }
 
-    /// Executes the least own instance that is committed, not executed, and waits for none that isn't committed: one entry more, and `true`.
-    ///
-    /// `false`, and the replica is left as it was, where there is none; and where memory is wanted or the stamp is full.
+    /// Executes the least own instance that is committed, not executed, and waits for none that isn't committed: one entry more, and `true`; `false`
+    /// where there is none. At an `Err` memory is wanted, or no stamp is left. Both leave the replica as it was.
+    pub fn try_next(&mut self) -> Result<bool, StepFault>
+        ensures { TriesNext self.old result self.new }
+    {
+        let mut number = self.next_due(1);
+        while number <= InstanceId::HIGHEST_NUMBER {
+            match self.try_execute(instance_at(self.me(), number)) {
+                Attempt::Executed => return Ok(true),
+                Attempt::Passed => number = self.next_due(number + 1),
+                Attempt::Refused => return Err(StepFault::Memory),
+                Attempt::Full => return Err(StepFault::StampFull),
+            }
+        }
+        Ok(false)
+    }
+
+    /// The same, and `false` too where memory is wanted or no stamp is left.
+    #[tactic(auto, using(crate::proofs::Trying::told_next, crate::proofs::Trying::held_next))]
     pub fn execute_next(&mut self) -> bool
         ensures { ExecutesNext self.old result self.new }
     {
-        let mut number = self.next_due(1);
-        while number <= 2000 {
-            match self.try_execute(instance_at(self.me(), number)) {
-                Tried::Executed => return true,
-                Tried::Passed => number = self.next_due(number + 1),
-                Tried::Refused => return false,
-            }
+        match self.try_next() {
+            Ok(executed) => executed,
+            Err(_) => false,
         }
-        false
     }
 }

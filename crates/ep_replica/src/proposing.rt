@@ -2,7 +2,7 @@
 
 ghost use Rattle.std.specs.Prelude.{◌≡◌, ◌∷◌, ◌++◌, [], List};
 ghost use Rattle.ep_journal.specs.declared.entry.Entry.{Entry as Written};
-ghost use Rattle.ep_replica.specs.Pending.{first_named};
+ghost use Rattle.ep_journal.specs.Events.{first_named};
 
 use crate::replica::Replica;
 use ep_base::{Command, InstanceId};

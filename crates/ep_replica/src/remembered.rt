@@ -9,7 +9,7 @@ ghost use Rattle.ep_replica.specs.Blockers.{is_due, blocker_of, about, Grows, Re
 ghost use Rattle.ep_replica.specs.Kept.{Kept};
 
 use crate::blockers::Blockers;
-use crate::due::Due;
+use crate::due_numbers::DueNumbers;
 use ep_base::InstanceId;
 use ep_journal::{Event, Journal};
 use std::alloc::{AllocError, Global};
@@ -38,7 +38,7 @@ pub(crate) fn open_in(journal: &Journal, event: &Event) -> Option<InstanceId>
 /// Which own instances are due to be tried, and what blocks the others.
 #[derive(Drop)]
 pub(crate) struct Remembered {
-    pub due: Due,
+    pub due: DueNumbers,
     pub blockers: Blockers,
 }
 
@@ -49,7 +49,7 @@ impl Remembered {
         ensures blockers { result.blockers ≡ [] }
     {
         Remembered {
-            due: Due::new(alloc),
+            due: DueNumbers::new(alloc),
             blockers: Blockers::new(alloc),
         }
     }
@@ -59,7 +59,7 @@ impl Remembered {
         ensures { IfOk result (λ r. (k : Kept) → Remembers k r.due r.blockers) }
     {
         Ok(Remembered {
-            due: Due::all(alloc)?,
+            due: DueNumbers::all(alloc)?,
             blockers: Blockers::new(alloc),
         })
     }

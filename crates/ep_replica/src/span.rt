@@ -4,6 +4,8 @@ ghost use Rattle.std.specs.Prelude.{◌≢◌, ◌≤◌, ℕ};
 ghost use Rattle.ep_base.specs.Instances.{highest_number};
 ghost use Rattle.ep_replica.specs.Spans.{IsWithin};
 
+use ep_base::InstanceId;
+
 /// The numbers from `first` to before `end`.
 #[derive(Clone, Copy, Debug, PartialEq, Eq)]
 pub(crate) struct Span {
@@ -38,7 +40,7 @@ impl Span {
     pub(crate) fn without(self, number: u16) -> Span
         ensures { (n : ℕ) → IsWithin self n → n ≢ number → IsWithin result n }
     {
-        if self.first != number || number >= 2000 {
+        if self.first != number || number >= InstanceId::HIGHEST_NUMBER {
             return self;
         }
         Span {

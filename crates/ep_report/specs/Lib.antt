@@ -3,3 +3,4 @@ pub mod Contents
 pub mod Lives
 pub mod Refusals
 pub mod Reports
+pub mod Judging

@@ -1,15 +1,15 @@
 -- What causes and faults are printed as.
 use Rattle.std.specs.Prelude.{ℕ, List, ◌++◌, codes, decimal}
 use Rattle.ep_report.specs.Parts.{instance_text}
-use Rattle.ep_report.specs.declared.cause.Cause.{Cause}
-use Rattle.ep_report.specs.declared.cause.Cause.TheVariants.{Memory, OutOfRange, SpaceFull, SeqExhausted, NotLeading, TooFewAnswers, AlreadyCommitted, BallotsExhausted, NotCommitted, NotMine, BadFrame, StampFull, NoSuchMessage}
+use Rattle.ep_report.specs.declared.event_fault.EventFault.{EventFault}
+use Rattle.ep_report.specs.declared.event_fault.EventFault.TheVariants.{Memory, OutOfRange, SpaceFull, SeqExhausted, NotLeading, TooFewAnswers, AlreadyCommitted, BallotsExhausted, NotCommitted, NotMine, BadFrame, StampFull, NoSuchMessage}
 use Rattle.ep_audit.specs.Faults.{fault_of, fault_text}
 use Rattle.ep_audit.specs.declared.chain_fault.ChainFault.{ChainFault}
 use Rattle.ep_audit.specs.declared.chain_fault.ChainFault.TheVariants as chain
 use Rattle.ep_script.specs.Word.{word_of}
 
 -- why an event was refused
-abbrev pub cause_text : Cause → List ℕ
+abbrev pub cause_text : EventFault → List ℕ
 cause_text Memory = codes "E1 memory"
 cause_text OutOfRange = codes "E3 out of range"
 cause_text SpaceFull = codes "E4 space full"

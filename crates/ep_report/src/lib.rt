@@ -1,6 +1,6 @@
 //! The reports of a replicated key-value core: what the program prints of a run, byte for byte.
 //!
-//! `ep_main` prints them. They tell what `ep_audit` finds, a verdict or a fault, and the lines that `ep_replay` and `ep_run` name as refused, each by its `Cause`.
+//! `ep_main` prints them, and `ep_library` hands out what an audit says (`judging.rt`). They tell what `ep_audit` finds, a verdict or a fault, and the lines that `ep_replay` and `ep_run` name as refused, each by its `EventFault`.
 //! It keeps to docs/FORMATS.md, section 5.
 //!
 //! Start with `reports.rt` and specs/Reports.antt, which says the lines in order.
@@ -9,20 +9,26 @@
 //! docs/FORMATS.md.
 #![tactic(auto)]
 
-mod cause;
 mod digest;
+mod event_fault;
 mod faults;
 mod findings;
+mod judgement;
+mod judging;
 mod life;
 mod lines;
+mod lives;
 mod losses;
 mod parts;
 mod reports;
 
-pub use cause::Cause;
+pub use event_fault::EventFault;
 pub use findings::Findings;
+pub use judgement::Judgement;
+pub use judging::judge;
 pub use life::Life;
 pub use lines::{push_contents, push_link_line};
+pub use lives::{life_of, told_contents};
 pub use losses::Losses;
 pub use parts::{push_answer, push_command, push_deps, push_instance, push_number, push_reply};
 pub use reports::{accepted, chain_refusal, refusal, report, run_report};

@@ -7,8 +7,8 @@ ghost use Rattle.ep_report.specs.Contents.{contents_line, contents_text};
 ghost use Rattle.ep_report.specs.Lives.{generation_line, closed_line, closing_line, link_line};
 ghost use Rattle.ep_report.specs.Reports.{text_of, committed_line, history_line, receipt_line, refused_line, lost_line};
 
-use crate::cause::Cause;
 use crate::digest::digest_of;
+use crate::event_fault::EventFault;
 use crate::life::Life;
 use crate::parts::{push_answer, push_command, push_deps, push_instance, push_number, push_reply};
 use ep_audit::{Closing, Happening};
@@ -165,7 +165,7 @@ pub(crate) fn push_refused_line(
     alloc: Global,
     text: &mut Vec<u8>,
     line: u32,
-    cause: Cause,
+    cause: EventFault,
 ) -> Result<(), AllocError>
     ensures { OnOk result (text.new.items ≡ text.old.items ++ refused_line (line, cause) ++ codes "\n") }
 {

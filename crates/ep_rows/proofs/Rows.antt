@@ -7,7 +7,7 @@ use Rattle.ep_base.specs.Commands.{Command, Noop, Put, Get, Swap}
 use Rattle.ep_base.specs.declared.message.Message.TheVariants.{PrepareOk, Nack}
 use Rattle.ep_base.specs.declared.reply.Answer.TheVariants.{Told}
 use Rattle.ep_base.specs.declared.reply.Reply.TheVariants.{Absent, Present}
-use Rattle.ep_base.specs.declared.vote.Status.TheVariants.{PreAccepted}
+use Rattle.ep_base.specs.declared.vote.VoteStatus.TheVariants.{PreAccepted}
 use Rattle.ep_rules.specs.Cells.{TooFewAnswers}
 use Rattle.ep_rows.specs.OneMap.{empty, opened, after, reply, answers_of}
 use Rattle.ep_rows.specs.Operations.{history_of}

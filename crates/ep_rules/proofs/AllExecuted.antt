@@ -17,13 +17,13 @@ use Rattle.ep_rules.proofs.Closings.{store_is, is_history}
 use Rattle.ep_rules.proofs.Commuting.{before_seal}
 use Rattle.ep_rules.proofs.CutHistories.{AreReal, real_history, cut_of, before_seals}
 use Rattle.ep_rules.proofs.JournalsExecutions.{executions, done_is}
-use Rattle.ep_rules.proofs.JournalsReplies.{real}
 use Rattle.ep_rules.proofs.OnceDone.{from_once}
 use Rattle.ep_rules.proofs.Places.{place_inj, filter_has}
 use Rattle.ep_rules.proofs.RunCommits.{told_in, wells}
 use Rattle.ep_rules.proofs.RunHistories.{command_is, instance_in}
 use Rattle.ep_rules.proofs.RunsLinear.{linearizability_holds}
 use Rattle.ep_rules.proofs.Sealing.{FirstSeal, find_seal, seal_is}
+use Rattle.ep_rules.proofs.Answered.{is_real}
 
 real_of : (h : List Operation) (o : Operation) → AreReal h → In o h → is_noop o.command ≡ false
 real_of [] o r k = absurd k
@@ -58,7 +58,7 @@ module _ (start : Contents) (f : ℕ) (some : 0 < f) (few : size f ≤ 256) (act
       let w = wells (opened start) f some few acts run in
       let n : is_noop (c z.at) ≡ false = seal_real (c z.at) (seal_is (c z.at) z.value z.seals) in
       subst (λ is. Has is z.at) (sym (is_history (opened start) f some few acts run).instances)
-      (filter_has (real c) (merged [] (executions f (opening (opened start)) acts)) z.at (ap (λ b. cond b false true) n) (w.within r z.at z.has))
+      (filter_has (is_real c) (merged [] (executions f (opening (opened start)) acts)) z.at (ap (λ b. cond b false true) n) (w.within r z.at z.has))
 
   lin : IsLinearizable (opened start) f acts
   lin = linearizability_holds (opened start) f some few acts run

@@ -1,6 +1,6 @@
 -- Each answer is the reply of one map to the history.
 use Rattle.std.proofs.Common.{◌≡◌, ℕ, zero, suc, ◌+◌, ◌<◌, ◌⊎◌, inl, inr, List, [], ◌∷◌, ◌++◌, length, get_or, take, map, Bool, true, false, cond, eqb, refl, sym, ap, subst, ◌∙◌, arith, length-append}
-use Rattle.std.proofs.lemmas.Bool.{eq-eqb, false≢true}
+use Rattle.std.proofs.lemmas.Bool.{eq-eqb, false≢true, eqb-true}
 use Rattle.std.proofs.lemmas.List.{get_or-append-add}
 use Rattle.std.specs.List.{filter, AllByRecursion}
 use Rattle.ep_base.specs.Commands.{Command, Noop, Get, Put, Del, Swap, Cas, Seal, Opaque}
@@ -11,7 +11,7 @@ use Rattle.ep_base.specs.Places.{place, Has}
 use Rattle.ep_rules.specs.Graph.{Graph}
 use Rattle.ep_base.specs.Sameness.{is_noop}
 use Rattle.ep_rules.specs.OneMap.{Store, after, after_all, reply, answer, answers_of, replies}
-use Rattle.ep_rules.proofs.Places.{has_left, place_cons, filter_has, Once, same_true, same_refl}
+use Rattle.ep_rules.proofs.Places.{has_left, place_cons, filter_has, Once, same_refl}
 use Rattle.ep_rules.specs.History.{Execution, Done, nothing, with_done, AreDependent, is_new, merged, reply_in, AnswersBy}
 use Rattle.ep_rules.proofs.Commuting.{after_noop as noop_stays}
 use Rattle.ep_rules.proofs.Wells.{Well, well_plan, well_ordered}
@@ -21,6 +21,13 @@ use Rattle.ep_rules.proofs.Executions.{AreExecuted, AreAnswered, AllWell, all_we
 -- no no-op
 abbrev pub is_real : (ℕ → Command) → ℕ → Bool
 is_real c i = cond (is_noop (c i)) false true
+
+pub noop_left : (c : ℕ → Command) (i : ℕ) → is_real c i ≡ false → is_noop (c i) ≡ true
+noop_left c i e = go (is_noop (c i)) e
+  where
+    go : (b : Bool) → cond b false true ≡ false → b ≡ true
+    go true e = refl
+    go false e = absurd (false≢true (sym e))
 
 -- a no-op leaves the map as it is
 after_noop : (m : Store) (d : Command) → is_noop d ≡ true → after m d ≡ m
@@ -47,7 +54,7 @@ real_reply c m (x ∷ xs) i real h = go (eqb x i) (is_noop (c x)) refl refl h (�
         ((n : Store) → Has xs i → reply (after_all c n (take (place (filter (is_real c) xs) i) (filter (is_real c) xs))) (c i) ≡ reply (after_all c n (take (place xs i) xs)) (c i)) →
         reply (after_all c m (take (place (cond (cond t false true) (x ∷ filter (is_real c) xs) (filter (is_real c) xs)) i) (cond (cond t false true) (x ∷ filter (is_real c) xs) (filter (is_real c) xs)))) (c i)
         ≡ reply (after_all c m (take (cond s 0 (suc (place xs i))) (x ∷ xs))) (c i)
-    go true true es et l r = absurd (false≢true (sym (ap (λ b. cond b false true) (sym (ap (λ y. is_noop (c y)) (same_true x i es)) ∙ et)) ∙ real))
+    go true true es et l r = absurd (false≢true (sym (ap (λ b. cond b false true) (sym (ap (λ y. is_noop (c y)) (eqb-true x i es)) ∙ et)) ∙ real))
     go true false es et l r = rw es refl
     go false false es et l r = rw es (r (after m (c x)) (omega arith))
     go false true es et l r = r m (omega arith) ∙ ap (λ n. reply (after_all c n (take (place xs i) xs)) (c i)) (sym (after_noop m (c x) et))
@@ -58,7 +65,7 @@ replies_at c m [] i h = absurd (omega arith)
 replies_at c m (x ∷ xs) i h = go (eqb x i) refl h (replies_at c (after m (c x)) xs i)
   where
     go : (s : Bool) → eqb x i ≡ s → cond s 0 (suc (place xs i)) < suc (length xs) → (Has xs i → get_or (replies (after m (c x)) (map c xs)) (place xs i) Absent ≡ reply (after_all c (after m (c x)) (take (place xs i) xs)) (c i)) → get_or (reply m (c x) ∷ replies (after m (c x)) (map c xs)) (cond s 0 (suc (place xs i))) Absent ≡ reply (after_all c m (take (cond s 0 (suc (place xs i))) (x ∷ xs))) (c i)
-    go true es l r = ap (λ y. reply m (c y)) (same_true x i es)
+    go true es l r = ap (λ y. reply m (c y)) (eqb-true x i es)
     go false es l r = r (omega arith)
 
 -- the answer at a place of an execution

@@ -1,6 +1,6 @@
 -- Any machine, by instances done in turn.
 use Rattle.std.proofs.Common.{◌≡◌, ◌≢◌, ℕ, suc, ◌<◌, ◌↔◌, List, [], ◌∷◌, ◌++◌, length, take, Option, Some, None, Bool, true, false, cond, eqb, refl, sym, ap, subst, ◌∙◌, arith}
-use Rattle.std.proofs.lemmas.Bool.{eq-eqb, false≢true}
+use Rattle.std.proofs.lemmas.Bool.{eq-eqb, false≢true, eqb-true}
 use Rattle.std.specs.List.{filter}
 use Rattle.ep_base.specs.Interference.{interfere}
 use Rattle.ep_base.specs.Places.{place, Has}
@@ -10,9 +10,9 @@ use Rattle.ep_rules.specs.Graph.{Graph}
 use Rattle.ep_rules.specs.History.{Execution, Done, nothing, with_done, done_after, of, merged, AreDependent}
 use Rattle.ep_rules.specs.Machines.{AreFree, Machine, after_operations, reply_to, ArePlanned, OneMachine, OneState}
 use Rattle.ep_rules.specs.Operations.{Operation, operations_of}
-use Rattle.ep_rules.proofs.Answered.{is_real}
+use Rattle.ep_rules.proofs.Answered.{is_real, noop_left}
 use Rattle.ep_rules.proofs.Executions.{AreExecuted, all_well, start}
-use Rattle.ep_rules.proofs.Places.{has_filter, filter_has, once_filter, filter_forth, filter_back, same_true}
+use Rattle.ep_rules.proofs.Places.{has_filter, filter_has, once_filter, filter_forth, filter_back}
 use Rattle.ep_rules.proofs.Turns.{run, Commute, AreUnseen, IsAlike, idle_out, same_after, one_told}
 use Rattle.ep_rules.proofs.Wells.{Well, well_ordered}
 
@@ -38,13 +38,6 @@ not_noop c i e = go (is_noop (c i)) e
     go : (b : Bool) → cond b false true ≡ true → b ≡ false
     go true e = absurd (false≢true e)
     go false e = refl
-
-noop_left : (c : ℕ → Command) (i : ℕ) → is_real c i ≡ false → is_noop (c i) ≡ true
-noop_left c i e = go (is_noop (c i)) e
-  where
-    go : (b : Bool) → cond b false true ≡ false → b ≡ true
-    go true e = refl
-    go false e = absurd (false≢true (sym e))
 
 module _ {S R : Type 0} (M : Machine S R) (c : ℕ → Command) where
   abbrev op : ℕ → Operation
@@ -98,10 +91,10 @@ module _ {S R : Type 0} (M : Machine S R) (c : ℕ → Command) where
       go : (t b : Bool) → eqb x i ≡ t → is_noop (c x) ≡ b → cond t 0 (suc (place xs i)) < suc (length xs) →
           ((n : S) → Has xs i → reply_to M n (operations_of c xs) i ≡ ask (run step n (take (place xs i) xs)) i) →
           reply_to M s (cond b (operations_of c xs) (op x ∷ operations_of c xs)) i ≡ ask (run step s (take (cond t 0 (suc (place xs i))) (x ∷ xs))) i
-      go true true et eb l r = absurd (false≢true (sym real ∙ sym (ap (λ y. is_noop (c y)) (same_true x i et)) ∙ eb))
+      go true true et eb l r = absurd (false≢true (sym real ∙ sym (ap (λ y. is_noop (c y)) (eqb-true x i et)) ∙ eb))
       go true false et eb l r =
           ap (λ t. cond t (Some (M.reply s (op x))) (reply_to M (M.after s (op x)) (operations_of c xs) i)) et
-          ∙ ap (λ y. Some (M.reply s (op y))) (same_true x i et)
+          ∙ ap (λ y. Some (M.reply s (op y))) (eqb-true x i et)
           ∙ sym (ap (λ t. cond t None (Some (M.reply s (op i)))) real)
       go false true et eb l r = r s (omega arith) ∙ ap (λ t. ask (run step (cond t s (M.after s (op x))) (take (place xs i) xs)) i) (sym eb)
       go false false et eb l r =

@@ -20,7 +20,7 @@ use Rattle.ep_rules.specs.Operations.{Operation, instances_of, history_of}
 use Rattle.ep_rules.specs.States.{State, committed_in, command_of}
 use Rattle.ep_rules.specs.Steps.{order_of}
 use Rattle.ep_rules.specs.Verdicts as verdicts
-use Rattle.ep_rules.specs.Verdicts.{agreed_below, command_at, or_else, merged_of, Agrees}
+use Rattle.ep_rules.specs.Verdicts.{agreed_below, command_at, or_else, Agrees}
 use Rattle.ep_rules.specs.Worlds.{World, opening, In, Act, IsRun, ends}
 use Rattle.ep_rules.specs.declared.receipt.Receipt.{Receipt}
 use Rattle.ep_rules.proofs.Closings.{runs_close_lem}
@@ -29,7 +29,7 @@ use Rattle.ep_rules.proofs.JoinedHistories.{J_back, ages_apart, once_J, legal_in
 use Rattle.ep_rules.proofs.JournalsCallers.{in_has, entry_before}
 use Rattle.ep_rules.proofs.JournalsCommitted.{is_run, state_is}
 use Rattle.ep_rules.proofs.JournalsExecutions.{executions}
-use Rattle.ep_rules.proofs.JournalsReplies.{real, merged_same, each_reply_lem}
+use Rattle.ep_rules.proofs.JournalsReplies.{merged_same, each_reply_lem}
 use Rattle.ep_rules.proofs.Merged.{of_in}
 use Rattle.ep_rules.proofs.OnceDone.{from_once}
 use Rattle.ep_rules.proofs.Places.{Once, has_cons}
@@ -37,8 +37,9 @@ use Rattle.ep_rules.proofs.RunCommits.{committed_below, decrees, told_in, all_kn
 use Rattle.ep_rules.proofs.RunHistories.{command_is, instance_in, IsHistory, history_is}
 use Rattle.ep_rules.proofs.RunsLinear.{has_in, linearizability_holds}
 use Rattle.ep_rules.proofs.Sealing.{noop_is}
+use Rattle.ep_rules.proofs.Answered.{is_real}
 
-in_acts_of : (a : Scheduled) (schedule : List Scheduled) → In a schedule → In (act_of a) (acts_of schedule)
+pub in_acts_of : (a : Scheduled) (schedule : List Scheduled) → In a schedule → In (act_of a) (acts_of schedule)
 in_acts_of a [] k = absurd k
 in_acts_of a (b ∷ schedule) (inl e) = inl (ap act_of e)
 in_acts_of a (b ∷ schedule) (inr k) = inr (in_acts_of a schedule k)
@@ -73,7 +74,7 @@ module _ (m : Contents) (f : ℕ) (journal : Journals) (schedule : List Schedule
       ap (λ o. or_else o (committed_in (w.states n).records i)) (decrees_below n i)
       ∙ ap (λ (s : State). or_else (agreed_below (opened m) n f journal i) (committed_in s.records i)) (state_is (opened m) f journal schedule given n)
 
-  told_same : (i : ℕ) → told_in (opened m) f acts i ≡ command_at (opened m) f journal i
+  pub told_same : (i : ℕ) → told_in (opened m) f acts i ≡ command_at (opened m) f journal i
   told_same i = ap command_of (decrees_below (size f) i)
 
   is_history : IsHistory (opened m) f (decrees (opened m) f acts) (history_of (opened m) f acts) (merged [] (executions f (opening (opened m)) acts))
@@ -82,8 +83,8 @@ module _ (m : Contents) (f : ℕ) (journal : Journals) (schedule : List Schedule
   pub same_history : instances_of (history_from m f schedule) ≡ verdicts.history_of (command_at (opened m) f journal) schedule
   same_history =
       is_history.instances
-      ∙ ap (λ (c : ℕ → Command). filter (real c) (merged [] (executions f (opening (opened m)) acts))) (λ t. λ i. told_same i t)
-      ∙ ap (λ is. filter (real (command_at (opened m) f journal)) is) (merged_same f schedule (opening (opened m)) [] run)
+      ∙ ap (λ (c : ℕ → Command). filter (is_real c) (merged [] (executions f (opening (opened m)) acts))) (λ t. λ i. told_same i t)
+      ∙ ap (λ is. filter (is_real (command_at (opened m) f journal)) is) (merged_same f schedule (opening (opened m)) [] run)
 
   pub closes_left : (r : ℕ) → is_closed (store_left m f journal r) ≡ true →
       (has_seal (history_from m f schedule) ≡ true) × (store_left m f journal r ≡ record { contents = written_by m (up_to_seal (history_from m f schedule)); seal = first_seal (history_from m f schedule) })

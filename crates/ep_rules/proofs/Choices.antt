@@ -6,8 +6,8 @@ use Rattle.ep_base.specs.Quorums.{size, spared, is_fast}
 use Rattle.ep_base.specs.Sameness.{is_noop}
 use Rattle.ep_base.specs.Commands.{Command, Noop}
 use Rattle.ep_base.specs.declared.decree.Decree.{Decree}
-use Rattle.ep_base.specs.declared.vote.Status.{Status}
-use Rattle.ep_base.specs.declared.vote.Status.TheVariants.{PreAccepted, Accepted, Committed}
+use Rattle.ep_base.specs.declared.vote.VoteStatus.{VoteStatus}
+use Rattle.ep_base.specs.declared.vote.VoteStatus.TheVariants.{PreAccepted, Accepted, Committed}
 use Rattle.ep_base.specs.declared.vote.Vote.{Vote}
 use Rattle.ep_rules.specs.Cells.{is_preaccept, is_accept, is_commit, is_committed}
 use Rattle.ep_rules.specs.Counting.{count, least, is_other}
@@ -20,22 +20,22 @@ use Rattle.ep_rules.proofs.Stable.{some_of}
 
 -- Votes and answers.
 
-pub status_preaccepted : (s : Status) → is_preaccept s ≡ true → s ≡ PreAccepted
+pub status_preaccepted : (s : VoteStatus) → is_preaccept s ≡ true → s ≡ PreAccepted
 status_preaccepted PreAccepted e = refl
 status_preaccepted Accepted e = absurd (cc)
 status_preaccepted Committed e = absurd (cc)
 
-pub status_accepted : (s : Status) → is_accept s ≡ true → s ≡ Accepted
+pub status_accepted : (s : VoteStatus) → is_accept s ≡ true → s ≡ Accepted
 status_accepted PreAccepted e = absurd (cc)
 status_accepted Accepted e = refl
 status_accepted Committed e = absurd (cc)
 
-pub status_committed : (s : Status) → is_commit s ≡ true → s ≡ Committed
+pub status_committed : (s : VoteStatus) → is_commit s ≡ true → s ≡ Committed
 status_committed PreAccepted e = absurd (cc)
 status_committed Accepted e = absurd (cc)
 status_committed Committed e = refl
 
-voteless : (s : Status) → is_commit s ≡ false → is_accept s ≡ false → is_preaccept s ≡ false → ⊥
+voteless : (s : VoteStatus) → is_commit s ≡ false → is_accept s ≡ false → is_preaccept s ≡ false → ⊥
 voteless PreAccepted u a p = absurd (cc)
 voteless Accepted u a p = absurd (cc)
 voteless Committed u a p = absurd (cc)
@@ -163,7 +163,7 @@ module _ (f l : ℕ) (two : 0 < f) (h : History) (ok : HistoryOk f l h) (b : ℕ
   abbrev NoAccept : Type 0
   NoAccept = (k : ℕ) (v : Option Vote) → k < size f → answer k ≡ Some v → ballot_at f l v ≡ top → is_accepted v ≡ false
 
-  unaccepted_cast : (k : ℕ) (s : Status) (c : ℕ) (x : Decree) → IsCast f l h k s c x → is_commit s ≡ false → is_accept s ≡ false → h.accepted k c ≡ false
+  unaccepted_cast : (k : ℕ) (s : VoteStatus) (c : ℕ) (x : Decree) → IsCast f l h k s c x → is_commit s ≡ false → is_accept s ≡ false → h.accepted k c ≡ false
   unaccepted_cast k PreAccepted c x v u a = v.unaccepted
   unaccepted_cast k Accepted c x v u a = absurd (cc)
   unaccepted_cast k Committed c x v u a = absurd (cc)
@@ -276,7 +276,7 @@ module _ (f l : ℕ) (two : 0 < f) (h : History) (ok : HistoryOk f l h) (b : ℕ
   low_top : l ≤ top
   low_top = let t = some_answer in let low = (each t.0 t.1 t.3).told.low in let at = t.4 in omega arith
 
-  free_cast : (k : ℕ) (s : Status) (c : ℕ) (x : Decree) → IsCast f l h k s c x → l < c → is_commit s ≡ false → is_accept s ≡ false → Free f l h c
+  free_cast : (k : ℕ) (s : VoteStatus) (c : ℕ) (x : Decree) → IsCast f l h k s c x → l < c → is_commit s ≡ false → is_accept s ≡ false → Free f l h c
   free_cast k PreAccepted c x v lt u a = v.free lt
   free_cast k Accepted c x v lt u a = absurd (cc)
   free_cast k Committed c x v lt u a = absurd (cc)
@@ -292,7 +292,7 @@ module _ (f l : ℕ) (two : 0 < f) (h : History) (ok : HistoryOk f l h) (b : ℕ
       subst (λ c. Free f l h c) t.4 (free_last t.0 t.1 (each t.0 t.1 t.3).told.cast (omega arith) (nc t.0 t.1 t.2 t.3) (na t.0 t.1 t.2 t.3 t.4))
 
   -- where y can be fast, an answer of a member of the fast quorum is a vote for it
-  member_cast : (y : Decree) (k : ℕ) (s : Status) (c : ℕ) (x : Decree) → IsCast f l h k s c x → h.early k ≡ Some y → c ≡ l → k ≢ l → is_commit s ≡ false → is_accept s ≡ false → (is_preaccept s ≡ true) × (x ≡ y)
+  member_cast : (y : Decree) (k : ℕ) (s : VoteStatus) (c : ℕ) (x : Decree) → IsCast f l h k s c x → h.early k ≡ Some y → c ≡ l → k ≢ l → is_commit s ≡ false → is_accept s ≡ false → (is_preaccept s ≡ true) × (x ≡ y)
   member_cast y k PreAccepted c x v e at ne u a = (refl, (let m = v.early at ne in cc))
   member_cast y k Accepted c x v e at ne u a = absurd (cc)
   member_cast y k Committed c x v e at ne u a = absurd (cc)

@@ -1,23 +1,19 @@
 -- What a replica has executed is closed, and each step keeps it so.
-use Rattle.std.proofs.Common.{◌≡◌, ℕ, inl, inr, List, [], ◌∷◌, ◌++◌, Some, Result, Ok, Err, sym, ap, subst, ◌∙◌, arith, append-nil, append_assoc}
-use Rattle.std.proofs.lemmas.Bool.{cases_eq}
+use Rattle.std.proofs.Common.{◌≡◌, ℕ, inl, inr, List, [], ◌∷◌, ◌++◌, Some, sym, ap, subst, ◌∙◌, arith, append-nil, append_assoc}
 use Rattle.std.specs.List.{flat_map}
 use Rattle.ep_base.specs.declared.attrs.Attrs.{Attrs}
-use Rattle.ep_base.specs.declared.decree.Decree.{Decree}
 use Rattle.ep_base.specs.declared.reply.Answer.{Answer}
 use Rattle.ep_base.specs.Places.{Has}
-use Rattle.ep_rules.specs.Cells.{Change, Refusal}
 use Rattle.ep_rules.specs.Graph.{Graph, Reaches}
 use Rattle.ep_rules.specs.Graph.Reaches.{onward}
 use Rattle.ep_rules.specs.Order.{IsClosed, IsOrder, IsPlan, InBlocks}
-use Rattle.ep_rules.specs.States.{State, fresh_state, cell_in, committed_in, attrs_of, graph_in, changed}
+use Rattle.ep_rules.specs.States.{State, fresh_state, committed_in, attrs_of, graph_in}
 use Rattle.ep_rules.specs.Steps.{Event, Propose, Handle, GiveUp, Recover, Execute, order_of, acts, changed_by, Executes, IsStep, leaves}
 use Rattle.ep_rules.proofs.JournalsExecutions.{attrs_some}
-use Rattle.ep_rules.proofs.Local.{LocalAct, local_acts}
-use Rattle.ep_rules.proofs.Moves.{cell_here, cell_other}
-use Rattle.ep_rules.proofs.Permanence.{decree_of, cell_stays}
+use Rattle.ep_rules.proofs.Local.{local_acts}
 use Rattle.ep_rules.proofs.Places.{has_left, has_split}
 use Rattle.ep_rules.proofs.Reaching.{reach_trans}
+use Rattle.ep_rules.proofs.JournalsKeep.{changed_stays}
 use Rattle.ep_rules.specs.OneMap.{Store}
 
 pub closed_nil : (g : Graph) → IsClosed g []
@@ -31,7 +27,7 @@ reached_listed g done root [] h j r = has_left done [] j (h j r)
 reached_listed g done root (block ∷ blocks) h j r = subst (λ xs. Has xs j) (append_assoc done block (flat_map (λ b. b) blocks)) (reached_listed g (done ++ block) root blocks h.1 j r)
 
 -- and nothing else
-listed_reached : (g : Graph) (done : List ℕ) (root : ℕ) (blocks : List (List ℕ)) → InBlocks g done root blocks → (j : ℕ) → Has (flat_map (λ b. b) blocks) j → Reaches g root j
+pub listed_reached : (g : Graph) (done : List ℕ) (root : ℕ) (blocks : List (List ℕ)) → InBlocks g done root blocks → (j : ℕ) → Has (flat_map (λ b. b) blocks) j → Reaches g root j
 listed_reached g done root [] h j k = absurd (omega arith)
 listed_reached g done root (block ∷ blocks) h j k = elim (has_split block (flat_map (λ b. b) blocks) j k) [
   | inl here ↦ reach_trans h.0.reached ((h.0.is.members j).0 here).0.0
@@ -57,16 +53,6 @@ closed_plan g done root order closed (inr p) = closed_listed g done root order c
 
 -- What is committed stays so.
 
-committed_stays : (s : State) (o : Result (ℕ × Change) Refusal) → LocalAct s o → (i : ℕ) (x : Decree) → committed_in s.records i ≡ Some x → committed_in (changed_by s o).records i ≡ Some x
-committed_stays s (Err e) own i x is = is
-committed_stays s (Ok p) own i x is = elim (cases_eq i p.0) [
-  | inl here ↦ (
-      let was : decree_of p.0 (cell_in s p.0) ≡ Some x = subst (λ j. decree_of j (cell_in s j) ≡ Some x) here is in
-      let now : decree_of p.0 (cell_in (changed s p.0 p.1) p.0) ≡ Some x = ap (decree_of p.0) (cell_here s p.0 p.1) ∙ cell_stays p.0 (cell_in s p.0) p.1 x own was in
-      subst (λ j. decree_of j (cell_in (changed s p.0 p.1) j) ≡ Some x) (sym here) now)
-  | inr ne ↦ ap (decree_of i) (cell_other s p.0 p.1 i ne) ∙ is
-]
-
 closed_grows : (g g' : Graph) (done : List ℕ) → ((i : ℕ) (a : Attrs) → g i ≡ Some a → g' i ≡ Some a) → IsClosed g done → IsClosed g' done
 closed_grows g g' done up closed i h = let c = closed i h in (c.0, up i c.0 c.1, c.2)
 
@@ -86,7 +72,7 @@ closed_after s (Execute root) done h closed = closed_plan (graph_in s.records) s
 pub leaves_closed : (f me : ℕ) (s : State) (e : Event) (done : List (ℕ × Answer)) → IsClosed (graph_in s.records) s.executed → IsStep f me s e done → IsClosed (graph_in (leaves f me s e done).records) (leaves f me s e done).executed
 leaves_closed f me s e done closed step =
     closed_grows (graph_in s.records) (graph_in (changed_by s (acts f me s e)).records) (s.executed ++ order_of done)
-    (λ i a is. (let x = attrs_some (committed_in s.records i) a is in ap attrs_of (committed_stays s (acts f me s e) (local_acts f me s e) i x.0 x.1) ∙ ap Some x.2))
+    (λ i a is. (let x = attrs_some (committed_in s.records i) a is in ap attrs_of (changed_stays s (acts f me s e) (local_acts f me s e) i x.0 x.1) ∙ ap Some x.2))
     (closed_after s e done step.executes closed)
 
 pub fresh_closed : (base : Store) → IsClosed (graph_in (fresh_state base).records) (fresh_state base).executed

@@ -1,15 +1,12 @@
 -- A map that entries have closed stays as it is.
-use Rattle.std.proofs.Common.{◌≡◌, ℕ, true, List, [], ◌∷◌, ◌++◌, refl, sym, ap, subst, ◌∙◌}
+use Rattle.std.proofs.Common.{◌≡◌, ℕ, true, List, [], ◌∷◌, refl, sym, ap, subst, ◌∙◌}
 use Rattle.ep_rules.specs.Chains.{ClosedEntries}
 use Rattle.ep_rules.specs.Journals.{Entry, left}
 use Rattle.ep_rules.specs.OneMap.{is_closed}
 use Rattle.ep_rules.specs.States.{State, fresh_state, command_in}
 use Rattle.ep_rules.specs.Steps.{order_of, leaves}
 use Rattle.ep_rules.proofs.Closings.{closed_under}
-
-left_both : (f me : ℕ) (s : State) (xs ys : List Entry) → left f me s (xs ++ ys) ≡ left f me (left f me s xs) ys
-left_both f me s [] ys = refl
-left_both f me s (e ∷ xs) ys = left_both f me (leaves f me s e.event e.done) xs ys
+use Rattle.ep_rules.proofs.JournalsKeep.{left_parts}
 
 stays : (f me : ℕ) (s : State) (es : List Entry) → is_closed s.store ≡ true → (left f me s es).store ≡ s.store
 stays f me s [] h = refl
@@ -19,4 +16,4 @@ stays f me s (e ∷ es) h =
 
 pub closed_entries_lem : ClosedEntries
 closed_entries_lem base f me handed more h =
-    ap (λ (s : State). s.store) (left_both f me (fresh_state base) handed more) ∙ stays f me (left f me (fresh_state base) handed) more h
+    ap (λ (s : State). s.store) (left_parts f me (fresh_state base) handed more) ∙ stays f me (left f me (fresh_state base) handed) more h

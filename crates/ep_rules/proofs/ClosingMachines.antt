@@ -15,11 +15,11 @@ use Rattle.ep_rules.specs.States.{State, command_in}
 use Rattle.ep_rules.specs.Worlds.{opening, In, ends}
 use Rattle.ep_rules.proofs.JournalsCommitted.{is_run, state_is}
 use Rattle.ep_rules.proofs.JournalsExecutions.{executions}
-use Rattle.ep_rules.proofs.JournalsReplies.{real}
 use Rattle.ep_rules.proofs.Places.{Once, once_filter}
 use Rattle.ep_rules.proofs.RunCommits.{told_in, wells}
 use Rattle.ep_rules.proofs.RunHistories.{instance_in, instances_real}
 use Rattle.ep_rules.proofs.RunMachines.{handed_then, runs_one_machine_lem}
+use Rattle.ep_rules.proofs.Answered.{is_real}
 
 -- of two operations whose order is left open neither is a seal
 no_seals : (o p : Operation) → AreFree o p → (is_seal o.command ≡ false) × (is_seal p.command ≡ false)
@@ -118,7 +118,7 @@ runs_close_machines_lem S R M start base f some few acts run r sealed =
     let done : List ℕ = done_after nothing (executions f (opening base) acts) r in
     let is : own ≡ operations_of cs done = handed_then base f some few acts run acts [] (append-nil acts) r in
     let once : Once (instances_of own) =
-    subst Once (sym (ap instances_of is ∙ instances_real cs cs done (λ i h. refl))) (once_filter (real cs) done ((wells base f some few acts run).each r).once) in
+    subst Once (sym (ap instances_of is ∙ instances_real cs cs done (λ i h. refl))) (once_filter (is_real cs) done ((wells base f some few acts run).each r).once) in
     let z = seal_told M start own once sealed in
     let x = runs_one_machine_lem (S × Bool) (Option S) (stopped M) (running M start) base f some few acts run r z.0 z.1 in
     let back = told_back M start (history_of base f acts) z.0.instance (after_operations M start (up_to_seal own)) (x.2 ∙ sym x.1 ∙ z.2) in

@@ -4,7 +4,6 @@ use Rattle.std.proofs.lemmas.Bool.{cases_Bool, false≢true}
 use Rattle.std.specs.Prelude.{is_none}
 use Rattle.ep_base.specs.Interference.{is_seal}
 use Rattle.ep_base.specs.Quorums.{size}
-use Rattle.ep_base.specs.Sameness.{is_noop}
 use Rattle.ep_base.specs.Commands.{Command}
 use Rattle.ep_base.specs.declared.decree.Decree.{Decree}
 use Rattle.ep_rules.specs.Closing.{has_seal, up_to_seal, first_seal, written_by, SealCloses, store_of, HasClosed, ClosedStays, RunsClose, RunsCloseAlike}
@@ -14,7 +13,7 @@ use Rattle.ep_rules.specs.Operations.{Operation, instances_of, commands_of, hist
 use Rattle.ep_rules.specs.States.{command_in}
 use Rattle.ep_rules.specs.Steps.{order_of, leaves}
 use Rattle.ep_rules.specs.Worlds.{World, opening, Act, moved, IsRun, ends}
-use Rattle.ep_rules.proofs.Answered.{is_real}
+use Rattle.ep_rules.proofs.Answered.{is_real, noop_left}
 use Rattle.ep_rules.proofs.Commuting.{map_of, seal_value}
 use Rattle.ep_rules.proofs.Executions.{all_well, start as well_start}
 use Rattle.ep_rules.proofs.Interleaved.{interleaved}
@@ -27,18 +26,11 @@ use Rattle.ep_rules.proofs.Runs.{ends_append}
 
 -- Executions at several replicas.
 
-real_kept : (c : ℕ → Command) (i : ℕ) → is_real c i ≡ false → is_noop (c i) ≡ true
-real_kept c i e = go (is_noop (c i)) e
-  where
-    go : (b : Bool) → cond b false true ≡ false → b ≡ true
-    go true e = refl
-    go false e = absurd (false≢true (sym e))
-
 pub one_closing_lem : OneClosing
 one_closing_lem base all c es dep h r e =
     let w = all_well all nothing [] es (well_start all) (interleaved base all c nothing es h).0 in
     same_closing all c dep (done_after nothing es r) (merged [] es) (w.each r) w.whole (w.within r) base e
-    ∙ noops_out base c (is_real c) base (merged [] es) (λ x k n. noop_is (c x) (real_kept c x n))
+    ∙ noops_out base c (is_real c) base (merged [] es) (λ x k n. noop_is (c x) (noop_left c x n))
 
 -- Operations with a seal.
 

@@ -1,6 +1,6 @@
 -- Commands that don't interfere commute. All that is said of replies rests on these two facts, and on no key.
 use Rattle.std.proofs.Common.{◌≡◌, ◌⊎◌, inl, inr, List, Option, Some, None, Bool, true, false, cond, ◌&&◌, ◌||◌, refl, sym, ap, subst, ◌∙◌, ℕ}
-use Rattle.std.proofs.lemmas.Bool.{false≢true}
+use Rattle.std.proofs.lemmas.Bool.{false≢true, or_parts}
 use Rattle.std.proofs.lemmas.Cmp.{nat_list_cmp_total}
 use Rattle.std.proofs.lemmas.Map.Lookups.{exact_bytes}
 use Rattle.std.proofs.lemmas.Map.Views.{tells_apart}
@@ -13,6 +13,7 @@ use Rattle.ep_base.specs.Interference.{interfere, meet, part, has_key, keys_of, 
 use Rattle.ep_base.specs.Sameness.{same_option}
 use Rattle.ep_base.specs.TwoKeys.{TwoKeys}
 use Rattle.ep_base.proofs.Same.{Decides-same_list}
+use Rattle.ep_base.proofs.Tests.{or_true}
 use Rattle.ep_base.specs.declared.reply.Reply.TheVariants.{Absent}
 use Rattle.ep_rules.specs.OneMap.{Contents, value_at, with_key, written, read, told, Store, sealed_by, after_under, after, reply_under, reply}
 
@@ -54,10 +55,6 @@ alone : (b : Bool) → (b || false) ≡ false → b ≡ false
 alone true e = e
 alone false e = refl
 
-neither : (a b : Bool) → (a || b) ≡ false → (a ≡ false) × (b ≡ false)
-neither true b e = absurd (false≢true (sym e))
-neither false b e = (refl, e)
-
 turned : (k l : List ℕ) → same_list k l ≡ false → same_list l k ≡ false
 turned k l n = go (same_list l k) refl
   where
@@ -85,7 +82,7 @@ write_past m k o Noop e = refl
 write_past m k o (Get l) e = refl
 write_past m k o (Put l w) e = keys_commute m k l o (Some w) (alone (same_list k l) e)
 write_past m k o (Del l) e = keys_commute m k l o None (alone (same_list k l) e)
-write_past m k o (Swap p) e = let n = neither (same_list k p.first) (same_list k p.second || false) e in write_swap m k p o n.0 (alone (same_list k p.second) n.1)
+write_past m k o (Swap p) e = let n = or_parts (same_list k p.first) (same_list k p.second || false) e in write_swap m k p o n.0 (alone (same_list k p.second) n.1)
 write_past m k o (Cas l x n) e =
     ap (λ (z : Option (List ℕ)). cond (same_option z x) (with_key (with_key m k o) l n) (with_key m k o)) (unseen_key m k l o (alone (same_list k l) e))
     ∙ go (same_option (value_at m l) x)
@@ -101,7 +98,7 @@ read_past m k o Noop e = refl
 read_past m k o (Get l) e = ap told (unseen_key m k l o (alone (same_list k l) e))
 read_past m k o (Put l w) e = ap told (unseen_key m k l o (alone (same_list k l) e))
 read_past m k o (Del l) e = ap told (unseen_key m k l o (alone (same_list k l) e))
-read_past m k o (Swap p) e = ap told (unseen_key m k p.first o (neither (same_list k p.first) (same_list k p.second || false) e).0)
+read_past m k o (Swap p) e = ap told (unseen_key m k p.first o (or_parts (same_list k p.first) (same_list k p.second || false) e).0)
 read_past m k o (Cas l x n) e = ap told (unseen_key m k l o (alone (same_list k l) e))
 read_past m k o (Seal v) e = refl
 read_past m k o (Opaque q w) e = refl
@@ -111,7 +108,7 @@ untouched m Noop k e = refl
 untouched m (Get l) k e = refl
 untouched m (Put l w) k e = unseen_key m l k (Some w) (turned k l (alone (same_list k l) e))
 untouched m (Del l) k e = unseen_key m l k None (turned k l (alone (same_list k l) e))
-untouched m (Swap p) k e = let n = neither (same_list k p.first) (same_list k p.second || false) e in unseen_swap m p k (turned k p.first n.0) (turned k p.second (alone (same_list k p.second) n.1))
+untouched m (Swap p) k e = let n = or_parts (same_list k p.first) (same_list k p.second || false) e in unseen_swap m p k (turned k p.first n.0) (turned k p.second (alone (same_list k p.second) n.1))
 untouched m (Cas l x n) k e = go (same_option (value_at m l) x)
   where
     go : (b : Bool) → value_at (cond b (with_key m l n) m) k ≡ value_at m k
@@ -193,10 +190,6 @@ seal_value (Swap p) e = absurd (false≢true e)
 seal_value (Cas k x n) e = absurd (false≢true e)
 seal_value (Seal v) e = (v, refl)
 seal_value (Opaque q w) e = absurd (false≢true e)
-
-or_true : (b : Bool) → (b || true) ≡ true
-or_true true = refl
-or_true false = refl
 
 pub before_seal : (v : List ℕ) (a : Command) → interfere a (Seal v) ≡ false → a ≡ Noop
 before_seal v Noop e = refl

@@ -34,13 +34,6 @@ pub meet : (n : ℕ) (p q : ℕ → Bool) → n < count n p + count n q → Shar
 meet zero p q h = absurd (omega arith)
 meet (suc n) p q h = meet_step n p q (p n) (q n) refl refl (meet n p q) h
 
--- one replica left out changes a count by one
-without_eq : (n z : ℕ) → eqb n z ≡ true → n ≡ z
-without_eq n z e = eqb-true n z e
-
-same_below : (n : ℕ) (p q : ℕ → Bool) → ((r : ℕ) → r < n → p r ≡ q r) → count n p ≤ count n q
-same_below n p q h = count_le n p q (λ r l e. sym (h r l) ∙ e)
-
 drop_one : (n z : ℕ) (p : ℕ → Bool) → z ≡ n → count n p ≤ count n (λ r. p r && not (eqb r z))
 drop_one n z p e = count_le n p _ (λ r l h. and_from _ _ h (not_from_false _ (ne_eqb r z (λ i. omega arith))))
 

@@ -10,8 +10,8 @@ use Rattle.ep_base.specs.Commands.{Command, Noop}
 use Rattle.ep_base.specs.declared.decree.Decree.{Decree}
 use Rattle.ep_base.specs.declared.message.Message.{Message}
 use Rattle.ep_base.specs.declared.message.Message.TheVariants.{PreAccept, PreAcceptOk, Accept, AcceptOk, Commit, Prepare, PrepareOk, Nack}
-use Rattle.ep_base.specs.declared.vote.Status.{Status}
-use Rattle.ep_base.specs.declared.vote.Status.TheVariants.{PreAccepted, Accepted, Committed}
+use Rattle.ep_base.specs.declared.vote.VoteStatus.{VoteStatus}
+use Rattle.ep_base.specs.declared.vote.VoteStatus.TheVariants.{PreAccepted, Accepted, Committed}
 use Rattle.ep_base.specs.declared.vote.Vote.{Vote}
 use Rattle.ep_rules.specs.Answers.{Answers, answer}
 use Rattle.ep_rules.specs.Cells.{is_committed, record_or_fresh, Cell}
@@ -122,7 +122,7 @@ module _ (f l : ℕ) where
     pub chosen : h.chosen b ≡ Some x
     pub accepted : h.accepted r b ≡ true
 
-  abbrev pub IsCast : History → ℕ → Status → ℕ → Decree → Type 0
+  abbrev pub IsCast : History → ℕ → VoteStatus → ℕ → Decree → Type 0
   IsCast h r PreAccepted b x = PreVote h r b x
   IsCast h r Accepted b x = AcceptVote h r b x
   IsCast h r Committed b x = Decided h x
@@ -150,7 +150,7 @@ module _ (f l : ℕ) where
     pub told : Told h r b v
 
   -- the last vote is of this status, at b
-  abbrev pub VotedAt : Status → ℕ → Option Vote → Type 0
+  abbrev pub VotedAt : VoteStatus → ℕ → Option Vote → Type 0
   VotedAt s b v = (x : Decree) × (v ≡ Some (record { status = s; ballot = b; decree = x }))
 
   pub record ProposingOk (h : History) (r : ℕ) (x : Record) (b : ℕ) (answers : Answers Attrs) : Type 0 where

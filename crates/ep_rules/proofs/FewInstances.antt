@@ -5,12 +5,10 @@ use Rattle.std.specs.List.{filter}
 use Rattle.ep_base.specs.Deps.{most_deps}
 use Rattle.ep_base.specs.Instances.{leader_of, number_of, IsInstance}
 use Rattle.ep_base.specs.Places.{Has}
+use Rattle.ep_base.proofs.Places.{Has-first}
 use Rattle.ep_rules.specs.Counts.{InstancesAreFew}
 use Rattle.ep_rules.proofs.OnceDone.{from_once}
-use Rattle.ep_rules.proofs.Places.{place_head, has_tail, has_filter, once_filter, filter_all, Once}
-
-has_head : (x : ℕ) (xs : List ℕ) → Has (x ∷ xs) x
-has_head x xs = let e = place_head x xs in omega arith
+use Rattle.ep_rules.proofs.Places.{has_tail, has_filter, once_filter, filter_all, Once}
 
 module _ (index : ℕ → ℕ) where
   abbrev Apart : List ℕ → Type 0
@@ -27,7 +25,7 @@ module _ (index : ℕ → ℕ) where
       go : (b : Bool) → eqb (index x) n ≡ b → length xs ≤ suc (length (filter (but n) xs)) → suc (length xs) ≤ suc (length (cond (not b) (x ∷ filter (but n) xs) (filter (but n) xs)))
       go true e r =
           let here : index x ≡ n = eqb-true (index x) n e in
-          let other : (i : ℕ) → Has xs i → but n i ≡ true = λ i h. not_from_false _ (ne_eqb (index i) n (λ is. o.0 (subst (λ j. Has xs j) (apart i x (has_tail x i xs h) (has_head x xs) (is ∙ sym here)) h))) in
+          let other : (i : ℕ) → Has xs i → but n i ≡ true = λ i h. not_from_false _ (ne_eqb (index i) n (λ is. o.0 (subst (λ j. Has xs j) (apart i x (has_tail x i xs h) (Has-first x xs) (is ∙ sym here)) h))) in
           let all : filter (but n) xs ≡ xs = filter_all (but n) xs other in
           rw all (omega arith)
       go false e r = omega arith
@@ -40,7 +38,7 @@ module _ (index : ℕ → ℕ) where
 
   few_below : (n : ℕ) (xs : List ℕ) → Once xs → Apart xs → ((i : ℕ) → Has xs i → index i < n) → length xs ≤ n
   few_below zero [] o apart low = omega arith
-  few_below zero (x ∷ xs) o apart low = absurd (omega (arith, low x (has_head x xs)))
+  few_below zero (x ∷ xs) o apart low = absurd (omega (arith, low x (Has-first x xs)))
   few_below (suc n) xs o apart low =
       let more = one_less n xs o apart in
       let rest = few_below n (filter (but n) xs) (once_filter (but n) xs o) (λ i j h k e. apart i j (has_filter (but n) xs i h).0 (has_filter (but n) xs j k).0 e) lower in

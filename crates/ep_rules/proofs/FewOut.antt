@@ -10,7 +10,7 @@ use Rattle.ep_base.specs.declared.attrs.Attrs.{Attrs}
 use Rattle.ep_base.specs.Commands.{Command, Noop}
 use Rattle.ep_base.specs.declared.message.Message.{Message}
 use Rattle.ep_base.specs.declared.message.Message.TheVariants.{PreAccept, PreAcceptOk, Accept, AcceptOk, Commit, Prepare, PrepareOk, Nack}
-use Rattle.ep_base.specs.declared.vote.Status.TheVariants.{PreAccepted, Accepted}
+use Rattle.ep_base.specs.declared.vote.VoteStatus.TheVariants.{PreAccepted, Accepted}
 use Rattle.ep_base.specs.declared.vote.Vote.{Vote}
 use Rattle.ep_rules.specs.Answers.{Answers, answer}
 use Rattle.ep_rules.specs.Cells.{Change, is_committed, is_done_at, is_settled_at, nothing, answered, recorded, kept, voted, Refusal, TooFewAnswers, AlreadyCommitted, BallotsExhausted}

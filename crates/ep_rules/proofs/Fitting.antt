@@ -13,7 +13,7 @@ use Rattle.ep_base.specs.declared.decree.Decree.{Decree}
 use Rattle.ep_base.specs.declared.message.Message.{Message}
 use Rattle.ep_base.specs.declared.message.Message.TheVariants.{PreAccept, PreAcceptOk, Accept, AcceptOk, Commit, Prepare, PrepareOk, Nack}
 use Rattle.ep_base.specs.declared.reply.Answer.{Answer}
-use Rattle.ep_base.specs.declared.vote.Status.TheVariants.{PreAccepted, Accepted}
+use Rattle.ep_base.specs.declared.vote.VoteStatus.TheVariants.{PreAccepted, Accepted}
 use Rattle.ep_base.specs.declared.vote.Vote.{Vote}
 use Rattle.ep_rules.specs.Answers.{Answers, answer}
 use Rattle.ep_rules.specs.Cells.{Change, nothing, recorded, kept, voted, is_done_at, is_settled_at, record_or_fresh, voted_ballot, is_committed, Refusal, OutOfRange, NotMine, TooFewAnswers, BallotsExhausted}
@@ -292,7 +292,7 @@ proposed_fits f me s c (Some n) small low =
     placed_fits i me (propose f i c (interference s.records i c))
     (subst (λ l. OutcomeFits i l (propose f i c (interference s.records i c))) is (propose_fits f i c (interference s.records i c) (subst (λ l. l < 256) (sym is) small)))
 
-screened_within : (f me : ℕ) (e : Event) (b : Bool) → cond b (cond (is_for me e) None (Some NotMine)) (Some OutOfRange) ≡ None → b ≡ true
+pub screened_within : (f me : ℕ) (e : Event) (b : Bool) → cond b (cond (is_for me e) None (Some NotMine)) (Some OutOfRange) ≡ None → b ≡ true
 screened_within f me e true h = refl
 screened_within f me e false h = absurd (cc)
 

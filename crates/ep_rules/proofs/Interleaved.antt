@@ -4,7 +4,7 @@ use Rattle.std.proofs.lemmas.Bool.{eq-eqb}
 use Rattle.std.specs.List.{filter, AllByRecursion}
 use Rattle.ep_base.specs.Places.{Has}
 use Rattle.ep_rules.specs.Graph.{Graph}
-use Rattle.ep_rules.proofs.Places.{has_or, has_left, has_right, has_split, Once, has_tail, place_head}
+use Rattle.ep_rules.proofs.Places.{has_right, has_split, Once}
 use Rattle.ep_rules.specs.History.{Execution, Done, nothing, with_done, done_after, merged, is_new, of, IsLocal, IsWhole, OneOrder, OneReply, Components, OneHistory}
 use Rattle.ep_base.specs.Commands.{Command}
 use Rattle.ep_rules.proofs.Wells.{well_plan, same_order, linked, well_ordered}
@@ -45,7 +45,7 @@ one_reply_lem base all c es dep h r i hi =
     (hw, one_reply base c i (done_after nothing es r) (merged [] es) d.once w.whole.once hi hw (well_ordered all c dep (done_after nothing es r) (merged [] es) d w.whole))
 
 -- in a list with each once, what stands in the second part doesn't in the first
-apart : (xs ys : List ℕ) (i : ℕ) → Once (xs ++ ys) → Has xs i → Has ys i → ⊥
+pub apart : (xs ys : List ℕ) (i : ℕ) → Once (xs ++ ys) → Has xs i → Has ys i → ⊥
 apart [] ys i o h k = omega arith
 apart (x ∷ xs) ys i o h k = elim (has_cons' x i xs h) [ inl e ↦ o.0 (has_right xs ys x (subst (λ y. Has ys y) (sym e) k)) | inr t ↦ apart xs ys i o.1 t k ]
   where

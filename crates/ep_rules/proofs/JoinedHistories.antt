@@ -16,7 +16,6 @@ use Rattle.ep_rules.proofs.CutHistories.{AreReal, cut_in, cut_out, once_cut, len
 use Rattle.ep_rules.proofs.Lives.{in_both}
 use Rattle.ep_rules.proofs.NamedPlaces.{length_named, named_here, named_elsewhere, operations_named, operations_both, length_operations, has_in_or, place_in_both, place_in_second, in_named, named_once, once_both}
 use Rattle.ep_rules.proofs.Places.{Once, has_or}
-use Rattle.ep_rules.proofs.RunHistories.{instance_in}
 
 -- Histories of generations, each up to its first seal, joined: places, and what one map tells.
 module _ (h_of : ℕ → List Operation) where
@@ -91,9 +90,6 @@ module _ (h_of : ℕ → List Operation) where
     | inl a ↦ (let r = member m o a in ((let l = r.0 in omega arith), r.1))
     | inr b ↦ (let r = in_named m (cut m) o b in ((let e = r.0 in omega arith), subst (λ z. In o.operation (cut z)) (sym r.0) r.1))
   ]
-
-  pub has_member : (n : ℕ) (o : Named) → In o (J n) → Has (instances_of (cut o.generation)) o.operation.instance
-  has_member n o k = instance_in (cut o.generation) o.operation (member n o k).1
 
   pub once_J : (n : ℕ) → ((g : ℕ) → g < n → Once (instances_of (h_of g))) → NamedOnce (J n)
   once_J zero once = tt

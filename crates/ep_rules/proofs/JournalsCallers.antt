@@ -23,7 +23,8 @@ use Rattle.ep_rules.proofs.JournalsCommitted.{run_parts, ends_left, acts_both, k
 use Rattle.ep_rules.proofs.JournalsExecutions.{exec_of, executions, nothing_done, step_known}
 use Rattle.ep_rules.proofs.JournalsUnproposed.{unproposed_lem}
 use Rattle.ep_rules.proofs.OneProposal.{was_free}
-use Rattle.ep_rules.proofs.JournalsReplies.{real, all_known, history_same}
+use Rattle.ep_rules.proofs.JournalsReplies.{all_known, history_same}
+use Rattle.ep_rules.proofs.Answered.{is_real}
 use Rattle.ep_rules.specs.OneMap.{Store}
 
 pub in_has : (ds : List (ℕ × Answer)) (i : ℕ) (x : Answer) → In (i, x) ds → Has (order_of ds) i
@@ -93,13 +94,13 @@ executions_both f [] late w = refl
 executions_both f (a ∷ early) late w =
     ap (λ es. exec_of w a a.event es) (executions_both f early late (moved f w a)) ∙ exec_both w a (executions f (moved f w a) early) (executions f (ends f (moved f w a) early) late) a.event
 
-is_real : (c : ℕ → Command) (i : ℕ) (b : Bool) → is_noop (c i) ≡ b → cond b false true ≡ true → is_noop (c i) ≡ false
-is_real c i true e h = absurd (false≢true h)
-is_real c i false e h = e
+isnt_noop : (c : ℕ → Command) (i : ℕ) (b : Bool) → is_noop (c i) ≡ b → cond b false true ≡ true → is_noop (c i) ≡ false
+isnt_noop c i true e h = absurd (false≢true h)
+isnt_noop c i false e h = e
 
 module _ (base : Store) (f : ℕ) (journal : Journals) (schedule : List Scheduled) (given : Merges base f journal schedule) where
   in_history : (i : ℕ) → Has (history_of (command_at base f journal) schedule) i → is_noop (command_at base f journal i) ≡ false
-  in_history i h = is_real (command_at base f journal) i (is_noop (command_at base f journal i)) refl (has_filter (real (command_at base f journal)) (merged_of [] schedule) i h).1
+  in_history i h = isnt_noop (command_at base f journal) i (is_noop (command_at base f journal i)) refl (has_filter (is_real (command_at base f journal)) (merged_of [] schedule) i h).1
 
   module _ (t : Receipt) (ht : Agrees base f journal t) where
     abbrev now : Scheduled

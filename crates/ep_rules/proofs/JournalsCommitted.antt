@@ -16,10 +16,8 @@ use Rattle.ep_rules.proofs.Runs.{agreement_holds, validity_holds}
 use Rattle.ep_rules.proofs.Pairs.{dependency_holds}
 use Rattle.ep_rules.proofs.Permanence.{permanence_holds}
 use Rattle.ep_rules.proofs.Merged.{merged_is_a_run_lem}
+use Rattle.ep_rules.proofs.OneSchedule.{heads, tails}
 use Rattle.ep_rules.specs.OneMap.{Store}
-
-pub some_same : {X : Type 0} (x y : X) → Some x ≡ Some y → x ≡ y
-some_same x y e = cc
 
 pub none_some : {X A : Type 0} (x : X) → None ≡ Some x → A
 none_some x e = absurd (cc)
@@ -89,12 +87,6 @@ pub record Cut (r : ℕ) (before : List Entry) (e : Entry) (schedule : List Sche
   pub whole : early ++ (record { replica = r; entry = e } ∷ late) ≡ schedule
   pub own : of r early ≡ before
 
-head_same : (x y : Entry) (xs ys : List Entry) → x ∷ xs ≡ y ∷ ys → x ≡ y
-head_same x y xs ys e = cc
-
-tail_same : (x y : Entry) (xs ys : List Entry) → x ∷ xs ≡ y ∷ ys → xs ≡ ys
-tail_same x y xs ys e = cc
-
 pub cut : (r : ℕ) (before : List Entry) (e : Entry) (rest : List Entry) (schedule : List Scheduled) → of r schedule ≡ before ++ (e ∷ rest) → Cut r before e schedule
 cut r [] e rest [] h = absurd (cc)
 cut r (x ∷ before) e rest [] h = absurd (cc)
@@ -102,12 +94,12 @@ cut r before e rest (a ∷ these) h = go (eqb a.replica r) refl before h (λ b. 
   where
     go : (t : Bool) → eqb a.replica r ≡ t → (b : List Entry) → cond t (a.entry ∷ of r these) (of r these) ≡ b ++ (e ∷ rest) → ((b : List Entry) → of r these ≡ b ++ (e ∷ rest) → Cut r b e these) → Cut r b e (a ∷ these)
     go true q [] k rec =
-        let same : a.entry ≡ e = head_same a.entry e (of r these) rest k in
+        let same : a.entry ≡ e = heads a.entry e (of r these) rest k in
         let is = eqb-true a.replica r q in
         record { early = []; late = these; whole = (λ i. record { replica = sym is i; entry = sym same i } ∷ these); own = refl }
     go true q (x ∷ b) k rec =
-        let c = rec b (tail_same a.entry x (of r these) (b ++ (e ∷ rest)) k) in
-        record { early = a ∷ c.early; late = c.late; whole = ap (λ z. a ∷ z) c.whole; own = ap (λ t. cond t (a.entry ∷ of r c.early) (of r c.early)) q ∙ ap (λ z. a.entry ∷ z) c.own ∙ ap (λ z. z ∷ b) (head_same a.entry x (of r these) (b ++ (e ∷ rest)) k) }
+        let c = rec b (tails a.entry x (of r these) (b ++ (e ∷ rest)) k) in
+        record { early = a ∷ c.early; late = c.late; whole = ap (λ z. a ∷ z) c.whole; own = ap (λ t. cond t (a.entry ∷ of r c.early) (of r c.early)) q ∙ ap (λ z. a.entry ∷ z) c.own ∙ ap (λ z. z ∷ b) (heads a.entry x (of r these) (b ++ (e ∷ rest)) k) }
     go false q b k rec =
         let c = rec b k in
         record { early = a ∷ c.early; late = c.late; whole = ap (λ z. a ∷ z) c.whole; own = ap (λ t. cond t (a.entry ∷ of r c.early) (of r c.early)) q ∙ c.own }

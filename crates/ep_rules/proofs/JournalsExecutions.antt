@@ -1,24 +1,26 @@
 -- The executions of a run: each replica's are a local run of executions, by one graph and one command an instance.
 use Rattle.std.proofs.Common.{◌≡◌, ℕ, Bool, true, false, cond, eqb, inl, inr, Option, Some, None, List, [], ◌∷◌, ◌++◌, refl, sym, ap, subst, ◌∙◌, arith, append-nil}
 use Rattle.std.proofs.lemmas.Bool.{eqb-true}
+use Rattle.std.proofs.lemmas.Option.{same_Some}
 use Rattle.std.specs.List.{flat_map}
 use Rattle.ep_base.specs.declared.attrs.Attrs.{Attrs}
 use Rattle.ep_base.specs.Commands.{Command}
 use Rattle.ep_base.specs.declared.decree.Decree.{Decree}
 use Rattle.ep_base.specs.declared.reply.Answer.{Answer}
 use Rattle.ep_base.specs.Places.{Has}
+use Rattle.ep_base.proofs.Places.{Has-first}
 use Rattle.ep_rules.specs.Graph.{Graph}
 use Rattle.ep_rules.specs.Order.{InBlocks, IsComplete, IsPlan}
 use Rattle.ep_rules.specs.OneMap.{Store, after, after_all, answer, answers_of}
 use Rattle.ep_rules.specs.History
-use Rattle.ep_rules.specs.History.{Execution, Done, nothing, done_after, Agrees, IsLocal}
+use Rattle.ep_rules.specs.History.{Execution, Done, done_after, Agrees, IsLocal}
 use Rattle.ep_rules.specs.States.{State, committed_in, attrs_of, command_of, graph_in, command_in}
 use Rattle.ep_rules.specs.Steps.{Event, Propose, Handle, GiveUp, Recover, Execute, order_of, answers_in, Executes, leaves}
 use Rattle.ep_rules.specs.Worlds.{World, Act, moved, IsRun, ends, Committed}
 use Rattle.ep_rules.proofs.Reaching.{reach_trans}
-use Rattle.ep_rules.proofs.Places.{place_head, has_split, has_tail}
+use Rattle.ep_rules.proofs.Places.{has_split, has_tail}
 use Rattle.ep_rules.proofs.Answered.{after_both}
-use Rattle.ep_rules.proofs.JournalsCommitted.{some_same, none_some}
+use Rattle.ep_rules.proofs.JournalsCommitted.{none_some}
 
 -- an act's execution, before those of the rest
 abbrev pub exec_of : World → Act → Event → List Execution → List Execution
@@ -46,7 +48,7 @@ plan_known g done root order i (inr p) k = blocks_known g done root p.1.1.0 i p.
 
 pub attrs_some : (o : Option Decree) (a : Attrs) → attrs_of o ≡ Some a → (x : Decree) × (o ≡ Some x) × (x.attrs ≡ a)
 attrs_some None a e = none_some a e
-attrs_some (Some x) a e = (x, refl, some_same x.attrs a e)
+attrs_some (Some x) a e = (x, refl, same_Some x.attrs a e)
 
 pub nothing_done : (done : List (ℕ × Answer)) (i : ℕ) → done ≡ [] → Has (order_of done) i → ⊥
 nothing_done done i none k = let z : Has [] i = subst (λ d. Has (order_of d) i) none k in omega arith
@@ -62,17 +64,13 @@ step_known s (Execute root) done i h k =
     let x = attrs_some (committed_in s.records i) a.0 a.1 in
     (x.0, x.1)
 
--- commands that are the same where it counts
-has_head : (x : ℕ) (xs : List ℕ) → Has (x ∷ xs) x
-has_head x xs = let e = place_head x xs in omega arith
-
 after_same : (c d : ℕ → Command) (m : Store) (xs : List ℕ) → ((i : ℕ) → Has xs i → c i ≡ d i) → after_all c m xs ≡ after_all d m xs
 after_same c d m [] h = refl
-after_same c d m (x ∷ xs) h = after_same c d (after m (c x)) xs (λ i k. h i (has_tail x i xs k)) ∙ ap (λ y. after_all d (after m y) xs) (h x (has_head x xs))
+after_same c d m (x ∷ xs) h = after_same c d (after m (c x)) xs (λ i k. h i (has_tail x i xs k)) ∙ ap (λ y. after_all d (after m y) xs) (h x (Has-first x xs))
 
 answers_same : (c d : ℕ → Command) (m : Store) (xs : List ℕ) → ((i : ℕ) → Has xs i → c i ≡ d i) → answers_of c m xs ≡ answers_of d m xs
 answers_same c d m [] h = refl
-answers_same c d m (x ∷ xs) h = ap (λ ys. answer m (c x) ∷ ys) (answers_same c d (after m (c x)) xs (λ i k. h i (has_tail x i xs k))) ∙ ap (λ y. answer m y ∷ answers_of d (after m y) xs) (h x (has_head x xs))
+answers_same c d m (x ∷ xs) h = ap (λ ys. answer m (c x) ∷ ys) (answers_same c d (after m (c x)) xs (λ i k. h i (has_tail x i xs k))) ∙ ap (λ y. answer m y ∷ answers_of d (after m y) xs) (h x (Has-first x xs))
 
 module _ (base : Store) (f : ℕ) (all : ℕ → Option Decree) where
   abbrev pub graph : Graph

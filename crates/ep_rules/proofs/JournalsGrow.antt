@@ -17,10 +17,6 @@ pub left_grows : (f me : ℕ) (s : State) (es : List Entry) (e : Entry) → left
 left_grows f me s [] e = refl
 left_grows f me s (x ∷ es) e = left_grows f me (leaves f me s x.event x.done) es e
 
-pub stamp_grows : (last : ℕ) (es : List Entry) (e : Entry) → stamp_after last (es ++ (e ∷ [])) ≡ e.stamp
-stamp_grows last [] e = refl
-stamp_grows last (x ∷ es) e = stamp_grows x.stamp es e
-
 pub numbered_grow : (n last : ℕ) (es : List Entry) (e : Entry) → AreNumbered n last es → e.number ≡ n + length es → stamp_after last es < e.stamp → AreMarked e 0 e.out → AreNumbered n last (es ++ (e ∷ []))
 numbered_grow n last [] e h number stamp marked = (omega arith, stamp, marked, tt)
 numbered_grow n last (x ∷ es) e h number stamp marked = (h.0, h.1, h.2, numbered_grow (suc n) x.stamp es e h.3 (omega arith) stamp marked)

@@ -15,7 +15,8 @@ use Rattle.ep_rules.proofs.Places.{filter_forth, filter_back}
 use Rattle.ep_rules.proofs.Interleaved.{one_order_lem, one_reply_lem}
 use Rattle.ep_rules.proofs.JournalsCommitted.{is_run, state_is}
 use Rattle.ep_rules.proofs.JournalsExecutions.{executions, done_is}
-use Rattle.ep_rules.proofs.JournalsReplies.{real, merged_same, dependent, locals}
+use Rattle.ep_rules.proofs.JournalsReplies.{merged_same, dependent, locals}
+use Rattle.ep_rules.proofs.Answered.{is_real}
 
 -- what interferes is no no-op
 pub real_left : (a b : Command) → interfere a b ≡ true → cond (is_noop a) false true ≡ true
@@ -46,6 +47,6 @@ journals_order_lem base f journal schedule given r i j hi hj ne meet =
     let in_merged : Has (merged_of [] schedule) i = subst (λ l. Has l i) same (one_reply_lem base (λ q. attrs_of (agreed base f journal q)) (command_at base f journal) es dep local r i ki).0 in
     let ri = real_left (command_at base f journal i) (command_at base f journal j) meet in
     let rj = real_right (command_at base f journal i) (command_at base f journal j) meet in (
-      λ lt. filter_forth (real (command_at base f journal)) (merged_of [] schedule) i j ri rj (subst (λ l. place l i < place l j) same (both.0 (subst (λ l. place l i < place l j) (sym own) lt))),
-      λ lt. subst (λ l. place l i < place l j) own (both.1 (subst (λ l. place l i < place l j) (sym same) (filter_back (real (command_at base f journal)) (merged_of [] schedule) i j ri rj in_merged lt))),
+      λ lt. filter_forth (is_real (command_at base f journal)) (merged_of [] schedule) i j ri rj (subst (λ l. place l i < place l j) same (both.0 (subst (λ l. place l i < place l j) (sym own) lt))),
+      λ lt. subst (λ l. place l i < place l j) own (both.1 (subst (λ l. place l i < place l j) (sym same) (filter_back (is_real (command_at base f journal)) (merged_of [] schedule) i j ri rj in_merged lt))),
     )

@@ -1,9 +1,9 @@
 -- Each executed answer is one map's reply to the history of the schedule.
-use Rattle.std.proofs.Common.{◌≡◌, ℕ, zero, suc, ◌<◌, Bool, true, false, cond, inl, inr, Some, List, [], ◌∷◌, ◌++◌, length, slice_get, get_or, refl, sym, ap, subst, ◌∙◌, arith, append-nil}
+use Rattle.std.proofs.Common.{◌≡◌, ℕ, zero, suc, ◌<◌, true, inl, inr, Some, List, [], ◌∷◌, ◌++◌, length, slice_get, get_or, refl, sym, ap, subst, ◌∙◌, arith, append-nil}
+use Rattle.std.proofs.lemmas.Option.{same_Some}
 use Rattle.std.specs.List.{filter, AllByRecursion}
 use Rattle.ep_base.specs.Interference.{interfere}
 use Rattle.ep_base.specs.Quorums.{size}
-use Rattle.ep_base.specs.Sameness.{is_noop}
 use Rattle.ep_base.specs.declared.attrs.Attrs.{Attrs}
 use Rattle.ep_base.specs.Commands.{Command}
 use Rattle.ep_base.specs.declared.reply.Answer.{Answer}
@@ -18,13 +18,10 @@ use Rattle.ep_rules.specs.Verdicts.{agreed, command_at, merged_of, history_of, I
 use Rattle.ep_rules.specs.Merging.{Merges, EachReply}
 use Rattle.ep_rules.proofs.Interleaved.{one_history_lem}
 use Rattle.ep_rules.proofs.Merged.{in_at}
-use Rattle.ep_rules.proofs.JournalsCommitted.{some_same, none_some, keeps, is_run, end_commits, agreed_back, commits_agreed, journals_depend_lem}
+use Rattle.ep_rules.proofs.JournalsCommitted.{none_some, keeps, is_run, end_commits, agreed_back, commits_agreed, journals_depend_lem}
 use Rattle.ep_rules.proofs.JournalsExecutions.{exec_of, executions, attrs_some, Known, local_runs}
+use Rattle.ep_rules.proofs.Answered.{is_real}
 use Rattle.ep_rules.specs.OneMap.{Store}
-
--- no-ops left out
-abbrev pub real : (ℕ → Command) → ℕ → Bool
-real c i = cond (is_noop (c i)) false true
 
 -- the entries of a run that execute, and their executions, make one merged list
 module _ (f : ℕ) where
@@ -46,7 +43,7 @@ module _ (f : ℕ) where
 -- a place of an entry's executions
 at_place : (ds : List (ℕ × Answer)) (k i : ℕ) (x : Answer) → slice_get ds k ≡ Some (i, x) → (k < length (order_of ds)) × (get_or (order_of ds) k i ≡ i) × (get_or (answers_in ds) k x ≡ x)
 at_place [] k i x e = none_some (i, x) e
-at_place (d ∷ ds) zero i x e = let s = some_same d (i, x) e in (omega arith, ap (λ z. z.0) s, ap (λ z. z.1) s)
+at_place (d ∷ ds) zero i x e = let s = same_Some d (i, x) e in (omega arith, ap (λ z. z.0) s, ap (λ z. z.1) s)
 at_place (d ∷ ds) (suc k) i x e = let t = at_place ds k i x e in ((let l = t.0 in omega arith), t.1, t.2)
 
 module _ (base : Store) (f : ℕ) (c : ℕ → Command) (h : List ℕ) where
@@ -81,7 +78,7 @@ module _ (base : Store) (f : ℕ) (c : ℕ → Command) (h : List ℕ) where
 
 module _ (base : Store) (f : ℕ) (journal : Journals) (schedule : List Scheduled) (given : Merges base f journal schedule) where
   pub history_same : history (command_at base f journal) (executions f (opening base) (acts_of schedule)) ≡ history_of (command_at base f journal) schedule
-  history_same = ap (λ m. filter (real (command_at base f journal)) m) (merged_same f schedule (opening base) [] (is_run base f journal schedule given))
+  history_same = ap (λ m. filter (is_real (command_at base f journal)) m) (merged_same f schedule (opening base) [] (is_run base f journal schedule given))
 
   pub all_known : Known base f (agreed base f journal) (opening base) (acts_of schedule)
   all_known early late whole r i x e =

@@ -7,7 +7,7 @@ use Rattle.ep_base.specs.Commands.{Command}
 use Rattle.ep_base.specs.declared.decree.Decree.{Decree}
 use Rattle.ep_base.specs.declared.message.Message.{Message}
 use Rattle.ep_base.specs.declared.message.Message.TheVariants.{Commit, Nack}
-use Rattle.ep_base.specs.declared.vote.Status.{Status}
+use Rattle.ep_base.specs.declared.vote.VoteStatus.{VoteStatus}
 use Rattle.ep_base.specs.declared.vote.Vote.{Vote}
 use Rattle.ep_rules.specs.Cells.{Change, nothing, answered, kept, record_or_fresh, Cell}
 use Rattle.ep_rules.specs.Counting.{to_those, is_other}
@@ -102,7 +102,7 @@ module _ {f i r : ℕ} {h : History} {c : Cell} (cell : CellOk f i h r c) where
   later_unaccepted b lt = let order = (cell.held).order in ((cell.held).vote (suc b)).gap b (omega arith) (omega arith)
 
   -- the last vote, whose status and ballot are known
-  pub last_cast : (s : Status) (b : ℕ) (x : Decree) → (record_of i c).vote ≡ Some (record { status = s; ballot = b; decree = x }) → IsCast f (leader_of i) h r s b x
+  pub last_cast : (s : VoteStatus) (b : ℕ) (x : Decree) → (record_of i c).vote ≡ Some (record { status = s; ballot = b; decree = x }) → IsCast f (leader_of i) h r s b x
   last_cast s b x e = subst (λ (v : Option Vote). IsLast f (leader_of i) h r v) e ((cell.held).vote 0).cast
 
 -- Steps that add nothing.

@@ -1,6 +1,6 @@
 -- Machines that keep to their keys, and the map.
 use Rattle.std.proofs.Common.{◌≡◌, ℕ, suc, ◌<◌, inl, inr, ◌⊎◌, List, [], ◌∷◌, ◌++◌, length, Some, Bool, true, false, cond, eqb, refl, sym, subst, ◌∙◌, arith}
-use Rattle.std.proofs.lemmas.Bool.{false≢true}
+use Rattle.std.proofs.lemmas.Bool.{false≢true, or_parts}
 use Rattle.std.specs.Prelude.{◌&&◌, ◌||◌, not}
 use Rattle.ep_base.specs.Attributes.{same_list}
 use Rattle.ep_base.specs.Places.{place, Has}
@@ -13,22 +13,18 @@ use Rattle.ep_rules.proofs.Commuting.{commutes, unseen}
 
 -- The keys of operations whose order is left open.
 
-either_false : (a b : Bool) → (a || b) ≡ false → (a ≡ false) × (b ≡ false)
-either_false true b e = absurd (false≢true (sym e))
-either_false false b e = (refl, e)
-
 -- lists that share no key
 apart : (ks ls : List (List ℕ)) → share_key ks ls ≡ false → (k : List ℕ) → has_key k ks ≡ true → has_key k ls ≡ false
 apart [] ls e k h = absurd (false≢true h)
-apart (l ∷ ks) ls e k h = go (same_list k l) refl h (apart ks ls (either_false (has_key l ls) (share_key ks ls) e).1 k)
+apart (l ∷ ks) ls e k h = go (same_list k l) refl h (apart ks ls (or_parts (has_key l ls) (share_key ks ls) e).1 k)
   where
     go : (b : Bool) → same_list k l ≡ b → (b || has_key k ks) ≡ true → (has_key k ks ≡ true → has_key k ls ≡ false) → has_key k ls ≡ false
-    go true s h rec = subst (λ q. has_key q ls ≡ false) (sym ((Decides-same_list k l).0 s)) (either_false (has_key l ls) (share_key ks ls) e).0
+    go true s h rec = subst (λ q. has_key q ls ≡ false) (sym ((Decides-same_list k l).0 s)) (or_parts (has_key l ls) (share_key ks ls) e).0
     go false s h rec = rec h
 
 -- both only read, or they share no key
 how_free : (o p : Operation) → AreFree o p → ((only_reads o.command ≡ true) × (only_reads p.command ≡ true)) ⊎ (share_key (keys_of o.command) (keys_of p.command) ≡ false)
-how_free o p f = go (share_key (keys_of o.command) (keys_of p.command)) (only_reads o.command) (only_reads p.command) refl refl (either_false (meet o.command p.command) (part o.command p.command) f.meet).0
+how_free o p f = go (share_key (keys_of o.command) (keys_of p.command)) (only_reads o.command) (only_reads p.command) refl refl (or_parts (meet o.command p.command) (part o.command p.command) f.meet).0
   where
     go : (s a b : Bool) → only_reads o.command ≡ a → only_reads p.command ≡ b → (s && not (a && b)) ≡ false → ((only_reads o.command ≡ true) × (only_reads p.command ≡ true)) ⊎ (s ≡ false)
     go false a b x y e = inr refl

@@ -11,7 +11,7 @@ use Rattle.ep_base.specs.declared.attrs.Attrs.{Attrs}
 use Rattle.ep_base.specs.Commands.{Command}
 use Rattle.ep_base.specs.declared.decree.Decree.{Decree}
 use Rattle.ep_base.specs.declared.message.Message.TheVariants.{PreAcceptOk, Accept, Commit}
-use Rattle.ep_base.specs.declared.vote.Status.TheVariants.{PreAccepted, Accepted}
+use Rattle.ep_base.specs.declared.vote.VoteStatus.TheVariants.{PreAccepted, Accepted}
 use Rattle.ep_rules.specs.Answers.{Answers, answer, with_answer}
 use Rattle.ep_rules.specs.Cells.{is_committed, Cell}
 use Rattle.ep_rules.specs.Counting.{count, is_other}

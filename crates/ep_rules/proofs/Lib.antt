@@ -10,7 +10,6 @@ pub mod Interleaved
 pub mod AnyMachine
 pub mod Earlier
 pub mod Unique
-pub mod SameMembers
 pub mod Fitting
 pub mod Merged
 pub mod OneSchedule
@@ -71,3 +70,4 @@ pub mod LivesGrow
 pub mod AllExecuted
 pub mod Settling
 pub mod ClosedJournals
+pub mod Ranks

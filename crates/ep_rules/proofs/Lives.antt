@@ -1,6 +1,6 @@
 -- Each generation of a life is a run from its opening map.
 use Rattle.std.proofs.Common.{◌≡◌, ℕ, suc, ◌<◌, ◌≤◌, ◌⊎◌, Bool, true, false, cond, ◌||◌, eqb, inl, inr, List, [], ◌∷◌, ◌++◌, refl, sym, ap, subst, ◌∙◌, arith, append-nil, append_assoc}
-use Rattle.std.proofs.lemmas.Bool.{false≢true, eqb-true}
+use Rattle.std.proofs.lemmas.Bool.{false≢true, eqb-true, or_parts}
 use Rattle.ep_base.specs.Interference.{is_seal}
 use Rattle.ep_base.specs.Quorums.{size}
 use Rattle.ep_rules.specs.Closing.{has_seal, up_to_seal, first_seal, written_by, store_of, HasClosed}
@@ -71,10 +71,6 @@ pub life_parts : (f : ℕ → ℕ) (xs ys : List Turn) (l : Life) → IsLife f l
 life_parts f [] ys l h = (tt, h)
 life_parts f (t ∷ xs) ys l h = let r = life_parts f xs ys (turned f l t) h.1 in ((h.0, r.0), r.1)
 
-or_false : (a b : Bool) → (a || b) ≡ false → (a ≡ false) × (b ≡ false)
-or_false true b e = absurd (false≢true (sym e))
-or_false false b e = (refl, e)
-
 module _ (start : Contents) (f : ℕ → ℕ) (sizes : (g : ℕ) → (0 < f g) × (size (f g) ≤ 256)) (turns : List Turn) where
   abbrev pub base_of : ℕ → Contents
   base_of g = opening_map start f turns g
@@ -132,8 +128,8 @@ module _ (start : Contents) (f : ℕ → ℕ) (sizes : (g : ℕ) → (0 < f g) �
       run = k.run;
       sent = k.sent;
       same = λ p o. here p (eqb r p) refl o;
-      fresh = λ p o. k.fresh p (or_false (eqb r p) (op p) o).1;
-      idle = λ p o. let parts = or_false (eqb r p) (op p) o in ap (λ b. (cond b (fresh_state (opened (base_of h))) (w.states p)).executed) parts.0 ∙ k.idle p parts.1;
+      fresh = λ p o. k.fresh p (or_parts (eqb r p) (op p) o).1;
+      idle = λ p o. let parts = or_parts (eqb r p) (op p) o in ap (λ b. (cond b (fresh_state (opened (base_of h))) (w.states p)).executed) parts.0 ∙ k.idle p parts.1;
     }
       where
         here : (p : ℕ) (b : Bool) → eqb r p ≡ b → (b || op p) ≡ true → cond b (fresh_state (opened (base_of h))) (w.states p) ≡ e.states p

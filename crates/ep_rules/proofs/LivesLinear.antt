@@ -8,8 +8,7 @@ use Rattle.ep_base.specs.Places.{place, Has}
 use Rattle.ep_base.specs.Quorums.{size}
 use Rattle.ep_base.specs.Commands.{Command}
 use Rattle.ep_base.specs.declared.reply.Answer.{Answer}
-use Rattle.ep_base.specs.declared.reply.Answer.TheVariants.{Lost, Told}
-use Rattle.ep_base.specs.declared.reply.Reply.{Reply}
+use Rattle.ep_base.specs.declared.reply.Answer.TheVariants.{Told}
 use Rattle.ep_rules.specs.Closing.{has_seal, up_to_seal}
 use Rattle.ep_rules.specs.Generations.{Turn, Opens, Steps, birth, IsLife, lived, acts_in, opening_map, history_in, Named, operations, joined, ages, one_history, place_in, HasIn, RespondsIn, IsLegalIn, WasProposedIn, PrecedesIn, IsOneHistory, LivesAreLinearizable}
 use Rattle.ep_rules.specs.Linearizable.{Precedes, IsLinearizable}
@@ -23,9 +22,10 @@ use Rattle.ep_rules.proofs.CutHistories.{real_history, cut_in, cut_of, in_front,
 use Rattle.ep_rules.proofs.JoinedHistories.{J_back, J_forth, ages_apart, member, once_J, legal_in}
 use Rattle.ep_rules.proofs.Lives.{acts_both, life_parts, first_of, Kept, kept_at}
 use Rattle.ep_rules.proofs.OnceDone.{from_once}
-use Rattle.ep_rules.proofs.Places.{Once, place_head, has_tail, same_refl}
+use Rattle.ep_rules.proofs.Places.{Once, same_refl}
 use Rattle.ep_rules.proofs.RunHistories.{instance_in, history_grows_lem}
-use Rattle.ep_rules.proofs.RunsLinear.{linearizability_holds}
+use Rattle.ep_rules.proofs.RunsLinear.{linearizability_holds, told_lost, told_from}
+use Rattle.ep_rules.proofs.JournalsCallers.{in_has}
 
 -- Turns and acts.
 
@@ -124,17 +124,6 @@ aged g a (Opens h r q ∷ ts) (inl e) = absurd (false≢true (ap is_step e))
 aged g a (Opens h r q ∷ ts) (inr k) = aged g a ts k
 aged g a (Steps h b ∷ ts) (inl e) = let l = le-max_left (suc h) (ages ts) in let is : h ≡ g = ap age e in omega arith
 aged g a (Steps h b ∷ ts) (inr k) = let l = le-max_right (suc h) (ages ts) in let r = aged g a ts k in omega arith
-
-in_has : (ds : List (ℕ × Answer)) (i : ℕ) (x : Answer) → In (i, x) ds → Has (order_of ds) i
-in_has [] i x k = absurd k
-in_has (d ∷ ds) i x (inl e) = let p = place_head d.0 (order_of ds) in let is : d.0 ≡ i = ap (λ z. z.0) e in subst (λ n. Has (d.0 ∷ order_of ds) n) is (omega arith)
-in_has (d ∷ ds) i x (inr k) = has_tail d.0 i (order_of ds) (in_has ds i x k)
-
-told_from : (y z : Reply) → Told y ≡ Told z → y ≡ z
-told_from y z e = cc
-
-told_lost : {X : Type 0} (y : Reply) → Told y ≡ Lost → X
-told_lost y e = absurd (cc)
 
 module _ (start : Contents) (f : ℕ → ℕ) (sizes : (g : ℕ) → (0 < f g) × (size (f g) ≤ 256)) (turns : List Turn) (life : IsLife f (birth start) turns) where
   abbrev base : ℕ → Contents

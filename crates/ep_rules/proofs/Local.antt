@@ -180,7 +180,7 @@ module _ (f i me : ℕ) (x : Record) where
 
 -- Events.
 
-none_of : {X : Type 0} (o : Option X) → is_none o ≡ true → o ≡ None
+pub none_of : {X : Type 0} (o : Option X) → is_none o ≡ true → o ≡ None
 none_of None e = refl
 none_of (Some x) e = absurd (cc)
 

@@ -24,7 +24,7 @@ equal_by Less e = absurd (cc)
 equal_by Equal e = refl
 equal_by Greater e = absurd (cc)
 
-self_equal : (k : ℕ) → eq_by_cmp nat_cmp k k ≡ true
+pub self_equal : (k : ℕ) → eq_by_cmp nat_cmp k k ≡ true
 self_equal k = unsigned_tied k k ∙ eq-eqb k k refl
 
 at_same : {X : Type 0} (v : Option X) (o : Option X) (b : Bool) → b ≡ true → cond b v o ≡ v

@@ -103,7 +103,7 @@ is_in_at : (f i : ℕ) (o : Outcome) → leader_of i < size f → IsIn f (at i o
 is_in_at f i (Ok ch) lt = lt
 is_in_at f i (Err e) lt = tt
 
-message_in : (n : ℕ) (m : Message) → message_within n m ≡ true → leader_of (instance_of_message m) < n
+pub message_in : (n : ℕ) (m : Message) → message_within n m ≡ true → leader_of (instance_of_message m) < n
 message_in n (PreAccept i b x) e = ltb-true _ _ (and_parts (ltb (leader_of i) n) _ e).0
 message_in n (PreAcceptOk i b a) e = ltb-true _ _ (and_parts (ltb (leader_of i) n) _ e).0
 message_in n (Accept i b x) e = ltb-true _ _ (and_parts (ltb (leader_of i) n) _ e).0

@@ -1,14 +1,15 @@
 -- A replica executes no instance twice.
-use Rattle.std.proofs.Common.{◌≡◌, ℕ, inl, inr, List, [], ◌∷◌, ◌++◌, sym, subst, arith, append-nil, append_assoc}
+use Rattle.std.proofs.Common.{◌≡◌, ℕ, inl, inr, List, [], ◌∷◌, ◌++◌, sym, subst, append-nil, append_assoc}
 use Rattle.std.specs.List.{flat_map}
 use Rattle.ep_base.specs.declared.reply.Answer.{Answer}
 use Rattle.ep_rules.specs.Counts.{AreOnce, ExecutedOnce}
 use Rattle.ep_rules.specs.Graph.{Graph}
 use Rattle.ep_rules.specs.Journals.{Entry, AreSteps, left}
-use Rattle.ep_rules.specs.Order.{Ranks, Rises, InBlocks, IsPlan}
+use Rattle.ep_rules.specs.Order.{InBlocks, IsPlan}
 use Rattle.ep_rules.specs.States.{State, fresh_state, graph_in}
 use Rattle.ep_rules.specs.Steps.{Event, Propose, Handle, GiveUp, Recover, Execute, Executes, order_of, leaves}
 use Rattle.ep_rules.proofs.Places.{Once, once-append}
+use Rattle.ep_rules.proofs.Ranks.{once_rises}
 
 -- the law's word for it, and the proofs'
 pub as_once : (is : List ℕ) → Once is → AreOnce is
@@ -23,18 +24,11 @@ pub once_right : (xs ys : List ℕ) → Once (xs ++ ys) → Once ys
 once_right [] ys o = o
 once_right (x ∷ xs) ys o = once_right xs ys o.1
 
-ranks_self : (g : Graph) (i : ℕ) → Ranks g i i → ⊥
-ranks_self g i a = omega arith
-
-block_once : (g : Graph) (block : List ℕ) → Rises g block → Once block
-block_once g [] rs = tt
-block_once g (i ∷ is) rs = (λ h. ranks_self g i (rs.0 i h), block_once g is rs.1)
-
 blocks_once : (g : Graph) (done : List ℕ) (root : ℕ) (blocks : List (List ℕ)) → Once done → InBlocks g done root blocks → Once (done ++ flat_map (λ b. b) blocks)
 blocks_once g done root [] o h = rw append-nil o
 blocks_once g done root (block ∷ blocks) o h =
     subst Once (append_assoc done block (flat_map (λ b. b) blocks))
-    (blocks_once g (done ++ block) root blocks (once-append done block o (block_once g block h.0.is.rises) (λ i here k. ((h.0.is.members i).0 k).1 here)) h.1)
+    (blocks_once g (done ++ block) root blocks (once-append done block o (once_rises g block h.0.is.rises) (λ i here k. ((h.0.is.members i).0 k).1 here)) h.1)
 
 plan_once : (g : Graph) (done : List ℕ) (root : ℕ) (order : List ℕ) → Once done → IsPlan g done root order → Once (done ++ order)
 plan_once g done root order o (inl p) = rw p.1 (rw append-nil o)

@@ -1,6 +1,7 @@
 -- A replica proposes one command at most as an instance, by the entry whose first frame is about it.
-use Rattle.std.proofs.Common.{◌≡◌, ℕ, ◌+◌, Bool, true, false, cond, leb, inl, inr, Option, Some, None, is_none, Result, Ok, Err, List, [], ◌∷◌, ◌++◌, refl, sym, ap, subst, ◌∙◌}
-use Rattle.std.proofs.lemmas.Bool.{cases_eq, false≢true}
+use Rattle.std.proofs.Common.{◌≡◌, ℕ, ◌+◌, Bool, true, false, cond, leb, inl, inr, Option, Some, None, Result, Ok, Err, List, [], ◌∷◌, ◌++◌, refl, sym, ap, subst, ◌∙◌}
+use Rattle.std.proofs.lemmas.Bool.{cases_eq}
+use Rattle.std.proofs.lemmas.Option.{same_Some}
 use Rattle.ep_base.specs.Instances.{instance_of, leader_of, highest_number}
 use Rattle.ep_base.specs.Quorums.{is_fast}
 use Rattle.ep_base.specs.declared.attrs.Attrs.{Attrs}
@@ -21,13 +22,11 @@ use Rattle.ep_rules.specs.declared.record.Record.{Record}
 use Rattle.ep_rules.proofs.Lookups.{insert_same, insert_other}
 use Rattle.ep_rules.proofs.Merged.{at_in}
 use Rattle.ep_rules.proofs.Named.{proposals_name_lem}
-use Rattle.ep_rules.proofs.JournalsCommitted.{some_same, none_some}
+use Rattle.ep_rules.proofs.JournalsCommitted.{none_some}
 use Rattle.ep_rules.proofs.Counting.{least_some}
+use Rattle.ep_rules.proofs.JournalsKeep.{left_parts}
+use Rattle.ep_rules.proofs.Local.{none_of}
 use Rattle.ep_rules.specs.OneMap.{Store}
-
-pub none_of : {X : Type 0} (o : Option X) → is_none o ≡ true → o ≡ None
-none_of None e = refl
-none_of (Some x) e = absurd (false≢true e)
 
 -- what a proposal takes is free
 pub was_free : (base : Store) → (f me : ℕ) (es : List Entry) (i client request : ℕ) (p : Proposes base f me es i client request) → get (left f me (fresh_state base) p.before).records i ≡ None
@@ -77,10 +76,6 @@ placed (z ∷ a) x xs [] y ys e = before a (ap (λ w. w ∷ a) (heads z y (a ++ 
 placed (z ∷ a) x xs (w ∷ b) y ys e =
     let is : z ≡ w = heads z w (a ++ (x ∷ xs)) (b ++ (y ∷ ys)) e in
     subst (λ v. Placed (z ∷ a) x (v ∷ b) y) is (placed_next z a x b y (placed a x xs b y ys (tails z w (a ++ (x ∷ xs)) (b ++ (y ∷ ys)) e)))
-
-left_both : (f me : ℕ) (s : State) (xs ys : List Entry) → left f me s (xs ++ ys) ≡ left f me (left f me s xs) ys
-left_both f me s [] ys = refl
-left_both f me s (x ∷ xs) ys = left_both f me (leaves f me s x.event x.done) xs ys
 
 -- Records stay.
 
@@ -135,7 +130,7 @@ module _ (base : Store) (f me : ℕ) (es : List Entry) (steps : AreSteps f me (f
       let there : HasRecord (leaves f me s p.proposal.event p.proposal.done) i =
       subst (λ j. HasRecord (leaves f me s p.proposal.event p.proposal.done) j) p.instance (taken_record f me s p.proposal.event p.proposal.done p.command client request p.seen p.number p.event p.free (at_proposal client request p).step.taken) in
       let still = record_stays f me (leaves f me s p.proposal.event p.proposal.done) more i there in
-      let same : left f me (fresh_state base) q.before ≡ left f me (leaves f me s p.proposal.event p.proposal.done) more = ap (λ l. left f me (fresh_state base) l) is ∙ left_both f me (fresh_state base) p.before (p.proposal ∷ more) in
+      let same : left f me (fresh_state base) q.before ≡ left f me (leaves f me s p.proposal.event p.proposal.done) more = ap (λ l. left f me (fresh_state base) l) is ∙ left_parts f me (fresh_state base) p.before (p.proposal ∷ more) in
       none_some still.0 (sym (was_free base f me es i other_client other_request q) ∙ ap (λ (z : State). get z.records i) same ∙ still.1)
 
 pub one_proposal_lem : OneProposal
@@ -150,7 +145,7 @@ pub proposals_tell_lem : ProposalsTell
 proposals_tell_lem base f me es some steps i client request = (
   (λ p.
       let t : Takes me (left f me (fresh_state base) p.before) p.proposal = proposals_name_lem f me (left f me (fresh_state base) p.before) p.proposal client request p.seen p.command some p.event (at_proposal base f me es steps i client request p) in
-      let is : t.number ≡ p.number = some_same t.number p.number (sym t.free ∙ p.free) in
+      let is : t.number ≡ p.number = same_Some t.number p.number (sym t.free ∙ p.free) in
       record {
         command = p.command;
         seen = p.seen;

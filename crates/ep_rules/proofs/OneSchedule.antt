@@ -12,10 +12,10 @@ first_here a xs = ap (λ b. cond b (a.entry ∷ of a.replica xs) (of a.replica x
 nil_cons : {A : Type 0} (x : Entry) (xs : List Entry) → [] ≡ x ∷ xs → A
 nil_cons x xs e = absurd (cc)
 
-heads : (x y : Entry) (xs ys : List Entry) → x ∷ xs ≡ y ∷ ys → x ≡ y
+pub heads : (x y : Entry) (xs ys : List Entry) → x ∷ xs ≡ y ∷ ys → x ≡ y
 heads x y xs ys e = cc
 
-tails : (x y : Entry) (xs ys : List Entry) → x ∷ xs ≡ y ∷ ys → xs ≡ ys
+pub tails : (x y : Entry) (xs ys : List Entry) → x ∷ xs ≡ y ∷ ys → xs ≡ ys
 tails x y xs ys e = cc
 
 -- the other list's first act stands after one of another replica

@@ -11,8 +11,8 @@ use Rattle.ep_base.specs.Quorums.{size, spared}
 use Rattle.ep_base.specs.Sameness.{is_noop}
 use Rattle.ep_base.specs.Commands.{Command, Noop, Get, Put, Del, Swap, Cas, Seal, Opaque}
 use Rattle.ep_base.specs.declared.decree.Decree.{Decree}
-use Rattle.ep_base.specs.declared.vote.Status.{Status}
-use Rattle.ep_base.specs.declared.vote.Status.TheVariants.{PreAccepted, Accepted, Committed}
+use Rattle.ep_base.specs.declared.vote.VoteStatus.{VoteStatus}
+use Rattle.ep_base.specs.declared.vote.VoteStatus.TheVariants.{PreAccepted, Accepted, Committed}
 use Rattle.ep_base.specs.declared.vote.Vote.{Vote}
 use Rattle.ep_rules.specs.Cells.{record_or_fresh, Change, Cell}
 use Rattle.ep_rules.specs.Counting.{count}
@@ -106,7 +106,7 @@ module _ (f l : ℕ) (h : History) (ok : HistoryOk f l h) where
         ])
   ]
 
-  cast_still : (k m n : ℕ) (d : List ℕ) (x : Command) (s : Status) (v : Decree) → h.seen k m ≡ Some d → h.proposed ≡ Some x → (n < m → ⊥) → IsCast f l h k s n v → Still m v.command x
+  cast_still : (k m n : ℕ) (d : List ℕ) (x : Command) (s : VoteStatus) (v : Decree) → h.seen k m ≡ Some d → h.proposed ≡ Some x → (n < m → ⊥) → IsCast f l h k s n v → Still m v.command x
   cast_still k m n d x PreAccepted v seen prop high p = elim (noop_else v.command x p.valid prop) [
     | inl i ↦ inl i
     | inr noop ↦ (

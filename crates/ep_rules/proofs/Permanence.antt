@@ -2,8 +2,8 @@
 use Rattle.std.proofs.Common.{◌≡◌, ℕ, true, Option, Some, None, Ok, [], ◌∷◌, refl, sym, ap, subst, ◌∙◌, inl, inr}
 use Rattle.std.proofs.lemmas.Bool.{cases_eq}
 use Rattle.ep_base.specs.declared.decree.Decree.{Decree}
-use Rattle.ep_base.specs.declared.vote.Status.{Status}
-use Rattle.ep_base.specs.declared.vote.Status.TheVariants.{PreAccepted, Accepted, Committed}
+use Rattle.ep_base.specs.declared.vote.VoteStatus.{VoteStatus}
+use Rattle.ep_base.specs.declared.vote.VoteStatus.TheVariants.{PreAccepted, Accepted, Committed}
 use Rattle.ep_base.specs.declared.vote.Vote.{Vote}
 use Rattle.ep_rules.specs.Cells.{is_commit, is_committed, committed_at, committed_decree, record_or_fresh, Change, Cell}
 use Rattle.ep_rules.specs.Safety.{Permanence}
@@ -15,12 +15,12 @@ use Rattle.ep_rules.proofs.Keeping.{newer_entry, applied, record_of}
 use Rattle.ep_rules.proofs.Local.{SameVote, Local, LocalAct, local_acts}
 use Rattle.ep_rules.proofs.Moves.{Moved, moves, taken_of}
 
-committed_status : (s : Status) (y x : Decree) → committed_at s y ≡ Some x → is_commit s ≡ true
+pub committed_status : (s : VoteStatus) (y x : Decree) → committed_at s y ≡ Some x → is_commit s ≡ true
 committed_status PreAccepted y x e = absurd (cc)
 committed_status Accepted y x e = absurd (cc)
 committed_status Committed y x e = refl
 
-committed_vote : (v : Option Vote) (x : Decree) → committed_decree v ≡ Some x → is_committed v ≡ true
+pub committed_vote : (v : Option Vote) (x : Decree) → committed_decree v ≡ Some x → is_committed v ≡ true
 committed_vote None x e = absurd (cc)
 committed_vote (Some v) x e = committed_status v.status v.decree x e
 

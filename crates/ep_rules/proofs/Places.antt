@@ -5,9 +5,6 @@ use Rattle.std.proofs.lemmas.List.{length-append, length-take}
 use Rattle.std.specs.List.{filter}
 use Rattle.ep_base.specs.Places.{place, Has}
 
-pub same_true : (i j : ℕ) → eqb i j ≡ true → i ≡ j
-same_true i j e = eqb-true i j e
-
 pub same_refl : (i : ℕ) → eqb i i ≡ true
 same_refl i = eq-eqb i i refl
 
@@ -16,7 +13,7 @@ pub place_cons : (x i : ℕ) (xs : List ℕ) → ((x ≡ i) × (place (x ∷ xs)
 place_cons x i xs = go (eqb x i) refl
   where
     go : (b : Bool) → eqb x i ≡ b → ((x ≡ i) × (cond b 0 (suc (place xs i)) ≡ 0)) ⊎ (cond b 0 (suc (place xs i)) ≡ suc (place xs i))
-    go true e = inl (same_true x i e, refl)
+    go true e = inl (eqb-true x i e, refl)
     go false e = inr refl
 
 pub place_head : (x : ℕ) (xs : List ℕ) → place (x ∷ xs) x ≡ 0
@@ -127,7 +124,7 @@ filter_forth p (x ∷ xs) i j pi pj lt = go (eqb x i) (eqb x j) (p x) refl refl 
     go : (a b t : Bool) → eqb x i ≡ a → eqb x j ≡ b → p x ≡ t → cond a 0 (suc (place xs i)) < cond b 0 (suc (place xs j)) → (place xs i < place xs j → place (filter p xs) i < place (filter p xs) j) → place (cond t (x ∷ filter p xs) (filter p xs)) i < place (cond t (x ∷ filter p xs) (filter p xs)) j
     go a true t ea eb et l r = absurd (omega arith)
     go true false true ea eb et l r = rw (ea, eb) (omega arith)
-    go true false false ea eb et l r = absurd (false≢true (sym et ∙ ap p (same_true x i ea) ∙ pi))
+    go true false false ea eb et l r = absurd (false≢true (sym et ∙ ap p (eqb-true x i ea) ∙ pi))
     go false false true ea eb et l r = rw (ea, eb) (let s = r (omega arith) in omega arith)
     go false false false ea eb et l r = r (omega arith)
 
@@ -157,3 +154,6 @@ pub filter_all : (p : ℕ → Bool) (xs : List ℕ) → ((i : ℕ) → Has xs i 
 filter_all p [] h = refl
 filter_all p (x ∷ xs) h =
     ap (λ b. cond b (x ∷ filter p xs) (filter p xs)) (h x (let e = place_head x xs in omega arith)) ∙ ap (λ ys. x ∷ ys) (filter_all p xs (λ i k. h i (has_tail x i xs k)))
+
+pub has_single : (d j : ℕ) → Has (d ∷ []) j → d ≡ j
+has_single d j h = elim (has_cons d j [] h) [ inl e ↦ e | inr k ↦ absurd (omega arith) ]

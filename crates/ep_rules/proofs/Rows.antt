@@ -6,8 +6,8 @@ use Rattle.ep_base.specs.declared.attrs.Attrs.{Attrs}
 use Rattle.ep_base.specs.Commands.{Command, Put}
 use Rattle.ep_base.specs.declared.decree.Decree.{Decree}
 use Rattle.ep_base.specs.declared.message.Message.TheVariants.{PreAcceptOk, Accept, Commit, Nack}
-use Rattle.ep_base.specs.declared.vote.Status.{Status}
-use Rattle.ep_base.specs.declared.vote.Status.TheVariants.{PreAccepted, Accepted, Committed}
+use Rattle.ep_base.specs.declared.vote.VoteStatus.{VoteStatus}
+use Rattle.ep_base.specs.declared.vote.VoteStatus.TheVariants.{PreAccepted, Accepted, Committed}
 use Rattle.ep_base.specs.declared.vote.Vote.{Vote}
 use Rattle.ep_rules.specs.Answers.{Answers, answer}
 use Rattle.ep_rules.specs.Cells.{nothing, voted, fresh_record, NotLeading, TooFewAnswers}
@@ -39,7 +39,7 @@ put_after = record { command = put_x; attrs = after }
 
 -- The choice.
 
-abbrev vote : Status → ℕ → Decree → Option Vote
+abbrev vote : VoteStatus → ℕ → Decree → Option Vote
 vote s b x = Some (record { status = s; ballot = b; decree = x })
 
 abbrev chosen : ℕ → Answers (Option Vote) → Choice

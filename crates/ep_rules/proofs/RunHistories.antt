@@ -14,8 +14,9 @@ use Rattle.ep_rules.specs.States.{command_in}
 use Rattle.ep_rules.specs.Steps.{order_of}
 use Rattle.ep_rules.specs.Worlds.{World, opening, Act, In, moved, IsRun, ends}
 use Rattle.ep_rules.proofs.JournalsExecutions.{executions, Known, told, same_commands, known_next}
-use Rattle.ep_rules.proofs.JournalsReplies.{real, merged_step}
+use Rattle.ep_rules.proofs.JournalsReplies.{merged_step}
 use Rattle.ep_rules.proofs.Places.{has_or, not_has, place_head, has_tail, filter_has, has_filter}
+use Rattle.ep_rules.proofs.Answered.{is_real}
 use Rattle.ep_rules.specs.OneMap.{Store}
 
 -- Operations whose commands c tells.
@@ -74,14 +75,14 @@ instances_filter p (o ∷ os) = go (p o.instance) (instances_filter p os)
     go false r = r
 
 -- the instances of operations are those that are no no-ops
-pub instances_real : (c d : ℕ → Command) (is : List ℕ) → ((i : ℕ) → Has is i → d i ≡ c i) → instances_of (operations_of d is) ≡ filter (real c) is
+pub instances_real : (c d : ℕ → Command) (is : List ℕ) → ((i : ℕ) → Has is i → d i ≡ c i) → instances_of (operations_of d is) ≡ filter (is_real c) is
 instances_real c d [] same = refl
 instances_real c d (i ∷ is) same =
     ap (λ b. instances_of (cond b (operations_of d is) (record { instance = i; command = d i } ∷ operations_of d is))) (ap is_noop (same i (let e = place_head i is in omega arith)))
     ∙ go (is_noop (c i)) (instances_real c d is (λ j k. same j (has_tail i j is k)))
   where
-    go : (b : Bool) → instances_of (operations_of d is) ≡ filter (real c) is →
-        instances_of (cond b (operations_of d is) (record { instance = i; command = d i } ∷ operations_of d is)) ≡ cond (cond b false true) (i ∷ filter (real c) is) (filter (real c) is)
+    go : (b : Bool) → instances_of (operations_of d is) ≡ filter (is_real c) is →
+        instances_of (cond b (operations_of d is) (record { instance = i; command = d i } ∷ operations_of d is)) ≡ cond (cond b false true) (i ∷ filter (is_real c) is) (filter (is_real c) is)
     go true r = r
     go false r = ap (λ js. i ∷ js) r
 
@@ -112,14 +113,14 @@ new_filter p seen (i ∷ is) = go (p i) (is_new seen i) refl refl (new_filter p 
 
 -- one act more
 module _ (c d : ℕ → Command) (h : List Operation) (seen is : List ℕ) (same : (i : ℕ) → Has is i → d i ≡ c i) where
-  one_more : instances_of h ≡ filter (real c) seen → instances_of (h ++ new_to h (operations_of d is)) ≡ filter (real c) (seen ++ filter (is_new seen) is)
+  one_more : instances_of h ≡ filter (is_real c) seen → instances_of (h ++ new_to h (operations_of d is)) ≡ filter (is_real c) (seen ++ filter (is_new seen) is)
   one_more e =
       instances_append h (new_to h (operations_of d is))
       ∙ ap (λ js. instances_of h ++ js) (instances_filter (is_new (instances_of h)) (operations_of d is))
       ∙ ap (λ js. instances_of h ++ filter (is_new (instances_of h)) js) (instances_real c d is same)
-      ∙ ap (λ js. js ++ filter (is_new js) (filter (real c) is)) e
-      ∙ ap (λ js. filter (real c) seen ++ js) (new_filter (real c) seen is)
-      ∙ sym (filter-append (real c) seen (filter (is_new seen) is))
+      ∙ ap (λ js. js ++ filter (is_new js) (filter (is_real c) is)) e
+      ∙ ap (λ js. filter (is_real c) seen ++ js) (new_filter (is_real c) seen is)
+      ∙ sym (filter-append (is_real c) seen (filter (is_new seen) is))
 
   of_more : AreOf c h → AreOf c (h ++ new_to h (operations_of d is))
   of_more x = of_append c h (new_to h (operations_of d is)) x (of_filter c (λ o. is_new (instances_of h) o.instance) (operations_of d is) (of_operations c d is same))
@@ -144,7 +145,7 @@ history_grows_lem base f early late =
 -- The history that acts make.
 module _ (base : Store) (f : ℕ) (all : ℕ → Option Decree) where
   pub record IsHistory (h : List Operation) (seen : List ℕ) : Type 0 where
-    pub instances : instances_of h ≡ filter (real (told base f all)) seen
+    pub instances : instances_of h ≡ filter (is_real (told base f all)) seen
     pub commands : AreOf (told base f all) h
 
   pub history_is : (these : List Act) (w : World) (h : List Operation) (seen : List ℕ) → IsRun f w these → Known base f all w these → IsHistory h seen →

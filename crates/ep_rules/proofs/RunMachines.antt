@@ -6,6 +6,7 @@ use Rattle.ep_base.specs.Places.{Has}
 use Rattle.ep_base.specs.Quorums.{size}
 use Rattle.ep_base.specs.Sameness.{is_noop}
 use Rattle.ep_base.specs.Commands.{Command}
+use Rattle.ep_base.proofs.Places.{Has-first}
 use Rattle.ep_rules.specs.Graph.{Graph}
 use Rattle.ep_rules.specs.History.{Execution, nothing, done_after, of, merged, IsLocal}
 use Rattle.ep_rules.specs.Machines.{Machine, after_operations, reply_to, ArePlanned, ArePlans, executed_at, HandedStays, RunsOneMachine, RunsOneState}
@@ -20,33 +21,30 @@ use Rattle.ep_rules.proofs.Closed.{leaves_closed, fresh_closed}
 use Rattle.ep_rules.proofs.JournalsCallers.{executions_both}
 use Rattle.ep_rules.proofs.JournalsCommitted.{run_parts}
 use Rattle.ep_rules.proofs.JournalsExecutions.{executions, attrs_some, done_is}
-use Rattle.ep_rules.proofs.JournalsReplies.{real}
-use Rattle.ep_rules.proofs.Places.{has_cons, has_tail, place_head}
+use Rattle.ep_rules.proofs.Places.{has_cons, has_tail}
 use Rattle.ep_rules.proofs.RunCommits.{decrees, graph_of, told_in, all_known, dependent, locals}
 use Rattle.ep_rules.proofs.RunHistories.{AreOf, history_is}
 use Rattle.ep_rules.proofs.Runs.{ends_append}
+use Rattle.ep_rules.proofs.Answered.{is_real}
 
 -- Operations by their instances.
-
-head_has : (x : ℕ) (xs : List ℕ) → Has (x ∷ xs) x
-head_has x xs = let e = place_head x xs in omega arith
 
 operations_same : (c d : ℕ → Command) (xs : List ℕ) → ((i : ℕ) → Has xs i → c i ≡ d i) → operations_of c xs ≡ operations_of d xs
 operations_same c d [] h = refl
 operations_same c d (x ∷ xs) h =
-    ap (λ e. cond (is_noop e) (operations_of c xs) (record { instance = x; command = e } ∷ operations_of c xs)) (h x (head_has x xs))
+    ap (λ e. cond (is_noop e) (operations_of c xs) (record { instance = x; command = e } ∷ operations_of c xs)) (h x (Has-first x xs))
     ∙ ap (λ os. cond (is_noop (d x)) os (record { instance = x; command = d x } ∷ os)) (operations_same c d xs (λ i k. h i (has_tail x i xs k)))
 
 abbrev named : (ℕ → Command) → List ℕ → List Operation
 named c [] = []
 named c (i ∷ is) = record { instance = i; command = c i } ∷ named c is
 
-operations_named : (c : ℕ → Command) (xs : List ℕ) → operations_of c xs ≡ named c (filter (real c) xs)
+operations_named : (c : ℕ → Command) (xs : List ℕ) → operations_of c xs ≡ named c (filter (is_real c) xs)
 operations_named c [] = refl
 operations_named c (x ∷ xs) = go (is_noop (c x)) (operations_named c xs)
   where
-    go : (b : Bool) → operations_of c xs ≡ named c (filter (real c) xs) →
-        cond b (operations_of c xs) (record { instance = x; command = c x } ∷ operations_of c xs) ≡ named c (cond (cond b false true) (x ∷ filter (real c) xs) (filter (real c) xs))
+    go : (b : Bool) → operations_of c xs ≡ named c (filter (is_real c) xs) →
+        cond b (operations_of c xs) (record { instance = x; command = c x } ∷ operations_of c xs) ≡ named c (cond (cond b false true) (x ∷ filter (is_real c) xs) (filter (is_real c) xs))
     go true e = e
     go false e = ap (λ os. record { instance = x; command = c x } ∷ os) e
 
@@ -74,14 +72,14 @@ stands c (x ∷ xs) o k = go (is_noop (c x)) refl k (stands c xs o)
     go : (b : Bool) → is_noop (c x) ≡ b → In o (cond b (operations_of c xs) (record { instance = x; command = c x } ∷ operations_of c xs)) →
         (In o (operations_of c xs) → Has xs o.instance × (is_noop (c o.instance) ≡ false)) → Has (x ∷ xs) o.instance × (is_noop (c o.instance) ≡ false)
     go true e k rec = later (rec k)
-    go false e (inl s) rec = let i : x ≡ o.instance = ap (λ (p : Operation). p.instance) s in (subst (λ y. Has (x ∷ xs) y) i (head_has x xs), subst (λ y. is_noop (c y) ≡ false) i e)
+    go false e (inl s) rec = let i : x ≡ o.instance = ap (λ (p : Operation). p.instance) s in (subst (λ y. Has (x ∷ xs) y) i (Has-first x xs), subst (λ y. is_noop (c y) ≡ false) i e)
     go false e (inr k) rec = later (rec k)
 
 stands_there : (c : ℕ → Command) (xs : List ℕ) (i : ℕ) → Has xs i → is_noop (c i) ≡ false → In (record { instance = i; command = c i }) (operations_of c xs)
-stands_there c [] i h real = absurd (omega arith)
-stands_there c (x ∷ xs) i h real = elim (has_cons x i xs h) [
-  | inl s ↦ here (is_noop (c x)) (ap (λ y. is_noop (c y)) s ∙ real) s
-  | inr k ↦ there (is_noop (c x)) (stands_there c xs i k real)
+stands_there c [] i h is_real = absurd (omega arith)
+stands_there c (x ∷ xs) i h is_real = elim (has_cons x i xs h) [
+  | inl s ↦ here (is_noop (c x)) (ap (λ y. is_noop (c y)) s ∙ is_real) s
+  | inr k ↦ there (is_noop (c x)) (stands_there c xs i k is_real)
 ]
   where
     here : (b : Bool) → b ≡ false → x ≡ i → In (record { instance = i; command = c i }) (cond b (operations_of c xs) (record { instance = x; command = c x } ∷ operations_of c xs))
@@ -183,10 +181,10 @@ module _ (base : Store) (f : ℕ) (some : 0 < f) (few : size f ≤ 256) (early l
 
   module _ (same : (o : Operation) → In o (executed_at (ends f (opening base) early) r) ↔ In o (executed_at (ends f (opening base) both) q)) where
     same_done : (i : ℕ) → is_noop (cb i) ≡ false → Has first_done i ↔ Has second_done i
-    same_done i real =
+    same_done i is_real =
         let o : Operation = record { instance = i; command = cb i } in (
-          λ h. (stands cb second_done o (subst (λ os. In o os) second_own ((same o).0 (subst (λ os. In o os) (sym first_own) (stands_there cb first_done i h real))))).0,
-          λ h. (stands cb first_done o (subst (λ os. In o os) first_own ((same o).1 (subst (λ os. In o os) (sym second_own) (stands_there cb second_done i h real))))).0,
+          λ h. (stands cb second_done o (subst (λ os. In o os) second_own ((same o).0 (subst (λ os. In o os) (sym first_own) (stands_there cb first_done i h is_real))))).0,
+          λ h. (stands cb first_done o (subst (λ os. In o os) first_own ((same o).1 (subst (λ os. In o os) (sym second_own) (stands_there cb second_done i h is_real))))).0,
         )
 
     state_then : {S R : Type 0} (M : Machine S R) (start : S) → after_operations M start (executed_at (ends f (opening base) early) r) ≡ after_operations M start (executed_at (ends f (opening base) both) q)

@@ -9,8 +9,8 @@ use Rattle.ep_base.specs.Sameness.{is_noop}
 use Rattle.ep_base.specs.Commands.{Command}
 use Rattle.ep_base.specs.declared.decree.Decree.{Decree}
 use Rattle.ep_base.specs.declared.message.Message.{Message}
-use Rattle.ep_base.specs.declared.vote.Status.{Status}
-use Rattle.ep_base.specs.declared.vote.Status.TheVariants.{PreAccepted, Accepted, Committed}
+use Rattle.ep_base.specs.declared.vote.VoteStatus.{VoteStatus}
+use Rattle.ep_base.specs.declared.vote.VoteStatus.TheVariants.{PreAccepted, Accepted, Committed}
 use Rattle.ep_base.specs.declared.vote.Vote.{Vote}
 use Rattle.ep_rules.specs.Cells.{Change, committed_at, committed_decree, record_or_fresh, Cell, Refusal}
 use Rattle.ep_rules.specs.Counting.{count}
@@ -297,7 +297,7 @@ module _ (base : Store) (f : ℕ) (two : 0 < f) (few : size f ≤ 256) where
 
   -- What is committed is decided.
 
-  committed_cast : (l r : ℕ) (h : History) (s : Status) (b : ℕ) (y x : Decree) → IsCast f l h r s b y → committed_at s y ≡ Some x → Decided f l h x
+  committed_cast : (l r : ℕ) (h : History) (s : VoteStatus) (b : ℕ) (y x : Decree) → IsCast f l h r s b y → committed_at s y ≡ Some x → Decided f l h x
   committed_cast l r h PreAccepted b y x p e = absurd (cc)
   committed_cast l r h Accepted b y x p e = absurd (cc)
   committed_cast l r h Committed b y x p e = let same : y ≡ x = cc in subst (λ z. Decided f l h z) same p

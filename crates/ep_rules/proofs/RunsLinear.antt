@@ -13,6 +13,7 @@ use Rattle.ep_base.specs.declared.reply.Answer.{Answer}
 use Rattle.ep_base.specs.declared.reply.Answer.TheVariants.{Lost, Told}
 use Rattle.ep_base.specs.declared.reply.Reply.{Reply}
 use Rattle.ep_base.specs.declared.reply.Reply.TheVariants.{Absent}
+use Rattle.ep_base.proofs.Interfering.{turn}
 use Rattle.ep_rules.specs.History.{Execution, AnswersBy, IsExecutedIn, nothing, done_after, merged, history}
 use Rattle.ep_rules.specs.Counts.{AreOnce}
 use Rattle.ep_rules.specs.Linearizable.{Responds, IsLegal, Precedes, IsLinearizable, Linearizability}
@@ -30,15 +31,16 @@ use Rattle.ep_rules.proofs.Earlier.{earlier_first_lem, has_executed}
 use Rattle.ep_rules.proofs.JournalsCallers.{executed_in, executed_here, executed_rest, executions_both}
 use Rattle.ep_rules.proofs.JournalsCommitted.{run_parts, keeps}
 use Rattle.ep_rules.proofs.JournalsExecutions.{exec_of, executions, step_known, done_is}
-use Rattle.ep_rules.proofs.JournalsReplies.{real, here, all_rest}
+use Rattle.ep_rules.proofs.JournalsReplies.{here, all_rest}
 use Rattle.ep_rules.proofs.JournalsUnproposed.{unproposed_lem}
 use Rattle.ep_rules.proofs.Merged.{in_at}
-use Rattle.ep_rules.proofs.OneProposal.{none_of}
 use Rattle.ep_rules.proofs.Places.{once_filter, has_cons, has_filter, filter_back}
 use Rattle.ep_rules.proofs.RunCommits.{decrees, graph_of, told_in, all_known, dependent, answered, wells}
 use Rattle.ep_rules.proofs.RunHistories.{AreOf, commands_are, command_is, instance_in, IsHistory, history_is}
 use Rattle.ep_rules.proofs.Runs.{validity_holds}
 use Rattle.ep_rules.proofs.Wells.{linked, same_order, has_before}
+use Rattle.ep_rules.proofs.Local.{none_of}
+use Rattle.ep_rules.proofs.Answered.{is_real}
 
 -- what is no no-op
 not_noop : (b : Bool) → cond b false true ≡ true → b ≡ false
@@ -51,10 +53,6 @@ has_in (d ∷ ds) i k = elim (has_cons d.0 i (order_of ds) k) [
   | inl e ↦ (d.1, inl (ap (λ j. (j, d.1)) e))
   | inr t ↦ (let r = has_in ds i t in (r.0, inr r.1))
 ]
-
-flip : {A B : Type 0} → A ⊎ B → B ⊎ A
-flip (inl a) = inr a
-flip (inr b) = inl b
 
 -- Executions, and the acts that make them.
 module _ (base : Store) (f : ℕ) where
@@ -87,20 +85,23 @@ module _ (base : Store) (f : ℕ) where
       each_reply c h these (moved f w b) run.1 (all_rest base f c h w b (executions f (moved f w b) these) b.event all) a k i x m e
 
 -- a reply to the history's instances, by its commands
-to_legal : (base : Store) → (c : ℕ → Command) (h : List Operation) → AreOf c h → ((i : ℕ) → Has (instances_of h) i → real c i ≡ true) → (i : ℕ) (x : Answer) → IsReply base c (instances_of h) i x → IsLegal base h i x
+to_legal : (base : Store) → (c : ℕ → Command) (h : List Operation) → AreOf c h → ((i : ℕ) → Has (instances_of h) i → is_real c i ≡ true) → (i : ℕ) (x : Answer) → IsReply base c (instances_of h) i x → IsLegal base h i x
 to_legal base c h of are_real i x (inl p) = inl ((λ k. false≢true (sym (ap (λ b. cond b false true) p.0) ∙ are_real i k)), p.1)
 to_legal base c h of are_real i x (inr p) = inr (p.0, p.1 ∙ ap (λ cs. Told (get_or (replies base cs) (place (instances_of h) i) Absent)) (sym (commands_are c h of)))
 
-told_lost : {X : Type 0} (y : Reply) → Told y ≡ Lost → X
+pub told_lost : {X : Type 0} (y : Reply) → Told y ≡ Lost → X
 told_lost y e = absurd (cc)
+
+pub told_from : (y z : Reply) → Told y ≡ Told z → y ≡ z
+told_from y z e = cc
 
 module _ (base : Store) (f : ℕ) (some : 0 < f) (few : size f ≤ 256) (acts : List Act) (run : IsRun f (opening base) acts) where
   is_history : IsHistory base f (decrees base f acts) (history_of base f acts) (merged [] (executions f (opening base) acts))
   is_history = history_is base f (decrees base f acts) acts (opening base) [] [] run (all_known base f some few acts run) (record { instances = refl; commands = tt })
 
   -- an instance of the history is executed, and is no no-op
-  in_history : (i : ℕ) → Has (instances_of (history_of base f acts)) i → Has (merged [] (executions f (opening base) acts)) i × (real (told_in base f acts) i ≡ true)
-  in_history i k = has_filter (real (told_in base f acts)) (merged [] (executions f (opening base) acts)) i (subst (λ js. Has js i) is_history.instances k)
+  in_history : (i : ℕ) → Has (instances_of (history_of base f acts)) i → Has (merged [] (executions f (opening base) acts)) i × (is_real (told_in base f acts) i ≡ true)
+  in_history i k = has_filter (is_real (told_in base f acts)) (merged [] (executions f (opening base) acts)) i (subst (λ js. Has js i) is_history.instances k)
 
   legal : (a : Act) (i : ℕ) (x : Answer) → In a acts → In (i, x) a.done → IsLegal base (history_of base f acts) i x
   legal a i x m k =
@@ -186,18 +187,18 @@ module _ (base : Store) (f : ℕ) (some : 0 < f) (few : size f ≤ 256) (acts : 
       let hi = in_history i (instance_in (history_of base f acts) o mo) in
       let hj = in_history j (instance_in (history_of base f acts) p mp) in
       let kj : Has d j = subst (λ l. Has l j) (sym own) k in
-      let before : place m i < place m j = filter_back (real (told_in base f acts)) m i j hi.1 hj.1 hi.0 (subst (λ js. place js i < place js j) is_history.instances lt) in
+      let before : place m i < place m j = filter_back (is_real (told_in base f acts)) m i j hi.1 hj.1 hi.0 (subst (λ js. place js i < place js j) is_history.instances lt) in
       let ne : i ≢ j = (λ e. let s : place m i ≡ place m j = ap (λ n. place m n) e in omega arith) in
       let inter : interfere (told_in base f acts i) (told_in base f acts j) ≡ true =
       ap (λ b. interfere b (told_in base f acts j)) (sym (command_is (told_in base f acts) (history_of base f acts) o is_history.commands mo))
       ∙ ap (λ b. interfere o.command b) (sym (command_is (told_in base f acts) (history_of base f acts) p is_history.commands mp)) ∙ meet in
       let link = linked (graph_of base f acts) (told_in base f acts) (dependent base f some few acts run) i j ne (w.whole.committed i hi.0) (w.whole.committed j hj.0) inter in
-      let ki : Has d i = has_before (graph_of base f acts) d m (w.each r) w.whole j i kj (flip link) before in
+      let ki : Has d i = has_before (graph_of base f acts) d m (w.each r) w.whole j i kj (turn link) before in
       subst (λ l. place l i < place l j) own (same_order (graph_of base f acts) m d w.whole (w.each r) i j ki hj.0 link before)
 
   is_linearizable : IsLinearizable base f acts
   is_linearizable = record {
-    once = subst AreOnce (sym is_history.instances) (as_once _ (once_filter (real (told_in base f acts)) (merged [] (executions f (opening base) acts)) (wells base f some few acts run).whole.once));
+    once = subst AreOnce (sym is_history.instances) (as_once _ (once_filter (is_real (told_in base f acts)) (merged [] (executions f (opening base) acts)) (wells base f some few acts run).whole.once));
     complete = λ i. (responds i, responded i);
     proposed = proposed;
     legal = legal;

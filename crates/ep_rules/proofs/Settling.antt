@@ -1,8 +1,8 @@
 -- Whoever has executed a seal has executed whatever is answered but by `Closed`.
-use Rattle.std.proofs.Common.{◌≡◌, ◌≢◌, ℕ, ◌<◌, ◌≤◌, true, inl, inr, List, [], ◌++◌, sym, ap, subst, ◌∙◌}
+use Rattle.std.proofs.Common.{◌≡◌, ◌≢◌, ℕ, ◌<◌, ◌≤◌, inl, inr, List, [], ◌++◌, ap, subst, ◌∙◌}
 use Rattle.ep_base.specs.Places.{place, Has}
 use Rattle.ep_base.specs.Quorums.{size}
-use Rattle.ep_base.specs.declared.reply.Answer.TheVariants.{Lost, Told}
+use Rattle.ep_base.specs.declared.reply.Answer.TheVariants.{Told}
 use Rattle.ep_base.specs.declared.reply.Reply.{Reply}
 use Rattle.ep_base.specs.declared.reply.Reply.TheVariants.{Closed}
 use Rattle.ep_rules.specs.Closing.{up_to_seal, HasClosed, OneSettling}
@@ -17,13 +17,7 @@ use Rattle.ep_rules.proofs.Places.{has_or}
 use Rattle.ep_rules.proofs.JournalsCommitted.{run_parts}
 use Rattle.ep_rules.proofs.Lives.{cut_more}
 use Rattle.ep_rules.proofs.RunHistories.{history_grows_lem}
-use Rattle.ep_rules.proofs.RunsLinear.{linearizability_holds}
-
-told_from : (y z : Reply) → Told y ≡ Told z → y ≡ z
-told_from y z e = cc
-
-told_lost : {X : Type 0} (y : Reply) → Told y ≡ Lost → X
-told_lost y e = absurd (cc)
+use Rattle.ep_rules.proofs.RunsLinear.{linearizability_holds, told_lost, told_from}
 
 module _ (start : Contents) (f : ℕ) (some : 0 < f) (few : size f ≤ 256) (early late : List Act) (run : IsRun f (opening (opened start)) (early ++ late)) (r : ℕ) (shut : HasClosed (ends f (opening (opened start)) early) r) where
   abbrev h : List Operation

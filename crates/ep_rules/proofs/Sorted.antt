@@ -1,10 +1,9 @@
 -- Numbered journals have a schedule.
-use Rattle.std.proofs.Common.{◌≡◌, ℕ, zero, suc, ◌<◌, Bool, true, false, cond, ◌&&◌, ◌||◌, eqb, ltb, ◌⊎◌, inl, inr, List, [], ◌∷◌, ◌++◌, append-nil, refl, sym, ap, subst, ◌∙◌, arith}
+use Rattle.std.proofs.Common.{◌≡◌, ℕ, zero, suc, ◌<◌, Bool, true, false, cond, ◌&&◌, ◌||◌, eqb, ltb, ◌⊎◌, inl, inr, List, [], ◌∷◌, ◌++◌, append-nil, refl, sym, ap, subst, ◌∙◌, arith, ◌≤◌}
 use Rattle.std.proofs.lemmas.Bool.{eq-eqb, eqb-true, cases_eq, ne_eqb, false≢true, cases_lt, or_cases, or_left, or_right, and_parts, and_from, ltb-true, lt-ltb}
 use Rattle.ep_rules.specs.Worlds.{In}
-use Rattle.ep_rules.specs.Journals.{Entry, Journals, Scheduled, of, Precedes, Rises, AreNumbered}
+use Rattle.ep_rules.specs.Journals.{Entry, Journals, Scheduled, of, Precedes, Rises, AreNumbered, stamp_after}
 use Rattle.ep_rules.specs.Merging.{SomeSchedule}
-use Rattle.ep_rules.proofs.Merged.{in_split}
 
 -- does a come before b
 abbrev first : Scheduled → Scheduled → Bool
@@ -24,10 +23,10 @@ abbrev insert : Scheduled → List Scheduled → List Scheduled
 insert a [] = a ∷ []
 insert a (b ∷ xs) = cond (first a b) (a ∷ (b ∷ xs)) (b ∷ insert a xs)
 
-of_first : (a : Scheduled) (r : ℕ) (xs : List Scheduled) → a.replica ≡ r → of r (a ∷ xs) ≡ a.entry ∷ of r xs
+pub of_first : (a : Scheduled) (r : ℕ) (xs : List Scheduled) → a.replica ≡ r → of r (a ∷ xs) ≡ a.entry ∷ of r xs
 of_first a r xs e = ap (λ b. cond b (a.entry ∷ of r xs) (of r xs)) (eq-eqb a.replica r e)
 
-of_skip : (a : Scheduled) (r : ℕ) (xs : List Scheduled) → (a.replica ≡ r → ⊥) → of r (a ∷ xs) ≡ of r xs
+pub of_skip : (a : Scheduled) (r : ℕ) (xs : List Scheduled) → (a.replica ≡ r → ⊥) → of r (a ∷ xs) ≡ of r xs
 of_skip a r xs n = ap (λ b. cond b (a.entry ∷ of r xs) (of r xs)) (ne_eqb a.replica r n)
 
 insert_other : (a : Scheduled) (r : ℕ) (xs : List Scheduled) → (a.replica ≡ r → ⊥) → of r (insert a xs) ≡ of r xs
@@ -87,10 +86,21 @@ abbrev sorted : Journals → ℕ → List Scheduled
 sorted journal zero = []
 sorted journal (suc n) = add n (journal n) (sorted journal n)
 
-above : (n last : ℕ) (es : List Entry) (x : Entry) → AreNumbered n last es → In x es → last < x.stamp
+pub above : (n last : ℕ) (es : List Entry) (x : Entry) → AreNumbered n last es → In x es → last < x.stamp
 above n last [] x a h = absurd h
 above n last (e ∷ es) x a (inl is) = subst (λ z. last < z.stamp) is a.1
 above n last (e ∷ es) x a (inr h) = let l = above (suc n) e.stamp es x a.3 h in (let m = a.1 in omega arith)
+
+pub stamp_least : (n last : ℕ) (es : List Entry) → AreNumbered n last es → last ≤ stamp_after last es
+stamp_least n last [] h = omega arith
+stamp_least n last (e ∷ es) h = let rest = stamp_least (suc n) e.stamp es h.3 in let low : last < e.stamp = h.1 in omega arith
+
+-- the last stamp isn't below that of any entry
+-- the last stamp isn't below that of any entry
+pub stamp_reached : (n last x : ℕ) (es : List Entry) (e : Entry) → AreNumbered n last es → In e es → e.stamp ≤ stamp_after x es
+stamp_reached n last x [] e h k = absurd k
+stamp_reached n last x (z ∷ es) e h (inl is) = subst (λ (y : Entry). y.stamp ≤ stamp_after z.stamp es) is (stamp_least (suc n) z.stamp es h.3)
+stamp_reached n last x (z ∷ es) e h (inr k) = stamp_reached (suc n) z.stamp z.stamp es e h.3 k
 
 in_add : (r : ℕ) (es : List Entry) (xs : List Scheduled) (b : Scheduled) → In b (add r es xs) → ((b.replica ≡ r) × In b.entry es) ⊎ In b xs
 in_add r [] xs b h = inr h
@@ -152,15 +162,4 @@ some_schedule_lem n journal rest numbered = (
     ]),
     sorted_rises journal numbered n,
   ),
-)
-
--- a rising list with one more after it
-pub rises_grow : (xs : List Scheduled) (a : Scheduled) → Rises xs → ((b : Scheduled) → In b xs → Precedes b a) → Rises (xs ++ (a ∷ []))
-rises_grow [] a rs h = ((λ b k. absurd k), tt)
-rises_grow (x ∷ xs) a rs h = (
-  λ b k. elim (in_split b xs (a ∷ []) k) [
-    | inl old ↦ rs.0 b old
-    | inr new ↦ (elim new [ inl is ↦ subst (λ z. Precedes x z) is (h x (inl refl)) | inr none ↦ absurd none ])
-  ],
-  rises_grow xs a rs.1 (λ b k. h b (inr k)),
 )

@@ -9,8 +9,8 @@ use Rattle.ep_base.specs.Commands.{Command}
 use Rattle.ep_base.specs.declared.decree.Decree.{Decree}
 use Rattle.ep_base.specs.declared.message.Message.{Message}
 use Rattle.ep_base.specs.declared.message.Message.TheVariants.{PreAccept, PreAcceptOk, Accept, AcceptOk, Commit, Prepare, PrepareOk, Nack}
-use Rattle.ep_base.specs.declared.vote.Status.{Status}
-use Rattle.ep_base.specs.declared.vote.Status.TheVariants.{PreAccepted, Accepted, Committed}
+use Rattle.ep_base.specs.declared.vote.VoteStatus.{VoteStatus}
+use Rattle.ep_base.specs.declared.vote.VoteStatus.TheVariants.{PreAccepted, Accepted, Committed}
 use Rattle.ep_base.specs.declared.vote.Vote.{Vote}
 use Rattle.ep_rules.specs.Cells.{record_or_fresh, Cell}
 use Rattle.ep_rules.specs.Phases.{holds}
@@ -115,7 +115,7 @@ module _ (f l r : ℕ) (h h' : History) (go : Advance f l r h h') where
   view_kept k b a v = record { command = v.command; asked = go.asked_kept b v.command v.asked; seen = λ n. seen_kept k b a.deps (v.seen n) }
 
   -- a vote that's no longer open: what it says that isn't there stays away
-  pub cast_kept : (k : ℕ) (s : Status) (b : ℕ) (x : Decree) → (h.accepted k b ≡ false → h'.accepted k b ≡ false) → (h.early k ≡ None → h'.early k ≡ None) → (h.seen k b ≡ None → h'.seen k b ≡ None) → IsCast f l h k s b x → IsCast f l h' k s b x
+  pub cast_kept : (k : ℕ) (s : VoteStatus) (b : ℕ) (x : Decree) → (h.accepted k b ≡ false → h'.accepted k b ≡ false) → (h.early k ≡ None → h'.early k ≡ None) → (h.seen k b ≡ None → h'.seen k b ≡ None) → IsCast f l h k s b x → IsCast f l h' k s b x
   cast_kept k PreAccepted b x closed unvoted hidden v = record {
     unaccepted = closed v.unaccepted;
     free = λ lt. free_kept b (v.free lt);

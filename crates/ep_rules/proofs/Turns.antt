@@ -1,10 +1,11 @@
 -- Instances done in turn, whatever they do: two lists that order alike what doesn't commute leave one state, and tell each instance the same.
 use Rattle.std.proofs.Common.{◌≡◌, ◌≢◌, ℕ, suc, ◌<◌, ◌↔◌, inl, inr, List, [], ◌∷◌, length, take, Bool, true, false, cond, not, eqb, refl, sym, ap, subst, ◌∙◌, arith, length-take}
-use Rattle.std.proofs.lemmas.Bool.{cases_Bool, eq-eqb, false≢true, le-leb, leb-true}
+use Rattle.std.proofs.lemmas.Bool.{cases_Bool, eq-eqb, false≢true, le-leb, leb-true, false_from_ne_true, eqb-true}
 use Rattle.std.specs.Prelude.{nat_le}
 use Rattle.std.specs.List.{filter}
 use Rattle.ep_base.specs.Places.{place, Has}
-use Rattle.ep_rules.proofs.Places.{place_cons, place_head, place_le, has_cons, has_tail, Once, once_take, place_take, once_filter, has_filter, filter_has, filter_forth, filter_back, filter_all, same_true}
+use Rattle.ep_base.proofs.Places.{Has-first}
+use Rattle.ep_rules.proofs.Places.{place_cons, place_head, place_le, has_cons, has_tail, Once, once_take, place_take, once_filter, has_filter, filter_has, filter_forth, filter_back, filter_all}
 
 abbrev is_in : List ℕ → ℕ → Bool
 is_in xs i = nat_le (suc (place xs i)) (length xs)
@@ -15,9 +16,6 @@ in_yes xs i h = le-leb (suc (place xs i)) (length xs) (omega arith)
 in_then : (xs : List ℕ) (i : ℕ) → is_in xs i ≡ true → Has xs i
 in_then xs i e = let l = leb-true (suc (place xs i)) (length xs) e in omega arith
 
-head_has : (x : ℕ) (xs : List ℕ) → Has (x ∷ xs) x
-head_has x xs = let e = place_head x xs in omega arith
-
 -- where each stands once, what stands in the tail stands one further
 tail_place : (x i : ℕ) (xs : List ℕ) → Once (x ∷ xs) → Has xs i → place (x ∷ xs) i ≡ suc (place xs i)
 tail_place x i xs o h = elim (place_cons x i xs) [ inl p ↦ absurd (o.0 (subst (λ y. Has xs y) (sym p.0) h)) | inr p ↦ p ]
@@ -26,10 +24,6 @@ tail_place x i xs o h = elim (place_cons x i xs) [ inl p ↦ absurd (o.0 (subst 
 tail_other : (x i : ℕ) (xs : List ℕ) → Once (x ∷ xs) → Has xs i → x ≢ i
 tail_other x i xs o h s = o.0 (subst (λ y. Has xs y) (sym s) h)
 
-not_true : (b : Bool) → (b ≡ true → ⊥) → b ≡ false
-not_true true h = absurd (h refl)
-not_true false h = refl
-
 abbrev other_than : ℕ → ℕ → Bool
 other_than x y = not (eqb x y)
 
@@ -37,7 +31,7 @@ other_then : (x y : ℕ) → other_than x y ≡ true → (x ≡ y → ⊥)
 other_then x y e s = false≢true (ap not (sym (eq-eqb x y s)) ∙ e)
 
 other_yes : (x y : ℕ) → (x ≡ y → ⊥) → other_than x y ≡ true
-other_yes x y n = ap not (not_true (eqb x y) (λ e. n (same_true x y e)))
+other_yes x y n = ap not (false_from_ne_true (eqb x y) (λ e. n (eqb-true x y e)))
 
 head_kept : (p : ℕ → Bool) (x : ℕ) (xs : List ℕ) → p x ≡ true → filter p (x ∷ xs) ≡ x ∷ filter p xs
 head_kept p x xs e = ap (λ b. cond b (x ∷ filter p xs) (filter p xs)) e
@@ -70,7 +64,7 @@ module _ {S : Type 0} (step : S → ℕ → S) (meets : ℕ → ℕ → Bool) (c
   -- what meets none of the list goes to the list's end
   past : (m : S) (x : ℕ) (ys : List ℕ) → ((y : ℕ) → Has ys y → (x ≢ y) × (meets x y ≡ false)) → run step (step m x) ys ≡ step (run step m ys) x
   past m x [] h = refl
-  past m x (y ∷ ys) h = let k = h y (head_has y ys) in ap (λ n. run step n ys) (commute m x y k.0 k.1) ∙ past (step m y) x ys (λ z q. h z (has_tail y z ys q))
+  past m x (y ∷ ys) h = let k = h y (Has-first y ys) in ap (λ n. run step n ys) (commute m x y k.0 k.1) ∙ past (step m y) x ys (λ z q. h z (has_tail y z ys q))
 
   -- what changes nothing can be taken out
   pub idle_out : (keep : ℕ → Bool) (m : S) (xs : List ℕ) → ((x : ℕ) → Has xs x → keep x ≡ false → (s : S) → step s x ≡ s) → run step m xs ≡ run step m (filter keep xs)
@@ -79,13 +73,13 @@ module _ {S : Type 0} (step : S → ℕ → S) (meets : ℕ → ℕ → Bool) (c
     where
       go : (b : Bool) → keep x ≡ b → ((n : S) → run step n xs ≡ run step n (filter keep xs)) → run step (step m x) xs ≡ run step m (cond b (x ∷ filter keep xs) (filter keep xs))
       go true e r = r (step m x)
-      go false e r = r (step m x) ∙ ap (λ n. run step n (filter keep xs)) (h x (head_has x xs) e m)
+      go false e r = r (step m x) ∙ ap (λ n. run step n (filter keep xs)) (h x (Has-first x xs) e m)
 
   -- what meets nothing before it goes to the front
   to_front : (m : S) (x : ℕ) (ys : List ℕ) → Once ys → Has ys x → ((u : ℕ) → place ys u < place ys x → meets u x ≡ false) → run step m ys ≡ run step (step m x) (filter (other_than x) ys)
   to_front m x [] o h idle = absurd (omega arith)
   to_front m x (y ∷ ys) o h idle = elim (cases_Bool (eqb x y)) [
-    | inl e ↦ first e (same_true x y e)
+    | inl e ↦ first e (eqb-true x y e)
     | inr e ↦ later (λ s. false≢true (sym e ∙ eq-eqb x y s)) (to_front (step m y) x ys o.1)
   ]
     where
@@ -105,16 +99,16 @@ module _ {S : Type 0} (step : S → ℕ → S) (meets : ℕ → ℕ → Bool) (c
   -- two lists of the same instances leave one state
   pub same_after : (m : S) (xs ys : List ℕ) → Once xs → Once ys → ((i : ℕ) → Has xs i ↔ Has ys i) → IsAlike meets xs ys → run step m xs ≡ run step m ys
   same_after m [] [] ox oy same alike = refl
-  same_after m [] (y ∷ ys) ox oy same alike = absurd (let h = (same y).1 (head_has y ys) in omega arith)
+  same_after m [] (y ∷ ys) ox oy same alike = absurd (let h = (same y).1 (Has-first y ys) in omega arith)
   same_after m (x ∷ xs) ys ox oy same alike =
       same_after (step m x) xs (filter (other_than x) ys) ox.1 (once_filter (other_than x) ys oy) members rest
-      ∙ sym (to_front m x ys oy ((same x).0 (head_has x xs)) idle)
+      ∙ sym (to_front m x ys oy ((same x).0 (Has-first x xs)) idle)
     where
       idle : (u : ℕ) → place ys u < place ys x → meets u x ≡ false
-      idle u lt = not_true (meets u x) (λ e.
-          let hx : Has ys x = (same x).0 (head_has x xs) in
+      idle u lt = false_from_ne_true (meets u x) (λ e.
+          let hx : Has ys x = (same x).0 (Has-first x xs) in
           let hu : Has ys u = omega arith in
-          let k = (alike u x ((same u).1 hu) hu (head_has x xs) hx e).1 lt in
+          let k = (alike u x ((same u).1 hu) hu (Has-first x xs) hx e).1 lt in
           omega (arith, place_head x xs))
 
       members : (i : ℕ) → Has xs i ↔ Has (filter (other_than x) ys) i
@@ -153,7 +147,7 @@ module _ {S : Type 0} (step : S → ℕ → S) (meets : ℕ → ℕ → Bool) (c
           go : (b : Bool) → keep x ≡ b → ask (run step (step m x) xs) i ≡ ask (run step (step m x) (filter keep xs)) i → ask (run step (step m x) xs) i ≡ ask (run step m (cond b (x ∷ filter keep xs) (filter keep xs))) i
           go true e r = r
           go false e r =
-              let idle = h x (head_has x xs) e in
+              let idle = h x (Has-first x xs) e in
               r
               ∙ ap (λ n. ask n i) (past m x (filter keep xs) (λ y hy. let f = has_filter keep xs y hy in
               (tail_other x y xs o f.0, idle.2 y (has_tail x y xs f.0) f.1 (omega (arith, place_head x xs, tail_place x y xs o f.0)))))
@@ -196,8 +190,8 @@ module _ {S : Type 0} (step : S → ℕ → S) (meets : ℕ → ℕ → Bool) (c
           let a = in_front l x hx in
           let out : ¬ Has (front m) x = (λ h. false≢true (sym e ∙ in_yes (front m) x h)) in (
             λ s. (let p : place l x ≡ place l i = ap (place l) s in omega arith),
-            not_true (meets x i) (λ t. out (front_has m x ((alike x i hl hm t).0 a.0))),
-            λ y hy k lt. not_true (meets x y) (λ t.
+            false_from_ne_true (meets x i) (λ t. out (front_has m x ((alike x i hl hm t).0 a.0))),
+            λ y hy k lt. false_from_ne_true (meets x y) (λ t.
                 let ky = in_then (front m) y k in
                 let b = in_front l y hy in
                 let d = in_front m y ky in

@@ -3,32 +3,28 @@ use Rattle.std.proofs.Common.{◌≡◌, ℕ, ◌⊎◌, inl, inr, List, [], ◌
 use Rattle.std.specs.List.{flat_map}
 use Rattle.std.proofs.lemmas.Bool.{cases_order}
 use Rattle.ep_base.specs.Places.{Has}
+use Rattle.ep_base.proofs.Places.{Has-first}
 use Rattle.ep_rules.specs.Graph.{Graph, Reaches}
 use Rattle.ep_rules.specs.Order.{Ranks, Rises, Together, IsNext, InBlocks}
 use Rattle.ep_rules.specs.History.{OnePlan}
-use Rattle.ep_rules.proofs.Places.{place_head, has_cons, has_tail}
-
-not_both : (g : Graph) (i j : ℕ) → Ranks g i j → Ranks g j i → ⊥
-not_both g i j a b = omega arith
-
-first_has : (x : ℕ) (xs : List ℕ) → Has (x ∷ xs) x
-first_has x xs = let q = place_head x xs in omega arith
+use Rattle.ep_rules.proofs.Places.{has_cons, has_tail}
+use Rattle.ep_rules.proofs.Ranks.{ranks_not}
 
 -- two rising lists of the same instances are one
 same_rises : (g : Graph) (xs ys : List ℕ) → Rises g xs → Rises g ys → ((j : ℕ) → Has xs j → Has ys j) → ((j : ℕ) → Has ys j → Has xs j) → xs ≡ ys
 same_rises g [] [] rx ry to back = refl
-same_rises g [] (y ∷ ys) rx ry to back = (let k = back y (first_has y ys) in absurd (omega arith))
-same_rises g (x ∷ xs) [] rx ry to back = (let k = to x (first_has x xs) in absurd (omega arith))
-same_rises g (x ∷ xs) (y ∷ ys) rx ry to back = go (has_cons y x ys (to x (first_has x xs))) (has_cons x y xs (back y (first_has y ys))) (same_rises g xs ys rx.1 ry.1)
+same_rises g [] (y ∷ ys) rx ry to back = (let k = back y (Has-first y ys) in absurd (omega arith))
+same_rises g (x ∷ xs) [] rx ry to back = (let k = to x (Has-first x xs) in absurd (omega arith))
+same_rises g (x ∷ xs) (y ∷ ys) rx ry to back = go (has_cons y x ys (to x (Has-first x xs))) (has_cons x y xs (back y (Has-first y ys))) (same_rises g xs ys rx.1 ry.1)
   where
     tails : x ≡ y → (((j : ℕ) → Has xs j → Has ys j) → ((j : ℕ) → Has ys j → Has xs j) → xs ≡ ys) → x ∷ xs ≡ y ∷ ys
-    tails e r = λ k. e k ∷ (r (λ j h. elim (has_cons y j ys (to j (has_tail x j xs h))) [ inl q ↦ absurd (let s : Ranks g j j = subst (λ z. Ranks g z j) (e ∙ q) (rx.0 j h) in not_both g j j s s) | inr q ↦ q ])
-        (λ j h. elim (has_cons x j xs (back j (has_tail y j ys h))) [ inl q ↦ absurd (let s : Ranks g j j = subst (λ z. Ranks g z j) (sym e ∙ q) (ry.0 j h) in not_both g j j s s) | inr q ↦ q ])) k
+    tails e r = λ k. e k ∷ (r (λ j h. elim (has_cons y j ys (to j (has_tail x j xs h))) [ inl q ↦ absurd (let s : Ranks g j j = subst (λ z. Ranks g z j) (e ∙ q) (rx.0 j h) in ranks_not g j j s s) | inr q ↦ q ])
+        (λ j h. elim (has_cons x j xs (back j (has_tail y j ys h))) [ inl q ↦ absurd (let s : Ranks g j j = subst (λ z. Ranks g z j) (sym e ∙ q) (ry.0 j h) in ranks_not g j j s s) | inr q ↦ q ])) k
 
     go : (y ≡ x) ⊎ Has ys x → (x ≡ y) ⊎ Has xs y → (((j : ℕ) → Has xs j → Has ys j) → ((j : ℕ) → Has ys j → Has xs j) → xs ≡ ys) → x ∷ xs ≡ y ∷ ys
     go (inl e) q r = tails (sym e) r
     go (inr a) (inl e) r = tails e r
-    go (inr a) (inr b) r = absurd (not_both g y x (ry.0 x a) (rx.0 y b))
+    go (inr a) (inr b) r = absurd (ranks_not g y x (ry.0 x a) (rx.0 y b))
 
 same_next : (g : Graph) (done : List ℕ) (root : ℕ) (a b : List ℕ) → IsNext g done root a → IsNext g done root b → a ≡ b
 same_next g done root a b n m =

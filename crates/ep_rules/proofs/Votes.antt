@@ -8,7 +8,7 @@ use Rattle.ep_base.specs.declared.attrs.Attrs.{Attrs}
 use Rattle.ep_base.specs.Commands.{Command}
 use Rattle.ep_base.specs.declared.decree.Decree.{Decree}
 use Rattle.ep_base.specs.declared.message.Message.TheVariants.{PreAcceptOk, AcceptOk, PrepareOk}
-use Rattle.ep_base.specs.declared.vote.Status.TheVariants.{PreAccepted, Accepted}
+use Rattle.ep_base.specs.declared.vote.VoteStatus.TheVariants.{PreAccepted, Accepted}
 use Rattle.ep_base.specs.declared.vote.Vote.{Vote}
 use Rattle.ep_rules.specs.Cells.{is_accept, is_commit, is_committed, is_done_at, is_settled_at, recorded, voted, Cell}
 use Rattle.ep_rules.specs.Phases.{with_attrs, on_pre_accept, on_accept, on_commit}
@@ -22,11 +22,11 @@ use Rattle.ep_rules.proofs.Stable.{seen_kept, quiet_kept, free_kept, told_same, 
 
 -- What the tests say of the last vote.
 
-not_committed : (b : ℕ) (v : Option Vote) → is_done_at b v ≡ false → is_committed v ≡ false
+pub not_committed : (b : ℕ) (v : Option Vote) → is_done_at b v ≡ false → is_committed v ≡ false
 not_committed b None e = refl
 not_committed b (Some v) e = (or_parts (is_commit v.status) (eqb v.ballot b) e).0
 
-not_settled : (b : ℕ) (v : Option Vote) → is_settled_at b v ≡ false → is_committed v ≡ false
+pub not_settled : (b : ℕ) (v : Option Vote) → is_settled_at b v ≡ false → is_committed v ≡ false
 not_settled b None e = refl
 not_settled b (Some v) e = (or_parts (is_commit v.status) (is_accept v.status && eqb v.ballot b) e).0
 

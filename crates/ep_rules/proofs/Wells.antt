@@ -1,5 +1,5 @@
 -- Lists that are closed under reach and in execution order, and how executions make them.
-use Rattle.std.proofs.Common.{◌≡◌, ◌≢◌, ℕ, suc, ◌<◌, ◌⊎◌, ◌↔◌, inl, inr, List, [], ◌∷◌, ◌++◌, length, Some, true, false, sym, ap, subst, ◌∙◌, arith, append-nil, append_assoc}
+use Rattle.std.proofs.Common.{◌≡◌, ◌≢◌, ℕ, suc, ◌<◌, ◌⊎◌, ◌↔◌, inl, inr, List, [], ◌∷◌, ◌++◌, length, Some, true, sym, ap, subst, ◌∙◌, arith, append-nil, append_assoc}
 use Rattle.std.proofs.lemmas.Bool.{cases_order, le-leb, lt-leb, leb-true}
 use Rattle.std.specs.List.{filter, flat_map}
 use Rattle.std.proofs.lemmas.List.Elements.{filter-append}
@@ -14,6 +14,7 @@ use Rattle.ep_base.specs.Commands.{Command}
 use Rattle.ep_base.specs.Interference.{interfere}
 use Rattle.ep_rules.specs.History.{Agrees, is_new, AreDependent, DependsOn}
 use Rattle.ep_rules.proofs.Turns.{IsOrdered}
+use Rattle.ep_rules.proofs.Ranks.{ranks_not, ranks_self, once_rises}
 
 -- closed under reach, each once, dependencies first, and each component in its order
 pub record Well (g : Graph) (l : List ℕ) : Type 0 where
@@ -36,22 +37,12 @@ rises_ranks g (x ∷ xs) i j rs lt h = go (place_cons x i xs) (place_cons x j xs
     go (inl p) (inr q) r = subst (λ y. Ranks g y j) p.0 (rs.0 j (omega arith))
     go (inr p) (inr q) r = r (omega arith) (omega arith)
 
-ranks_not : (g : Graph) (i j : ℕ) → Ranks g i j → Ranks g j i → ⊥
-ranks_not g i j a b = omega arith
-
-ranks_self : (g : Graph) (i : ℕ) → Ranks g i i → ⊥
-ranks_self g i a = omega arith
-
 rises_places : (g : Graph) (xs : List ℕ) (i j : ℕ) → Rises g xs → Has xs i → Has xs j → Ranks g i j → place xs i < place xs j
 rises_places g xs i j rs hi hj k = elim (cases_order (place xs i) (place xs j)) [
   | inl e ↦ absurd (ranks_self g i (subst (λ y. Ranks g i y) (sym (place_inj xs i j hi e)) k))
   | inr (inl l) ↦ l
   | inr (inr l) ↦ absurd (ranks_not g i j k (rises_ranks g xs j i rs l hi))
 ]
-
-once_rises : (g : Graph) (xs : List ℕ) → Rises g xs → Once xs
-once_rises g [] rs = tt
-once_rises g (x ∷ xs) rs = (λ h. ranks_self g x (rs.0 x h), once_rises g xs rs.1)
 
 -- one more block
 module _ (g : Graph) (done block : List ℕ) (first : ℕ) (w : Well g done) (ready : IsReady g done first) (members : (j : ℕ) → Has block j ↔ (Together g first j × ¬ Has done j)) (rises : Rises g block) (have : (j : ℕ) → Has block j → (a : Attrs) × (g j ≡ Some a)) where
@@ -152,9 +143,6 @@ well_plan here all done root order ag w (inr p) = rw p.1.1.1 (well_blocks here a
 module _ (g : Graph) (h d : List ℕ) (wh : Well g h) (wd : Well g d) where
   pub new_yes : (i : ℕ) → ¬ Has h i → is_new h i ≡ true
   new_yes i n = let e = not_has h i n in le-leb (length h) (place h i) (omega arith)
-
-  new_no : (i : ℕ) → Has h i → is_new h i ≡ false
-  new_no i k = lt-leb (length h) (place h i) k
 
   new_then : (i : ℕ) → is_new h i ≡ true → ¬ Has h i
   new_then i e k = let l = leb-true (length h) (place h i) e in omega arith

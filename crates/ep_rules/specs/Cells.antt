@@ -3,8 +3,8 @@ use Rattle.std.specs.Prelude.{ℕ, Bool, true, false, ◌&&◌, ◌||◌, eqb, L
 use Rattle.ep_base.specs.Instances.{leader_of}
 use Rattle.ep_base.specs.declared.decree.Decree.{Decree}
 use Rattle.ep_base.specs.declared.message.Message.{Message}
-use Rattle.ep_base.specs.declared.vote.Status.{Status}
-use Rattle.ep_base.specs.declared.vote.Status.TheVariants.{PreAccepted, Accepted, Committed}
+use Rattle.ep_base.specs.declared.vote.VoteStatus.{VoteStatus}
+use Rattle.ep_base.specs.declared.vote.VoteStatus.TheVariants.{PreAccepted, Accepted, Committed}
 use Rattle.ep_base.specs.declared.vote.Vote.{Vote}
 use Rattle.ep_rules.specs.declared.led.Led.{Led}
 use Rattle.ep_rules.specs.declared.record.Record.{Record}
@@ -19,17 +19,17 @@ record_or_fresh i (Some r) = r
 
 -- Votes.
 
-abbrev pub is_preaccept : Status → Bool
+abbrev pub is_preaccept : VoteStatus → Bool
 is_preaccept PreAccepted = true
 is_preaccept Accepted = false
 is_preaccept Committed = false
 
-abbrev pub is_accept : Status → Bool
+abbrev pub is_accept : VoteStatus → Bool
 is_accept PreAccepted = false
 is_accept Accepted = true
 is_accept Committed = false
 
-abbrev pub is_commit : Status → Bool
+abbrev pub is_commit : VoteStatus → Bool
 is_commit PreAccepted = false
 is_commit Accepted = false
 is_commit Committed = true
@@ -54,7 +54,7 @@ is_settled_at b None = false
 is_settled_at b (Some v) = is_commit v.status || (is_accept v.status && eqb v.ballot b)
 
 -- what is committed, if something is
-abbrev pub committed_at : Status → Decree → Option Decree
+abbrev pub committed_at : VoteStatus → Decree → Option Decree
 committed_at PreAccepted x = None
 committed_at Accepted x = None
 committed_at Committed x = Some x
@@ -88,7 +88,7 @@ abbrev pub kept : Led → Change
 kept l = record { entry = None; led = Some (Some l); told = None; out = [] }
 
 -- the record after a vote at b
-abbrev pub voted : ℕ → Status → Decree → Record
+abbrev pub voted : ℕ → VoteStatus → Decree → Record
 voted b s x = record { promised = b; vote = Some (record { status = s; ballot = b; decree = x }) }
 
 -- Why an event is refused.

@@ -9,7 +9,7 @@ use Rattle.ep_base.specs.declared.attrs.Attrs.{Attrs}
 use Rattle.ep_base.specs.Commands.{Command}
 use Rattle.ep_base.specs.declared.decree.Decree.{Decree}
 use Rattle.ep_base.specs.declared.message.Message.TheVariants.{PreAccept, PreAcceptOk, Accept, AcceptOk, Commit, Nack}
-use Rattle.ep_base.specs.declared.vote.Status.TheVariants.{PreAccepted, Accepted, Committed}
+use Rattle.ep_base.specs.declared.vote.VoteStatus.TheVariants.{PreAccepted, Accepted, Committed}
 use Rattle.ep_base.specs.declared.vote.Vote.{Vote}
 use Rattle.ep_rules.specs.Answers.{Answers, answer, with_answer}
 use Rattle.ep_rules.specs.Cells.{voted_ballot, is_committed, is_done_at, is_settled_at, Change, nothing, answered, recorded, kept, voted, Refusal, NotLeading, TooFewAnswers, SeqExhausted}

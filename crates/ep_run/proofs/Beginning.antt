@@ -1,14 +1,11 @@
 -- A script's head and the replicas that it tells of are of one version, with one opening.
 use Rattle.std.proofs.Common.{◌≡◌, ℕ, Result, Ok, Err, IfOk, sym, ap, subst, ◌∙◌}
 use Rattle.ep_base.specs.declared.version.Version.{Version}
-use Rattle.ep_base.specs.declared.version_kind.VersionKind.TheVariants.{V1, V2, V3}
+use Rattle.ep_base.specs.declared.version_kind.VersionKind.TheVariants.{V2, V3}
 use Rattle.ep_journal.specs.Openings as journal
 use Rattle.ep_replay.specs.Heads.{opening_of}
 use Rattle.ep_script.specs.Heads as script
 use Rattle.ep_run.specs.Locks.{HasBegun}
-
-pub not_first : (v : Version) (o : script.Opening) → v ≡ V1 → script.OpensIn v o → ⊥
-not_first v o e h = subst (λ (u : Version). script.OpensIn u o) e h
 
 -- of version 2 both open with nothing
 pub with_nothing : (v : Version) (o : script.Opening) → v ≡ V2 → script.OpensIn v o → journal.no_opening ≡ opening_of o

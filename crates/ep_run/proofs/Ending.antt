@@ -7,12 +7,13 @@ use Rattle.ep_host.specs.Node.{Node}
 use Rattle.ep_host.specs.RingFinishing.{replicas_in, entries_in}
 use Rattle.ep_host.specs.Tasks.{Use, tasks_in, events_in, refusals_in, event_made as event_by}
 use Rattle.ep_host.specs.declared.task.Task.{Task}
+use Rattle.ep_host.proofs.Accepting.{none_after}
 use Rattle.ep_journal.specs.declared.entry.Entry.{Entry}
 use Rattle.ep_journal.specs.declared.step_fault.StepFault.{StepFault}
 use Rattle.ep_journal.specs.Entries.{entries_of}
 use Rattle.ep_rules.specs.Journals.{asked_in as asked_in_entries}
 use Rattle.ep_rules.specs.Steps.{Event}
-use Rattle.ep_report.specs.declared.cause.Cause.{Cause}
+use Rattle.ep_report.specs.declared.event_fault.EventFault.{EventFault}
 use Rattle.ep_rules.specs.declared.receipt.Receipt.{Receipt}
 use Rattle.ep_script.specs.Plan.{SectionPlan}
 use Rattle.ep_run.specs.Asking.{asked_in}
@@ -111,13 +112,8 @@ entries_at [] r d low = absurd (omega (arith, low))
 entries_at (n ∷ ns) zero d low = refl
 entries_at (n ∷ ns) (suc r) d low = entries_at ns r d (omega (arith, low))
 
-none_at : (nodes : List Node) (r : ℕ) → length nodes ≤ r → get_or (entries_in (replicas_in nodes)) r [] ≡ []
-none_at [] r high = refl
-none_at (n ∷ ns) zero high = absurd (omega (arith, high))
-none_at (n ∷ ns) (suc r) high = none_at ns r (omega (arith, high))
-
 -- these are the lines that were refused, as the nodes tell
-abbrev pub Refuses : List SectionPlan → List (ℕ × Cause) → List Node → Type 0
+abbrev pub Refuses : List SectionPlan → List (ℕ × EventFault) → List Node → Type 0
 Refuses sections told nodes =
     (before : List (List Receipt)) (uses : ℕ → List Use) → (length before ≡ length sections) → ((i : ℕ) (d : Node) → i < length nodes → (get_or nodes i d).refused ≡ refusals_in 0 (uses i)) →
     ((i : ℕ) → length nodes ≤ i → uses i ≡ []) → told ≡ refused_in (lines_of (asked_in [] sections before) uses)
@@ -140,7 +136,7 @@ are_done b turns sections s ran h journals receipts from same refuses =
           let u = h.used r in
           let events : asked_in_entries (entries_of (get_or (entries_in (replicas_in nodes)) r [])) ≡ events_in u.used = ⊎_elim
           (λ (low : r < length nodes). ap (λ (es : List Entry). asked_in_entries (entries_of es)) (entries_at nodes r blank low) ∙ (u.node blank low).asked)
-          (λ (high : length nodes ≤ r). ap (λ (es : List Entry). asked_in_entries (entries_of es)) (none_at nodes r high) ∙ ap events_in (sym (u.others high).0))
+          (λ (high : length nodes ≤ r). ap (λ (es : List Entry). asked_in_entries (entries_of es)) (none_after nodes r high) ∙ ap events_in (sym (u.others high).0))
           (cases_lt r (length nodes)) in
           ap (λ (es : List (List Entry)). asked_in_entries (entries_of (get_or es r []))) journals ∙ events ∙ sym (made_lines r asked uses u.left u.parts);
       told = told h.before uses h.sectioned (λ i d low. ((h.used i).node d low).refused) (λ i high. ((h.used i).others high).0);

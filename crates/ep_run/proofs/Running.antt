@@ -14,7 +14,7 @@ use Rattle.ep_host.specs.RingFinishing.{replicas_in, their_journals}
 use Rattle.ep_host.specs.Tasks.{Use, tasks_in, events_in, refusals_in, place_after}
 use Rattle.ep_host.specs.Turns.{AssignsAt}
 use Rattle.ep_host.specs.declared.task.Task.{Task}
-use Rattle.ep_host.proofs.Following.{tasks_both, events_both, asked_both, refusals_both, places_both, entries_both}
+use Rattle.ep_host.proofs.Following.{tasks_both, events_both, asked_both, refusals_both, places_both}
 use Rattle.ep_journal.specs.Entries.{entries_of, first_opening}
 use Rattle.ep_journal.specs.declared.entry.Entry.{Entry}
 use Rattle.ep_journal.specs.declared.step_fault.StepFault.{StepFault}
@@ -38,6 +38,7 @@ use Rattle.ep_run.specs.Rings.{tasks_at, AreAssigned, AreOf, Begun, Collects, Ha
 use Rattle.ep_run.specs.declared.ring_run.RingRun.{RingRun}
 use Rattle.ep_run.proofs.Turning.{Passes}
 use Rattle.ep_journal.specs.Openings.{Opening, no_opening, opens}
+use Rattle.ep_journal.proofs.Growing.{entries_append}
 use Rattle.ep_base.specs.declared.version.Version.{Version}
 use Rattle.ep_base.specs.declared.version_kind.VersionKind.TheVariants.{V2}
 
@@ -101,9 +102,6 @@ none_asked n r ps ts (l ∷ ls) low fit =
 
 -- Assigning.
 
-pub assigned_none : (xs : List Node) → AreAssigned [] xs xs
-assigned_none xs = record { len = refl; at = λ i d low. ap (λ (l : List Task). record (get_or xs i d) { agenda = l }) (sym (append-nil (get_or xs i d).agenda)) }
-
 pub assigned_both : (asked more : List (ℕ × (ℕ × Task))) (xs ys zs : List Node) → AreAssigned asked xs ys → AreAssigned more ys zs → AreAssigned (asked ++ more) xs zs
 assigned_both asked more xs ys zs h k = record {
   len = k.len ∙ h.len;
@@ -159,7 +157,7 @@ beginnings_more (b ∷ c ∷ cs) xs h = (h.0, beginnings_more (c ∷ cs) xs h.1)
 
 own_works : (a b : Node) (t : Receipt) → Works a b → IsOwn (opens a.replica.opening) a.replica.faults a.replica.me (entries_of a.replica.entries) t → IsOwn (opens b.replica.opening) b.replica.faults b.replica.me (entries_of b.replica.entries) t
 own_works a b t h own =
-    let grown : entries_of b.replica.entries ≡ entries_of a.replica.entries ++ entries_of h.entries = ap entries_of h.journal ∙ entries_both a.replica.entries h.entries in
+    let grown : entries_of b.replica.entries ≡ entries_of a.replica.entries ++ entries_of h.entries = ap entries_of h.journal ∙ entries_append a.replica.entries h.entries in
     let base = opens a.replica.opening in
     subst (λ (o : Opening). IsOwn (opens o) b.replica.faults b.replica.me (entries_of b.replica.entries) t) (sym (ap (λ (s : Version × Opening). s.1) h.start))
     (subst (λ (f : ℕ). IsOwn base f b.replica.me (entries_of b.replica.entries) t) (sym h.faults)
@@ -190,9 +188,6 @@ in_both t (x ∷ xs) ys (inr h) = elim (in_both t xs ys h) [ inl l ↦ inl (inr 
 
 pub of_both : (nodes : List Node) (xs ys : List Receipt) → AreOf nodes xs → AreOf nodes ys → AreOf nodes (xs ++ ys)
 of_both nodes xs ys h k t is = elim (in_both t xs ys is) [ inl l ↦ h t l | inr r ↦ k t r ]
-
-pub collects_none : (nodes : List Node) (clients : Clients) (receipts : List Receipt) → Collects nodes clients receipts clients receipts
-collects_none nodes clients receipts = record { more = []; is = sym (append-nil receipts); own = λ t h. absurd h; counted = λ ps h. h }
 
 pub collects_collects :
     (nodes : List Node) (a b c : Clients) (xs ys zs : List Receipt) → Collects nodes a xs b ys → Collects nodes b ys c zs → Collects nodes a xs c zs

@@ -1,13 +1,13 @@
 -- A walk over lines, beside the refusals of the nodes.
-use Rattle.std.proofs.Common.{◌≡◌, ◌≢◌, ◌∙◌, ℕ, suc, ◌+◌, ◌<◌, ◌≤◌, eqb, cond, Bool, true, false, List, [], ◌∷◌, ◌++◌, length, drop, Option, Some, None, slice_index_or, refl, sym, ap, subst, arith, append_assoc, inl, inr, ◌⊎◌}
-use Rattle.std.specs.Prelude.{is_some, slice_set, replicate}
-use Rattle.std.proofs.lemmas.Bool.{eq-eqb, eqb-true, eqb-false, ne_eqb, lt-ltb}
-use Rattle.std.proofs.lemmas.List.{append-nil, drop-drop, get_or-set_same, get_or-set_other, get_or-replicate}
+use Rattle.std.proofs.Common.{◌≡◌, ◌∙◌, ℕ, suc, ◌+◌, ◌<◌, ◌≤◌, cond, Bool, true, false, List, [], ◌∷◌, ◌++◌, length, drop, Option, Some, None, slice_index_or, refl, sym, ap, subst, arith, append_assoc}
+use Rattle.std.specs.Prelude.{is_some, replicate}
+use Rattle.std.proofs.lemmas.Bool.{eq-eqb, ne_eqb, lt-ltb}
+use Rattle.std.proofs.lemmas.List.{append-nil, drop-drop, get_or-replicate}
 use Rattle.ep_host.specs.Node.{Node}
 use Rattle.ep_host.specs.Tasks.{Use, refusal_at, refusals_in, next_place}
 use Rattle.ep_host.specs.declared.task.Task.{Task}
 use Rattle.ep_journal.specs.declared.step_fault.StepFault.{StepFault}
-use Rattle.ep_report.specs.declared.cause.Cause.{Cause}
+use Rattle.ep_report.specs.declared.event_fault.EventFault.{EventFault}
 use Rattle.ep_rules.specs.declared.receipt.Receipt.{Receipt}
 use Rattle.ep_script.specs.Plan.{SectionPlan}
 use Rattle.ep_script.specs.declared.agenda_line.AgendaLine.{AgendaLine}
@@ -86,56 +86,6 @@ passed_some p q told rs us (Some f) after h is this a-fault =
 
 -- all nodes
 
-same_or : (i j : ℕ) → (i ≡ j) ⊎ (i ≢ j)
-same_or i j = go (eqb i j) refl
-  where
-    go : (b : Bool) → eqb i j ≡ b → (i ≡ j) ⊎ (i ≢ j)
-    go true e = inl (eqb-true i j e)
-    go false e = inr (eqb-false i j e)
-
-without_same : (r : ℕ) (uses : ℕ → List Use) → without_next r uses r ≡ drop 1 (uses r)
-without_same r uses = ap (λ (b : Bool). cond b (drop 1 (uses r)) (uses r)) (eq-eqb r r refl)
-
-without_other : (r i : ℕ) (uses : ℕ → List Use) → i ≢ r → without_next r uses i ≡ uses i
-without_other r i uses other = ap (λ (b : Bool). cond b (drop 1 (uses i)) (uses i)) (ne_eqb i r other)
-
-without_none : (r i : ℕ) (uses : ℕ → List Use) → uses i ≡ [] → without_next r uses i ≡ []
-without_none r i uses none = go (eqb i r)
-  where
-    go : (b : Bool) → cond b (drop 1 (uses i)) (uses i) ≡ []
-    go true = ap (drop 1) none
-    go false = none
-
--- the line of a replica that is no node's
-pub at_other : (cs : List Cursor) (ns : List Node) (r : ℕ) (uses : ℕ → List Use) → length ns ≤ r → AreAt cs ns uses → AreAt cs ns (without_next r uses)
-at_other cs ns r uses past are = record {
-  at =
-      λ i c d within.
-      let other : i ≢ r = (λ (same : i ≡ r). omega arith) in
-      are.at i c d within ∙ ap (refusals_in (slice_index_or cs i c).place) (sym (without_other r i uses other));
-  others = λ i beyond. without_none r i uses (are.others i beyond);
-}
-
--- the line of a node
-pub at_node :
-    (cs : List Cursor) (next : Cursor) (ns : List Node) (r : ℕ) (uses : ℕ → List Use) → length cs ≡ length ns → r < length ns →
-    ((d : Node) → IsAt next (slice_index_or ns r d).refused (drop 1 (uses r))) → AreAt cs ns uses → AreAt (slice_set cs r next) ns (without_next r uses)
-at_node cs next ns r uses long own here are = record {
-  at =
-      λ i c d within. elim (same_or i r) [
-        | inl same ↦
-            let now : slice_index_or (slice_set cs r next) r c ≡ next = get_or-set_same cs r next c (omega arith) in
-            subst (λ (j : ℕ). IsAt (slice_index_or (slice_set cs r next) j c) (slice_index_or ns j d).refused (without_next r uses j)) (sym same)
-            (subst (λ (k : Cursor). IsAt k (slice_index_or ns r d).refused (without_next r uses r)) (sym now)
-            (subst (λ (us : List Use). IsAt next (slice_index_or ns r d).refused us) (sym (without_same r uses)) (here d)))
-        | inr other ↦
-            let still : slice_index_or (slice_set cs r next) i c ≡ slice_index_or cs i c = get_or-set_other cs r i next c other in
-            subst (λ (k : Cursor). IsAt k (slice_index_or ns i d).refused (without_next r uses i)) (sym still)
-            (subst (λ (us : List Use). IsAt (slice_index_or cs i c) (slice_index_or ns i d).refused us) (sym (without_other r i uses other)) (are.at i c d within))
-      ];
-  others = λ i beyond. without_none r i uses (are.others i beyond);
-}
-
 -- the start
 pub at_start :
     (cs : List Cursor) (ns : List Node) (uses : ℕ → List Use) → cs ≡ replicate (length ns) (record { place = 0; told = 0 }) →
@@ -155,24 +105,21 @@ lines_both : (xs ys : List (ℕ × (ℕ × Task))) (uses : ℕ → List Use) →
 lines_both [] ys uses = refl
 lines_both (x ∷ xs) ys uses =
     let rest : ℕ → List Use = without_next x.1.0 uses in
-    let here : List (ℕ × Cause) = refusal_of x.0 (next_fate (uses x.1.0)) in
-    ap (λ (l : List (ℕ × Cause)). here ++ l) (lines_both xs ys rest) ∙ sym (append_assoc here (refused_in (lines_of xs rest)) (refused_in (lines_of ys (left_after xs rest))))
+    let here : List (ℕ × EventFault) = refusal_of x.0 (next_fate (uses x.1.0)) in
+    ap (λ (l : List (ℕ × EventFault)). here ++ l) (lines_both xs ys rest) ∙ sym (append_assoc here (refused_in (lines_of xs rest)) (refused_in (lines_of ys (left_after xs rest))))
 
 left_both : (xs ys : List (ℕ × (ℕ × Task))) (uses : ℕ → List Use) → left_after (xs ++ ys) uses ≡ left_after ys (left_after xs uses)
 left_both [] ys uses = refl
 left_both (x ∷ xs) ys uses = left_both xs ys (without_next x.1.0 uses)
 
-pub lists_none : (ns : List Node) (cs : List Cursor) (rs : List (ℕ × Cause)) → Lists [] ns cs cs rs rs
-lists_none ns cs rs = record { told = λ uses are. sym (append-nil rs); rest = λ uses are. are }
-
 pub lists_both :
-    (xs ys : List (ℕ × (ℕ × Task))) (ns : List Node) (xa xb xc : List Cursor) (ps qs rs : List (ℕ × Cause)) → Lists xs ns xa xb ps qs → Lists ys ns xb xc qs rs → Lists (xs ++ ys) ns xa xc ps rs
+    (xs ys : List (ℕ × (ℕ × Task))) (ns : List Node) (xa xb xc : List Cursor) (ps qs rs : List (ℕ × EventFault)) → Lists xs ns xa xb ps qs → Lists ys ns xb xc qs rs → Lists (xs ++ ys) ns xa xc ps rs
 lists_both xs ys ns xa xb xc ps qs rs first next = record {
   told =
       λ uses are.
-      let mine : List (ℕ × Cause) = refused_in (lines_of xs uses) in
-      let more : List (ℕ × Cause) = refused_in (lines_of ys (left_after xs uses)) in
-      next.told (left_after xs uses) (first.rest uses are) ∙ ap (λ (l : List (ℕ × Cause)). l ++ more) (first.told uses are) ∙ append_assoc ps mine more ∙ ap (λ (l : List (ℕ × Cause)). ps ++ l) (sym (lines_both xs ys uses));
+      let mine : List (ℕ × EventFault) = refused_in (lines_of xs uses) in
+      let more : List (ℕ × EventFault) = refused_in (lines_of ys (left_after xs uses)) in
+      next.told (left_after xs uses) (first.rest uses are) ∙ ap (λ (l : List (ℕ × EventFault)). l ++ more) (first.told uses are) ∙ append_assoc ps mine more ∙ ap (λ (l : List (ℕ × EventFault)). ps ++ l) (sym (lines_both xs ys uses));
   rest = λ uses are. subst (AreAt xc ns) (sym (left_both xs ys uses)) (next.rest (left_after xs uses) (first.rest uses are));
 }
 
@@ -183,18 +130,18 @@ fate_told number [] = refl
 fate_told number (u ∷ us) = refl
 
 lists_one :
-    (number r : ℕ) (task : Task) (ns : List Node) (cs cs' : List Cursor) (rs rs' : List (ℕ × Cause)) (f : Option StepFault) → ((uses : ℕ → List Use) → AreAt cs ns uses → f ≡ next_refusal (uses r)) →
+    (number r : ℕ) (task : Task) (ns : List Node) (cs cs' : List Cursor) (rs rs' : List (ℕ × EventFault)) (f : Option StepFault) → ((uses : ℕ → List Use) → AreAt cs ns uses → f ≡ next_refusal (uses r)) →
     ((uses : ℕ → List Use) → AreAt cs ns uses → AreAt cs' ns (without_next r uses)) → rs' ≡ rs ++ refusal_of number (fate_of f) → Lists ((number, (r, task)) ∷ []) ns cs cs' rs rs'
 lists_one number r task ns cs cs' rs rs' f why rest is = record {
   told =
       λ uses are.
-      is ∙ ap (λ (l : List (ℕ × Cause)). rs ++ l)
+      is ∙ ap (λ (l : List (ℕ × EventFault)). rs ++ l)
       (ap (λ (o : Option StepFault). refusal_of number (fate_of o)) (why uses are) ∙ sym (fate_told number (uses r)) ∙ sym (append-nil (refusal_of number (next_fate (uses r)))));
   rest = rest;
 }
 
 pub lists_line :
-    (number : ℕ) (line : AgendaLine) (r : ℕ) (ps : List ℕ) (ts : List Receipt) (ns : List Node) (cs cs' : List Cursor) (rs rs' : List (ℕ × Cause)) (f : Option StepFault) → r ≡ replica_of line →
+    (number : ℕ) (line : AgendaLine) (r : ℕ) (ps : List ℕ) (ts : List Receipt) (ns : List Node) (cs cs' : List Cursor) (rs rs' : List (ℕ × EventFault)) (f : Option StepFault) → r ≡ replica_of line →
     ((uses : ℕ → List Use) → AreAt cs ns uses → f ≡ next_refusal (uses r)) → ((uses : ℕ → List Use) → AreAt cs ns uses → AreAt cs' ns (without_next r uses)) →
     rs' ≡ rs ++ refusal_of number (fate_of f) → Lists ((number, asked_of ps ts line) ∷ []) ns cs cs' rs rs'
 lists_line number (Propose replica client command) r ps ts ns cs cs' rs rs' f asks why rest is =

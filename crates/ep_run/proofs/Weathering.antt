@@ -1,5 +1,5 @@
 -- The weather of a section is one for its host, each replica's own of it is one for its node, and so it is set.
-use Rattle.std.proofs.Common.{◌≡◌, ℕ, zero, suc, ◌+◌, ◌<◌, eqb, cond, Bool, true, false, List, [], ◌∷◌, ◌++◌, length, take, get_or, refl, sym, ap, ◌∙◌, subst, arith, All, eqb-true, append-nil, append_assoc}
+use Rattle.std.proofs.Common.{◌≡◌, ℕ, zero, suc, ◌+◌, ◌<◌, eqb, cond, Bool, true, false, List, [], ◌∷◌, ◌++◌, length, take, get_or, refl, sym, ap, ◌∙◌, subst, arith, All, eqb-true, append_assoc}
 use Rattle.std.specs.List.{IsDistinct, AllByRecursion}
 use Rattle.std.proofs.lemmas.Bool.Decides.{nat_tests}
 use Rattle.std.proofs.lemmas.List.{take_more, get_or_default}
@@ -13,7 +13,6 @@ use Rattle.ep_host.specs.Weathers.{NameOne, IsFrameIn, IsWeather, IsWeatherAt}
 use Rattle.ep_host.specs.declared.weather.Weather.{Weather}
 use Rattle.ep_host.specs.declared.host_fault.HostFault.{HostFault}
 use Rattle.ep_host.specs.declared.host_fault.HostFault.TheVariants.{Memory, OutOfRange, Replica}
-use Rattle.ep_host.proofs.Naming.{eqb_same, eqb_apart}
 use Rattle.ep_host.proofs.Places.{Firsts, firsts_more}
 use Rattle.ep_script.specs.Fits.{FitsWeather, FitsSection}
 use Rattle.ep_script.specs.Plan.{SectionPlan, same_frame}
@@ -38,12 +37,6 @@ line_more ls i l low is =
 pub own_more : (r : ℕ) (ws : List Weather) (i : ℕ) (w : Weather) → i < length ws → w ≡ get_or ws i w → own_of r (take (i + 1) ws) ≡ own_of r (take i ws) ++ own_of r (w ∷ [])
 own_more r ws i w low is =
     ap (own_of r) (take_more ws i w low) ∙ own_both r (take i ws) (get_or ws i w ∷ []) ∙ ap (λ (v : Weather). own_of r (take i ws) ++ own_of r (v ∷ [])) (sym is)
-
-pub own_here : (r : ℕ) (w : Weather) → w.from ≡ r → own_of r (w ∷ []) ≡ w ∷ []
-own_here r w same = append-nil (cond (eqb w.from r) (w ∷ []) []) ∙ ap (λ (b : Bool). cond b (w ∷ []) []) (eqb_same w.from r same)
-
-pub own_elsewhere : (r : ℕ) (w : Weather) → (w.from ≡ r → ⊥) → own_of r (w ∷ []) ≡ []
-own_elsewhere r w other = append-nil (cond (eqb w.from r) (w ∷ []) []) ∙ ap (λ (b : Bool). cond b (w ∷ []) []) (eqb_apart w.from r other)
 
 -- a weather's first frame, and the others
 

@@ -5,11 +5,11 @@ use Rattle.ep_host.specs.Setting.{SetsWeather}
 use Rattle.ep_host.specs.declared.weather.Weather.{Weather}
 use Rattle.ep_host.specs.declared.weather_kind.WeatherKind.{WeatherKind as HostKind}
 use Rattle.ep_host.specs.declared.weather_kind.WeatherKind.TheVariants as host
-use Rattle.ep_script.specs.declared.weather_kind.WeatherKind.{WeatherKind}
-use Rattle.ep_script.specs.declared.weather_kind.WeatherKind.TheVariants.{Drop, Hold, Repeat}
+use Rattle.ep_script.specs.declared.weather_word.WeatherWord.{WeatherWord}
+use Rattle.ep_script.specs.declared.weather_word.WeatherWord.TheVariants.{Drop, Hold, Repeat}
 use Rattle.ep_script.specs.declared.weather_line.WeatherLine.{WeatherLine}
 
-abbrev pub kind_of : WeatherKind → HostKind
+abbrev pub kind_of : WeatherWord → HostKind
 kind_of Drop = host.Drop
 kind_of Hold = host.Hold
 kind_of Repeat = host.Repeat

@@ -14,8 +14,8 @@ use ep_base::ReplicaId;
 use ep_host::RingNode;
 use ep_journal::StepFault;
 use ep_replay::step_cause;
-use ep_report::Cause;
-use ep_script::{AgendaLine, Section};
+use ep_report::EventFault;
+use ep_script::{AgendaLine, ScriptSection};
 use std::alloc::{AllocError, Global};
 
 /// A cursor for each of so many nodes, before any line.
@@ -64,7 +64,7 @@ fn pass(
 
 /// Adds the line of this number if it was refused.
 fn list_line(
-    refused: &mut Vec<(u32, Cause)>,
+    refused: &mut Vec<(u32, EventFault)>,
     cursors: &mut [Cursor],
     nodes: &[RingNode],
     number: u32,
@@ -82,10 +82,10 @@ fn list_line(
 
 /// Adds the refused ones of the section's lines.
 fn list_section(
-    refused: &mut Vec<(u32, Cause)>,
+    refused: &mut Vec<(u32, EventFault)>,
     cursors: &mut [Cursor],
     nodes: &[RingNode],
-    section: &Section,
+    section: &ScriptSection,
 ) -> Result<(), AllocError>
     requires { length cursors.old ≡ length nodes.now }
     ensures { OnOk result ((ps : List ℕ) (ts : List Receipt) → Lists (asked_by ps ts section.now.lines) nodes.now cursors.old cursors.new refused.old.items refused.new.items) }
@@ -98,10 +98,10 @@ fn list_section(
 
 /// Adds the refused ones of the sections' lines.
 fn list_all(
-    refused: &mut Vec<(u32, Cause)>,
+    refused: &mut Vec<(u32, EventFault)>,
     cursors: &mut [Cursor],
     nodes: &[RingNode],
-    sections: &[Section],
+    sections: &[ScriptSection],
 ) -> Result<(), AllocError>
     requires { length cursors.old ≡ length nodes.now }
     ensures { OnOk result ((before : List (List Receipt)) → length before ≡ length sections.now → Lists (asked_in [] sections.now before) nodes.now cursors.old cursors.new refused.old.items refused.new.items) }
@@ -115,9 +115,9 @@ fn list_all(
 /// The lines of the sections that their nodes refused, in the script's order, each with the cause.
 pub(crate) fn refused_lines(
     alloc: Global,
-    sections: &[Section],
+    sections: &[ScriptSection],
     nodes: &[RingNode],
-) -> Result<Vec<(u32, Cause)>, AllocError>
+) -> Result<Vec<(u32, EventFault)>, AllocError>
     ensures { IfOk result (λ refused. (before : List (List Receipt)) (uses : ℕ → List Use) → (length before ≡ length sections.now) → ((i : ℕ) (d : Node) → i < length nodes.now → (slice_index_or nodes.now i d).refused ≡ refusals_in 0 (uses i)) → ((i : ℕ) → length nodes.now ≤ i → uses i ≡ []) → refused.items ≡ refused_in (lines_of (asked_in [] sections.now before) uses)) }
 {
     let mut cursors = cursors(alloc, nodes.len())?;

@@ -24,7 +24,7 @@ use ep_base::{Generation, VersionKind};
 use ep_host::{Finished, Gate, RingHost, RingNode, finish_with, section as turn_all, settle};
 use ep_replay::{Clients, opening_of};
 use ep_rules::Receipt;
-use ep_script::{AgendaLine, Head, Section};
+use ep_script::{AgendaLine, Head, ScriptSection};
 use std::alloc::{AllocError, Global};
 use std::marker::Sync;
 use std::mem;
@@ -96,7 +96,7 @@ fn begin(
     alloc: Global,
     clients: &mut Clients,
     nodes: &mut [RingNode],
-    section: &Section,
+    section: &ScriptSection,
 ) -> Result<(), AllocError>
     requires fits { FitsSection (length nodes.old) section.now }
     requires host { (f : ℕ) × IsHost f nodes.old }
@@ -194,7 +194,7 @@ impl RingRun {
     pub(crate) fn run<R: Threads + Sync>(
         &mut self,
         rt: &R,
-        section: &Section,
+        section: &ScriptSection,
         turns: u32,
     ) -> Result<(), AllocError>
         requires run { (b : Begun) × (done : List SectionPlan) × HasRun b turns done self.old }
@@ -245,7 +245,7 @@ impl RingRun {
     }
 
     /// What the run leaves, of these sections.
-    pub(crate) fn end(self, sections: &[Section]) -> Result<Ran, AllocError>
+    pub(crate) fn end(self, sections: &[ScriptSection]) -> Result<Ran, AllocError>
         requires { (b : Begun) × (turns : ℕ) × HasRun b turns sections.now self }
         ensures finished { IfOk result (λ r. IsFinished r.receipts.items r.finished) }
         ensures accepted { IfOk result (λ r. IsOk r.finished.verdict) }

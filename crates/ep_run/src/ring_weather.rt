@@ -10,7 +10,7 @@ ghost use Rattle.ep_run.specs.Weathers.{weather_in, own_of, SetsOwn};
 
 use crate::weather::{own_of, want_of_memory, weather_in};
 use ep_host::{RingHost, RingNode, Weather};
-use ep_script::Section;
+use ep_script::ScriptSection;
 use std::alloc::{AllocError, Global};
 
 /// Sets the weather of the node at this place: what is its own of this.
@@ -36,7 +36,7 @@ fn set_own(
 pub(crate) fn set_weather(
     alloc: Global,
     nodes: &mut [RingNode],
-    section: &Section,
+    section: &ScriptSection,
 ) -> Result<(), AllocError>
     requires fits { FitsSection (length nodes.old) section.now }
     requires host { (f : ℕ) × IsHost f nodes.old }

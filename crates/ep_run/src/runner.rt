@@ -22,9 +22,9 @@ use crate::weather::{want_of_memory, weather_in};
 use ep_base::{Generation, ReplicaId, VersionKind};
 use ep_host::{LockHost, Start, Turn};
 use ep_replay::{Clients, opening_of};
-use ep_report::Cause;
+use ep_report::EventFault;
 use ep_rules::Receipt;
-use ep_script::{Head, RunScript, Section};
+use ep_script::{Head, RunScript, ScriptSection};
 use std::alloc::{AllocError, Global};
 use std::marker::{Brand, Send, Sync};
 use std::sync::Wait;
@@ -36,7 +36,7 @@ struct Runner<S: Start> {
     host: LockHost<S>,
     clients: Clients,
     receipts: Vec<Receipt>,
-    refused: Vec<(u32, Cause)>,
+    refused: Vec<(u32, EventFault)>,
     /// For each replica the number of the last entry whose receipts were collected.
     collected: Vec<u32>,
     alloc: Global,
@@ -46,7 +46,7 @@ struct Runner<S: Start> {
 fn submissions_of(
     alloc: Global,
     clients: &mut Clients,
-    section: &Section,
+    section: &ScriptSection,
 ) -> Result<Vec<Submission>, AllocError>
     ensures tasks { IfOk result (λ tasks. (ps : List ℕ) (ts : List Told) → AreCounted clients.old ps ts → AreSubmissions ps ts section.now.lines tasks.items) }
     ensures counted { OnOk result ((ps : List ℕ) (ts : List Told) → AreCounted clients.old ps ts → AreCounted clients.new (proposers_of ps section.now.lines) ts) }
@@ -114,7 +114,7 @@ impl<S: Start + Send + Sync> Runner<S> {
     fn run<R: Threads + Wait + Sync>(
         &mut self,
         rt: &R,
-        section: &Section,
+        section: &ScriptSection,
         turns: u32,
     ) -> Result<(), RunFault>
         requires fits { FitsSection (size_with self.old.host.cluster) section.now }
@@ -132,7 +132,7 @@ impl<S: Start + Send + Sync> Runner<S> {
     }
 
     /// Sets the host's weather: the section's.
-    fn set_weather<R: Wait>(&self, rt: &R, section: &Section) -> Result<(), AllocError>
+    fn set_weather<R: Wait>(&self, rt: &R, section: &ScriptSection) -> Result<(), AllocError>
         requires { FitsSection (size_with self.now.host.cluster) section.now }
     {
         let weather = weather_in(self.alloc, section.weather())?;

@@ -4,7 +4,7 @@ use crate::asking::asked_by;
 use ep_base::ReplicaId;
 use ep_host::{Act, HostFault, LockHost, Start, Task};
 use ep_replay::{Clients, step_cause};
-use ep_report::Cause;
+use ep_report::EventFault;
 use ep_script::AgendaLine;
 use std::alloc::{AllocError, Global};
 use std::sync::{Mutex, Wait};
@@ -18,7 +18,7 @@ pub(crate) struct Submission {
     pub replica: ReplicaId,
     task: Task,
     /// Why the replica refused it, if it did.
-    refusal: Mutex<Option<Cause>>,
+    refusal: Mutex<Option<EventFault>>,
 }
 
 impl Submission {
@@ -76,16 +76,16 @@ impl Submission {
     }
 
     /// Why the replica refused it, if it did.
-    pub(crate) fn refusal<R: Wait>(&self, rt: &R) -> Option<Cause> {
+    pub(crate) fn refusal<R: Wait>(&self, rt: &R) -> Option<EventFault> {
         *self.refusal.lock(rt)
     }
 }
 
 /// The cause as a report names it.
-fn cause_of(fault: HostFault) -> Cause {
+fn cause_of(fault: HostFault) -> EventFault {
     match fault {
-        HostFault::Memory => Cause::Memory,
-        HostFault::OutOfRange => Cause::OutOfRange,
+        HostFault::Memory => EventFault::Memory,
+        HostFault::OutOfRange => EventFault::OutOfRange,
         HostFault::Replica(fault) => step_cause(fault),
     }
 }

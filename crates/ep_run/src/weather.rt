@@ -5,7 +5,7 @@ ghost use Rattle.ep_host.specs.declared.host_fault.HostFault.TheVariants.{Memory
 ghost use Rattle.ep_run.specs.Weathers.{kind_of, weather_of, weather_in, own_of};
 
 use ep_host::{HostFault, Weather, WeatherKind};
-use ep_script::{WeatherKind as LineKind, WeatherLine};
+use ep_script::{WeatherLine, WeatherWord as LineKind};
 use std::alloc::{AllocError, Global};
 
 /// What becomes of a frame, as hosts name it.

@@ -1,6 +1,5 @@
 -- The frames of lines of a weather, as a set.
-use Rattle.std.proofs.Common.{◌≡◌, ℕ, Bool, true, false, cond, List, [], ◌∷◌, ◌++◌, Result, Ok, Err, is_err, OnOk, refl, sym, ap, ◌∙◌, subst, arith}
-use Rattle.std.specs.Prelude.{◌||◌}
+use Rattle.std.proofs.Common.{◌≡◌, ℕ, Bool, true, false, cond, List, [], ◌∷◌, ◌++◌, Result, is_err, OnOk, sym, ap, ◌∙◌, subst, arith}
 use Rattle.std.specs.Ordering.{is_eq}
 use Rattle.std.specs.List.{list_any}
 use Rattle.std.specs.BTreeSet.{BTreeSet, contains, Updates}
@@ -9,16 +8,11 @@ use Rattle.std.proofs.lemmas.List.Folds.{list_any-append}
 use Rattle.ep_script.specs.Plan.{same_frame}
 use Rattle.ep_script.specs.Frames.{frame_of, frame_cmp, HasFrames}
 use Rattle.ep_script.specs.declared.weather_line.WeatherLine.{WeatherLine}
+use Rattle.ep_script.proofs.KeySets.{or_either, if_ok}
 
 -- lines are for one frame where their frames compare equal
 same_by_cmp : (v w : WeatherLine) → is_eq (frame_cmp (frame_of w) (frame_of v)) ≡ same_frame v w
 same_by_cmp v w = grind (arith, nat_tests)
-
-or_either : (b x : Bool) → cond b true x ≡ (x || (b || false))
-or_either true true = refl
-or_either true false = refl
-or_either false true = refl
-or_either false false = refl
 
 frame_more : (before after : BTreeSet (ℕ × ℕ × ℕ)) (lines : List WeatherLine) (w : WeatherLine)
     → ((q : ℕ × ℕ × ℕ) → contains frame_cmp after q ≡ cond (is_eq (frame_cmp (frame_of w) q)) true (contains frame_cmp before q)) → HasFrames before lines → HasFrames after (lines ++ w ∷ [])
@@ -28,10 +22,6 @@ frame_more before after lines w added h = λ v.
     ∙ ap (cond (same_frame v w) true) (h v)
     ∙ or_either (same_frame v w) (list_any (same_frame v) lines)
     ∙ sym (list_any-append (same_frame v) lines (w ∷ []))
-
-if_ok : {A E : Type 0} (P : Type 0) (r : Result A E) → is_err r ≡ false → OnOk r P → P
-if_ok P (Ok x) fine h = h
-if_ok P (Err e) fine h = absurd (cc)
 
 -- a line more, and its frame, where there was memory for it
 pub frame_taken : {E : Type 0} (before after : BTreeSet (ℕ × ℕ × ℕ)) (lines taken : List WeatherLine) (w : WeatherLine) (frame : ℕ × ℕ × ℕ) (r : Result Bool E)

@@ -26,7 +26,7 @@ same_by_cmp (x ∷ xs) (y ∷ ys) = both x y (slice_cmp nat_cmp ys xs) (same_lis
     both : (x y : ℕ) (o : Ordering) (b : Bool) → is_eq o ≡ b → is_eq (ordering_then (nat_cmp y x) o) ≡ (nat_eq x y && b)
     both x y o b e = grind (arith, nat_tests)
 
-or_either : (b x : Bool) → cond b true x ≡ (x || (b || false))
+pub or_either : (b x : Bool) → cond b true x ≡ (x || (b || false))
 or_either true true = refl
 or_either true false = refl
 or_either false true = refl
@@ -41,7 +41,7 @@ key_more before after entries name value added h = λ q v.
     ∙ or_either (same_list q.items name.items) (has_key_of (q.items, v) entries)
     ∙ sym (list_any-append (same_key (q.items, v)) entries ((name.items, value) ∷ []))
 
-if_ok : {A E : Type 0} (P : Type 0) (r : Result A E) → is_err r ≡ false → OnOk r P → P
+pub if_ok : {A E : Type 0} (P : Type 0) (r : Result A E) → is_err r ≡ false → OnOk r P → P
 if_ok P (Ok x) fine h = h
 if_ok P (Err e) fine h = absurd (cc)
 

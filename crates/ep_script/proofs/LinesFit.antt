@@ -12,12 +12,12 @@ use Rattle.ep_base.specs.Instances.{instance_of, leader_of, highest_number}
 use Rattle.ep_base.specs.declared.version.Version.{Version}
 use Rattle.ep_script.specs.Parts.{number_of}
 use Rattle.ep_script.specs.Grammar.{number_in, count_of, replica_of, instance_parts, parts_of, place_of, command_of, propose_of, agenda_line, section_of, weather_between, weather_of, kind_of, plain_run_line, run_line}
-use Rattle.ep_script.specs.Plan.{SectionPlan, no_section, with_agenda, with_weather, same_frame, has_frame}
+use Rattle.ep_script.specs.Plan.{SectionPlan, no_section, with_weather, same_frame, has_frame}
 use Rattle.ep_script.specs.Fits.{FitsCluster, FitsWeather, FitsRun, FitsSection, AllFit}
 use Rattle.ep_script.specs.declared.agenda_line.AgendaLine.{AgendaLine}
 use Rattle.ep_script.specs.declared.agenda_line.AgendaLine.TheVariants.{Propose, GiveUp, Recover}
 use Rattle.ep_script.specs.declared.run_line.RunLine.TheVariants.{Agenda, Weather}
-use Rattle.ep_script.specs.declared.weather_kind.WeatherKind.{WeatherKind}
+use Rattle.ep_script.specs.declared.weather_word.WeatherWord.{WeatherWord}
 use Rattle.ep_script.specs.declared.weather_line.WeatherLine.{WeatherLine}
 
 if_mapped : {A B : Type 0} (f : A → B) (P : A → Type 0) (Q : B → Type 0) (o : Option A) → IfSome o P → ((x : A) → P x → Q (f x)) → IfSome (option_map f o) Q
@@ -99,7 +99,7 @@ agenda_fits n v (w ∷ ws) =
     (if_either (FitsCluster n) (bytes_eq w (codes "recover")) _ None
     (if_mapped (λ p. Recover p.0 p.1) (λ p. (p.0 < n) × (leader_of p.1 < n)) (FitsCluster n) (place_of n ws) (place_fits n ws) (λ p h. h)) tt))
 
-between_fits : (n : ℕ) (kind : WeatherKind) (a b j : ℕ) → a < n → b < n → 1 ≤ j → IfSome (weather_between kind a b j) (FitsWeather n)
+between_fits : (n : ℕ) (kind : WeatherWord) (a b j : ℕ) → a < n → b < n → 1 ≤ j → IfSome (weather_between kind a b j) (FitsWeather n)
 between_fits n kind a b j below-a below-b counted = go (a == b) refl
   where
     apart : (a == b) ≡ false → a ≢ b
@@ -109,7 +109,7 @@ between_fits n kind a b j below-a below-b counted = go (a == b) refl
     go true e = tt
     go false e = record { from_below = below-a; to_below = below-b; between_two = apart e; counted = counted }
 
-weather_fits : (n : ℕ) (kind : WeatherKind) (ws : List (List ℕ)) → IfSome (weather_of n kind ws) (FitsWeather n)
+weather_fits : (n : ℕ) (kind : WeatherWord) (ws : List (List ℕ)) → IfSome (weather_of n kind ws) (FitsWeather n)
 weather_fits n kind [] = tt
 weather_fits n kind (a ∷ []) = tt
 weather_fits n kind (a ∷ b ∷ []) = tt
@@ -135,7 +135,7 @@ pub run_fits : (n : ℕ) (v : Version) (ws : List (List ℕ)) → IfSome (run_li
 run_fits n v [] = tt
 run_fits n v (w ∷ ws) = go (kind_of w)
   where
-    go : (o : Option WeatherKind) → IfSome (option_map_or (λ kind. option_map (λ l. Weather l) (weather_of n kind ws)) o (plain_run_line n v (w ∷ ws))) (FitsRun n)
+    go : (o : Option WeatherWord) → IfSome (option_map_or (λ kind. option_map (λ l. Weather l) (weather_of n kind ws)) o (plain_run_line n v (w ∷ ws))) (FitsRun n)
     go None = plain_fits n v (w ∷ ws)
     go (Some kind) = if_mapped (λ l. Weather l) (FitsWeather n) (FitsRun n) (weather_of n kind ws) (weather_fits n kind ws) (λ l h. h)
 
@@ -149,9 +149,6 @@ frames_equal = record {
 pub none_fits : (n : ℕ) → FitsSection n no_section
 unfolding IsDistinct
 none_fits n = record { agendas = All-nil (λ (e : ℕ × AgendaLine). FitsCluster n e.1); weather = All-nil (FitsWeather n); distinct = tt }
-
-pub agenda_more : (n number : ℕ) (l : AgendaLine) (s : SectionPlan) → FitsCluster n l → FitsSection n s → FitsSection n (with_agenda number l s)
-agenda_more n number l s fits h = record { agendas = All-push (λ (e : ℕ × AgendaLine). FitsCluster n e.1) s.lines (number, l) h.agendas fits; weather = h.weather; distinct = h.distinct }
 
 weather_more : (n : ℕ) (w : WeatherLine) (s : SectionPlan) → FitsWeather n w → has_frame w s ≡ false → FitsSection n s → FitsSection n (with_weather w s)
 weather_more n w s fits new h = record {

@@ -4,7 +4,7 @@ use Rattle.std.specs.Prelude.{◌==◌, ◌-◌, nat_lt, MatchBool, None}
 use Rattle.std.specs.List.{slice_split, onto_first, position_or_len}
 use Rattle.std.proofs.lemmas.Bool.Decides.{nat_tests}
 use Rattle.std.proofs.lemmas.List.Splits.{slice_split-cons_yes, slice_split-cons_no}
-use Rattle.std.proofs.lemmas.List.{length-drop, drop-drop}
+use Rattle.std.proofs.lemmas.List.{length-drop, drop-drop, take_rest}
 use Rattle.std.proofs.Math.Seq.{take-length, drop-length}
 use Rattle.ep_script.specs.Grammar.{parts_of, instance_parts}
 use Rattle.ep_script.specs.Parts.{is_blank, words_of}
@@ -97,11 +97,8 @@ undotted w n k h = parts_at (λ b. b == 46) w ∙ rw (sym k ∙ h) (whole w)
 pub too_many : (n : ℕ) (w r : List ℕ) (m : ℕ) → m ≡ position_or_len (λ b. b == 46) w → m < length w → instance_parts n (r ∷ parts_of w) ≡ None
 too_many n w r m k h = ap (λ (ps : List (List ℕ)). instance_parts n (r ∷ ps)) (dotted w m k h ∙ ap (λ (ps : List (List ℕ)). take m w ∷ ps) (parts_at (λ b. b == 46) (drop 1 (drop m w))))
 
-pub all_of_rest : (w : List ℕ) (k : ℕ) → take (length w - k) (drop k w) ≡ drop k w
-all_of_rest w k = rw (sym (length-drop k w)) (take-length (drop k w))
-
 pub after_dot : (w : List ℕ) (n : ℕ) → n ≡ position_or_len (λ b. b == 46) w → n < length w → parts_of w ≡ take n w ∷ parts_of (take (length w - (n + 1)) (drop (n + 1) w))
-after_dot w n k h = dotted w n k h ∙ ap (λ (x : List ℕ). take n w ∷ parts_of x) (sym (all_of_rest w (n + 1) ∙ next n w))
+after_dot w n k h = dotted w n k h ∙ ap (λ (x : List ℕ). take n w ∷ parts_of x) (sym (take_rest w (n + 1) ∙ next n w))
   where
     next : (n : ℕ) (w : List ℕ) → drop (n + 1) w ≡ drop 1 (drop n w)
     next n w = sym (drop-drop 1 n w)

@@ -14,13 +14,14 @@ use Rattle.ep_script.specs.Parts.{number_of, digits_of}
 use Rattle.ep_script.specs.declared.agenda_line.AgendaLine.{AgendaLine}
 use Rattle.ep_script.specs.declared.agenda_line.AgendaLine.TheVariants as agenda
 use Rattle.ep_script.specs.declared.line.Line.{Line}
-use Rattle.ep_script.specs.declared.line.Line.TheVariants.{Propose, GiveUp, Recover, Execute, Deliver, Flush}
+use Rattle.ep_script.specs.declared.line.Line.TheVariants.{Execute, Deliver, Flush}
+use Rattle.ep_script.specs.declared.line.Line.TheVariants as asked
 use Rattle.ep_script.specs.declared.opening_line.OpeningLine.{OpeningLine}
 use Rattle.ep_script.specs.declared.opening_line.OpeningLine.TheVariants.{Since, Entry}
 use Rattle.ep_script.specs.declared.run_line.RunLine.{RunLine}
 use Rattle.ep_script.specs.declared.run_line.RunLine.TheVariants.{Agenda, Weather, Section}
-use Rattle.ep_script.specs.declared.weather_kind.WeatherKind.{WeatherKind}
-use Rattle.ep_script.specs.declared.weather_kind.WeatherKind.TheVariants as kinds
+use Rattle.ep_script.specs.declared.weather_word.WeatherWord.{WeatherWord}
+use Rattle.ep_script.specs.declared.weather_word.WeatherWord.TheVariants as kinds
 use Rattle.ep_script.specs.declared.weather_line.WeatherLine.{WeatherLine}
 
 abbrev pub starts_comment : List ℕ → Bool
@@ -202,12 +203,6 @@ abbrev pub flush_of : List (List ℕ) → Option Line
 flush_of [] = Some Flush
 flush_of (w ∷ ws) = None
 
--- the line of an agenda as a line of a replay
-abbrev pub in_replay : AgendaLine → Line
-in_replay (agenda.Propose replica client command) = Propose replica client command
-in_replay (agenda.GiveUp replica instance) = GiveUp replica instance
-in_replay (agenda.Recover replica instance) = Recover replica instance
-
 -- a line of a replay behind the script's head; none where it is refused
 abbrev pub replay_line : ℕ → Version → List (List ℕ) → Option Line
 replay_line n v [] = None
@@ -215,18 +210,18 @@ replay_line n v (w ∷ ws) =
     if bytes_eq w (codes "execute") then option_map (λ p. Execute p.0 p.1) (place_of n ws)
     else if bytes_eq w (codes "deliver") then deliver_of ws
     else if bytes_eq w (codes "flush") then flush_of ws
-    else option_map in_replay (agenda_line n v (w ∷ ws))
+    else option_map (λ a. asked.Agenda a) (agenda_line n v (w ∷ ws))
 
 abbrev pub section_of : List (List ℕ) → Option RunLine
 section_of [] = Some Section
 section_of (w ∷ ws) = None
 
 -- no replica puts a frame for itself
-abbrev pub weather_between : WeatherKind → ℕ → ℕ → ℕ → Option WeatherLine
+abbrev pub weather_between : WeatherWord → ℕ → ℕ → ℕ → Option WeatherLine
 weather_between kind a b j = if a == b then None else Some (record { kind = kind; from = a; to = b; count = j })
 
 -- a frame, and what becomes of it: the J-th that A puts for B, by `A B J`
-abbrev pub weather_of : ℕ → WeatherKind → List (List ℕ) → Option WeatherLine
+abbrev pub weather_of : ℕ → WeatherWord → List (List ℕ) → Option WeatherLine
 weather_of n kind [] = None
 weather_of n kind (a ∷ []) = None
 weather_of n kind (a ∷ b ∷ []) = None
@@ -234,7 +229,7 @@ weather_of n kind (a ∷ b ∷ j ∷ []) = option_and_then (λ from. option_and_
 weather_of n kind (a ∷ b ∷ j ∷ w ∷ more) = None
 
 -- what becomes of the frame that `drop`, `hold` or `repeat` is about
-abbrev pub kind_of : List ℕ → Option WeatherKind
+abbrev pub kind_of : List ℕ → Option WeatherWord
 kind_of w =
     if bytes_eq w (codes "drop") then Some kinds.Drop
     else if bytes_eq w (codes "hold") then Some kinds.Hold

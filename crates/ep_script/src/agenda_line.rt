@@ -2,7 +2,7 @@
 
 use ep_base::{Command, InstanceId, ReplicaId};
 
-/// What a line of a script for a run asks a replica of its cluster to do.
+/// What a line of a script asks a replica of its cluster to do, in a replay and in a run alike.
 #[derive(Debug, Drop)]
 pub enum AgendaLine {
     /// The client, of number 1 or more, proposes the command at the replica.

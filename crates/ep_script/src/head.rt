@@ -4,7 +4,7 @@ ghost use Rattle.std.specs.Prelude.{◌≡◌};
 ghost use Rattle.ep_base.specs.declared.version_kind.VersionKind.TheVariants.{V3};
 ghost use Rattle.ep_script.specs.Heads.{OpensIn, first_head};
 
-use crate::opening::Opening;
+use crate::script_opening::ScriptOpening;
 use ep_base::{Generation, Size, Version};
 use std::alloc::Global;
 use std::marker::Model;
@@ -15,7 +15,7 @@ use std::marker::Model;
 pub struct Head {
     size: Size,
     version: Version,
-    opening: Opening,
+    opening: ScriptOpening,
 }
 
 impl Model for Head {
@@ -36,12 +36,12 @@ impl Head {
         Head {
             size,
             version: Version::V2,
-            opening: Opening::none(alloc),
+            opening: ScriptOpening::none(alloc),
         }
     }
 
     /// The head of a script of this generation.
-    pub(crate) fn of_generation(size: Size, generation: Generation, opening: Opening) -> Head
+    pub(crate) fn of_generation(size: Size, generation: Generation, opening: ScriptOpening) -> Head
         ensures { result ≡ record { faults = size; version = V3 generation; opening = opening } }
     {
         Head {
@@ -67,7 +67,7 @@ impl Head {
     }
 
     /// What the replicas open with.
-    pub fn opening(&self) -> &Opening
+    pub fn opening(&self) -> &ScriptOpening
         ensures { result.now ≡ self.now.opening }
     {
         &self.opening

@@ -5,10 +5,10 @@ ghost use Rattle.ep_script.specs.Fits.{IsOfOpening};
 ghost use Rattle.ep_script.specs.Heads.{open_head, head_of, after_opening};
 ghost use Rattle.ep_script.specs.declared.opening_line.OpeningLine.TheVariants.{Since, Entry as OfKey};
 
-use crate::entries::Entries;
 use crate::head::Head;
-use crate::opening::Opening;
+use crate::opening_entries::OpeningEntries;
 use crate::opening_line::OpeningLine;
+use crate::script_opening::ScriptOpening;
 use ep_base::{Generation, Key, Size, Value};
 use std::alloc::{AllocError, Global};
 use std::marker::Model;
@@ -20,7 +20,7 @@ pub(crate) struct OpenHead {
     size: Size,
     generation: Generation,
     since: Option<u64>,
-    entries: Entries,
+    entries: OpeningEntries,
 }
 
 impl Model for OpenHead {
@@ -43,7 +43,7 @@ impl OpenHead {
             size,
             generation,
             since: None,
-            entries: Entries::new(alloc),
+            entries: OpeningEntries::new(alloc),
         }
     }
 
@@ -80,8 +80,8 @@ impl OpenHead {
     pub(crate) fn close(&mut self, alloc: Global) -> Head
         ensures { result ≡ head_of self.old }
     {
-        let entries = replace(&mut self.entries, Entries::new(alloc));
-        let opening = Opening::new(entries.into_items(), self.since.unwrap_or(0));
+        let entries = replace(&mut self.entries, OpeningEntries::new(alloc));
+        let opening = ScriptOpening::new(entries.into_items(), self.since.unwrap_or(0));
         Head::of_generation(self.size, self.generation, opening)
     }
 }

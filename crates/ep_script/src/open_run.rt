@@ -12,7 +12,7 @@ use crate::reading_run::read_run_line;
 use crate::run_line::RunLine;
 use crate::run_script::RunScript;
 use crate::script_kind::ScriptKind;
-use crate::section::Section;
+use crate::script_section::ScriptSection;
 use crate::weather_line::WeatherLine;
 use std::alloc::{AllocError, Global};
 use std::marker::Model;
@@ -21,8 +21,8 @@ use std::marker::Model;
 #[derive(Drop)]
 pub(crate) struct OpenRun {
     head: Head,
-    ended: Vec<Section>,
-    current: Section,
+    ended: Vec<ScriptSection>,
+    current: ScriptSection,
 }
 
 impl Model for OpenRun {
@@ -46,7 +46,7 @@ impl ScriptKind for OpenRun {
         OpenRun {
             head,
             ended: Vec::new(alloc),
-            current: Section::new(alloc),
+            current: ScriptSection::new(alloc),
         }
     }
 
@@ -87,7 +87,7 @@ impl OpenRun {
     fn end_section(&mut self, alloc: Global) -> Result<(), AllocError>
         ensures { OnOk result (self.new ≡ record { head = self.old.head; ended = self.old.ended ++ self.old.current ∷ []; current = no_section }) }
     {
-        let current = std::mem::replace(&mut self.current, Section::new(alloc));
+        let current = std::mem::replace(&mut self.current, ScriptSection::new(alloc));
         self.ended.push(current)?;
         Ok(())
     }

@@ -16,7 +16,7 @@ use ep_base::{Command, CommandFault, InstanceId, Key, ReplicaId, Size, Touching,
 use std::alloc::{AllocError, Global};
 
 /// The highest number of an instance.
-const HIGHEST_NUMBER: u64 = 2000;
+const HIGHEST_NUMBER: u64 = InstanceId::HIGHEST_NUMBER as u64;
 
 /// A number from 1 to 4,294,967,295: a client, a message or a place.
 pub(crate) fn count(word: &[u8]) -> Option<u32>

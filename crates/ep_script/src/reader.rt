@@ -6,11 +6,11 @@ ghost use Rattle.ep_script.specs.Faults.{is_read_failed};
 ghost use Rattle.ep_script.specs.Plan.{read_of, script_of, run_of};
 ghost use Rattle.ep_script.specs.Outcome.{IsScript};
 
-use crate::draft::Draft;
 use crate::got::Got;
 use crate::open_run::OpenRun;
 use crate::run_script::RunScript;
 use crate::script::Script;
+use crate::script_draft::ScriptDraft;
 use crate::script_fault::ScriptFault;
 use crate::script_kind::ScriptKind;
 use crate::window::Window;
@@ -46,7 +46,7 @@ fn read<P: ScriptKind, S: Source>(alloc: Global, source: &mut S) -> Result<P, Sc
 {
     let mut window = Window::new();
     let mut line = Vec::new(alloc);
-    let mut draft = Draft::new();
+    let mut draft = ScriptDraft::new();
     for number in 1..=LINES {
         match window.line(source, &mut line)? {
             Got::End => return draft.end(alloc, number),

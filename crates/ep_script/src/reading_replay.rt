@@ -2,9 +2,9 @@
 
 ghost use Rattle.std.specs.Prelude.{◌≡◌, [], IfOk, map, option_map};
 ghost use Rattle.ep_base.specs.Quorums.{size as size_with};
-ghost use Rattle.ep_script.specs.declared.line.Line.TheVariants.{Execute};
+ghost use Rattle.ep_script.specs.declared.line.Line.TheVariants.{Agenda, Execute};
 ghost use Rattle.ep_script.specs.Parts.{words_of};
-ghost use Rattle.ep_script.specs.Grammar.{counts_after, deliver_of, flush_of, place_of, in_replay, agenda_line, replay_line};
+ghost use Rattle.ep_script.specs.Grammar.{counts_after, deliver_of, flush_of, place_of, agenda_line, replay_line};
 
 use crate::line::Line;
 use crate::messages::Messages;
@@ -44,12 +44,12 @@ fn shared(
     version: Version,
     words: &[u8],
 ) -> Result<Option<Line>, AllocError>
-    ensures { IfOk result (λ l. l ≡ option_map in_replay (agenda_line (size_with size) version (words_of words.now))) }
+    ensures { IfOk result (λ l. l ≡ option_map (λ a. Agenda a) (agenda_line (size_with size) version (words_of words.now))) }
 {
     let Some(asked) = read_agenda_line(alloc, size, version, words)? else {
         return Ok(None);
     };
-    Ok(Some(Line::from(asked)))
+    Ok(Some(Line::Agenda(asked)))
 }
 
 fn execute(size: Size, words: &[u8]) -> Option<Line>

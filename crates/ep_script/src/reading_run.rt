@@ -9,8 +9,8 @@ ghost use Rattle.ep_script.specs.Grammar.{kind_of, section_of, weather_of, agend
 use crate::operands::{count, replica};
 use crate::reading::read_agenda_line;
 use crate::run_line::RunLine;
-use crate::weather_kind::WeatherKind;
 use crate::weather_line::WeatherLine;
+use crate::weather_word::WeatherWord;
 use crate::words::{is_word, next_word};
 use ep_base::{Size, Version};
 use std::alloc::{AllocError, Global};
@@ -34,29 +34,29 @@ pub(crate) fn read_run_line(
 }
 
 // What becomes of a frame, by the first word of a line.
-fn kind(word: &[u8]) -> Option<WeatherKind>
+fn kind(word: &[u8]) -> Option<WeatherWord>
     ensures { result ≡ kind_of word.now }
 {
     if is_word(word, b"drop") {
-        return Some(WeatherKind::Drop);
+        return Some(WeatherWord::Drop);
     }
     if is_word(word, b"hold") {
-        return Some(WeatherKind::Hold);
+        return Some(WeatherWord::Hold);
     }
     if is_word(word, b"repeat") {
-        return Some(WeatherKind::Repeat);
+        return Some(WeatherWord::Repeat);
     }
     None
 }
 
-fn weather(size: Size, kind: WeatherKind, words: &[u8]) -> Option<RunLine>
+fn weather(size: Size, kind: WeatherWord, words: &[u8]) -> Option<RunLine>
     ensures { result ≡ option_map (λ l. Weather l) (weather_of (size_with size) kind (words_of words.now)) }
 {
     let line = weather_line(size, kind, words)?;
     Some(RunLine::Weather(line))
 }
 
-fn weather_line(size: Size, kind: WeatherKind, words: &[u8]) -> Option<WeatherLine>
+fn weather_line(size: Size, kind: WeatherWord, words: &[u8]) -> Option<WeatherLine>
     ensures { result ≡ weather_of (size_with size) kind (words_of words.now) }
 {
     let (first, after) = next_word(words)?;

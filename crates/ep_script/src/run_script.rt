@@ -5,7 +5,7 @@ ghost use Rattle.ep_base.specs.Quorums.{size as size_with};
 ghost use Rattle.ep_script.specs.Fits.{AllFit};
 
 use crate::head::Head;
-use crate::section::Section;
+use crate::script_section::ScriptSection;
 use ep_base::Size;
 use std::marker::Model;
 
@@ -15,7 +15,7 @@ use std::marker::Model;
 #[derive(Debug, Drop)]
 pub struct RunScript {
     head: Head,
-    sections: Vec<Section>,
+    sections: Vec<ScriptSection>,
 }
 
 impl Model for RunScript {
@@ -31,7 +31,7 @@ impl Model for RunScript {
 }
 
 impl RunScript {
-    pub(crate) fn new(head: Head, sections: Vec<Section>) -> RunScript
+    pub(crate) fn new(head: Head, sections: Vec<ScriptSection>) -> RunScript
         requires { AllFit (size_with head.faults) sections.items }
         ensures { result ≡ record { head = head; sections = sections.items } }
     {
@@ -53,7 +53,7 @@ impl RunScript {
     }
 
     /// The sections, in order. What follows the last line `section` is one if it has a line.
-    pub fn sections(&self) -> &[Section]
+    pub fn sections(&self) -> &[ScriptSection]
         ensures value { result.now ≡ self.now.sections }
         ensures fit { AllFit (size_with self.now.head.faults) self.now.sections }
     {

@@ -3,13 +3,13 @@
 ghost use Rattle.std.specs.Prelude.{◌≡◌};
 ghost use Rattle.ep_script.specs.Frames.{frame_of};
 
-use crate::weather_kind::WeatherKind;
+use crate::weather_word::WeatherWord;
 use ep_base::ReplicaId;
 
 /// What becomes of one frame: the `count`-th, from 1, of those that `from` puts for `to` in the section.
 #[derive(Clone, Copy, Debug, PartialEq, Eq)]
 pub struct WeatherLine {
-    pub kind: WeatherKind,
+    pub kind: WeatherWord,
     pub from: ReplicaId,
     pub to: ReplicaId,
     pub count: u32,

@@ -1,8 +1,6 @@
 -- What a replica takes, it has behind what it had.
-use Rattle.std.proofs.Common.{◌≡◌, ℕ, zero, suc, ◌≤◌, length, take, List, [], ◌∷◌, ◌++◌, append-nil, append_assoc, Result, Ok, Err, inl, inr, sym, ◌∙◌, subst}
-use Rattle.std.specs.Prelude.{MatchResult}
+use Rattle.std.proofs.Common.{◌≡◌, ℕ, zero, suc, ◌≤◌, length, take, List, [], ◌∷◌, ◌++◌, append-nil, append_assoc, inl, inr, sym, ◌∙◌, subst}
 use Rattle.std.proofs.lemmas.List.{take-append-le}
-use Rattle.ep_frame.specs.Faults.{fault_of}
 use Rattle.ep_bundle.specs.Reading.{Left}
 use Rattle.ep_journal.specs.declared.entry.Entry.{Entry}
 use Rattle.ep_journal.specs.declared.event.Event.{Event as Happening}
@@ -44,10 +42,6 @@ takes_or_not k k' e State h = absurd h
 takes_or_not k k' e (Ready after most) h = absurd h
 takes_or_not k k' e (Malformed m) h = absurd h
 
-handles : {A B : Type 0} (r : Result A B) (k k' : Kept) (e : Happening) (d d' : Due) → MatchResult r (λ _. TakesOrRefuses k e d k') (λ _. (d ≡ d') × (k' ≡ k)) → Extends k k'
-handles (Ok x) k k' e d d' h = takes_or_not k k' e d h
-handles (Err x) k k' e d d' h = extends_same k k' h.1
-
 executes : (n : ℕ) (k k' : Kept) → Executes n k k' → Extends k k'
 executes zero k k' h = extends_same k k' h.1
 executes (suc n) k k' h = extends_more k h.0 k' (h.1.2.0 ∷ [], h.1.2.1.appended) (executes n h.0 k' h.2)
@@ -57,14 +51,11 @@ executes_each k k' [] h = extends_same k k' h
 executes_each k k' (i ∷ is) h = extends_more k h.0 k' (takes_more k h.0 (event.Execute i) h.2) (executes_each h.0 k' is h.3)
 
 pub acts_more : (k k' : Kept) (r : Request) (d : Due) → Acts k r d k' → Extends k k'
-acts_more k k' (request.Propose client number seen command) d h = elim h [
+acts_more k k' (request.Event e) d h = elim h [
   | inl far ↦ extends_same k k' far.2
-  | inr near ↦ takes_or_not k k' (event.Propose client number command seen) d near.1
+  | inr near ↦ takes_or_not k k' e d near.1
 ]
-acts_more k k' (request.Frame bytes) d h = handles (fault_of bytes) k k' (event.Handle bytes) d _ h
-acts_more k k' (request.GiveUp i) d h = takes_or_not k k' (event.GiveUp i) d h
-acts_more k k' (request.Recover i) d h = takes_or_not k k' (event.Recover i) d h
-acts_more k k' (request.Execute i) d h = takes_or_not k k' (event.Execute i) d h
+acts_more k k' request.BadFrame d h = extends_same k k' h.1
 acts_more k k' request.Advance d h = executes h.0 k k' h.1
 acts_more k k' (request.Get key) d h = extends_same k k' h.1
 acts_more k k' (request.NextOpen after) d h = extends_same k k' h.1

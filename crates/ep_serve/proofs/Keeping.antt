@@ -7,7 +7,7 @@ use Rattle.ep_log.specs.Bytes.{LogRecord, entries_in, header_bytes, log_bytes, r
 use Rattle.ep_log.specs.Origins.{Origin}
 use Rattle.ep_log.specs.Reading.{IsBeginning}
 use Rattle.ep_log.specs.declared.log_version.LogVersion.TheVariants.{Three}
-use Rattle.ep_node.proofs.Growing.{records-append}
+use Rattle.ep_log.proofs.Sequences.{records_append}
 use Rattle.ep_node.specs.Nodes.{IsCut, IsQuiet, Logged}
 use Rattle.ep_device.specs.Device.{LeavesOnly}
 use Rattle.ep_replica.specs.Kept.{Kept}
@@ -22,7 +22,7 @@ begins_less o f me rs more c h =
     let at : ℕ = length (header_bytes o f me) in
     let later : List ℕ = records_in Three o.version (at + length (records_in Three o.version at rs)) more in
     let whole : log_bytes o f me (rs ++ more) ≡ log_bytes o f me rs ++ later =
-    ap (λ (x : List ℕ). header_bytes o f me ++ x) (records-append Three o.version at rs more) ∙ sym (append_assoc (header_bytes o f me) (records_in Three o.version at rs) later) in
+    ap (λ (x : List ℕ). header_bytes o f me ++ x) (records_append Three o.version at rs more) ∙ sym (append_assoc (header_bytes o f me) (records_in Three o.version at rs) later) in
     (later ++ h.0, h.1 ∙ ap (λ (x : List ℕ). x ++ h.0) whole ∙ append_assoc (log_bytes o f me rs) later h.0)
 
 entries_of_first : (n : ℕ) (rs : List LogRecord) → entries_in (take n rs) ≡ take n (entries_in rs)
@@ -66,10 +66,6 @@ leaves_on seen moment left_since n new leaves = λ bytes was. record {
     | inr cut ↦ inr (cut_keeps n n.synced c cut)
   ];
 }
-
--- a call that doesn't touch the device
-pub stays_on : {D : Type 0} (digest : List ℕ) (seen : D → Option (List ℕ)) (moment : D → ℕ) (left_since : D → ℕ → List ℕ → Type 0) (old new : D) (k : Kept) (n : ℕ) → new ≡ old → GoesOn digest seen moment left_since old new k n
-stays_on digest seen moment left_since old new k n same = subst (λ x. GoesOn digest seen moment left_since old x k n) (sym same) (λ bytes was. record { later = omega arith; keeps = λ t c le left. inl left })
 
 -- of another replica with the same first entries
 

@@ -1,26 +1,25 @@
 -- What a request does to a node's replica, and the answer that is due for it.
-use Rattle.std.specs.Prelude.{◌≡◌, ◌⊎◌, ℕ, zero, suc, ◌+◌, ◌-◌, ◌<◌, ◌^◌, Bool, true, false, List, [], ◌∷◌, length, MatchResult}
+use Rattle.std.specs.Prelude.{◌≡◌, ◌⊎◌, ℕ, zero, suc, ◌+◌, ◌-◌, ◌<◌, ◌^◌, Bool, true, false, List, [], ◌∷◌, length}
 use Rattle.ep_base.specs.Instances.{leader_of}
-use Rattle.ep_frame.specs.Faults.{fault_of}
 use Rattle.ep_journal.specs.Entries.{entries_of}
 use Rattle.ep_journal.specs.declared.event.Event.{Event as Happening}
 use Rattle.ep_journal.specs.declared.event.Event.TheVariants as event
 use Rattle.ep_journal.specs.declared.step_fault.StepFault.TheVariants.{StampFull}
 use Rattle.ep_node.specs.Executing.{IsOutstanding, IsTried}
-use Rattle.ep_node.specs.Nodes.{Takes}
+use Rattle.ep_node.specs.Nodes.{Logged, Takes}
 use Rattle.ep_replica.specs.Applied.{IsDeclined}
 use Rattle.ep_replica.specs.Kept.{Kept}
 use Rattle.ep_replica.specs.Pending.{ExecutesNext, IsWaiting}
 use Rattle.ep_rules.specs.Journals.{stamp_after}
 use Rattle.ep_serve.specs.declared.due.Due.{Due}
 use Rattle.ep_serve.specs.declared.due.Due.TheVariants.{Taken, Refused, Value, Open, Leads, Synced, State, Ready, Malformed}
-use Rattle.ep_wire.specs.declared.refusal.Refusal.{Refusal}
-use Rattle.ep_wire.specs.declared.refusal.Refusal.TheVariants.{BadFrame, Step}
+use Rattle.ep_wire.specs.declared.take_fault.TakeFault.{TakeFault}
+use Rattle.ep_wire.specs.declared.take_fault.TakeFault.TheVariants.{BadFrame, Step}
 use Rattle.ep_wire.specs.declared.request.Request.{Request}
 use Rattle.ep_wire.specs.declared.request.Request.TheVariants as request
 
 -- why an event isn't taken
-abbrev pub IsRefusal : Kept → Happening → Refusal → Type 0
+abbrev pub IsRefusal : Kept → Happening → TakeFault → Type 0
 IsRefusal k happening BadFrame = ⊥
 IsRefusal k happening (Step fault) = IsDeclined k happening fault
 
@@ -40,13 +39,17 @@ TakesOrRefuses k happening (Malformed m) k' = ⊥
 abbrev pub IsFarAhead : Kept → ℕ → Type 0
 IsFarAhead k seen = stamp_after k.opening.since (entries_of k.entries) + 2 ^ 40 < seen
 
--- a proposal whose client has seen so high a stamp is refused as one for which no stamp is left, and nothing changes; any other is taken, or refused
-abbrev pub Proposes : Kept → ℕ → Happening → Due → Kept → Type 0
-Proposes k seen happening due k' = (IsFarAhead k seen × (due ≡ Refused (Step StampFull)) × (k' ≡ k)) ⊎ ((¬ IsFarAhead k seen) × TakesOrRefuses k happening due k')
+-- the stamp that an event's client has seen; 0 where no client asks for it
+abbrev pub seen_by : Happening → ℕ
+seen_by (event.Propose client number command seen) = seen
+seen_by (event.Handle frame) = 0
+seen_by (event.GiveUp i) = 0
+seen_by (event.Recover i) = 0
+seen_by (event.Execute i) = 0
 
--- bytes that are no frame are refused; a frame is handled
-abbrev pub Handles : Kept → List ℕ → Due → Kept → Type 0
-Handles k bytes due k' = MatchResult (fault_of bytes) (λ _. TakesOrRefuses k (event.Handle bytes) due k') (λ _. (due ≡ Refused BadFrame) × (k' ≡ k))
+-- an event whose client has seen so high a stamp is refused as one for which no stamp is left, and nothing changes; any other is taken, or refused
+abbrev pub TakesNear : Kept → Happening → Due → Kept → Type 0
+TakesNear k happening due k' = (IsFarAhead k (seen_by happening) × (due ≡ Refused (Step StampFull)) × (k' ≡ k)) ⊎ ((¬ IsFarAhead k (seen_by happening)) × TakesOrRefuses k happening due k')
 
 -- so many times the least own instance that is ready is executed, and then none is, or one is refused for want of memory or a full stamp
 abbrev pub Executes : ℕ → Kept → Kept → Type 0
@@ -91,11 +94,8 @@ abbrev pub Asks : Kept → Due → Due → Kept → Type 0
 Asks k asked due k' = (due ≡ asked) × (k' ≡ k)
 
 abbrev pub Acts : Kept → Request → Due → Kept → Type 0
-Acts k (request.Propose client number seen command) due k' = Proposes k seen (event.Propose client number command seen) due k'
-Acts k (request.Frame bytes) due k' = Handles k bytes due k'
-Acts k (request.GiveUp i) due k' = TakesOrRefuses k (event.GiveUp i) due k'
-Acts k (request.Recover i) due k' = TakesOrRefuses k (event.Recover i) due k'
-Acts k (request.Execute i) due k' = TakesOrRefuses k (event.Execute i) due k'
+Acts k (request.Event happening) due k' = TakesNear k happening due k'
+Acts k request.BadFrame due k' = (due ≡ Refused BadFrame) × (k' ≡ k)
 Acts k request.Advance due k' = AdvancesAll k due k'
 Acts k (request.Get key) due k' = Asks k (Value key) due k'
 Acts k (request.NextOpen after) due k' = Asks k (Open after) due k'
@@ -105,3 +105,18 @@ Acts k request.State due k' = Asks k State due k'
 Acts k request.ExecuteAll due k' = ExecutesAll k due k'
 Acts k (request.Ready after most) due k' = Asks k (Ready after most) due k'
 Acts k (request.Malformed m) due k' = Asks k (Malformed m) due k'
+
+-- Why a request wasn't done: an event is passed over by a node whose device has failed; those that execute several instances may have executed some of them;
+-- and no other fails.
+abbrev pub IsUndone : {D : Type 0} → Logged D → Request → Logged D → Type 0
+IsUndone n (request.Event happening) n' = (n.closed ≡ true) × (n' ≡ n)
+IsUndone n request.BadFrame n' = ⊥
+IsUndone n request.Advance n' = Unit {0}
+IsUndone n (request.Get key) n' = ⊥
+IsUndone n (request.NextOpen after) n' = ⊥
+IsUndone n (request.Leads i) n' = ⊥
+IsUndone n request.Sync n' = ⊥
+IsUndone n request.State n' = ⊥
+IsUndone n request.ExecuteAll n' = Unit {0}
+IsUndone n (request.Ready after most) n' = ⊥
+IsUndone n (request.Malformed m) n' = ⊥

@@ -8,14 +8,14 @@ use Rattle.ep_base.specs.Versions.{generation_of}
 use Rattle.ep_base.specs.declared.decree.Decree.{Decree}
 use Rattle.ep_base.specs.declared.version.Version.{Version}
 use Rattle.ep_frame.specs.Fields.{number_bytes}
-use Rattle.ep_journal.specs.Entries.{entry_of, entries_of}
+use Rattle.ep_journal.specs.Entries.{entry_of, entries_of, frames_of}
 use Rattle.ep_journal.specs.declared.entry.Entry.{Entry}
 use Rattle.ep_phase.specs.Progress.{progress_in}
 use Rattle.ep_phase.specs.declared.progress.LeadPhase.{LeadPhase}
 use Rattle.ep_phase.specs.declared.progress.LeadPhase.TheVariants as phase
 use Rattle.ep_replica.specs.Kept.{Kept}
 use Rattle.ep_replica.specs.Pending.{state_of}
-use Rattle.ep_node.specs.Telling.{commits_by, executed_by, frames_of, AreOpen}
+use Rattle.ep_node.specs.Telling.{commits_by, executed_by, AreOpen}
 use Rattle.ep_node.specs.declared.open_instance.OpenInstance.{OpenInstance}
 use Rattle.ep_replica.specs.Receipts.{receipts_after, receipts_of}
 use Rattle.ep_rules.specs.Journals.{stamp_after}
@@ -28,8 +28,8 @@ use Rattle.ep_space.specs.Open.{IsNextOpen}
 use Rattle.ep_serve.specs.declared.due.Due.{Due}
 use Rattle.ep_serve.specs.declared.due.Due.TheVariants.{Taken, Refused, Value, Open, Leads, Synced, State, Ready, Malformed}
 use Rattle.ep_wire.specs.Answers.{entry_bytes, instance_bytes, instances_bytes, leading_bytes, malformed_bytes, open_bytes, ready_bytes, refused_bytes, sealed_code, sent_bytes, state_bytes, synced_bytes, taken_as, taken_bytes, told_receipts_bytes, value_bytes}
-use Rattle.ep_wire.specs.declared.leading.Leading.{Leading}
-use Rattle.ep_wire.specs.declared.leading.Leading.TheVariants.{Proposing, Accepting, Preparing}
+use Rattle.ep_wire.specs.declared.lead_progress.LeadProgress.{LeadProgress}
+use Rattle.ep_wire.specs.declared.lead_progress.LeadProgress.TheVariants.{Proposing, Accepting, Preparing}
 use Rattle.ep_wire.specs.declared.node_state.NodeState.{NodeState}
 
 -- an entry, with the receipts of what it executed
@@ -40,7 +40,7 @@ told_entry k e = entry_bytes k.version e (receipts_of k.me (entries_of k.entries
 abbrev pub told_from : Kept → ℕ → ℕ → List ℕ
 told_from k from count = flat_map (told_entry k) (take count (drop from k.entries))
 
-abbrev pub leading_of : LeadPhase × ℕ → Leading
+abbrev pub leading_of : LeadPhase × ℕ → LeadProgress
 leading_of (phase.Proposing, n) = Proposing n
 leading_of (phase.Accepting, n) = Accepting n
 leading_of (phase.Preparing, n) = Preparing n
@@ -124,6 +124,14 @@ IsTold k (Malformed m) bytes = bytes ≡ malformed_bytes m
 abbrev pub AllTold : Kept → List Due → List ℕ → Type 0
 AllTold k [] bytes = bytes ≡ []
 AllTold k (d ∷ ds) bytes = (first rest : List ℕ) × IsTold k d first × AllTold k ds rest × (bytes ≡ first ++ rest)
+
+-- the answers that waited, and behind them all that there is to tell of the entries after the first ones, so many, and of so many open instances
+pub record AllAnswered (k : Kept) (ds : List Due) (after most : ℕ) (bytes : List ℕ) : Type 0 where
+  pub waited : List ℕ
+  pub ready : List ℕ
+  pub all : AllTold k ds waited
+  pub last : IsTold k (Ready after most) ready
+  pub is : bytes ≡ waited ++ ready
 
 -- the answer was appended to the bytes that a sink holds, where they are known
 pub record Tells (k : Kept) (d : Due) (old new : Option (List ℕ)) : Type 0 where

@@ -3,7 +3,7 @@
 use Rattle.std.specs.Prelude.{◌≡◌, ◌⊎◌, ℕ, zero, suc, ◌<◌, Bool, true, false, List, [], ◌∷◌, ◌++◌, length, Option, Some, None, Result, Ok, Err, IsErr}
 use Rattle.std.specs.Io.KnownBytes.{Appends}
 use Rattle.ep_bundle.specs.Reading.{Left}
-use Rattle.ep_device.specs.declared.cause.Cause.{Cause}
+use Rattle.ep_device.specs.declared.system_fault.SystemFault.{SystemFault}
 use Rattle.ep_node.specs.Nodes.{IsQuiet, Logged}
 use Rattle.ep_replica.specs.Kept.{Kept}
 use Rattle.ep_serve.specs.Acting.{Acts}
@@ -31,11 +31,8 @@ AreRead how l (r ∷ rs) l' = (m : Left) × (next_request how l ≡ Ok (Some r, 
 -- Which answers may wait.
 
 abbrev pub is_sync : Request → Bool
-is_sync (request.Propose client number seen command) = false
-is_sync (request.Frame bytes) = false
-is_sync (request.GiveUp i) = false
-is_sync (request.Recover i) = false
-is_sync (request.Execute i) = false
+is_sync (request.Event happening) = false
+is_sync request.BadFrame = false
 is_sync request.Advance = false
 is_sync (request.Get key) = false
 is_sync (request.NextOpen after) = false
@@ -180,7 +177,7 @@ is_log_failed WriteFailed = false
 is_log_failed (LogFailed cause) = true
 
 -- where the log failed, the fault names why its device did first
-abbrev pub Names : ServeFault → Option Cause → Type 0
+abbrev pub Names : ServeFault → Option SystemFault → Type 0
 Names Memory why = Unit {0}
 Names ReadFailed why = Unit {0}
 Names (BadRequest at) why = Unit {0}

@@ -1,18 +1,16 @@
 //! What a request does to a node.
 
-ghost use Rattle.std.specs.Prelude.{◌≡◌, ◌↔◌, ℕ, IsTrue, IfOk};
+ghost use Rattle.std.specs.Prelude.{◌≡◌, ◌↔◌, ℕ, true, IsTrue, IfOk, OnErr};
 ghost use Rattle.ep_node.specs.Nodes.{Logged};
 ghost use Rattle.ep_replica.specs.Kept.{Kept};
-ghost use Rattle.ep_serve.specs.Acting.{Acts, AdvancesAll, Handles, IsFarAhead, Proposes, TakesOrRefuses};
+ghost use Rattle.ep_serve.specs.Acting.{seen_by, Acts, AdvancesAll, IsFarAhead, IsUndone, TakesNear, TakesOrRefuses};
 
 use crate::due::Due;
 use crate::executing::execute_all;
-use bytes::Bytes;
 use ep_device::Device;
-use ep_frame::Frame;
 use ep_journal::{Event, StepFault};
 use ep_node::{Node, NodeFault};
-use ep_wire::{Refusal, Request};
+use ep_wire::{Request, TakeFault};
 use std::alloc::AllocError;
 
 /// How far above the stamp of the replica's last entry a stamp may be that a client has seen: 2^40. Stamps are below 2^48, and
@@ -23,45 +21,52 @@ const REACH: u64 = 1_099_511_627_776;
 fn take<D: Device>(node: &mut Node<D>, event: Event) -> Result<Due, AllocError>
     ensures ok { IfOk result (λ due. TakesOrRefuses node.old.replica event due node.new.replica) }
     ensures same { node.new ≡ record node.old { replica = node.new.replica } }
+    ensures err { OnErr result ((node.old.closed ≡ true) × (node.new ≡ node.old)) }
 {
     let from = node.taken();
     match node.step(event) {
         Ok(()) => Ok(Due::Taken { from, count: 1 }),
-        Err(NodeFault::Refused(fault)) => Ok(Due::Refused(Refusal::Step(fault))),
+        Err(NodeFault::Refused(fault)) => Ok(Due::Refused(TakeFault::Step(fault))),
         // No other fault comes of a node whose device works.
         Err(_) => Err(AllocError),
     }
 }
 
 /// Whether a client has seen a stamp that is too far ahead of the replica's.
-fn is_far_ahead<D: Device>(node: &Node<D>, seen: u64) -> bool
+pub fn is_far_ahead<D: Device>(node: &Node<D>, seen: u64) -> bool
     ensures { IsTrue result ↔ IsFarAhead node.now.replica seen }
 {
     let last = node.last_stamp();
     last < seen && REACH < seen - last
 }
 
-/// The node takes a proposal whose client has seen this stamp, or refuses it.
-fn propose<D: Device>(node: &mut Node<D>, seen: u64, event: Event) -> Result<Due, AllocError>
-    ensures ok { IfOk result (λ due. Proposes node.old.replica seen event due node.new.replica) }
-    ensures same { node.new ≡ record node.old { replica = node.new.replica } }
+/// The stamp that the event's client has seen; 0 where no client asks for it.
+fn seen_by(event: &Event) -> u64
+    ensures { result ≡ seen_by event.now }
 {
-    if is_far_ahead(node, seen) {
-        drop(event);
-        return Ok(Due::Refused(Refusal::Step(StepFault::StampFull)));
+    match event {
+        Event::Propose {
+            client: _,
+            request: _,
+            command: _,
+            seen,
+        } => *seen,
+        Event::Handle(_) | Event::GiveUp(_) | Event::Recover(_) | Event::Execute(_) => 0,
     }
-    take(node, event)
 }
 
-/// The node handles bytes, if they are a frame.
-fn handle<D: Device>(node: &mut Node<D>, bytes: Bytes) -> Result<Due, AllocError>
-    ensures ok { IfOk result (λ due. Handles node.old.replica bytes due node.new.replica) }
+/// The node takes an event unless its client has seen a stamp that is too far ahead, or refuses it.
+fn take_near<D: Device>(node: &mut Node<D>, event: Event) -> Result<Due, AllocError>
+    ensures ok { IfOk result (λ due. TakesNear node.old.replica event due node.new.replica) }
     ensures same { node.new ≡ record node.old { replica = node.new.replica } }
+    ensures err { OnErr result ((node.old.closed ≡ true) × (node.new ≡ node.old)) }
 {
-    match Frame::read(bytes) {
-        Ok(frame) => take(node, Event::Handle(frame)),
-        Err(_) => Ok(Due::Refused(Refusal::BadFrame)),
+    let seen = seen_by(&event);
+    if is_far_ahead(node, seen) {
+        drop(event);
+        return Ok(Due::Refused(TakeFault::Step(StepFault::StampFull)));
     }
+    take(node, event)
 }
 
 /// The node executes all own instances that are ready, in rising order, until none is.
@@ -83,31 +88,16 @@ fn advance<D: Device>(node: &mut Node<D>) -> Result<Due, AllocError>
     Err(AllocError)
 }
 
-/// What the request does, and the answer that is due for it.
-pub(crate) fn act<D: Device>(node: &mut Node<D>, request: Request) -> Result<Due, AllocError>
+/// Does what the request asks, none of which is on the disk yet, and tells the answer that is due for it. `Err` for want of memory: an execution of
+/// several instances may have been done in part. No other request fails at a node whose device works.
+pub fn act<D: Device>(node: &mut Node<D>, request: Request) -> Result<Due, AllocError>
     ensures ok { IfOk result (λ due. Acts node.old.replica request due node.new.replica) }
     ensures same { node.new ≡ record node.old { replica = node.new.replica } }
+    ensures err { OnErr result (IsUndone node.old request node.new) }
 {
     match request {
-        Request::Propose {
-            client,
-            request,
-            seen,
-            command,
-        } => propose(
-            node,
-            seen,
-            Event::Propose {
-                client,
-                request,
-                command,
-                seen,
-            },
-        ),
-        Request::Frame(bytes) => handle(node, bytes),
-        Request::GiveUp(instance) => take(node, Event::GiveUp(instance)),
-        Request::Recover(instance) => take(node, Event::Recover(instance)),
-        Request::Execute(instance) => take(node, Event::Execute(instance)),
+        Request::Event(event) => take_near(node, event),
+        Request::BadFrame => Ok(Due::Refused(TakeFault::BadFrame)),
         Request::Advance => advance(node),
         Request::Get(key) => Ok(Due::Value(key)),
         Request::NextOpen(after) => Ok(Due::Open(after)),

@@ -3,12 +3,12 @@
 ghost use Rattle.std.specs.Prelude.{◌≡◌, ◌<◌, ◌≤◌, ◌+◌, ◌^◌, true, ℕ, List, Some, OnOk, IfOk, length, slice_get};
 ghost use Rattle.std.specs.Io.KnownBytes.{Appends};
 ghost use Rattle.ep_journal.specs.declared.entry.Entry.{Entry as Written};
-ghost use Rattle.ep_serve.specs.Answering.{told_entry, told_from, AllTold, Tell, Tells};
+ghost use Rattle.ep_serve.specs.Answering.{told_entry, told_from, AllAnswered, AllTold, Tell, Tells};
 ghost use Rattle.ep_serve.specs.declared.due.Due.TheVariants.{Synced, Taken};
 
+use crate::answer_fault::AnswerFault;
 use crate::asked::{put_asked_lead, put_asked_open, put_asked_state, put_asked_value};
 use crate::due::Due;
-use crate::no_room::NoRoom;
 use crate::readying::put_ready;
 use ep_base::{Noted, Sink};
 use ep_bundle::{learn_entry, put_u32};
@@ -16,7 +16,7 @@ use ep_device::Device;
 use ep_node::Node;
 use ep_replica::Replica;
 use ep_wire::{put_entry, write_malformed, write_refused, write_synced, write_taken};
-use std::alloc::Global;
+use std::alloc::{AllocError, Global};
 
 /// Answers are begun with room for so many bytes, as most have fewer, so that they needn't grow.
 const ROOM: usize = 1_024;
@@ -27,7 +27,7 @@ fn put_told_entry<K: Sink>(
     sink: &mut K,
     replica: &Replica,
     place: usize,
-) -> Result<(), NoRoom>
+) -> Result<(), AnswerFault>
     requires { place < length replica.now.entries }
     ensures { (e : Written) → slice_get replica.now.entries place ≡ Some e → OnOk result (Appends (K.held sink.old) (K.held sink.new) (told_entry replica.now e)) }
 {
@@ -35,7 +35,7 @@ fn put_told_entry<K: Sink>(
     learn_entry(journal, place);
     let receipts = replica.receipts_of(alloc, place)?;
     if receipts.len() >= 0x1_0000 {
-        return Err(NoRoom);
+        return Err(AnswerFault);
     }
     let version = replica.version();
     put_entry(sink, version, &journal.entries()[place], &receipts)?;
@@ -49,7 +49,7 @@ fn put_told_entries<K: Sink>(
     replica: &Replica,
     from: usize,
     count: usize,
-) -> Result<(), NoRoom>
+) -> Result<(), AnswerFault>
     requires there { from + count ≤ length replica.now.entries }
     requires fits { from + count < 2 ^ 64 }
     ensures { OnOk result (Appends (K.held sink.old) (K.held sink.new) (told_from replica.now from count)) }
@@ -76,33 +76,33 @@ fn put_taken<K: Sink>(
     replica: &Replica,
     from: usize,
     count: usize,
-) -> Result<(), NoRoom>
+) -> Result<(), AnswerFault>
     ensures { OnOk result (Tells replica.now (Taken from count) (K.held sink.old) (K.held sink.new)) }
 {
     let mut body = Noted::new(Vec::with_capacity(alloc, ROOM)?);
     let Ok(number) = u32::try_from(count) else {
-        return Err(NoRoom);
+        return Err(AnswerFault);
     };
     // What was taken is there.
     if !are_there(replica, from, count) {
-        return Err(NoRoom);
+        return Err(AnswerFault);
     }
     put_u32(&mut body, number)?;
     put_told_entries(alloc, &mut body, replica, from, count)?;
     let body = body.into_inner();
     if body.len() >= 0xffff_ffff {
-        return Err(NoRoom);
+        return Err(AnswerFault);
     }
     write_taken(sink, &body)?;
     Ok(())
 }
 
 /// How many entries are on the disk.
-fn put_synced<K: Sink>(sink: &mut K, replica: &Replica) -> Result<(), NoRoom>
+fn put_synced<K: Sink>(sink: &mut K, replica: &Replica) -> Result<(), AnswerFault>
     ensures { OnOk result (Tells replica.now Synced (K.held sink.old) (K.held sink.new)) }
 {
     let Ok(number) = u32::try_from(replica.journal().entries().len()) else {
-        return Err(NoRoom);
+        return Err(AnswerFault);
     };
     write_synced(sink, number)?;
     Ok(())
@@ -114,7 +114,7 @@ fn put_asked<K: Sink>(
     sink: &mut K,
     replica: &Replica,
     due: &Due,
-) -> Result<(), NoRoom>
+) -> Result<(), AnswerFault>
     ensures { OnOk result (Tells replica.now due.now (K.held sink.old) (K.held sink.new)) }
 {
     match due {
@@ -126,7 +126,7 @@ fn put_asked<K: Sink>(
         Due::Synced => put_synced(sink, replica),
         Due::State => put_asked_state(sink, replica),
         // What there is to tell the node tells.
-        Due::Ready { .. } => Err(NoRoom),
+        Due::Ready { .. } => Err(AnswerFault),
         Due::Malformed(malformed) => Ok(write_malformed(sink, *malformed)?),
     }
 }
@@ -137,7 +137,7 @@ fn put_due<D: Device, K: Sink>(
     sink: &mut K,
     node: &mut Node<D>,
     due: &Due,
-) -> Result<(), NoRoom>
+) -> Result<(), AnswerFault>
     ensures same { node.new ≡ node.old }
     ensures told { OnOk result (Tells node.old.replica due.now (K.held sink.old) (K.held sink.new)) }
 {
@@ -145,7 +145,7 @@ fn put_due<D: Device, K: Sink>(
         return put_ready(alloc, sink, node, *after, *most);
     }
     let Some(replica) = node.replica() else {
-        return Err(NoRoom);
+        return Err(AnswerFault);
     };
     put_asked(alloc, sink, replica, due)
 }
@@ -155,7 +155,7 @@ fn put_dues<D: Device, K: Sink>(
     sink: &mut K,
     node: &mut Node<D>,
     dues: &[Due],
-) -> Result<(), NoRoom>
+) -> Result<(), AnswerFault>
     ensures same { node.new ≡ node.old }
     ensures told { OnOk result (Tell node.old.replica dues.now (K.held sink.old) (K.held sink.new)) }
 {
@@ -170,11 +170,45 @@ pub(crate) fn answers_of<D: Device>(
     alloc: Global,
     node: &mut Node<D>,
     dues: &[Due],
-) -> Result<Vec<u8>, NoRoom>
+) -> Result<Vec<u8>, AnswerFault>
     ensures same { node.new ≡ node.old }
     ensures told { IfOk result (λ out. AllTold node.old.replica dues.now out.items) }
 {
     let mut sink = Noted::new(Vec::with_capacity(alloc, ROOM)?);
     put_dues(alloc, &mut sink, node, dues)?;
+    Ok(sink.into_inner())
+}
+
+/// The answers that wait, one after the other, and behind them all that there is to tell of the entries after the first ones, of which `after` were told
+/// before, and of at most `most` open instances; where all that the node took is on the disk.
+pub fn all_answers<D: Device>(
+    alloc: Global,
+    node: &mut Node<D>,
+    dues: &[Due],
+    after: u32,
+    most: u8,
+) -> Result<Vec<u8>, AllocError>
+    ensures same { node.new ≡ node.old }
+    ensures told { IfOk result (λ out. AllAnswered node.old.replica dues.now after most out.items) }
+{
+    match answers_and_ready(alloc, node, dues, after, most) {
+        Ok(out) => Ok(out),
+        Err(_) => Err(AllocError),
+    }
+}
+
+fn answers_and_ready<D: Device>(
+    alloc: Global,
+    node: &mut Node<D>,
+    dues: &[Due],
+    after: u32,
+    most: u8,
+) -> Result<Vec<u8>, AnswerFault>
+    ensures same { node.new ≡ node.old }
+    ensures told { IfOk result (λ out. AllAnswered node.old.replica dues.now after most out.items) }
+{
+    let mut sink = Noted::new(Vec::with_capacity(alloc, ROOM)?);
+    put_dues(alloc, &mut sink, node, dues)?;
+    put_ready(alloc, &mut sink, node, after, most)?;
     Ok(sink.into_inner())
 }

@@ -4,19 +4,21 @@ ghost use Rattle.std.specs.Prelude.{◌≡◌, ℕ, List, OnOk};
 ghost use Rattle.ep_serve.specs.Answering.{leading_of, Tells};
 ghost use Rattle.ep_serve.specs.declared.due.Due.TheVariants.{Leads, Open, State, Value};
 
-use crate::no_room::NoRoom;
+use crate::answer_fault::AnswerFault;
 use crate::telling::told_state;
 use ep_base::{InstanceId, Key, Sink};
 use ep_phase::LeadPhase;
 use ep_replica::Replica;
-use ep_wire::{Leading, write_instance, write_leading, write_no_value, write_state, write_value};
+use ep_wire::{
+    LeadProgress, write_instance, write_leading, write_no_value, write_state, write_value,
+};
 
 /// What the replica's map has at the key.
 pub(crate) fn put_asked_value<K: Sink>(
     sink: &mut K,
     replica: &Replica,
     key: &Key,
-) -> Result<(), NoRoom>
+) -> Result<(), AnswerFault>
     ensures { OnOk result (Tells replica.now (Value key.now) (K.held sink.old) (K.held sink.new)) }
 {
     match replica.get(key) {
@@ -31,7 +33,7 @@ pub(crate) fn put_asked_open<K: Sink>(
     sink: &mut K,
     replica: &Replica,
     after: Option<InstanceId>,
-) -> Result<(), NoRoom>
+) -> Result<(), AnswerFault>
     ensures { OnOk result (Tells replica.now (Open after) (K.held sink.old) (K.held sink.new)) }
 {
     let found = replica.next_open(after);
@@ -40,13 +42,13 @@ pub(crate) fn put_asked_open<K: Sink>(
 }
 
 /// What the replica leads, as it is written.
-pub(crate) fn leading_of(phase: LeadPhase, answers: u8) -> Leading
+pub(crate) fn leading_of(phase: LeadPhase, answers: u8) -> LeadProgress
     ensures { result ≡ leading_of (phase, answers) }
 {
     match phase {
-        LeadPhase::Proposing => Leading::Proposing(answers),
-        LeadPhase::Accepting => Leading::Accepting(answers),
-        LeadPhase::Preparing => Leading::Preparing(answers),
+        LeadPhase::Proposing => LeadProgress::Proposing(answers),
+        LeadPhase::Accepting => LeadProgress::Accepting(answers),
+        LeadPhase::Preparing => LeadProgress::Preparing(answers),
     }
 }
 
@@ -55,7 +57,7 @@ pub(crate) fn put_asked_lead<K: Sink>(
     sink: &mut K,
     replica: &Replica,
     instance: InstanceId,
-) -> Result<(), NoRoom>
+) -> Result<(), AnswerFault>
     ensures { OnOk result (Tells replica.now (Leads instance) (K.held sink.old) (K.held sink.new)) }
 {
     let leading = match replica.leads(instance) {
@@ -67,11 +69,11 @@ pub(crate) fn put_asked_lead<K: Sink>(
 }
 
 /// What the node tells of itself.
-pub(crate) fn put_asked_state<K: Sink>(sink: &mut K, replica: &Replica) -> Result<(), NoRoom>
+pub(crate) fn put_asked_state<K: Sink>(sink: &mut K, replica: &Replica) -> Result<(), AnswerFault>
     ensures { OnOk result (Tells replica.now State (K.held sink.old) (K.held sink.new)) }
 {
     let Some(state) = told_state(replica) else {
-        return Err(NoRoom);
+        return Err(AnswerFault);
     };
     write_state(sink, &state)?;
     Ok(())

@@ -1,7 +1,7 @@
 //! Answers that wait.
 
 use ep_base::{InstanceId, Key};
-use ep_wire::{Malformed, Refusal};
+use ep_wire::{Malformed, TakeFault};
 
 /// An answer that waits until all that its node took is on the disk.
 #[derive(Drop)]
@@ -9,7 +9,7 @@ pub enum Due {
     /// So many entries were taken, from this place among the node's entries on, counted from 0.
     Taken { from: usize, count: usize },
     /// An event was refused.
-    Refused(Refusal),
+    Refused(TakeFault),
     /// What the map has at the key is asked.
     Value(Key),
     /// The next open instance is asked, above this one.

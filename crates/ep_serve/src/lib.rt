@@ -6,23 +6,26 @@
 //! answers that wait), `durable.rt` (what is on the disk from then on), `answering.rt` and `telling.rt` (what an answer tells).
 //!
 //! An answer that waits says what happened; its bytes are made when all that the node took is on the disk, from the replica
-//! that the node then lends.
+//! that the node then lends. A host that has no streams takes the parts: `act`, and `all_answers` once all is on the disk.
 #![tactic(auto)]
 
 mod acting;
+mod answer_fault;
 mod answering;
 mod asked;
 mod due;
 mod durable;
 mod executing;
 mod mode;
-mod no_room;
 mod queue;
 mod readying;
 mod serve_fault;
 mod serving;
 mod telling;
 
+pub use acting::{act, is_far_ahead};
+pub use answering::all_answers;
+pub use due::Due;
 pub use mode::Mode;
 pub use serve_fault::ServeFault;
-pub use serving::serve;
+pub use serving::{dialect_of, serve};

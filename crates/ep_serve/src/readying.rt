@@ -8,8 +8,8 @@ ghost use Rattle.ep_serve.specs.Answering.{happened_bytes, leading_of, open_inst
 ghost use Rattle.ep_serve.specs.declared.due.Due.TheVariants as due;
 ghost use Rattle.ep_wire.specs.Answers.{sent_bytes, told_receipts_bytes};
 
+use crate::answer_fault::AnswerFault;
 use crate::asked::leading_of;
-use crate::no_room::NoRoom;
 use ep_base::{InstanceId, Noted, Sink, Version};
 use ep_bundle::{put_u8, put_u32};
 use ep_device::Device;
@@ -17,22 +17,22 @@ use ep_frame::Frame;
 use ep_node::{Node, OpenInstance, Ready};
 use ep_rules::Receipt;
 use ep_wire::{
-    Leading, put_instances, put_open, put_sent, put_told_receipts, sealed_code, write_ready,
+    LeadProgress, put_instances, put_open, put_sent, put_told_receipts, sealed_code, write_ready,
 };
 use std::alloc::Global;
 
 /// A frame, with its receiver before it.
-fn put_sent_frame<K: Sink>(sink: &mut K, frame: &Frame) -> Result<(), NoRoom>
+fn put_sent_frame<K: Sink>(sink: &mut K, frame: &Frame) -> Result<(), AnswerFault>
     ensures { OnOk result (Appends (K.held sink.old) (K.held sink.new) (sent_bytes frame.now)) }
 {
     if frame.as_slice().len() >= 0xffff_ffff {
-        return Err(NoRoom);
+        return Err(AnswerFault);
     }
     put_sent(sink, frame)?;
     Ok(())
 }
 
-fn put_each_frame<K: Sink>(sink: &mut K, frames: &[Frame]) -> Result<(), NoRoom>
+fn put_each_frame<K: Sink>(sink: &mut K, frames: &[Frame]) -> Result<(), AnswerFault>
     ensures { OnOk result (Appends (K.held sink.old) (K.held sink.new) (flat_map sent_bytes frames.now)) }
 {
     for frame in frames {
@@ -42,22 +42,26 @@ fn put_each_frame<K: Sink>(sink: &mut K, frames: &[Frame]) -> Result<(), NoRoom>
 }
 
 /// Frames, counted.
-fn put_sent_frames<K: Sink>(sink: &mut K, frames: &[Frame]) -> Result<(), NoRoom>
+fn put_sent_frames<K: Sink>(sink: &mut K, frames: &[Frame]) -> Result<(), AnswerFault>
     ensures { OnOk result (Appends (K.held sink.old) (K.held sink.new) (sent_frames_bytes frames.now)) }
 {
     let Ok(count) = u32::try_from(frames.len()) else {
-        return Err(NoRoom);
+        return Err(AnswerFault);
     };
     put_u32(sink, count)?;
     put_each_frame(sink, frames)
 }
 
 /// Receipts, counted.
-fn put_receipts<K: Sink>(sink: &mut K, version: Version, receipts: &[Receipt]) -> Result<(), NoRoom>
+fn put_receipts<K: Sink>(
+    sink: &mut K,
+    version: Version,
+    receipts: &[Receipt],
+) -> Result<(), AnswerFault>
     ensures { OnOk result (Appends (K.held sink.old) (K.held sink.new) (told_receipts_bytes version receipts.now)) }
 {
     if receipts.len() >= 0xffff_ffff {
-        return Err(NoRoom);
+        return Err(AnswerFault);
     }
     put_told_receipts(sink, version, receipts)?;
     Ok(())
@@ -69,7 +73,7 @@ fn put_outgoing<K: Sink>(
     version: Version,
     frames: &[Frame],
     receipts: &[Receipt],
-) -> Result<(), NoRoom>
+) -> Result<(), AnswerFault>
     ensures { OnOk result (Appends (K.held sink.old) (K.held sink.new) (outgoing_bytes version frames.now receipts.now)) }
 {
     put_sent_frames(sink, frames)?;
@@ -81,11 +85,11 @@ fn put_happened<K: Sink>(
     sink: &mut K,
     committed: &[InstanceId],
     executed: &[InstanceId],
-) -> Result<(), NoRoom>
+) -> Result<(), AnswerFault>
     ensures { OnOk result (Appends (K.held sink.old) (K.held sink.new) (happened_bytes committed.now executed.now)) }
 {
     if committed.len() >= 0xffff_ffff || executed.len() >= 0xffff_ffff {
-        return Err(NoRoom);
+        return Err(AnswerFault);
     }
     put_instances(sink, committed)?;
     put_instances(sink, executed)?;
@@ -93,7 +97,7 @@ fn put_happened<K: Sink>(
 }
 
 /// What is led there, as it is written.
-fn leading_in(told: &OpenInstance) -> Option<Leading>
+fn leading_in(told: &OpenInstance) -> Option<LeadProgress>
     ensures { result ≡ option_map leading_of told.now.leads }
 {
     match told.leads {
@@ -103,7 +107,7 @@ fn leading_in(told: &OpenInstance) -> Option<Leading>
 }
 
 /// An open instance.
-fn put_open_instance<K: Sink>(sink: &mut K, told: &OpenInstance) -> Result<(), NoRoom>
+fn put_open_instance<K: Sink>(sink: &mut K, told: &OpenInstance) -> Result<(), AnswerFault>
     ensures { OnOk result (Appends (K.held sink.old) (K.held sink.new) (open_instance_bytes told.now)) }
 {
     let leading = leading_in(told);
@@ -111,7 +115,7 @@ fn put_open_instance<K: Sink>(sink: &mut K, told: &OpenInstance) -> Result<(), N
     Ok(())
 }
 
-fn put_each_open<K: Sink>(sink: &mut K, told: &[OpenInstance]) -> Result<(), NoRoom>
+fn put_each_open<K: Sink>(sink: &mut K, told: &[OpenInstance]) -> Result<(), AnswerFault>
     ensures { OnOk result (Appends (K.held sink.old) (K.held sink.new) (flat_map open_instance_bytes told.now)) }
 {
     for one in told {
@@ -121,18 +125,18 @@ fn put_each_open<K: Sink>(sink: &mut K, told: &[OpenInstance]) -> Result<(), NoR
 }
 
 /// Open instances, counted.
-fn put_open_instances<K: Sink>(sink: &mut K, told: &[OpenInstance]) -> Result<(), NoRoom>
+fn put_open_instances<K: Sink>(sink: &mut K, told: &[OpenInstance]) -> Result<(), AnswerFault>
     ensures { OnOk result (Appends (K.held sink.old) (K.held sink.new) (open_instances_bytes told.now)) }
 {
     let Ok(count) = u8::try_from(told.len()) else {
-        return Err(NoRoom);
+        return Err(AnswerFault);
     };
     put_u8(sink, count)?;
     put_each_open(sink, told)
 }
 
 /// How many entries there are, and whether a seal was executed.
-fn put_summary<K: Sink>(sink: &mut K, entries: u32, is_sealed: bool) -> Result<(), NoRoom>
+fn put_summary<K: Sink>(sink: &mut K, entries: u32, is_sealed: bool) -> Result<(), AnswerFault>
     ensures { OnOk result (Appends (K.held sink.old) (K.held sink.new) (summary_bytes entries is_sealed)) }
 {
     put_u32(sink, entries)?;
@@ -141,7 +145,7 @@ fn put_summary<K: Sink>(sink: &mut K, entries: u32, is_sealed: bool) -> Result<(
 }
 
 /// How many entries there are, whether a seal was executed, and what goes out.
-fn put_first_half<K: Sink>(sink: &mut K, version: Version, ready: &Ready) -> Result<(), NoRoom>
+fn put_first_half<K: Sink>(sink: &mut K, version: Version, ready: &Ready) -> Result<(), AnswerFault>
     ensures { OnOk result (Appends (K.held sink.old) (K.held sink.new) (summary_bytes ready.now.entries ready.now.is_sealed ++ outgoing_bytes version ready.now.frames.items ready.now.receipts.items)) }
 {
     put_summary(sink, ready.entries, ready.is_sealed)?;
@@ -149,7 +153,7 @@ fn put_first_half<K: Sink>(sink: &mut K, version: Version, ready: &Ready) -> Res
 }
 
 /// What happened, and what is open.
-fn put_second_half<K: Sink>(sink: &mut K, ready: &Ready) -> Result<(), NoRoom>
+fn put_second_half<K: Sink>(sink: &mut K, ready: &Ready) -> Result<(), AnswerFault>
     ensures { OnOk result (Appends (K.held sink.old) (K.held sink.new) (happened_bytes ready.now.committed.items ready.now.executed.items ++ open_instances_bytes ready.now.still_open.items)) }
 {
     put_happened(sink, &ready.committed, &ready.executed)?;
@@ -157,7 +161,7 @@ fn put_second_half<K: Sink>(sink: &mut K, ready: &Ready) -> Result<(), NoRoom>
 }
 
 /// All that there is to tell.
-fn put_all<K: Sink>(sink: &mut K, version: Version, ready: &Ready) -> Result<(), NoRoom>
+fn put_all<K: Sink>(sink: &mut K, version: Version, ready: &Ready) -> Result<(), AnswerFault>
     ensures { OnOk result (Appends (K.held sink.old) (K.held sink.new)
         ((summary_bytes ready.now.entries ready.now.is_sealed ++ outgoing_bytes version ready.now.frames.items ready.now.receipts.items)
         ++ (happened_bytes ready.now.committed.items ready.now.executed.items ++ open_instances_bytes ready.now.still_open.items))) }
@@ -173,19 +177,19 @@ pub(crate) fn put_ready<D: Device, K: Sink>(
     node: &mut Node<D>,
     after: u32,
     most: u8,
-) -> Result<(), NoRoom>
+) -> Result<(), AnswerFault>
     ensures same { node.new ≡ node.old }
     ensures told { OnOk result (Tells node.old.replica (due.Ready after most) (K.held sink.old) (K.held sink.new)) }
 {
     let version = node.version();
     let Ok(ready) = node.ready(alloc, after, most) else {
-        return Err(NoRoom);
+        return Err(AnswerFault);
     };
     let mut body = Noted::new(Vec::with_capacity(alloc, 1_024)?);
     put_all(&mut body, version, &ready)?;
     let body = body.into_inner();
     if body.len() >= 0xffff_ffff {
-        return Err(NoRoom);
+        return Err(AnswerFault);
     }
     write_ready(sink, &body)?;
     Ok(())

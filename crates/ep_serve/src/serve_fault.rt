@@ -4,9 +4,9 @@ ghost use Rattle.std.specs.Prelude.{◌≡◌};
 ghost use Rattle.ep_serve.specs.Faults.{of_node, of_request};
 ghost use Rattle.ep_serve.specs.declared.serve_fault.ServeFault.TheVariants.{Memory as NoMemory, WriteFailed as Unwritten};
 
-use crate::no_room::NoRoom;
+use crate::answer_fault::AnswerFault;
 use ep_base::WriteFailed;
-use ep_device::Cause;
+use ep_device::SystemFault;
 use ep_node::NodeFault;
 use ep_wire::RequestFault;
 use std::alloc::{AllocError, AllocFailed};
@@ -30,7 +30,7 @@ pub enum ServeFault {
     WriteFailed,
     /// The log's device failed, and why. Nothing that waited was handed out.
     #[error("log failed: {0}")]
-    LogFailed(Cause),
+    LogFailed(SystemFault),
 }
 
 impl From<RequestFault> for ServeFault {
@@ -57,10 +57,10 @@ impl From<NodeFault> for ServeFault {
     }
 }
 
-impl From<NoRoom> for ServeFault {
+impl From<AnswerFault> for ServeFault {
     ghost from_gives = { λ _ e. e ≡ NoMemory };
 
-    fn from(_fault: NoRoom) -> ServeFault {
+    fn from(_fault: AnswerFault) -> ServeFault {
         ServeFault::Memory
     }
 }

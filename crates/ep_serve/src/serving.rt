@@ -16,7 +16,7 @@ use ep_wire::{Dialect, read_request};
 use std::alloc::Global;
 
 /// What requests to the node are spelled in.
-fn dialect_of<D: Device>(node: &Node<D>) -> Dialect
+pub fn dialect_of<D: Device>(node: &Node<D>) -> Dialect
     ensures { result ≡ dialect_of node.now.replica }
 {
     Dialect {

@@ -11,10 +11,10 @@ use Rattle.ep_serve.specs.Serving.{dialect_of, Ends}
 use Rattle.ep_serve.specs.declared.mode.Mode.{Mode}
 use Rattle.ep_serve.specs.declared.serve_fault.ServeFault.{ServeFault}
 use Rattle.ep_server.proofs.Serving.{told_by, told_twice}
-use Rattle.ep_server.specs.Outputs.{Output, output, Told, WroteNothing}
+use Rattle.ep_cli.specs.Outputs.{Input, Output, output, Told, WroteNothing}
 use Rattle.ep_server.specs.Served.{origin_from, told_first, of_serve, Fails, HappensThere, HasServedThere, IsOfFile, IsOver, IsUnready, Shown, TellsCut, TellsCuts}
-use Rattle.ep_server.specs.declared.fault.Fault.{Fault}
-use Rattle.ep_server.specs.declared.fault.Fault.TheVariants.{Open, Serve, Folder, Memory, Write}
+use Rattle.ep_server.specs.declared.server_fault.ServerFault.{ServerFault}
+use Rattle.ep_server.specs.declared.server_fault.ServerFault.TheVariants.{Open, Serve, Folder}
 
 -- nothing is told where nothing is written
 pub tells_nothing : (a : Option (List ℕ)) (first : Bool) → TellsCut (output a a first first)
@@ -47,20 +47,18 @@ both_cuts a b c first second third t u = record {
 
 -- there is no node, and nothing was written
 pub unready_there :
-    {D : Type 0} (shown : Shown D) (mode : Mode) (faults me : ℕ) (zs : List ℕ) (e : Fault) (reader out : Output) → IsUnready e → WroteNothing out →
+    {D : Type 0} (shown : Shown D) (mode : Mode) (faults me : ℕ) (zs : List ℕ) (e : ServerFault) (reader : Input) (out : Output) → IsUnready e → WroteNothing out →
     HappensThere shown mode faults me zs (Err e) reader out
 unready_there shown mode faults me zs (Open why) reader out is silent = silent
 unready_there shown mode faults me zs (Serve why) reader out is silent = absurd is
 unready_there shown mode faults me zs (Folder why) reader out is silent = silent
-unready_there shown mode faults me zs Memory reader out is silent = absurd is
-unready_there shown mode faults me zs Write reader out is silent = absurd is
 
 -- a node of a file has served
 pub has_served_there :
-    {D : Type 0} (shown : Shown D) (mode : Mode) (faults me : ℕ) (start : Logged D) (zs : List ℕ) (outcome : Result Unit Fault) (reader out : Output) → IsOfFile faults me start →
+    {D : Type 0} (shown : Shown D) (mode : Mode) (faults me : ℕ) (start : Logged D) (zs : List ℕ) (outcome : Result Unit ServerFault) (reader : Input) (out : Output) → IsOfFile faults me start →
     IsOver shown mode start zs outcome reader out → HappensThere shown mode faults me zs outcome reader out
 has_served_there {D = D} shown mode faults me start zs outcome reader out of over =
-    subst (λ (x : Result Unit Fault). HappensThere shown mode faults me zs x reader out) (sym over.2) (go over.1 over.3 over.4)
+    subst (λ (x : Result Unit ServerFault). HappensThere shown mode faults me zs x reader out) (sym over.2) (go over.1 over.3 over.4)
   where
     go : (ended : Result Unit ServeFault) → Ends mode (dialect_of start.replica) (crashes start.digest shown.seen shown.moment shown.left_since start.device over.0.device) start.replica (record { at = 0; bytes = zs }) out.before out.after ended over.0.replica
         → Fails shown start.device over.0.device ended reader out → HappensThere shown mode faults me zs (of_serve ended) reader out

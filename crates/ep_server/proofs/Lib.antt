@@ -1,7 +1,3 @@
-mod FilesCollected
-mod FoldersCollected
+mod FilesGiven
 mod InFolders
-mod LogsUpgraded
-mod MapShown
-mod Puts
 mod Serving

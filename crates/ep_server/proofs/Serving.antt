@@ -10,19 +10,19 @@ use Rattle.ep_node.specs.declared.open_fault.OpenFault.TheVariants as open_
 use Rattle.ep_serve.specs.Lasting.{crashes}
 use Rattle.ep_serve.specs.Serving.{dialect_of, Ends}
 use Rattle.ep_serve.specs.declared.serve_fault.ServeFault.{ServeFault}
-use Rattle.ep_server.proofs.Puts.{appends_twice}
+use Rattle.ep_cli.proofs.Puts.{appends_twice}
 use Rattle.ep_server.specs.Faults.{line_of}
-use Rattle.ep_server.specs.Outputs.{Output, output, Told}
+use Rattle.ep_cli.specs.Outputs.{Input, Output, became, output, Told}
 use Rattle.ep_server.specs.Served.{told_first, of_serve, EndsWith, Fails, Happens, HasServed, IsFailure, IsOver, Role, Shown}
-use Rattle.ep_server.specs.declared.fault.Fault.{Fault}
-use Rattle.ep_server.specs.declared.status.Status.{Status}
+use Rattle.ep_server.specs.declared.server_fault.ServerFault.{ServerFault}
+use Rattle.ep_cli.specs.declared.status.Status.{Status}
 
 pub has_served :
-    {D : Type 0} (shown : Shown D) (role : Role) (o : Origin) (start : Logged D) (bytes zs log : List ℕ) (cut : Option Cut) (outcome : Result Unit Fault) (reader out : Output) →
+    {D : Type 0} (shown : Shown D) (role : Role) (o : Origin) (start : Logged D) (bytes zs log : List ℕ) (cut : Option Cut) (outcome : Result Unit ServerFault) (reader : Input) (out : Output) →
     start.replica.faults ≡ role.faults → start.replica.me ≡ role.me → origin_of start ≡ o → IsOpened role.begin o role.faults role.me bytes start.replica.entries cut →
     shown.seen start.device ≡ Some log → IsWrittenAnew role.begin o role.faults role.me bytes log → IsOver shown role.mode start zs outcome reader out → Happens shown role o bytes zs cut outcome reader out
 has_served {D = D} shown role o start bytes zs log cut outcome reader out cluster replica origin opened known anew over =
-    subst (λ (x : Result Unit Fault). Happens shown role o bytes zs cut x reader out) (sym over.2) (go over.1 over.3 over.4)
+    subst (λ (x : Result Unit ServerFault). Happens shown role o bytes zs cut x reader out) (sym over.2) (go over.1 over.3 over.4)
   where
     served : (ended : Result Unit ServeFault) → Ends role.mode (dialect_of start.replica) (crashes start.digest shown.seen shown.moment shown.left_since start.device over.0.device) start.replica (record { at = 0; bytes = zs }) out.before out.after ended over.0.replica
         → Fails shown start.device over.0.device ended reader out → HasServed shown role o bytes zs cut ended reader out
@@ -56,12 +56,21 @@ told_twice a b c first second third xs ys before stays after = elim before [
   ]
 ]
 
--- what was told before, and then how it ended
+-- What was told before, and then how it ended, on a fault output that stayed as it was in between.
 pub ends_after :
-    (outcome : Result Unit Fault) (status : Status) (a b c : Option (List ℕ)) (first second third : Bool) (xs : List ℕ) → Told (output a b first second) xs → (second ≡ true → third ≡ true) →
-    EndsWith [] outcome status (output b c second third) → EndsWith xs outcome status (output a c first third)
-ends_after (Ok x) status a b c first second third xs t stays h = (h.0, subst (λ (l : List ℕ). Told (output a c first third) l) (append-nil xs) (told_twice a b c first second third xs [] t stays h.1))
-ends_after (Err e) status a b c first second third xs t stays h = (h.0, told_twice a b c first second third xs (line_of e) t stays h.1)
+    {F : Type 0} (held : F → Option (List ℕ)) (has_failed : F → Bool) (outcome : Result Unit ServerFault) (status : Status) (a b b' c : F) (xs : List ℕ) → Told (became held has_failed a b) xs → b' ≡ b →
+    (has_failed b' ≡ true → has_failed c ≡ true) → EndsWith [] outcome status (became held has_failed b' c) → EndsWith xs outcome status (became held has_failed a c)
+ends_after {F = F} held has_failed outcome status a b b' c xs told same stays ended = go outcome ended
+  where
+    before : Told (became held has_failed a b') xs
+    before = subst (λ (x : F). Told (became held has_failed a x) xs) (sym same) told
+
+    twice : (ys : List ℕ) → Told (became held has_failed b' c) ys → Told (became held has_failed a c) (xs ++ ys)
+    twice ys more = told_twice (held a) (held b') (held c) (has_failed a) (has_failed b') (has_failed c) xs ys before stays more
+
+    go : (outcome : Result Unit ServerFault) → EndsWith [] outcome status (became held has_failed b' c) → EndsWith xs outcome status (became held has_failed a c)
+    go (Ok x) h = (h.0, subst (λ (l : List ℕ). Told (became held has_failed a c) l) (append-nil xs) (twice [] h.1))
+    go (Err e) h = (h.0, twice (line_of e) h.1)
 
 -- what a call has put is told
 pub told_by : {E : Type 0} (a b : Option (List ℕ)) (first second : Bool) (xs : List ℕ) (r : Result Unit E) → Puts a b first second r xs → Told (output a b first second) xs
@@ -69,11 +78,12 @@ told_by a b first second xs (Ok x) p = inr p.0
 told_by a b first second xs (Err e) p = inl p
 
 pub concludes_after :
-    {E : Type 0} (cut told : Option Cut) (outcome : Result Unit Fault) (status : Status) (a b c : Option (List ℕ)) (first second third : Bool) (r : Result Unit E) → told ≡ cut → Puts a b first second r (told_first told) →
-    (second ≡ true → third ≡ true) → EndsWith [] outcome status (output b c second third) → EndsWith (told_first cut) outcome status (output a c first third)
-concludes_after {E = E} cut told outcome status a b c first second third r is q stays h =
-    ends_after outcome status a b c first second third (told_first cut)
-    (told_by a b first second (told_first cut) r (subst (λ (z : Option Cut). Puts a b first second r (told_first z)) is q)) stays h
+    {F E : Type 0} (held : F → Option (List ℕ)) (has_failed : F → Bool) (cut told : Option Cut) (outcome : Result Unit ServerFault) (status : Status) (a b b' c : F) (r : Result Unit E) → told ≡ cut →
+    Puts (held a) (held b) (has_failed a) (has_failed b) r (told_first told) → b' ≡ b → (has_failed b' ≡ true → has_failed c ≡ true) → EndsWith [] outcome status (became held has_failed b' c) →
+    EndsWith (told_first cut) outcome status (became held has_failed a c)
+concludes_after held has_failed cut told outcome status a b b' c r is q same stays h =
+    ends_after held has_failed outcome status a b b' c (told_first cut)
+    (told_by (held a) (held b) (has_failed a) (has_failed b) (told_first cut) r (subst (λ (z : Option Cut). Puts (held a) (held b) (has_failed a) (has_failed b) r (told_first z)) is q)) same stays h
 
 -- where the device failed, it did so first for the reason that is told
 pub is_failure : {D : Type 0} (shown : Shown D) (device : D) (why : OpenFault) → Names why (shown.why device) → IsFailure shown why

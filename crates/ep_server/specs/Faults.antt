@@ -1,11 +1,14 @@
 -- How the program ends at a fault, and the line that it then tells.
-use Rattle.std.specs.Prelude.{ℕ, List, ◌++◌, codes, decimal}
-use Rattle.ep_device.specs.declared.cause.Cause.{Cause}
-use Rattle.ep_device.specs.declared.cause.Cause.TheVariants as cause
+use Rattle.std.specs.Prelude.{ℕ, List, [], ◌++◌, codes, decimal}
+use Rattle.ep_cli.specs.Lines.{numbered, out_of_memory, reading_failed, writing_failed}
+use Rattle.ep_cli.specs.declared.status.Status.{Status}
+use Rattle.ep_cli.specs.declared.status.Status.TheVariants.{Refused, OutOfMemory, Failed}
+use Rattle.ep_device.specs.declared.system_fault.SystemFault.{SystemFault}
+use Rattle.ep_device.specs.declared.system_fault.SystemFault.TheVariants as cause
 use Rattle.ep_device.specs.declared.device_fault.DeviceFault.{DeviceFault}
 use Rattle.ep_device.specs.declared.device_fault.DeviceFault.TheVariants as device
-use Rattle.ep_folder.specs.declared.refusal.Refusal.{Refusal}
-use Rattle.ep_folder.specs.declared.refusal.Refusal.TheVariants.{Empty, There, Left, Older, Other}
+use Rattle.ep_folder.specs.declared.start_fault.StartFault.{StartFault}
+use Rattle.ep_folder.specs.declared.start_fault.StartFault.TheVariants.{Empty, There, Left, Older, Other}
 use Rattle.ep_log.specs.declared.log_fault.LogFault.{LogFault}
 use Rattle.ep_log.specs.declared.log_fault.LogFault.TheVariants as log
 use Rattle.ep_node.specs.declared.cut.Cut.{Cut}
@@ -15,32 +18,13 @@ use Rattle.ep_opening.specs.declared.opening_fault.OpeningFault.{OpeningFault}
 use Rattle.ep_opening.specs.declared.opening_fault.OpeningFault.TheVariants as opening
 use Rattle.ep_serve.specs.declared.serve_fault.ServeFault.{ServeFault}
 use Rattle.ep_serve.specs.declared.serve_fault.ServeFault.TheVariants as serve
-use Rattle.ep_server.specs.declared.fault.Fault.{Fault}
-use Rattle.ep_server.specs.declared.fault.Fault.TheVariants.{Open, Serve, Folder, Memory, Write}
+use Rattle.ep_server.specs.declared.server_fault.ServerFault.{ServerFault}
+use Rattle.ep_server.specs.declared.server_fault.ServerFault.TheVariants.{Open, Serve, Folder}
 use Rattle.ep_server.specs.declared.folder_fault.FolderFault.{FolderFault}
 use Rattle.ep_server.specs.declared.folder_fault.FolderFault.TheVariants as folder
-use Rattle.ep_server.specs.declared.status.Status.{Status}
-use Rattle.ep_server.specs.declared.status.Status.TheVariants.{Done, Refused, OutOfMemory, Failed}
-
--- the exit status
-abbrev pub code_of : Status → ℕ
-code_of Done = 0
-code_of Refused = 2
-code_of OutOfMemory = 3
-code_of Failed = 4
-
--- the first line; what is wrong with the words follows
-abbrev pub command_line_refused : List ℕ
-command_line_refused = codes "command line refused\n"
-
-abbrev pub out_of_memory : List ℕ
-out_of_memory = codes "out of memory\n"
-
-abbrev pub writing_failed : List ℕ
-writing_failed = codes "writing failed\n"
 
 -- why a device failed
-abbrev pub words_of : Cause → List ℕ
+abbrev pub words_of : SystemFault → List ℕ
 words_of cause.NotFound = codes "no such file or directory"
 words_of cause.NotAllowed = codes "permission denied"
 words_of cause.NotAFile = codes "not a regular file"
@@ -51,30 +35,26 @@ words_of cause.TooLarge = codes "file too large"
 words_of cause.ReadOnly = codes "read-only file system"
 words_of cause.InputOutput = codes "input/output error"
 words_of cause.NoMemory = codes "out of memory"
-words_of (cause.System number) = codes "system error " ++ decimal number
+words_of (cause.System number) = numbered (codes "system error ") number []
 words_of cause.Unknown = codes "unknown error"
 
-abbrev pub log_failed : Cause → List ℕ
+abbrev pub log_failed : SystemFault → List ℕ
 log_failed cause = codes "log failed: " ++ words_of cause ++ codes "\n"
 
 -- what was cut off a log
 abbrev pub line_of_cut : Cut → List ℕ
-line_of_cut cut = codes "log cut at byte " ++ decimal cut.at ++ (codes ": " ++ decimal cut.behind) ++ codes " bytes behind it were no whole record\n"
-
--- what is wrong, and the first byte of the record
-abbrev pub record_line : List ℕ → ℕ → List ℕ
-record_line what at = what ++ (codes " in the record at byte " ++ decimal at ++ codes "\n")
+line_of_cut cut = numbered (codes "log cut at byte ") cut.at (codes ": ") ++ (decimal cut.behind ++ codes " bytes behind it were no whole record\n")
 
 abbrev pub line_of_log : LogFault → List ℕ
 line_of_log log.Memory = out_of_memory
 line_of_log log.NoHeader = codes "log refused: no header of a log\n"
 line_of_log log.OtherVersion = codes "log refused: a log of another version\n"
 line_of_log log.OtherGeneration = codes "log refused: a log of another generation\n"
-line_of_log (log.BadLength at) = record_line (codes "log refused: bad length") at
-line_of_log (log.BadChecksum at) = record_line (codes "log refused: bad checksum") at
-line_of_log (log.BadEntry at) = record_line (codes "log refused: no entry") at
-line_of_log (log.NotNext at) = record_line (codes "log refused: not the next entry") at
-line_of_log (log.Turned at by) = codes "log refused: the record at byte " ++ decimal at ++ (codes " is damaged, and was on the disk by the record at byte " ++ decimal by) ++ codes "\n"
+line_of_log (log.BadLength at) = numbered (codes "log refused: bad length in the record at byte ") at (codes "\n")
+line_of_log (log.BadChecksum at) = numbered (codes "log refused: bad checksum in the record at byte ") at (codes "\n")
+line_of_log (log.BadEntry at) = numbered (codes "log refused: no entry in the record at byte ") at (codes "\n")
+line_of_log (log.NotNext at) = numbered (codes "log refused: not the next entry in the record at byte ") at (codes "\n")
+line_of_log (log.Turned at by) = numbered (codes "log refused: the record at byte ") at (codes " is damaged, and was on the disk by the record at byte ") ++ (decimal by ++ codes "\n")
 
 abbrev pub line_of_open : OpenFault → List ℕ
 line_of_open open_.OutOfRange = codes "log refused: E3 out of range\n"
@@ -84,12 +64,12 @@ line_of_open open_.NoLog = codes "log refused: there is none\n"
 line_of_open open_.LogExists = codes "log refused: there is one already\n"
 line_of_open open_.OtherLog = codes "log refused: a log of another cluster or replica\n"
 line_of_open (open_.Log fault) = line_of_log fault
-line_of_open (open_.NotClocked number) = codes "log refused: entry " ++ decimal number ++ codes " is not clocked\n"
+line_of_open (open_.NotClocked number) = numbered (codes "log refused: entry ") number (codes " is not clocked\n")
 
 abbrev pub line_of_serve : ServeFault → List ℕ
 line_of_serve serve.Memory = out_of_memory
-line_of_serve serve.ReadFailed = codes "reading failed\n"
-line_of_serve (serve.BadRequest at) = codes "request refused at byte " ++ decimal at ++ codes "\n"
+line_of_serve serve.ReadFailed = reading_failed
+line_of_serve (serve.BadRequest at) = numbered (codes "request refused at byte ") at (codes "\n")
 line_of_serve serve.WriteFailed = writing_failed
 line_of_serve (serve.LogFailed cause) = log_failed cause
 
@@ -98,18 +78,14 @@ abbrev pub of_device : DeviceFault → FolderFault
 of_device device.Memory = folder.Memory
 of_device (device.Failed cause) = folder.Failed cause
 
--- a number between words
-abbrev pub numbered : List ℕ → ℕ → List ℕ → List ℕ
-numbered before n after = before ++ decimal n ++ after
-
 -- why bytes are no opening
 abbrev pub line_of_opening : OpeningFault → List ℕ
-line_of_opening opening.Memory = codes "out of memory\n"
+line_of_opening opening.Memory = out_of_memory
 line_of_opening (opening.CutShort at) = numbered (codes "cut short at byte ") at (codes "\n")
 line_of_opening (opening.Damaged at) = numbered (codes "damaged: no digest of the bytes before it at byte ") at (codes "\n")
 line_of_opening (opening.Wrong at field) = numbered (codes "wrong field at byte ") at (codes "\n")
 
-abbrev pub line_of_refusal : Refusal → List ℕ
+abbrev pub line_of_refusal : StartFault → List ℕ
 line_of_refusal Empty = codes "folder refused: no generation is here; --new begins the first one of a new replica, --take FILE goes on with a peer's opening\n"
 line_of_refusal (There g) = numbered (codes "folder refused: generation ") g (codes " is here already; --new is for a new replica\n")
 line_of_refusal (Left g) = numbered (codes "folder refused: the replica has been in generation ") g (codes ", which is gone; --take FILE goes on with the opening of a later one\n")
@@ -129,12 +105,10 @@ line_of_folder (folder.NoOpening why) = codes "opening refused: " ++ line_of_ope
 line_of_folder (folder.OtherCluster n) = numbered (codes "opening refused: it is for --replicas ") n (codes "\n")
 line_of_folder folder.Last = codes "folder refused: the last generation is closed, and there is none after it\n"
 
-abbrev pub line_of : Fault → List ℕ
+abbrev pub line_of : ServerFault → List ℕ
 line_of (Open why) = line_of_open why
 line_of (Serve why) = line_of_serve why
 line_of (Folder why) = line_of_folder why
-line_of Memory = out_of_memory
-line_of Write = writing_failed
 
 abbrev pub status_of_open : OpenFault → Status
 status_of_open open_.OutOfRange = Refused
@@ -166,9 +140,7 @@ status_of_folder (folder.NoOpening why) = Refused
 status_of_folder (folder.OtherCluster n) = Refused
 status_of_folder folder.Last = Refused
 
-abbrev pub status_of : Fault → Status
+abbrev pub status_of : ServerFault → Status
 status_of (Open why) = status_of_open why
 status_of (Serve why) = status_of_serve why
 status_of (Folder why) = status_of_folder why
-status_of Memory = OutOfMemory
-status_of Write = Failed

@@ -1,7 +1,3 @@
-pub mod Collected
-pub mod CollectedOf
 pub mod Faults
-pub mod Outputs
+pub mod NamedFiles
 pub mod Served
-pub mod Shown
-pub mod Upgraded

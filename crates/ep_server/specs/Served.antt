@@ -1,7 +1,10 @@
 -- What the program does, by the status that it answers: of the bytes of its log and those that it reads, its output and its fault output.
-use Rattle.std.specs.Prelude.{◌≡◌, ◌++◌, ℕ, Bool, true, List, [], Option, Some, None, Result, Ok, Err, IfErr, string_bytes}
+use Rattle.std.specs.Prelude.{◌≡◌, ◌++◌, ℕ, Bool, true, false, List, [], Option, Some, None, Result, Ok, Err, IfErr}
 use Rattle.ep_base.specs.Devices.{FailsAsTold}
-use Rattle.ep_device.specs.declared.cause.Cause.{Cause}
+use Rattle.ep_device.specs.declared.system_fault.SystemFault.{SystemFault}
+use Rattle.ep_cli.specs.Outputs.{Input, Output, Told, WroteNothing}
+use Rattle.ep_cli.specs.declared.status.Status.{Status}
+use Rattle.ep_cli.specs.declared.status.Status.TheVariants.{Done}
 use Rattle.ep_base.specs.declared.version_kind.VersionKind.TheVariants.{V3}
 use Rattle.ep_log.specs.Origins.{Origin, second}
 use Rattle.ep_node.specs.Nodes.{Logged, origin_of}
@@ -10,20 +13,18 @@ use Rattle.ep_node.specs.declared.begin.Begin.{Begin}
 use Rattle.ep_node.specs.declared.cut.Cut.{Cut}
 use Rattle.ep_node.specs.declared.open_fault.OpenFault.{OpenFault}
 use Rattle.ep_node.specs.declared.open_fault.OpenFault.TheVariants as open_
+use Rattle.ep_journal.specs.Entries.{Log}
 use Rattle.ep_opening.specs.Bytes.{file_digest}
+use Rattle.ep_opening.specs.Closing.{store_of, IsClosing}
 use Rattle.ep_opening.specs.Files.{File}
+use Rattle.ep_rules.specs.OneMap.{is_closed}
 use Rattle.ep_serve.specs.Lasting.{crashes}
 use Rattle.ep_serve.specs.Serving.{dialect_of, Ends, IsReadTo, Names, is_log_failed, is_write_failed}
 use Rattle.ep_serve.specs.declared.mode.Mode.{Mode}
 use Rattle.ep_serve.specs.declared.serve_fault.ServeFault.{ServeFault}
-use Rattle.ep_server.specs.Faults.{command_line_refused, line_of, line_of_cut, status_of}
-use Rattle.ep_server.specs.Outputs.{Output, Told, WroteNothing}
-use Rattle.ep_server.specs.declared.declined.Declined.{Declined}
-use Rattle.ep_server.specs.declared.declined.Declined.TheVariants as declined
-use Rattle.ep_server.specs.declared.fault.Fault.{Fault}
-use Rattle.ep_server.specs.declared.fault.Fault.TheVariants.{Open, Serve, Folder, Memory, Write}
-use Rattle.ep_server.specs.declared.status.Status.{Status}
-use Rattle.ep_server.specs.declared.status.Status.TheVariants.{Done, Refused}
+use Rattle.ep_server.specs.Faults.{line_of, line_of_cut, status_of}
+use Rattle.ep_server.specs.declared.server_fault.ServerFault.{ServerFault}
+use Rattle.ep_server.specs.declared.server_fault.ServerFault.TheVariants.{Open, Serve, Folder}
 
 -- which node is asked for, when it writes answers, and whether its log is to be begun
 pub record Role : Type 0 where
@@ -36,13 +37,13 @@ pub record Role : Type 0 where
 -- failed, and why it did first.
 pub record Shown (D : Type 0) : Type 1 where
   pub has_failed : D → Bool
-  pub why : D → Option Cause
+  pub why : D → Option SystemFault
   pub seen : D → Option (List ℕ)
   pub moment : D → ℕ
   pub left_since : D → ℕ → List ℕ → Type 0
 
 -- Which device failed: the output, the log, and the reader, each where that is told; and why the log's did.
-pub record Fails {D : Type 0} (shown : Shown D) (first last : D) (outcome : Result Unit ServeFault) (reader out : Output) : Type 0 where
+pub record Fails {D : Type 0} (shown : Shown D) (first last : D) (outcome : Result Unit ServeFault) (reader : Input) (out : Output) : Type 0 where
   pub written : FailsAsTold is_write_failed outcome out.had_failed out.failed
   pub logged : FailsAsTold is_log_failed outcome (shown.has_failed first) (shown.has_failed last)
   pub why : IfErr outcome (λ fault. Names fault (shown.why last))
@@ -50,7 +51,7 @@ pub record Fails {D : Type 0} (shown : Shown D) (first last : D) (outcome : Resu
 
 -- The log holds this replica, which is of this origin, and from there the requests in zs were served, as `serve` tells, on a device whose bytes were known when the log had been
 -- written anew.
-pub record HasServed {D : Type 0} (shown : Shown D) (role : Role) (o : Origin) (bytes zs : List ℕ) (cut : Option Cut) (outcome : Result Unit ServeFault) (reader out : Output) : Type 0 where
+pub record HasServed {D : Type 0} (shown : Shown D) (role : Role) (o : Origin) (bytes zs : List ℕ) (cut : Option Cut) (outcome : Result Unit ServeFault) (reader : Input) (out : Output) : Type 0 where
   pub start : Logged D
   pub cluster : start.replica.faults ≡ role.faults
   pub replica : start.replica.me ≡ role.me
@@ -64,12 +65,12 @@ pub record HasServed {D : Type 0} (shown : Shown D) (role : Role) (o : Origin) (
   pub fails : Fails shown start.device end.device outcome reader out
 
 -- how serving ended, as the program has it
-abbrev pub of_serve : Result Unit ServeFault → Result Unit Fault
+abbrev pub of_serve : Result Unit ServeFault → Result Unit ServerFault
 of_serve (Ok x) = Ok x
 of_serve (Err why) = Err (Serve why)
 
 -- a node that was opened has served so, on a device that is then this one
-abbrev pub IsOver : {D : Type 0} → Shown D → Mode → Logged D → List ℕ → Result Unit Fault → Output → Output → Type 0
+abbrev pub IsOver : {D : Type 0} → Shown D → Mode → Logged D → List ℕ → Result Unit ServerFault → Input → Output → Type 0
 IsOver {D = D} shown mode start zs outcome reader out =
     (end : Logged D) × (ended : Result Unit ServeFault) × (outcome ≡ of_serve ended)
     × Ends mode (dialect_of start.replica) (crashes start.digest shown.seen shown.moment shown.left_since start.device end.device) start.replica (record { at = 0; bytes = zs }) out.before out.after ended end.replica
@@ -87,13 +88,11 @@ IsFailure shown (open_.Log fault) = Unit {0}
 IsFailure shown (open_.NotClocked number) = Unit {0}
 
 -- before a fault is told: where the log isn't opened, why, and that nothing was written
-abbrev pub Happens : {D : Type 0} → Shown D → Role → Origin → List ℕ → List ℕ → Option Cut → Result Unit Fault → Output → Output → Type 0
+abbrev pub Happens : {D : Type 0} → Shown D → Role → Origin → List ℕ → List ℕ → Option Cut → Result Unit ServerFault → Input → Output → Type 0
 Happens shown role o bytes zs cut (Ok x) reader out = HasServed shown role o bytes zs cut (Ok x) reader out
 Happens shown role o bytes zs cut (Err (Open why)) reader out = IsUnopened role.begin o role.faults role.me bytes why × IsFailure shown why × WroteNothing out × (cut ≡ None)
 Happens shown role o bytes zs cut (Err (Serve why)) reader out = HasServed shown role o bytes zs cut (Err why) reader out
 Happens shown role o bytes zs cut (Err (Folder why)) reader out = ⊥
-Happens shown role o bytes zs cut (Err Memory) reader out = ⊥
-Happens shown role o bytes zs cut (Err Write) reader out = ⊥
 
 -- what was cut off the log is told first
 abbrev pub told_first : Option Cut → List ℕ
@@ -101,14 +100,14 @@ told_first None = []
 told_first (Some cut) = line_of_cut cut
 
 -- then a fault is told, and decides on the status
-abbrev pub EndsWith : List ℕ → Result Unit Fault → Status → Output → Type 0
+abbrev pub EndsWith : List ℕ → Result Unit ServerFault → Status → Output → Type 0
 EndsWith told (Ok x) status fault = (status ≡ Done) × Told fault told
 EndsWith told (Err e) status fault = (status ≡ status_of e) × Told fault (told ++ line_of e)
 
 -- Of a replica of version 2. At the status Done all requests were read and answered; at any other the line says what stopped that.
-pub record IsNode {D : Type 0} (shown : Shown D) (role : Role) (bytes zs : List ℕ) (status : Status) (reader out fault : Output) : Type 0 where
+pub record IsNode {D : Type 0} (shown : Shown D) (role : Role) (bytes zs : List ℕ) (status : Status) (reader : Input) (out fault : Output) : Type 0 where
   pub cut : Option Cut
-  pub outcome : Result Unit Fault
+  pub outcome : Result Unit ServerFault
   pub happens : Happens shown role second bytes zs cut outcome reader out
   pub concluded : EndsWith (told_first cut) outcome status fault
 
@@ -117,6 +116,11 @@ pub record IsNode {D : Type 0} (shown : Shown D) (role : Role) (bytes zs : List 
 -- what the replica of a generation begins with, by the file that the generation opens with
 abbrev pub origin_from : File → Origin
 origin_from f = record { version = V3 f.generation; opening = f.opening; digest = file_digest f }
+
+-- what a journal is gone on with, in a next generation of which `next` replicas may fail: nothing, where no seal was executed; else the file that closes it
+abbrev pub IsNextOf : Log → ℕ → Option File → Type 0
+IsNextOf j next None = is_closed (store_of j) ≡ false
+IsNextOf j next (Some f) = IsClosing j next f
 
 -- The node's replica is of the generation that a file opens, for a cluster of this size, and began with what that file has: its log names the file's digest.
 pub record IsOfFile {D : Type 0} (faults me : ℕ) (node : Logged D) : Type 0 where
@@ -127,27 +131,23 @@ pub record IsOfFile {D : Type 0} (faults me : ℕ) (node : Logged D) : Type 0 wh
   pub replica : node.replica.me ≡ me
 
 -- why there is no such node: its log isn't opened, or the folder or what is asked for doesn't allow it
-abbrev pub IsUnready : Fault → Type 0
+abbrev pub IsUnready : ServerFault → Type 0
 IsUnready (Open why) = Unit {0}
 IsUnready (Serve why) = ⊥
 IsUnready (Folder why) = Unit {0}
-IsUnready Memory = ⊥
-IsUnready Write = ⊥
 
 -- such a node has served
-pub record HasServedThere {D : Type 0} (shown : Shown D) (mode : Mode) (faults me : ℕ) (zs : List ℕ) (outcome : Result Unit Fault) (reader out : Output) : Type 0 where
+pub record HasServedThere {D : Type 0} (shown : Shown D) (mode : Mode) (faults me : ℕ) (zs : List ℕ) (outcome : Result Unit ServerFault) (reader : Input) (out : Output) : Type 0 where
   pub start : Logged D
   pub of : IsOfFile faults me start
   pub over : IsOver shown mode start zs outcome reader out
 
 -- before a fault is told: such a node has served; or there is none, and nothing was written
-abbrev pub HappensThere : {D : Type 0} → Shown D → Mode → ℕ → ℕ → List ℕ → Result Unit Fault → Output → Output → Type 0
+abbrev pub HappensThere : {D : Type 0} → Shown D → Mode → ℕ → ℕ → List ℕ → Result Unit ServerFault → Input → Output → Type 0
 HappensThere shown mode faults me zs (Ok x) reader out = HasServedThere shown mode faults me zs (Ok x) reader out
 HappensThere shown mode faults me zs (Err (Serve why)) reader out = HasServedThere shown mode faults me zs (Err (Serve why)) reader out
 HappensThere shown mode faults me zs (Err (Open why)) reader out = WroteNothing out
 HappensThere shown mode faults me zs (Err (Folder why)) reader out = WroteNothing out
-HappensThere shown mode faults me zs (Err Memory) reader out = ⊥
-HappensThere shown mode faults me zs (Err Write) reader out = ⊥
 
 -- what was cut off one log, or two, is told, and nothing else; an output that has failed has failed for good
 pub record TellsCut (fault : Output) : Type 0 where
@@ -162,15 +162,10 @@ pub record TellsCuts (fault : Output) : Type 0 where
   pub for_good : fault.had_failed ≡ true → fault.failed ≡ true
 
 -- Whatever the folder has. At the status Done all requests were read and answered; at any other the line says what stopped that.
-pub record IsFolderNode {D : Type 0} (shown : Shown D) (mode : Mode) (faults me : ℕ) (zs : List ℕ) (status : Status) (reader out fault : Output) : Type 0 where
+pub record IsFolderNode {D : Type 0} (shown : Shown D) (mode : Mode) (faults me : ℕ) (zs : List ℕ) (status : Status) (reader : Input) (out fault : Output) : Type 0 where
   -- what was cut off the logs of the generation that was closed, and of that which is served
   pub first : Option Cut
   pub then_ : Option Cut
-  pub outcome : Result Unit Fault
+  pub outcome : Result Unit ServerFault
   pub happens : HappensThere shown mode faults me zs outcome reader out
   pub concluded : EndsWith (told_first first ++ told_first then_) outcome status fault
-
--- why nothing is done is told, and decides on the status
-abbrev pub TellsWhy : Declined → Status → Output → Type 0
-TellsWhy (declined.Words why) status fault = (status ≡ Refused) × Told fault (command_line_refused ++ string_bytes why)
-TellsWhy (declined.Fault e) status fault = (status ≡ status_of e) × Told fault (line_of e)

@@ -1,15 +1,15 @@
 //! The words of the command line.
 
-use crate::asked::Asked;
 use crate::asks::Asks;
-use crate::declined::Declined;
+use crate::collect_names::CollectNames;
 use crate::folder_options::FolderOptions;
 use crate::generation_asked::GenerationAsked;
-use crate::names::Names;
 use crate::options::Options;
+use crate::server_asked::ServerAsked;
 use clap::error::ErrorKind;
 use clap::{Arg, ArgAction, ArgMatches, Command, Error};
 use ep_base::{Generation, ReplicaId, Size};
+use ep_cli::WordsFault;
 use ep_folder::generation_in;
 use ep_node::Begin;
 use ep_script::number_in;
@@ -96,7 +96,7 @@ Exit status:
   4  a file could not be opened or read, or writing failed";
 
 /// What the words ask for, of which the first is the program's own name. `Words` where they are none that the program knows.
-pub(crate) fn read_words<T: AsStr>(alloc: Global, words: &[T]) -> Result<Asked, Declined> {
+pub(crate) fn read_words<T: AsStr>(alloc: Global, words: &[T]) -> Result<ServerAsked, WordsFault> {
     let command = program(alloc)?;
     match command.try_get_matches_from(words) {
         Ok(matches) => asked_by(alloc, &matches),
@@ -105,16 +105,16 @@ pub(crate) fn read_words<T: AsStr>(alloc: Global, words: &[T]) -> Result<Asked, 
 }
 
 /// What is asked for where `clap` finds no matches: the version or help at most.
-fn asked_instead(alloc: Global, error: &Error) -> Result<Asked, Declined> {
+fn asked_instead(alloc: Global, error: &Error) -> Result<ServerAsked, WordsFault> {
     match error.kind() {
-        ErrorKind::DisplayVersion => Ok(Asked::Version),
-        ErrorKind::DisplayHelp => Ok(Asked::Help(error.to_string(alloc)?)),
-        ErrorKind::OutOfMemory => Err(Declined::from(AllocError)),
-        _ => Err(Declined::Words(error.to_string(alloc)?)),
+        ErrorKind::DisplayVersion => Ok(ServerAsked::Version),
+        ErrorKind::DisplayHelp => Ok(ServerAsked::Help(error.to_string(alloc)?)),
+        ErrorKind::OutOfMemory => Err(WordsFault::from(AllocError)),
+        _ => Err(WordsFault::Words(error.to_string(alloc)?)),
     }
 }
 
-fn asked_by(alloc: Global, matches: &ArgMatches<'_>) -> Result<Asked, Declined> {
+fn asked_by(alloc: Global, matches: &ArgMatches<'_>) -> Result<ServerAsked, WordsFault> {
     match matches.subcommand_matches("node") {
         Some(options) => node_by(alloc, options),
         None => collect_by(alloc, matches),
@@ -122,17 +122,17 @@ fn asked_by(alloc: Global, matches: &ArgMatches<'_>) -> Result<Asked, Declined> 
 }
 
 /// Which node is asked for: one with its log in a file, or one in a folder.
-fn node_by(alloc: Global, options: &ArgMatches<'_>) -> Result<Asked, Declined> {
+fn node_by(alloc: Global, options: &ArgMatches<'_>) -> Result<ServerAsked, WordsFault> {
     check_places(alloc, options)?;
     check_begins(alloc, options)?;
     match options.get_str("dir") {
-        Some(folder) => Ok(Asked::Folder(folder_options_of(alloc, options, folder)?)),
-        None => Ok(Asked::Node(options_of(alloc, options)?)),
+        Some(folder) => Ok(ServerAsked::Folder(folder_options_of(alloc, options, folder)?)),
+        None => Ok(ServerAsked::Node(options_of(alloc, options)?)),
     }
 }
 
 /// Whether one place is named, and no more.
-fn check_places(alloc: Global, options: &ArgMatches<'_>) -> Result<(), Declined> {
+fn check_places(alloc: Global, options: &ArgMatches<'_>) -> Result<(), WordsFault> {
     let has_log = options.get_str("log").is_some();
     let has_folder = options.get_str("dir").is_some();
     if has_log && has_folder {
@@ -145,7 +145,7 @@ fn check_places(alloc: Global, options: &ArgMatches<'_>) -> Result<(), Declined>
 }
 
 /// Whether what is to be begun or taken goes with the place.
-fn check_begins(alloc: Global, options: &ArgMatches<'_>) -> Result<(), Declined> {
+fn check_begins(alloc: Global, options: &ArgMatches<'_>) -> Result<(), WordsFault> {
     let takes = options.get_str("take").is_some();
     if takes && options.get_str("log").is_some() {
         return Err(declined(alloc, "'--take' goes with '--dir' alone"));
@@ -157,10 +157,10 @@ fn check_begins(alloc: Global, options: &ArgMatches<'_>) -> Result<(), Declined>
 }
 
 /// The words are refused, for this reason.
-fn declined(alloc: Global, why: &str) -> Declined {
+fn declined(alloc: Global, why: &str) -> WordsFault {
     match words_refused(alloc, why) {
-        Ok(text) => Declined::Words(text),
-        Err(fault) => Declined::from(fault),
+        Ok(text) => WordsFault::Words(text),
+        Err(fault) => WordsFault::from(fault),
     }
 }
 
@@ -176,7 +176,7 @@ fn folder_options_of(
     alloc: Global,
     options: &ArgMatches<'_>,
     folder: &str,
-) -> Result<FolderOptions, Declined> {
+) -> Result<FolderOptions, WordsFault> {
     let size = size_of(alloc, options)?;
     let me = replica_of(alloc, options, size)?;
     let mode = mode_of(alloc, options)?;
@@ -200,7 +200,7 @@ fn asks_of(alloc: Global, options: &ArgMatches<'_>) -> Result<Asks, AllocError> 
     }
 }
 
-fn collect_by(alloc: Global, matches: &ArgMatches<'_>) -> Result<Asked, Declined> {
+fn collect_by(alloc: Global, matches: &ArgMatches<'_>) -> Result<ServerAsked, WordsFault> {
     match matches.subcommand_matches("collect") {
         Some(options) => collect_asked(alloc, options),
         None => contents_by(alloc, matches),
@@ -208,10 +208,10 @@ fn collect_by(alloc: Global, matches: &ArgMatches<'_>) -> Result<Asked, Declined
 }
 
 /// What is to be collected: of a generation, where one is named.
-fn collect_asked(alloc: Global, options: &ArgMatches<'_>) -> Result<Asked, Declined> {
+fn collect_asked(alloc: Global, options: &ArgMatches<'_>) -> Result<ServerAsked, WordsFault> {
     match options.get_str("generation") {
-        Some(word) => Ok(Asked::CollectGeneration(generation_of(alloc, word, options)?)),
-        None => Ok(Asked::Collect(names_of(alloc, options)?)),
+        Some(word) => Ok(ServerAsked::CollectGeneration(generation_of(alloc, word, options)?)),
+        None => Ok(ServerAsked::Collect(names_of(alloc, options)?)),
     }
 }
 
@@ -220,7 +220,7 @@ fn generation_of(
     alloc: Global,
     word: &str,
     options: &ArgMatches<'_>,
-) -> Result<GenerationAsked, Declined> {
+) -> Result<GenerationAsked, WordsFault> {
     let generation = generation_named(alloc, word)?;
     let names = names_of(alloc, options)?;
     Ok(GenerationAsked {
@@ -230,10 +230,10 @@ fn generation_of(
     })
 }
 
-fn generation_named(alloc: Global, word: &str) -> Result<Generation, Declined> {
+fn generation_named(alloc: Global, word: &str) -> Result<Generation, WordsFault> {
     match generation_spelled(word) {
         Some(generation) => Ok(generation),
-        None => Err(Declined::Words(format!(in alloc;
+        None => Err(WordsFault::Words(format!(in alloc;
             "error: invalid value {word:?} for '--generation <G>': it takes a number from 1 to 4294967295\n\nFor more information, try '--help'.\n"
         )?)),
     }
@@ -244,9 +244,9 @@ fn generation_spelled(word: &str) -> Option<Generation> {
     Generation::new(number).ok()
 }
 
-fn contents_by(alloc: Global, matches: &ArgMatches<'_>) -> Result<Asked, Declined> {
+fn contents_by(alloc: Global, matches: &ArgMatches<'_>) -> Result<ServerAsked, WordsFault> {
     match matches.subcommand_matches("contents") {
-        Some(options) => Ok(Asked::Contents(String::from_str(
+        Some(options) => Ok(ServerAsked::Contents(String::from_str(
             alloc,
             options.get_str("FOLDER").unwrap_or(""),
         )?)),
@@ -255,21 +255,21 @@ fn contents_by(alloc: Global, matches: &ArgMatches<'_>) -> Result<Asked, Decline
 }
 
 /// The logs that an opening is to be made of.
-fn upgrade_by(alloc: Global, matches: &ArgMatches<'_>) -> Result<Asked, Declined> {
+fn upgrade_by(alloc: Global, matches: &ArgMatches<'_>) -> Result<ServerAsked, WordsFault> {
     match matches.subcommand_matches("upgrade") {
         Some(options) if options.get_flag("log") => {
-            Ok(Asked::Upgrade(texts_of(alloc, options, "LOG")?))
+            Ok(ServerAsked::Upgrade(texts_of(alloc, options, "LOG")?))
         }
         Some(_) => Err(declined(alloc, "'--log' is missing")),
-        None => Err(Declined::Words(String::new(alloc))),
+        None => Err(WordsFault::Words(String::new(alloc))),
     }
 }
 
 /// The files that are to be collected.
-fn names_of(alloc: Global, options: &ArgMatches<'_>) -> Result<Names, Declined> {
+fn names_of(alloc: Global, options: &ArgMatches<'_>) -> Result<CollectNames, WordsFault> {
     let logs = texts_of(alloc, options, "LOG")?;
     let receipts = texts_of(alloc, options, "receipts")?;
-    Ok(Names { logs, receipts })
+    Ok(CollectNames { logs, receipts })
 }
 
 /// The words after this option, or in this place.
@@ -295,7 +295,7 @@ fn copied(alloc: Global, words: &[&str]) -> Result<Vec<String>, AllocError> {
 }
 
 /// What a node is asked to be, by its options.
-fn options_of(alloc: Global, options: &ArgMatches<'_>) -> Result<Options, Declined> {
+fn options_of(alloc: Global, options: &ArgMatches<'_>) -> Result<Options, WordsFault> {
     let size = size_of(alloc, options)?;
     let me = replica_of(alloc, options, size)?;
     let mode = mode_of(alloc, options)?;
@@ -311,11 +311,11 @@ fn options_of(alloc: Global, options: &ArgMatches<'_>) -> Result<Options, Declin
 }
 
 /// The cluster's size.
-fn size_of(alloc: Global, options: &ArgMatches<'_>) -> Result<Size, Declined> {
+fn size_of(alloc: Global, options: &ArgMatches<'_>) -> Result<Size, WordsFault> {
     let word = options.get_str("replicas").unwrap_or("");
     match size_named(word) {
         Some(size) => Ok(size),
-        None => Err(Declined::Words(format!(in alloc;
+        None => Err(WordsFault::Words(format!(in alloc;
             "error: invalid value {word:?} for '--replicas <N>'\n  [possible values: 3, 5, 7]\n\nFor more information, try '--help'.\n"
         )?)),
     }
@@ -327,12 +327,16 @@ fn size_named(word: &str) -> Option<Size> {
 }
 
 /// The replica's number, which is below the cluster's size.
-fn replica_of(alloc: Global, options: &ArgMatches<'_>, size: Size) -> Result<ReplicaId, Declined> {
+fn replica_of(
+    alloc: Global,
+    options: &ArgMatches<'_>,
+    size: Size,
+) -> Result<ReplicaId, WordsFault> {
     let word = options.get_str("replica").unwrap_or("");
     let most = size.count() - 1;
     match replica_named(word, most) {
         Some(replica) => Ok(replica),
-        None => Err(Declined::Words(format!(in alloc;
+        None => Err(WordsFault::Words(format!(in alloc;
             "error: invalid value {word:?} for '--replica <R>': it takes a number from 0 to {most}\n\nFor more information, try '--help'.\n"
         )?)),
     }
@@ -353,20 +357,20 @@ fn begin_of(options: &ArgMatches<'_>) -> Begin {
 }
 
 /// When answers are written.
-fn mode_of(alloc: Global, options: &ArgMatches<'_>) -> Result<Mode, Declined> {
+fn mode_of(alloc: Global, options: &ArgMatches<'_>) -> Result<Mode, WordsFault> {
     match options.get_str("sync") {
         Some(word) => mode_named(alloc, word),
         None => Ok(Mode::Asked),
     }
 }
 
-fn mode_named(alloc: Global, word: &str) -> Result<Mode, Declined> {
+fn mode_named(alloc: Global, word: &str) -> Result<Mode, WordsFault> {
     if word == "asked" {
         Ok(Mode::Asked)
     } else if word == "each" {
         Ok(Mode::Each)
     } else {
-        Err(Declined::Words(format!(in alloc;
+        Err(WordsFault::Words(format!(in alloc;
             "error: invalid value {word:?} for '--sync <WHEN>'\n  [possible values: each, asked]\n\nFor more information, try '--help'.\n"
         )?))
     }

@@ -1,17 +1,13 @@
 //! The map of the newest generation in a folder, shown.
 
 ghost use Rattle.std.specs.Prelude.{◌≡◌, ◌⊎◌, string_bytes, IfErr};
-ghost use Rattle.ep_assemble.specs.Files.{IsOfFile};
-ghost use Rattle.ep_server.specs.Outputs.{output};
-ghost use Rattle.ep_server.specs.Shown.{PutsShown, ShowsFiles};
+ghost use Rattle.ep_cli.specs.Files.{IsOfFile};
+ghost use Rattle.ep_cli.specs.Outputs.{became};
+ghost use Rattle.ep_server.specs.NamedFiles.{ShowsFiles};
 
-use crate::collecting::{failed, told, turned_away};
-use crate::declined::Declined;
-use crate::fault::Fault;
-use crate::status::Status;
-use ep_assemble::{FilesFault, OpenedLog, read_file};
+use ep_assemble::{OpenedLog, OpenedNames, show_files};
 use ep_base::{Generation, Sink};
-use ep_contents::{LinesShown, Names, show_files};
+use ep_cli::{FilesFault, Status, Streams, put_printout, read_file, turned_away, unread};
 use ep_device::DeviceFault;
 use ep_folder::{log_path, look, newest_in, opening_path};
 use std::alloc::{AllocError, Global};
@@ -20,82 +16,76 @@ use std::io::ErrorKind;
 use std::rt::Files;
 
 /// Shows the map of the newest generation in the folder.
-pub(crate) fn show_contents<R: Files + AllocGlobal, W: Sink, F: Sink>(
+pub(crate) fn show_contents<R: Files + AllocGlobal, S, W: Sink, F: Sink>(
     rt: &R,
     folder: &str,
-    writer: &mut W,
-    fault_writer: &mut F,
-) -> Result<Status, Declined> {
-    match newest_of(rt, folder)? {
-        Ok(generation) => {
-            let names = names_of(rt.alloc(), folder, generation)?;
-            Ok(show_named(rt, generation, &names, writer, fault_writer))
-        }
-        Err(fault) => Ok(turned_away(fault, fault_writer)),
+    streams: &mut Streams<S, W, F>,
+) -> Status {
+    match newest_of(rt, folder) {
+        Ok((generation, names)) => show_named(rt, generation, &names, streams),
+        Err(fault) => turned_away(fault, &mut streams.fault_writer),
     }
 }
 
-/// The newest generation in the folder, or why there is none.
+/// The newest generation in the folder, and its files; or why there is none.
 fn newest_of<R: Files + AllocGlobal>(
     rt: &R,
     folder: &str,
-) -> Result<Result<Generation, FilesFault>, AllocError> {
+) -> Result<(Generation, OpenedNames), FilesFault> {
     let held = match look(rt, folder) {
         Ok(held) => held,
-        Err(DeviceFault::Memory) => return Err(AllocError),
-        Err(DeviceFault::Failed(_)) => {
-            let line = line_of(rt.alloc(), "reading ", folder, " failed\n")?;
-            return Ok(Err(FilesFault::ReadFailed(line)));
-        }
+        Err(DeviceFault::Memory) => return Err(FilesFault::Memory),
+        Err(DeviceFault::Failed(_)) => return Err(unread(rt.alloc(), folder)),
     };
     match Generation::new(newest_in(&held)) {
-        Ok(generation) => Ok(Ok(generation)),
-        Err(_) => {
-            let line = line_of(rt.alloc(), "", folder, " has no generation\n")?;
-            Ok(Err(FilesFault::Refused(line)))
-        }
+        Ok(generation) => Ok((generation, names_of(rt.alloc(), folder, generation)?)),
+        Err(_) => Err(FilesFault::Refused(empty_line(rt.alloc(), folder)?)),
     }
 }
 
-/// A line on a folder.
-fn line_of(alloc: Global, before: &str, folder: &str, behind: &str) -> Result<Vec<u8>, AllocError> {
-    let mut line = Vec::from_slice(alloc, before.as_bytes())?;
-    line.extend_from_slice(folder.as_bytes())?;
-    line.extend_from_slice(behind.as_bytes())?;
+/// The line of a folder without a generation.
+fn empty_line(alloc: Global, folder: &str) -> Result<Vec<u8>, AllocError> {
+    let mut line = Vec::from_slice(alloc, folder.as_bytes())?;
+    line.extend_from_slice(b" has no generation\n")?;
     Ok(line)
 }
 
 /// The names of its two files of the generation.
-fn names_of(alloc: Global, folder: &str, generation: Generation) -> Result<Names, AllocError> {
+fn names_of(
+    alloc: Global,
+    folder: &str,
+    generation: Generation,
+) -> Result<OpenedNames, AllocError> {
     let opening = opening_path(alloc, folder, generation)?;
     let log = log_path(alloc, folder, generation)?;
-    Ok(Names { opening, log })
+    Ok(OpenedNames { opening, log })
 }
 
-/// Reads the files, and shows the map of the generation of what they hold.
-#[tactic(auto, using(crate::proofs::MapShown::are_shown, crate::proofs::MapShown::are_unseen))]
-pub fn show_named<R: Files + AllocGlobal, W: Sink, F: Sink>(
+/// Reads the files, and shows the map of the generation of what they hold, in one go. A torn end has a line on the fault output, or what stops it
+/// has one; where telling fails, the status stays.
+pub fn show_named<R: Files + AllocGlobal, S, W: Sink, F: Sink>(
     rt: &R,
     generation: Generation,
-    names: &Names,
-    writer: &mut W,
-    fault_writer: &mut F,
+    names: &OpenedNames,
+    streams: &mut Streams<S, W, F>,
 ) -> Status
     ensures { ShowsFiles generation (string_bytes names.now.opening) (string_bytes names.now.log) result
-        (output (W.held writer.old) (W.held writer.new) (W.has_failed writer.old) (W.has_failed writer.new))
-        (output (F.held fault_writer.old) (F.held fault_writer.new) (F.has_failed fault_writer.old) (F.has_failed fault_writer.new)) }
+        (became W.held W.has_failed streams.old.writer streams.new.writer) (became F.held F.has_failed streams.old.fault_writer streams.new.fault_writer) }
 {
     match gather_shown(rt, names) {
         Ok(kept) => {
             let shown = show_files(rt.alloc(), generation, names, &kept);
-            put_shown(shown, writer, fault_writer)
+            put_printout(shown, streams)
         }
-        Err(fault) => turned_away(fault, fault_writer),
+        Err(fault) => turned_away(fault, &mut streams.fault_writer),
     }
 }
 
 /// The bytes of the files with these names. A log that isn't begun has none.
-fn gather_shown<R: Files + AllocGlobal>(rt: &R, names: &Names) -> Result<OpenedLog, FilesFault>
+fn gather_shown<R: Files + AllocGlobal>(
+    rt: &R,
+    names: &OpenedNames,
+) -> Result<OpenedLog, FilesFault>
     ensures { IfErr result (λ e. IsOfFile (string_bytes names.now.opening) e ⊎ IsOfFile (string_bytes names.now.log) e) }
 {
     let opening = read_file(rt, names.opening.as_str())?;
@@ -118,24 +108,5 @@ fn is_missing<R: Files>(rt: &R, name: &str) -> bool {
     match fs::metadata(rt, name) {
         Ok(_) => false,
         Err(error) => error.kind() == ErrorKind::NotFound,
-    }
-}
-
-/// Writes what is shown, in one go. A torn end has a line on the fault output, or what stops it has one; where telling fails, the status stays.
-fn put_shown<W: Sink, F: Sink>(
-    outcome: Result<LinesShown, FilesFault>,
-    writer: &mut W,
-    fault_writer: &mut F,
-) -> Status
-    ensures { PutsShown outcome result
-        (output (W.held writer.old) (W.held writer.new) (W.has_failed writer.old) (W.has_failed writer.new))
-        (output (F.held fault_writer.old) (F.held fault_writer.new) (F.has_failed fault_writer.old) (F.has_failed fault_writer.new)) }
-{
-    match outcome {
-        Ok(shown) => match writer.put(&shown.text) {
-            Ok(()) => told(&shown.lines, Status::Done, fault_writer),
-            Err(_) => failed(Fault::Write, fault_writer),
-        },
-        Err(fault) => turned_away(fault, fault_writer),
     }
 }

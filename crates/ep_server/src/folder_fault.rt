@@ -4,9 +4,9 @@ ghost use Rattle.std.specs.Prelude.{◌≡◌};
 ghost use Rattle.ep_server.specs.Faults.{of_device, status_of_folder};
 ghost use Rattle.ep_server.specs.declared.folder_fault.FolderFault.TheVariants.{Memory as NoMemory, Refused as IsRefused};
 
-use crate::status::Status;
-use ep_device::{Cause, DeviceFault};
-use ep_folder::Refusal;
+use ep_cli::Status;
+use ep_device::{DeviceFault, SystemFault};
+use ep_folder::StartFault;
 use ep_opening::OpeningFault;
 use std::alloc::AllocError;
 
@@ -16,11 +16,11 @@ pub enum FolderFault {
     /// Memory was refused.
     Memory,
     /// A file or a folder could not be read or written, and why.
-    Failed(Cause),
+    Failed(SystemFault),
     /// The file of the opening that is to be taken could not be read, and why.
-    Unread(Cause),
+    Unread(SystemFault),
     /// What is there doesn't go with what is asked for.
-    Refused(Refusal),
+    Refused(StartFault),
     /// This generation has no log, and may have had one.
     NoLog(u32),
     /// The opening of this generation isn't one.
@@ -76,10 +76,10 @@ impl From<DeviceFault> for FolderFault {
     }
 }
 
-impl From<Refusal> for FolderFault {
+impl From<StartFault> for FolderFault {
     ghost from_gives = { λ refusal e. e ≡ IsRefused refusal };
 
-    fn from(refusal: Refusal) -> FolderFault {
+    fn from(refusal: StartFault) -> FolderFault {
         FolderFault::Refused(refusal)
     }
 }

@@ -1,35 +1,33 @@
 //! The folders of a generation, and receipts, collected.
 
 ghost use Rattle.std.specs.Prelude.{◌≡◌, ◌⊎◌, codes, length, map, string_bytes, IfOk, IfErr};
-ghost use Rattle.ep_assemble.specs.Files.{IsUnread};
 ghost use Rattle.ep_assemble.specs.GenerationFiles.{IsLacking};
-ghost use Rattle.ep_server.specs.CollectedOf.{paths_in, CollectsGeneration, PutsCollected};
-ghost use Rattle.ep_server.specs.Outputs.{output};
+ghost use Rattle.ep_cli.specs.Files.{IsUnread};
+ghost use Rattle.ep_cli.specs.Outputs.{became};
+ghost use Rattle.ep_server.specs.NamedFiles.{paths_in, CollectsGeneration};
 
-use crate::collecting::{failed, told, turned_away};
-use crate::declined::Declined;
-use crate::fault::Fault;
 use crate::generation_asked::GenerationAsked;
 use crate::generation_gathered::GenerationGathered;
-use crate::status::Status;
-use ep_assemble::{
-    Collection, FilesFault, GenerationNames, collect_generation, read_files, read_opened_logs,
-};
+use ep_assemble::{GenerationNames, collect_generation, read_opened_logs};
 use ep_base::{Generation, Sink};
+use ep_cli::{
+    FilesFault, Status, Streams, WordsFault, decline, put_printout, read_files, turned_away,
+};
 use ep_folder::file_path;
 use std::alloc::{AllocError, Global};
 use std::rt::Files;
 
 /// Reads the files of a generation in these folders, and writes the bundle of what they hold.
-pub(crate) fn collect_folders<R: Files + AllocGlobal, W: Sink, F: Sink>(
+pub(crate) fn collect_folders<R: Files + AllocGlobal, S, W: Sink, F: Sink>(
     rt: &R,
     asked: GenerationAsked,
-    writer: &mut W,
-    fault_writer: &mut F,
-) -> Result<Status, Declined> {
+    streams: &mut Streams<S, W, F>,
+) -> Status {
     let generation = asked.generation;
-    let names = names_in(rt.alloc(), asked)?;
-    Ok(collect_of(rt, generation, &names, writer, fault_writer))
+    match names_in(rt.alloc(), asked) {
+        Ok(names) => collect_of(rt, generation, &names, streams),
+        Err(fault) => decline(WordsFault::from(fault), &mut streams.fault_writer),
+    }
 }
 
 /// The names of the files that are asked for.
@@ -71,19 +69,17 @@ fn paths_of(
     Ok(paths)
 }
 
-/// Reads the files, and writes the bundle of the generation of what they hold.
-#[tactic(auto, using(crate::proofs::FoldersCollected::are_collected_of, crate::proofs::FoldersCollected::are_lacking))]
-pub fn collect_of<R: Files + AllocGlobal, W: Sink, F: Sink>(
+/// Reads the files, and writes the bundle of the generation of what they hold, in one go. Each torn end has a line on the fault output, or what
+/// stops it has one; where telling fails, the status stays.
+pub fn collect_of<R: Files + AllocGlobal, S, W: Sink, F: Sink>(
     rt: &R,
     generation: Generation,
     names: &GenerationNames,
-    writer: &mut W,
-    fault_writer: &mut F,
+    streams: &mut Streams<S, W, F>,
 ) -> Status
     requires { length names.now.logs.items ≡ length names.now.openings.items }
     ensures { CollectsGeneration generation (map string_bytes names.now.openings.items) (map string_bytes names.now.logs.items) (map string_bytes names.now.receipts.items) result
-        (output (W.held writer.old) (W.held writer.new) (W.has_failed writer.old) (W.has_failed writer.new))
-        (output (F.held fault_writer.old) (F.held fault_writer.new) (F.has_failed fault_writer.old) (F.has_failed fault_writer.new)) }
+        (became W.held W.has_failed streams.old.writer streams.new.writer) (became F.held F.has_failed streams.old.fault_writer streams.new.fault_writer) }
 {
     match gather_generation(rt, names) {
         Ok(gathered) => {
@@ -94,9 +90,9 @@ pub fn collect_of<R: Files + AllocGlobal, W: Sink, F: Sink>(
                 &gathered.kept,
                 &gathered.receipts,
             );
-            put_collected(collected, writer, fault_writer)
+            put_printout(collected, streams)
         }
-        Err(fault) => turned_away(fault, fault_writer),
+        Err(fault) => turned_away(fault, &mut streams.fault_writer),
     }
 }
 
@@ -113,24 +109,4 @@ fn gather_generation<R: Files + AllocGlobal>(
     let kept = read_opened_logs(rt, &names.openings, &names.logs)?;
     let receipts = read_files(rt, &names.receipts)?;
     Ok(GenerationGathered { kept, receipts })
-}
-
-/// Writes what was collected, in one go. Each torn end has a line on the fault output, or what stops it has one; where telling fails, the status
-/// stays.
-fn put_collected<W: Sink, F: Sink>(
-    outcome: Result<Collection, FilesFault>,
-    writer: &mut W,
-    fault_writer: &mut F,
-) -> Status
-    ensures { PutsCollected outcome result
-        (output (W.held writer.old) (W.held writer.new) (W.has_failed writer.old) (W.has_failed writer.new))
-        (output (F.held fault_writer.old) (F.held fault_writer.new) (F.has_failed fault_writer.old) (F.has_failed fault_writer.new)) }
-{
-    match outcome {
-        Ok(collection) => match writer.put(&collection.bundle) {
-            Ok(()) => told(&collection.lines, Status::Done, fault_writer),
-            Err(_) => failed(Fault::Write, fault_writer),
-        },
-        Err(fault) => turned_away(fault, fault_writer),
-    }
 }

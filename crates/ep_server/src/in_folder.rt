@@ -1,27 +1,25 @@
 //! A node that lives through generations, in the folder of its replica.
 
-ghost use Rattle.std.specs.Prelude.{◌≡◌, ◌++◌, ℕ, List, Option, None, Some, true, IfOk, IfErr};
-ghost use Rattle.ep_node.specs.Nodes.{IsQuiet};
+ghost use Rattle.std.specs.Prelude.{◌≡◌, ◌++◌, ℕ, List, Option, None, Some, IfOk, IfErr};
+ghost use Rattle.ep_cli.specs.Outputs.{became, turned};
+ghost use Rattle.ep_node.specs.Nodes.{IsQuiet, origin_of};
 ghost use Rattle.ep_node.specs.declared.cut.Cut.{Cut as CutOff};
-ghost use Rattle.ep_opening.specs.Bytes.{file_digest};
-ghost use Rattle.ep_opening.specs.Closing.{store_of};
-ghost use Rattle.ep_rules.specs.OneMap.{is_closed};
-ghost use Rattle.ep_server.specs.Outputs.{output};
-ghost use Rattle.ep_server.specs.Served.{origin_from, told_first, IsFolderNode, IsOfFile, IsUnready, TellsCut, TellsCuts};
+ghost use Rattle.ep_server.specs.Served.{origin_from, told_first, IsFolderNode, IsNextOf, IsOfFile, IsUnready, TellsCut, TellsCuts};
 
-use crate::fault::Fault;
 use crate::folder_fault::FolderFault;
 use crate::folder_options::FolderOptions;
+use crate::generation_start::GenerationStart;
 use crate::program::{concluded, opened_as, served, tell_first};
-use crate::stage::Stage;
-use crate::staging::{check_stage, first_stage, next_stage, put_next};
-use crate::status::Status;
+use crate::server_fault::ServerFault;
+use crate::staging::{check_stage, first_stage, handed_stage};
 use ep_base::{Generation, ReplicaId, Sink, Size, Source};
+use ep_cli::{Status, Streams};
 use ep_device::{Device, FileDevice};
-use ep_folder::{Held, leave_earlier, log_path};
-use ep_log::Origin;
+use ep_folder::{GenerationFolder, leave_earlier, log_path};
+use ep_log::Beginning;
 use ep_node::{CloseFault, Node, OpenFault, Whose};
-use ep_opening::OpeningFile;
+use ep_opening::{OpeningFile, SpelledFile};
+use std::alloc::Global;
 use std::fs::File;
 use std::rt::Files;
 
@@ -31,22 +29,18 @@ use std::rt::Files;
 pub fn serve_folder<'a, R: Files<File = File> + AllocGlobal, S: Source, W: Sink, F: Sink>(
     rt: &'a R,
     options: &FolderOptions,
-    reader: &mut S,
-    writer: &mut W,
-    fault_writer: &mut F,
+    streams: &mut Streams<S, W, F>,
 ) -> Status
-    ensures { (zs : List ℕ) → S.left reader.old ≡ Some zs → IsFolderNode (record { has_failed = ⟦<FileDevice<'a, R> as Device>⟧.has_failed; why = ⟦<FileDevice<'a, R> as Device>⟧.why; seen = ⟦<FileDevice<'a, R> as Device>⟧.seen; moment = ⟦<FileDevice<'a, R> as Device>⟧.moment; left_since = ⟦<FileDevice<'a, R> as Device>⟧.left_since })
+    ensures { (zs : List ℕ) → S.left streams.old.reader ≡ Some zs → IsFolderNode (record { has_failed = ⟦<FileDevice<'a, R> as Device>⟧.has_failed; why = ⟦<FileDevice<'a, R> as Device>⟧.why; seen = ⟦<FileDevice<'a, R> as Device>⟧.seen; moment = ⟦<FileDevice<'a, R> as Device>⟧.moment; left_since = ⟦<FileDevice<'a, R> as Device>⟧.left_since })
         options.now.mode options.now.size options.now.me zs result
-        (output (S.left reader.old) (S.left reader.new) (S.has_failed reader.old) (S.has_failed reader.new))
-        (output (W.held writer.old) (W.held writer.new) (W.has_failed writer.old) (W.has_failed writer.new))
-        (output (F.held fault_writer.old) (F.held fault_writer.new) (F.has_failed fault_writer.old) (F.has_failed fault_writer.new)) }
+        (turned S.has_failed streams.old.reader streams.new.reader) (became W.held W.has_failed streams.old.writer streams.new.writer) (became F.held F.has_failed streams.old.fault_writer streams.new.fault_writer) }
 {
-    match ready(rt, options, fault_writer) {
+    match ready(rt, options, &mut streams.fault_writer) {
         Ok(node) => {
-            let outcome = served(rt.alloc(), node, reader, writer, options.mode);
-            concluded(outcome, fault_writer)
+            let outcome = served(rt.alloc(), node, options.mode, streams);
+            concluded(outcome, &mut streams.fault_writer)
         }
-        Err(fault) => concluded(Err(fault), fault_writer),
+        Err(fault) => concluded(Err(fault), &mut streams.fault_writer),
     }
 }
 
@@ -56,44 +50,58 @@ fn ready<'a, R: Files<File = File> + AllocGlobal, F: Sink>(
     rt: &'a R,
     options: &FolderOptions,
     fault_writer: &mut F,
-) -> Result<Node<FileDevice<'a, R>>, Fault>
+) -> Result<Node<FileDevice<'a, R>>, ServerFault>
     ensures ok { IfOk result (λ node. IsQuiet node × IsOfFile options.now.size options.now.me node) }
     ensures err { IfErr result IsUnready }
-    ensures told { TellsCuts (output (F.held fault_writer.old) (F.held fault_writer.new) (F.has_failed fault_writer.old) (F.has_failed fault_writer.new)) }
+    ensures told { TellsCuts (became F.held F.has_failed fault_writer.old fault_writer.new) }
 {
     let stage = first_stage(rt, options)?;
     check_stage(options.size, &stage)?;
-    let generation = stage.file.generation();
+    let generation = stage.file.file().generation();
     let node = open_stage(rt, options, stage, fault_writer)?;
-    match closed(rt, options, &node) {
-        Ok(true) => {
+    match closing(rt.alloc(), options.size, &node) {
+        Ok(Some(file)) => {
             drop(node);
-            ready_again(rt, options, fault_writer)
+            ready_next(rt, options, file, fault_writer)
         }
-        Ok(false) => of_size(options.size, generation, node),
+        Ok(None) => of_size(options.size, generation, node),
         Err(fault) => {
             drop(node);
-            Err(Fault::Folder(fault))
+            Err(ServerFault::Folder(fault))
         }
     }
 }
 
-/// The node of the generation that was opened by closing the one before.
+/// The node of the generation that this file opens, which closes the one before.
 #[tactic(auto, using(crate::proofs::InFolders::tells_nothing, crate::proofs::InFolders::of_this_size))]
-fn ready_again<'a, R: Files<File = File> + AllocGlobal, F: Sink>(
+fn ready_next<'a, R: Files<File = File> + AllocGlobal, F: Sink>(
     rt: &'a R,
     options: &FolderOptions,
+    file: OpeningFile,
     fault_writer: &mut F,
-) -> Result<Node<FileDevice<'a, R>>, Fault>
+) -> Result<Node<FileDevice<'a, R>>, ServerFault>
     ensures ok { IfOk result (λ node. IsQuiet node × IsOfFile options.now.size options.now.me node) }
+    ensures origin { IfOk result (λ node. origin_of node ≡ origin_from file) }
     ensures err { IfErr result IsUnready }
-    ensures told { TellsCut (output (F.held fault_writer.old) (F.held fault_writer.new) (F.has_failed fault_writer.old) (F.has_failed fault_writer.new)) }
+    ensures told { TellsCut (became F.held F.has_failed fault_writer.old fault_writer.new) }
 {
-    let stage = next_stage(rt, options.folder.as_str(), true)?;
+    let stage = closed_stage(rt, options.folder.as_str(), file)?;
     check_stage(options.size, &stage)?;
-    let generation = stage.file.generation();
+    let generation = stage.file.file().generation();
     let node = open_stage(rt, options, stage, fault_writer)?;
     of_size(options.size, generation, node)
+}
+
+/// The generation that this file opens, which closes the one before. It is on the disk.
+fn closed_stage<R: Files<File = File> + AllocGlobal>(
+    rt: &R,
+    folder: &str,
+    file: OpeningFile,
+) -> Result<GenerationStart, FolderFault>
+    ensures { IfOk result (λ s. s.file ≡ file) }
+{
+    let file = SpelledFile::write(rt.alloc(), file)?;
+    handed_stage(rt, folder, file, false)
 }
 
 /// The node, where its cluster has this size.
@@ -101,7 +109,7 @@ fn of_size<D: Device + Drop>(
     size: Size,
     generation: Generation,
     node: Node<D>,
-) -> Result<Node<D>, Fault>
+) -> Result<Node<D>, ServerFault>
     ensures ok { IfOk result (λ it. (it ≡ node) × (node.replica.faults ≡ size)) }
     ensures err { IfErr result IsUnready }
 {
@@ -110,24 +118,24 @@ fn of_size<D: Device + Drop>(
         Ok(node)
     } else {
         drop(node);
-        Err(Fault::Folder(FolderFault::OtherSize(generation.number(), u32::from(found.count()))))
+        Err(ServerFault::Folder(FolderFault::OtherSize(
+            generation.number(),
+            u32::from(found.count()),
+        )))
     }
 }
 
-/// Whether the node has executed a seal: then the opening of the next generation is on the disk.
-fn closed<R: Files<File = File> + AllocGlobal, D: Device>(
-    rt: &R,
-    options: &FolderOptions,
+/// The file that the next generation opens with, in a cluster of this size, where the node has executed a seal.
+fn closing<D: Device>(
+    alloc: Global,
+    next: Size,
     node: &Node<D>,
-) -> Result<bool, FolderFault>
-    ensures { IfOk result (λ is. is ≡ is_closed (store_of node.now.replica)) }
+) -> Result<Option<OpeningFile>, FolderFault>
+    ensures { IfOk result (IsNextOf node.now.replica next) }
 {
-    match node.close(rt.alloc(), options.size) {
-        Ok(file) => {
-            put_next(rt, options.folder.as_str(), &file)?;
-            Ok(true)
-        }
-        Err(CloseFault::NotSealed) => Ok(false),
+    match node.close(alloc, next) {
+        Ok(file) => Ok(Some(file)),
+        Err(CloseFault::NotSealed) => Ok(None),
         Err(CloseFault::LastGeneration) => Err(FolderFault::Last),
         // (or it isn't quiet, which a node that was just opened is)
         Err(_) => Err(FolderFault::Memory),
@@ -135,18 +143,19 @@ fn closed<R: Files<File = File> + AllocGlobal, D: Device>(
 }
 
 /// Whose log is that of this generation.
-fn whose_of(file: OpeningFile, digest: [u8; 32], me: ReplicaId) -> Whose
-    requires { digest ≡ file_digest file }
+fn whose_of(file: SpelledFile, me: ReplicaId) -> Whose
     ensures cluster { result.cluster ≡ file.faults }
     ensures me { result.me ≡ me }
     ensures origin { result.origin ≡ origin_from file }
 {
+    let digest = file.digest();
+    let file = file.into_file();
     let cluster = file.size();
     let generation = file.generation();
     Whose {
         cluster,
         me,
-        origin: Origin::of(generation, file.into_opening(), digest),
+        origin: Beginning::of(generation, file.into_opening(), digest),
     }
 }
 
@@ -155,16 +164,16 @@ fn device_of<'a, R: Files<File = File> + AllocGlobal>(
     rt: &'a R,
     folder: &str,
     generation: Generation,
-) -> Result<FileDevice<'a, R>, Fault>
+) -> Result<FileDevice<'a, R>, ServerFault>
     ensures { IfErr result IsUnready }
 {
     let path = match log_path(rt.alloc(), folder, generation) {
         Ok(path) => path,
-        Err(_) => return Err(Fault::Folder(FolderFault::Memory)),
+        Err(_) => return Err(ServerFault::Folder(FolderFault::Memory)),
     };
     match FileDevice::open(rt.alloc(), rt, path.as_str()) {
         Ok(device) => Ok(device),
-        Err(fault) => Err(Fault::Open(OpenFault::from(fault))),
+        Err(fault) => Err(ServerFault::Open(OpenFault::from(fault))),
     }
 }
 
@@ -173,29 +182,24 @@ fn device_of<'a, R: Files<File = File> + AllocGlobal>(
 fn open_stage<'a, R: Files<File = File> + AllocGlobal, F: Sink>(
     rt: &'a R,
     options: &FolderOptions,
-    stage: Stage,
+    stage: GenerationStart,
     fault_writer: &mut F,
-) -> Result<Node<FileDevice<'a, R>>, Fault>
-    requires { stage.digest ≡ file_digest stage.file }
+) -> Result<Node<FileDevice<'a, R>>, ServerFault>
     ensures ok { IfOk result (λ node. IsQuiet node × IsOfFile node.replica.faults options.now.me node) }
+    ensures origin { IfOk result (λ node. origin_of node ≡ origin_from stage.file) }
     ensures err { IfErr result IsUnready }
-    ensures told { TellsCut (output (F.held fault_writer.old) (F.held fault_writer.new) (F.has_failed fault_writer.old) (F.has_failed fault_writer.new)) }
+    ensures told { TellsCut (became F.held F.has_failed fault_writer.old fault_writer.new) }
 {
-    let Stage {
-        file,
-        digest,
-        begin,
-        held,
-    } = stage;
-    let generation = file.generation();
+    let GenerationStart { file, begin, held } = stage;
+    let generation = file.file().generation();
     let device = device_of(rt, options.folder.as_str(), generation)?;
-    let whose = whose_of(file, digest, options.me);
+    let whose = whose_of(file, options.me);
     match opened_as(rt.alloc(), device, whose, begin) {
         Ok(node) => {
             let _ = tell_first(node.cut(), fault_writer);
             leaving(rt, options.folder.as_str(), &held, generation, node)
         }
-        Err(fault) => Err(Fault::Open(fault)),
+        Err(fault) => Err(ServerFault::Open(fault)),
     }
 }
 
@@ -203,10 +207,10 @@ fn open_stage<'a, R: Files<File = File> + AllocGlobal, F: Sink>(
 fn leaving<R: Files<File = File> + AllocGlobal, D: Device + Drop>(
     rt: &R,
     folder: &str,
-    held: &[Held],
+    held: &[GenerationFolder],
     generation: Generation,
     node: Node<D>,
-) -> Result<Node<D>, Fault>
+) -> Result<Node<D>, ServerFault>
     ensures ok { IfOk result (λ it. it ≡ node) }
     ensures err { IfErr result IsUnready }
 {
@@ -214,7 +218,7 @@ fn leaving<R: Files<File = File> + AllocGlobal, D: Device + Drop>(
         Ok(()) => Ok(node),
         Err(fault) => {
             drop(node);
-            Err(Fault::Folder(FolderFault::from(fault)))
+            Err(ServerFault::Folder(FolderFault::from(fault)))
         }
     }
 }

@@ -2,18 +2,17 @@
 
 ghost use Rattle.std.specs.Prelude.{◌≡◌, ℕ, List, [], Some, true, IfOk, IfErr};
 ghost use Rattle.ep_base.specs.Devices.{Puts};
+ghost use Rattle.ep_cli.specs.Outputs.{became, turned};
 ghost use Rattle.ep_log.specs.Origins.{second};
 ghost use Rattle.ep_node.specs.Nodes.{IsQuiet, origin_of};
 ghost use Rattle.ep_node.specs.Opening.{IsOpened, IsUnopened, IsWrittenAnew};
-ghost use Rattle.ep_server.specs.Outputs.{output};
-ghost use Rattle.ep_server.specs.Served.{told_first, EndsWith, IsFailure, IsNode, IsOver, TellsWhy};
+ghost use Rattle.ep_server.specs.Served.{told_first, EndsWith, IsFailure, IsNode, IsOver};
 
-use crate::declined::Declined;
-use crate::fault::Fault;
 use crate::options::Options;
-use crate::status::Status;
-use crate::telling::{tell, tell_cut, tell_words};
+use crate::server_fault::ServerFault;
+use crate::telling::{tell, tell_cut};
 use ep_base::{Sink, Source, WriteFailed};
+use ep_cli::{Status, Streams};
 use ep_device::Device;
 use ep_node::{Begin, Cut, Node, OpenFault, Whose};
 use ep_serve::{Mode, serve};
@@ -27,23 +26,19 @@ pub fn serve_log<D: Device + Drop, S: Source, W: Sink, F: Sink>(
     alloc: Global,
     options: &Options,
     device: D,
-    reader: &mut S,
-    writer: &mut W,
-    fault_writer: &mut F,
+    streams: &mut Streams<S, W, F>,
 ) -> Status
-    ensures { (bytes zs : List ℕ) → D.seen device ≡ Some bytes → S.left reader.old ≡ Some zs → IsNode (record { has_failed = D.has_failed; why = D.why; seen = D.seen; moment = D.moment; left_since = D.left_since })
+    ensures { (bytes zs : List ℕ) → D.seen device ≡ Some bytes → S.left streams.old.reader ≡ Some zs → IsNode (record { has_failed = D.has_failed; why = D.why; seen = D.seen; moment = D.moment; left_since = D.left_since })
         (record { begin = options.now.begin; mode = options.now.mode; faults = options.now.size; me = options.now.me }) bytes zs result
-        (output (S.left reader.old) (S.left reader.new) (S.has_failed reader.old) (S.has_failed reader.new))
-        (output (W.held writer.old) (W.held writer.new) (W.has_failed writer.old) (W.has_failed writer.new))
-        (output (F.held fault_writer.old) (F.held fault_writer.new) (F.has_failed fault_writer.old) (F.has_failed fault_writer.new)) }
+        (turned S.has_failed streams.old.reader streams.new.reader) (became W.held W.has_failed streams.old.writer streams.new.writer) (became F.held F.has_failed streams.old.fault_writer streams.new.fault_writer) }
 {
     match opened(alloc, options, device) {
         Ok(node) => {
-            let _ = tell_first(node.cut(), fault_writer);
-            let outcome = served(alloc, node, reader, writer, options.mode);
-            concluded(outcome, fault_writer)
+            let _ = tell_first(node.cut(), &mut streams.fault_writer);
+            let outcome = served(alloc, node, options.mode, streams);
+            concluded(outcome, &mut streams.fault_writer)
         }
-        Err(fault) => concluded(Err(Fault::Open(fault)), fault_writer),
+        Err(fault) => concluded(Err(ServerFault::Open(fault)), &mut streams.fault_writer),
     }
 }
 
@@ -72,27 +67,32 @@ pub(crate) fn opened_as<D: Device + Drop>(
 }
 
 /// Serves with a node that is opened. The process ends then, and its end frees the node's memory: to let it go by parts would cost an eighth of a run.
-pub(crate) fn served<D: Device + Drop, S: Source, W: Sink>(
+pub(crate) fn served<D: Device + Drop, S: Source, W: Sink, F>(
     alloc: Global,
     node: Node<D>,
-    reader: &mut S,
-    writer: &mut W,
     mode: Mode,
-) -> Result<(), Fault>
+    streams: &mut Streams<S, W, F>,
+) -> Result<(), ServerFault>
     requires { IsQuiet node }
-    ensures { (zs : List ℕ) → S.left reader.old ≡ Some zs → IsOver (record { has_failed = D.has_failed; why = D.why; seen = D.seen; moment = D.moment; left_since = D.left_since }) mode node zs result
-        (output (S.left reader.old) (S.left reader.new) (S.has_failed reader.old) (S.has_failed reader.new))
-        (output (W.held writer.old) (W.held writer.new) (W.has_failed writer.old) (W.has_failed writer.new)) }
+    ensures untold { streams.new.fault_writer ≡ streams.old.fault_writer }
+    ensures over { (zs : List ℕ) → S.left streams.old.reader ≡ Some zs → IsOver (record { has_failed = D.has_failed; why = D.why; seen = D.seen; moment = D.moment; left_since = D.left_since }) mode node zs result
+        (turned S.has_failed streams.old.reader streams.new.reader) (became W.held W.has_failed streams.old.writer streams.new.writer) }
 {
     let mut node = node;
-    match serve(alloc, &mut node, reader, writer, mode) {
+    match serve(
+        alloc,
+        &mut node,
+        &mut streams.reader,
+        &mut streams.writer,
+        mode,
+    ) {
         Ok(()) => {
             forget(node);
             Ok(())
         }
         Err(fault) => {
             forget(node);
-            Err(Fault::Serve(fault))
+            Err(ServerFault::Serve(fault))
         }
     }
 }
@@ -131,8 +131,8 @@ pub(crate) fn tell_first<F: Sink>(cut: Option<Cut>, fault_writer: &mut F) -> Res
 }
 
 /// How the program ends. A fault is told on the fault output; where that fails, the status stays.
-pub(crate) fn concluded<F: Sink>(outcome: Result<(), Fault>, fault_writer: &mut F) -> Status
-    ensures concluded { EndsWith [] outcome result (output (F.held fault_writer.old) (F.held fault_writer.new) (F.has_failed fault_writer.old) (F.has_failed fault_writer.new)) }
+pub(crate) fn concluded<F: Sink>(outcome: Result<(), ServerFault>, fault_writer: &mut F) -> Status
+    ensures concluded { EndsWith [] outcome result (became F.held F.has_failed fault_writer.old fault_writer.new) }
     ensures for_good { F.has_failed fault_writer.old ≡ true → F.has_failed fault_writer.new ≡ true }
 {
     match outcome {
@@ -142,18 +142,5 @@ pub(crate) fn concluded<F: Sink>(outcome: Result<(), Fault>, fault_writer: &mut 
             let _ = tell(fault, fault_writer);
             status
         }
-    }
-}
-
-/// How the program ends where it does nothing. Why is told on the fault output; where that fails, the status stays.
-pub(crate) fn decline<F: Sink>(why: Declined, fault_writer: &mut F) -> Status
-    ensures { TellsWhy why result (output (F.held fault_writer.old) (F.held fault_writer.new) (F.has_failed fault_writer.old) (F.has_failed fault_writer.new)) }
-{
-    match why {
-        Declined::Words(text) => {
-            let _ = tell_words(text.as_str(), fault_writer);
-            Status::Refused
-        }
-        Declined::Fault(fault) => concluded(Err(fault), fault_writer),
     }
 }

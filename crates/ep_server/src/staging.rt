@@ -1,23 +1,21 @@
 //! Which generation is opened, and with what.
 
 ghost use Rattle.std.specs.Prelude.{◌≡◌, IfOk};
-ghost use Rattle.ep_opening.specs.Bytes.{file_digest, opening_bytes};
-ghost use Rattle.ep_opening.specs.Files.{File as Written};
+ghost use Rattle.ep_opening.specs.Bytes.{opening_bytes};
 
 use crate::asks::Asks;
 use crate::folder_fault::FolderFault;
 use crate::folder_options::FolderOptions;
-use crate::handed::Handed;
-use crate::stage::Stage;
+use crate::generation_start::GenerationStart;
 use ep_base::{Deps, Generation, Size};
 use ep_device::DeviceFault;
 use ep_folder::{
-    Held, Plan, Wish, has_log, look, make_folder, newest_in, opening_path, plan_for, read_bytes,
-    write_whole,
+    GenerationFolder, Plan, Wish, has_log, look, make_folder, newest_in, opening_path, plan_for,
+    read_bytes, write_whole,
 };
 use ep_journal::Opening;
 use ep_node::Begin;
-use ep_opening::{OpeningFault, OpeningFile, digest_in, read_opening, write_opening};
+use ep_opening::{OpeningFault, OpeningFile, SpelledFile};
 use std::alloc::Global;
 use std::fs::File;
 use std::rt::Files;
@@ -32,7 +30,10 @@ fn generation_of(number: u32) -> Result<Generation, FolderFault> {
 }
 
 /// The file that generation 1 opens with, in a cluster of this size.
-fn first_file(alloc: Global, size: Size) -> Result<OpeningFile, FolderFault> {
+fn first_file(alloc: Global, size: Size) -> Result<OpeningFile, FolderFault>
+    ensures size { IfOk result (λ f. f.faults ≡ size) }
+    ensures first { IfOk result (λ f. f.generation ≡ 1) }
+{
     match OpeningFile::new(
         size,
         Generation::first(),
@@ -46,13 +47,12 @@ fn first_file(alloc: Global, size: Size) -> Result<OpeningFile, FolderFault> {
 }
 
 /// What a new replica begins with.
-fn first_opening(alloc: Global, size: Size) -> Result<Handed, FolderFault> {
+fn first_opening(alloc: Global, size: Size) -> Result<SpelledFile, FolderFault>
+    ensures size { IfOk result (λ f. f.faults ≡ size) }
+    ensures first { IfOk result (λ f. f.generation ≡ 1) }
+{
     let file = first_file(alloc, size)?;
-    let bytes = write_opening(alloc, &file)?;
-    Ok(Handed {
-        generation: file.generation(),
-        bytes,
-    })
+    Ok(SpelledFile::write(alloc, file)?)
 }
 
 /// The bytes of the file that is to be taken.
@@ -64,80 +64,100 @@ fn read_taken<R: Files + AllocGlobal>(rt: &R, name: &str) -> Result<Vec<u8>, Fol
     }
 }
 
-/// The generation of an opening that is to be taken, by its bytes: they are one, digest and all, for a cluster of this size.
-fn taken_generation(alloc: Global, bytes: &[u8], size: Size) -> Result<Generation, FolderFault>
-    ensures { IfOk result (λ g. (f : Written) × (bytes.now ≡ opening_bytes f) × (g ≡ f.generation) × (f.faults ≡ size)) }
+/// The opening that is to be taken, by its bytes: they are one, digest and all, for a cluster of this size.
+fn taken_file(alloc: Global, bytes: Vec<u8>, size: Size) -> Result<SpelledFile, FolderFault>
+    ensures bytes { IfOk result (λ f. bytes.items ≡ opening_bytes f) }
+    ensures size { IfOk result (λ f. f.faults ≡ size) }
 {
-    match read_opening(alloc, bytes) {
-        Ok(file) => {
-            let (found, generation) = (file.size(), file.generation());
-            drop(file);
-            if found == size {
-                Ok(generation)
-            } else {
-                Err(FolderFault::OtherCluster(u32::from(found.count())))
-            }
-        }
+    match SpelledFile::read(alloc, bytes) {
+        Ok(file) => of_size(size, file),
         Err(OpeningFault::Memory) => Err(FolderFault::Memory),
         Err(fault) => Err(FolderFault::NoOpening(fault)),
     }
 }
 
-/// The opening that the file of this name has.
-fn taken<R: Files + AllocGlobal>(rt: &R, name: &str, size: Size) -> Result<Handed, FolderFault> {
-    let bytes = read_taken(rt, name)?;
-    let generation = taken_generation(rt.alloc(), &bytes, size)?;
-    Ok(Handed { generation, bytes })
+/// The file, where it is for a cluster of this size.
+fn of_size(size: Size, file: SpelledFile) -> Result<SpelledFile, FolderFault>
+    ensures same { IfOk result (λ f. f ≡ file) }
+    ensures size { IfOk result (λ f. f.faults ≡ size) }
+{
+    let found = file.file().size();
+    if found == size {
+        Ok(file)
+    } else {
+        drop(file);
+        Err(FolderFault::OtherCluster(u32::from(found.count())))
+    }
 }
 
-/// Whether these are the bytes of the newest opening here.
+/// The opening that the file of this name has.
+fn taken<R: Files + AllocGlobal>(rt: &R, name: &str, size: Size) -> Result<SpelledFile, FolderFault>
+    ensures { IfOk result (λ f. f.faults ≡ size) }
+{
+    let bytes = read_taken(rt, name)?;
+    taken_file(rt.alloc(), bytes, size)
+}
+
+/// Whether the newest opening here has these bytes.
 fn is_newest<R: Files + AllocGlobal>(
     rt: &R,
     folder: &str,
-    held: &[Held],
-    handed: &Handed,
+    held: &[GenerationFolder],
+    file: &SpelledFile,
 ) -> Result<bool, FolderFault> {
-    if newest_in(held) != handed.generation.number() {
+    let generation = file.file().generation();
+    if newest_in(held) != generation.number() {
         return Ok(false);
     }
-    let path = opening_path(rt.alloc(), folder, handed.generation)?;
+    let path = opening_path(rt.alloc(), folder, generation)?;
     let bytes = read_bytes(rt, path.as_str())?;
-    Ok(bytes.as_slice() == handed.bytes.as_slice())
+    Ok(bytes.as_slice() == file.bytes())
 }
 
-/// Writes the opening into its place.
-fn put_opening<R: Files<File = File> + AllocGlobal>(
+/// Writes the opening into its place, in a folder that is there.
+fn write_file<R: Files<File = File> + AllocGlobal>(
     rt: &R,
     folder: &str,
-    handed: &Handed,
+    file: &SpelledFile,
 ) -> Result<(), FolderFault> {
-    make_folder(rt, folder, handed.generation)?;
-    let path = opening_path(rt.alloc(), folder, handed.generation)?;
-    write_whole(rt, path.as_str(), &handed.bytes)?;
+    let path = opening_path(rt.alloc(), folder, file.file().generation())?;
+    write_whole(rt, path.as_str(), file.bytes())?;
     Ok(())
 }
 
-/// The bytes of the opening of a generation. Where its log is to be begun, they are written anew: what is read may not be on the disk, and the
-/// log must not be there without it.
-fn settled_bytes<R: Files<File = File> + AllocGlobal>(
+/// Writes the opening into its place.
+fn put_file<R: Files<File = File> + AllocGlobal>(
+    rt: &R,
+    folder: &str,
+    file: &SpelledFile,
+) -> Result<(), FolderFault> {
+    make_folder(rt, folder, file.file().generation())?;
+    write_file(rt, folder, file)
+}
+
+/// The opening of a generation, which has its place here.
+fn kept_file<R: Files + AllocGlobal>(
     rt: &R,
     folder: &str,
     generation: Generation,
-    is_begun: bool,
-) -> Result<Vec<u8>, FolderFault> {
+) -> Result<SpelledFile, FolderFault>
+    ensures { IfOk result (λ f. f.generation ≡ generation) }
+{
     let path = opening_path(rt.alloc(), folder, generation)?;
     let bytes = read_bytes(rt, path.as_str())?;
-    if is_begun {
-        write_whole(rt, path.as_str(), &bytes)?;
-    }
-    Ok(bytes)
+    file_of(rt.alloc(), generation, bytes)
 }
 
 /// The file that these bytes are, of this generation.
-fn file_of(alloc: Global, generation: Generation, bytes: &[u8]) -> Result<OpeningFile, FolderFault>
-    ensures { IfOk result (λ f. (bytes.now ≡ opening_bytes f) × (f.generation ≡ generation)) }
+fn file_of(
+    alloc: Global,
+    generation: Generation,
+    bytes: Vec<u8>,
+) -> Result<SpelledFile, FolderFault>
+    ensures bytes { IfOk result (λ f. bytes.items ≡ opening_bytes f) }
+    ensures generation { IfOk result (λ f. f.generation ≡ generation) }
 {
-    match read_opening(alloc, bytes) {
+    match SpelledFile::read(alloc, bytes) {
         Ok(file) => of_generation(generation, file),
         Err(OpeningFault::Memory) => Err(FolderFault::Memory),
         Err(fault) => Err(FolderFault::Opening(generation.number(), fault)),
@@ -145,50 +165,16 @@ fn file_of(alloc: Global, generation: Generation, bytes: &[u8]) -> Result<Openin
 }
 
 /// The file, where it is of this generation.
-fn of_generation(generation: Generation, file: OpeningFile) -> Result<OpeningFile, FolderFault>
-    ensures { IfOk result (λ f. (f ≡ file) × (f.generation ≡ generation)) }
+fn of_generation(generation: Generation, file: SpelledFile) -> Result<SpelledFile, FolderFault>
+    ensures same { IfOk result (λ f. f ≡ file) }
+    ensures generation { IfOk result (λ f. f.generation ≡ generation) }
 {
-    let found = file.generation();
+    let found = file.file().generation();
     if found == generation {
         Ok(file)
     } else {
         drop(file);
         Err(FolderFault::OtherGeneration(generation.number(), found.number()))
-    }
-}
-
-/// The digest of the file of these bytes.
-fn digest_of(bytes: &[u8]) -> Result<[u8; 32], FolderFault>
-    ensures { IfOk result (λ digest. (f : Written) → bytes.now ≡ opening_bytes f → digest ≡ file_digest f) }
-{
-    match digest_in(bytes) {
-        Some(digest) => Ok(digest),
-        None => Err(FolderFault::Memory),
-    }
-}
-
-/// The generation whose opening has these bytes.
-fn stage_of(
-    alloc: Global,
-    generation: Generation,
-    bytes: &[u8],
-    begin: Begin,
-    held: Vec<Held>,
-) -> Result<Stage, FolderFault>
-    ensures { IfOk result (λ s. s.digest ≡ file_digest s.file) }
-{
-    let file = file_of(alloc, generation, bytes)?;
-    match digest_of(bytes) {
-        Ok(digest) => Ok(Stage {
-            file,
-            digest,
-            begin,
-            held,
-        }),
-        Err(fault) => {
-            drop(file);
-            Err(fault)
-        }
     }
 }
 
@@ -210,111 +196,125 @@ fn begin_of<R: Files + AllocGlobal>(
     }
 }
 
-/// The generation of a plan, whose opening is there. Where this process has written that, it is on the disk.
-fn staged<R: Files<File = File> + AllocGlobal>(
+/// Has the opening on the disk where the log is to be begun: what was read of it may not be there, and the log must not be there without it. It is
+/// written anew, unless this process has written it.
+fn settle<R: Files<File = File> + AllocGlobal>(
+    rt: &R,
+    folder: &str,
+    file: &SpelledFile,
+    begin: Begin,
+    is_written: bool,
+) -> Result<(), FolderFault> {
+    if begin == Begin::New && !is_written {
+        write_file(rt, folder, file)?;
+    }
+    Ok(())
+}
+
+/// The generation of a plan, whose opening is in its place.
+fn kept_stage<R: Files<File = File> + AllocGlobal>(
     rt: &R,
     folder: &str,
     plan: Plan,
-    held: Vec<Held>,
-    is_written: bool,
-) -> Result<Stage, FolderFault>
-    ensures { IfOk result (λ s. s.digest ≡ file_digest s.file) }
-{
+    held: Vec<GenerationFolder>,
+) -> Result<GenerationStart, FolderFault> {
     let generation = generation_of(plan.generation)?;
     let begin = begin_of(rt, folder, plan, generation)?;
-    let bytes = settled_bytes(rt, folder, generation, begin == Begin::New && !is_written)?;
-    stage_of(rt.alloc(), generation, &bytes, begin, held)
+    let file = kept_file(rt, folder, generation)?;
+    settle(rt, folder, &file, begin, false)?;
+    Ok(GenerationStart { file, begin, held })
 }
 
-/// The generation that the replica goes on with. Where this process has written its opening, that is on the disk.
-pub(crate) fn next_stage<R: Files<File = File> + AllocGlobal>(
+/// The generation that the replica goes on with, of those that are here.
+fn next_stage<R: Files<File = File> + AllocGlobal>(
     rt: &R,
     folder: &str,
-    is_written: bool,
-) -> Result<Stage, FolderFault>
-    ensures { IfOk result (λ s. s.digest ≡ file_digest s.file) }
-{
+) -> Result<GenerationStart, FolderFault> {
     let held = look(rt, folder)?;
     let plan = plan_for(&held, Wish::GoOn)?;
-    staged(rt, folder, plan, held, is_written)
+    kept_stage(rt, folder, plan, held)
 }
 
-/// The generation of an opening that is handed over, to a replica that is new or not.
-fn handed_stage<R: Files<File = File> + AllocGlobal>(
+/// Has the opening that is handed over in its place, and says whether its log is begun.
+fn placed<R: Files<File = File> + AllocGlobal>(
     rt: &R,
     folder: &str,
-    handed: &Handed,
-    is_new: bool,
-) -> Result<Stage, FolderFault>
-    ensures { IfOk result (λ s. s.digest ≡ file_digest s.file) }
-{
-    let held = look(rt, folder)?;
-    let is_same = is_newest(rt, folder, &held, handed)?;
-    let plan = plan_for(&held, wish_of(handed, is_new, is_same))?;
+    plan: Plan,
+    file: &SpelledFile,
+) -> Result<Begin, FolderFault> {
     if plan.writes {
-        put_opening(rt, folder, handed)?;
+        put_file(rt, folder, file)?;
     }
-    staged(rt, folder, plan, held, plan.writes)
+    let begin = begin_of(rt, folder, plan, file.file().generation())?;
+    settle(rt, folder, file, begin, plan.writes)?;
+    Ok(begin)
 }
 
 /// What is asked for with an opening that is handed over.
-fn wish_of(handed: &Handed, is_new: bool, is_same: bool) -> Wish {
+fn wish_of(file: &SpelledFile, is_new: bool, is_same: bool) -> Wish {
     if is_new {
         Wish::New { is_same }
     } else {
         Wish::Take {
-            generation: handed.generation.number(),
+            generation: file.file().generation().number(),
             is_same,
         }
     }
+}
+
+/// How a replica that is new or not starts with an opening that is handed over.
+fn plan_with<R: Files + AllocGlobal>(
+    rt: &R,
+    folder: &str,
+    held: &[GenerationFolder],
+    file: &SpelledFile,
+    is_new: bool,
+) -> Result<Plan, FolderFault> {
+    let is_same = is_newest(rt, folder, held, file)?;
+    Ok(plan_for(held, wish_of(file, is_new, is_same))?)
+}
+
+/// The generation of an opening that is handed over, to a replica that is new or not: from a peer, or by this process, which has closed the
+/// generation before. Its file isn't read again.
+pub(crate) fn handed_stage<R: Files<File = File> + AllocGlobal>(
+    rt: &R,
+    folder: &str,
+    file: SpelledFile,
+    is_new: bool,
+) -> Result<GenerationStart, FolderFault>
+    ensures { IfOk result (λ s. s.file ≡ file) }
+{
+    let held = look(rt, folder)?;
+    let plan = plan_with(rt, folder, &held, &file, is_new)?;
+    let begin = placed(rt, folder, plan, &file)?;
+    Ok(GenerationStart { file, begin, held })
 }
 
 /// The generation that a start begins with.
 pub(crate) fn first_stage<R: Files<File = File> + AllocGlobal>(
     rt: &R,
     options: &FolderOptions,
-) -> Result<Stage, FolderFault>
-    ensures { IfOk result (λ s. s.digest ≡ file_digest s.file) }
-{
+) -> Result<GenerationStart, FolderFault> {
     let folder = options.folder.as_str();
     match &options.asks {
-        Asks::GoOn => next_stage(rt, folder, false),
+        Asks::GoOn => next_stage(rt, folder),
         Asks::New => {
-            let handed = first_opening(rt.alloc(), options.size)?;
-            handed_stage(rt, folder, &handed, true)
+            let file = first_opening(rt.alloc(), options.size)?;
+            handed_stage(rt, folder, file, true)
         }
         Asks::Take(name) => {
-            let handed = taken(rt, name.as_str(), options.size)?;
-            handed_stage(rt, folder, &handed, false)
+            let file = taken(rt, name.as_str(), options.size)?;
+            handed_stage(rt, folder, file, false)
         }
     }
 }
 
-/// Writes the opening of the next generation into its place.
-pub(crate) fn put_next<R: Files<File = File> + AllocGlobal>(
-    rt: &R,
-    folder: &str,
-    file: &OpeningFile,
-) -> Result<(), FolderFault> {
-    let bytes = write_opening(rt.alloc(), file)?;
-    put_opening(
-        rt,
-        folder,
-        &Handed {
-            generation: file.generation(),
-            bytes,
-        },
-    )
-}
-
 /// Whether the opening is for a cluster of this size, where its log is begun: it can't be closed then.
-pub(crate) fn check_stage(size: Size, stage: &Stage) -> Result<(), FolderFault> {
-    let found = stage.file.size();
+pub(crate) fn check_stage(size: Size, stage: &GenerationStart) -> Result<(), FolderFault> {
+    let file = stage.file.file();
+    let found = file.size();
     if stage.begin == Begin::New && found != size {
-        return Err(FolderFault::OtherSize(
-            stage.file.generation().number(),
-            u32::from(found.count()),
-        ));
+        return Err(FolderFault::OtherSize(file.generation().number(), u32::from(found.count())));
     }
     Ok(())
 }

@@ -1,40 +1,30 @@
 //! Faults on the fault output.
 
-ghost use Rattle.std.specs.Prelude.{◌++◌, codes, decimal};
+ghost use Rattle.std.specs.Prelude.{◌++◌, codes};
 ghost use Rattle.ep_base.specs.Devices.{Puts};
 ghost use Rattle.ep_log.specs.declared.log_fault.LogFault.TheVariants.{Turned};
-ghost use Rattle.ep_server.specs.Faults.{command_line_refused, line_of, line_of_cut, line_of_folder, line_of_log, line_of_open, line_of_opening, line_of_refusal, line_of_serve, log_failed, numbered, record_line, words_of};
+ghost use Rattle.ep_server.specs.Faults.{line_of, line_of_cut, line_of_folder, line_of_log, line_of_open, line_of_opening, line_of_refusal, line_of_serve, log_failed, words_of};
 ghost use Rattle.ep_server.specs.declared.folder_fault.FolderFault.TheVariants.{NoOpening, Opening, OtherGeneration, OtherSize};
 
-use crate::fault::Fault;
 use crate::folder_fault::FolderFault;
+use crate::server_fault::ServerFault;
 use ep_base::{Sink, WriteFailed};
-use ep_device::Cause;
-use ep_folder::Refusal;
+use ep_cli::tell_number;
+use ep_device::SystemFault;
+use ep_folder::StartFault;
 use ep_log::LogFault;
 use ep_node::{Cut, OpenFault};
 use ep_opening::OpeningFault;
 use ep_serve::ServeFault;
-use itoa::Buffer;
-
-/// Writes that the words of the command line are refused, and why. It takes no memory.
-pub(crate) fn tell_words<F: Sink>(why: &str, sink: &mut F) -> Result<(), WriteFailed>
-    ensures { Puts (F.held sink.old) (F.held sink.new) (F.has_failed sink.old) (F.has_failed sink.new) result (command_line_refused ++ why.now) }
-{
-    sink.put(b"command line refused\n")?;
-    sink.put(why.as_bytes())
-}
 
 /// Writes the line of a fault. It takes no memory.
-pub(crate) fn tell<F: Sink>(fault: Fault, sink: &mut F) -> Result<(), WriteFailed>
+pub(crate) fn tell<F: Sink>(fault: ServerFault, sink: &mut F) -> Result<(), WriteFailed>
     ensures { Puts (F.held sink.old) (F.held sink.new) (F.has_failed sink.old) (F.has_failed sink.new) result (line_of fault) }
 {
     match fault {
-        Fault::Open(why) => tell_unopened(why, sink),
-        Fault::Serve(why) => tell_unserved(why, sink),
-        Fault::Folder(why) => tell_folder(why, sink),
-        Fault::Memory => sink.put(b"out of memory\n"),
-        Fault::Write => sink.put(b"writing failed\n"),
+        ServerFault::Open(why) => tell_unopened(why, sink),
+        ServerFault::Serve(why) => tell_unserved(why, sink),
+        ServerFault::Folder(why) => tell_folder(why, sink),
     }
 }
 
@@ -49,9 +39,9 @@ fn tell_unopened<F: Sink>(why: OpenFault, sink: &mut F) -> Result<(), WriteFaile
         OpenFault::LogExists => sink.put(b"log refused: there is one already\n"),
         OpenFault::OtherLog => sink.put(b"log refused: a log of another cluster or replica\n"),
         OpenFault::Log(fault) => tell_bad_log(fault, sink),
-        OpenFault::NotClocked(number) => tell_place(
+        OpenFault::NotClocked(number) => tell_number(
             b"log refused: entry ",
-            u64::from(number),
+            number as u64,
             b" is not clocked\n",
             sink,
         ),
@@ -66,10 +56,30 @@ fn tell_bad_log<F: Sink>(why: LogFault, sink: &mut F) -> Result<(), WriteFailed>
         LogFault::NoHeader => sink.put(b"log refused: no header of a log\n"),
         LogFault::OtherVersion => sink.put(b"log refused: a log of another version\n"),
         LogFault::OtherGeneration => sink.put(b"log refused: a log of another generation\n"),
-        LogFault::BadLength(at) => tell_record(b"log refused: bad length", at, sink),
-        LogFault::BadChecksum(at) => tell_record(b"log refused: bad checksum", at, sink),
-        LogFault::BadEntry(at) => tell_record(b"log refused: no entry", at, sink),
-        LogFault::NotNext(at) => tell_record(b"log refused: not the next entry", at, sink),
+        LogFault::BadLength(at) => tell_number(
+            b"log refused: bad length in the record at byte ",
+            at,
+            b"\n",
+            sink,
+        ),
+        LogFault::BadChecksum(at) => tell_number(
+            b"log refused: bad checksum in the record at byte ",
+            at,
+            b"\n",
+            sink,
+        ),
+        LogFault::BadEntry(at) => tell_number(
+            b"log refused: no entry in the record at byte ",
+            at,
+            b"\n",
+            sink,
+        ),
+        LogFault::NotNext(at) => tell_number(
+            b"log refused: not the next entry in the record at byte ",
+            at,
+            b"\n",
+            sink,
+        ),
         LogFault::Turned(at, by) => tell_turned(at, by, sink),
     }
 }
@@ -80,7 +90,7 @@ fn tell_unserved<F: Sink>(why: ServeFault, sink: &mut F) -> Result<(), WriteFail
     match why {
         ServeFault::Memory => sink.put(b"out of memory\n"),
         ServeFault::ReadFailed => sink.put(b"reading failed\n"),
-        ServeFault::BadRequest(at) => tell_place(b"request refused at byte ", at, b"\n", sink),
+        ServeFault::BadRequest(at) => tell_number(b"request refused at byte ", at, b"\n", sink),
         ServeFault::WriteFailed => sink.put(b"writing failed\n"),
         ServeFault::LogFailed(cause) => tell_failed(cause, sink),
     }
@@ -94,9 +104,9 @@ fn tell_folder<F: Sink>(why: FolderFault, sink: &mut F) -> Result<(), WriteFaile
         FolderFault::Failed(cause) => tell_failure(b"folder failed: ", cause, sink),
         FolderFault::Unread(cause) => tell_failure(b"opening failed: ", cause, sink),
         FolderFault::Refused(refusal) => tell_refusal(refusal, sink),
-        FolderFault::NoLog(generation) => tell_between(
+        FolderFault::NoLog(generation) => tell_number(
             b"folder refused: generation ",
-            generation,
+            generation as u64,
             b" has no log; repeat the --take that was broken off, or go on with the opening of a later one by --take FILE\n",
             sink,
         ),
@@ -106,9 +116,9 @@ fn tell_folder<F: Sink>(why: FolderFault, sink: &mut F) -> Result<(), WriteFaile
         }
         FolderFault::OtherSize(generation, count) => tell_other_size(generation, count, sink),
         FolderFault::NoOpening(fault) => tell_no_opening(fault, sink),
-        FolderFault::OtherCluster(count) => tell_between(
+        FolderFault::OtherCluster(count) => tell_number(
             b"opening refused: it is for --replicas ",
-            count,
+            count as u64,
             b"\n",
             sink,
         ),
@@ -118,34 +128,34 @@ fn tell_folder<F: Sink>(why: FolderFault, sink: &mut F) -> Result<(), WriteFaile
     }
 }
 
-fn tell_refusal<F: Sink>(why: Refusal, sink: &mut F) -> Result<(), WriteFailed>
+fn tell_refusal<F: Sink>(why: StartFault, sink: &mut F) -> Result<(), WriteFailed>
     ensures { Puts (F.held sink.old) (F.held sink.new) (F.has_failed sink.old) (F.has_failed sink.new) result (line_of_refusal why) }
 {
     match why {
-        Refusal::Empty => sink.put(
+        StartFault::Empty => sink.put(
             b"folder refused: no generation is here; --new begins the first one of a new replica, --take FILE goes on with a peer's opening\n",
         ),
-        Refusal::There(generation) => tell_between(
+        StartFault::There(generation) => tell_number(
             b"folder refused: generation ",
-            generation,
+            generation as u64,
             b" is here already; --new is for a new replica\n",
             sink,
         ),
-        Refusal::Left(generation) => tell_between(
+        StartFault::Left(generation) => tell_number(
             b"folder refused: the replica has been in generation ",
-            generation,
+            generation as u64,
             b", which is gone; --take FILE goes on with the opening of a later one\n",
             sink,
         ),
-        Refusal::Older(generation) => tell_between(
+        StartFault::Older(generation) => tell_number(
             b"opening refused: it is of an earlier generation than ",
-            generation,
+            generation as u64,
             b", which is here; start without --take\n",
             sink,
         ),
-        Refusal::Other(generation) => tell_between(
+        StartFault::Other(generation) => tell_number(
             b"opening refused: generation ",
-            generation,
+            generation as u64,
             b" has another one here; start without --take\n",
             sink,
         ),
@@ -157,14 +167,14 @@ fn tell_opening<F: Sink>(why: OpeningFault, sink: &mut F) -> Result<(), WriteFai
 {
     match why {
         OpeningFault::Memory => sink.put(b"out of memory\n"),
-        OpeningFault::CutShort(at) => tell_place(b"cut short at byte ", at, b"\n", sink),
-        OpeningFault::Damaged(at) => tell_place(
+        OpeningFault::CutShort(at) => tell_number(b"cut short at byte ", at, b"\n", sink),
+        OpeningFault::Damaged(at) => tell_number(
             b"damaged: no digest of the bytes before it at byte ",
             at,
             b"\n",
             sink,
         ),
-        OpeningFault::Wrong(at, _) => tell_place(b"wrong field at byte ", at, b"\n", sink),
+        OpeningFault::Wrong(at, _) => tell_number(b"wrong field at byte ", at, b"\n", sink),
     }
 }
 
@@ -176,9 +186,9 @@ fn tell_bad_opening<F: Sink>(
 ) -> Result<(), WriteFailed>
     ensures { Puts (F.held sink.old) (F.held sink.new) (F.has_failed sink.old) (F.has_failed sink.new) result (line_of_folder (Opening generation why)) }
 {
-    tell_between(
+    tell_number(
         b"folder refused: the opening of generation ",
-        generation,
+        generation as u64,
         b": ",
         sink,
     )?;
@@ -201,30 +211,30 @@ fn tell_other_generation<F: Sink>(
 ) -> Result<(), WriteFailed>
     ensures { Puts (F.held sink.old) (F.held sink.new) (F.has_failed sink.old) (F.has_failed sink.new) result (line_of_folder (OtherGeneration generation found)) }
 {
-    tell_between(
+    tell_number(
         b"folder refused: the opening of generation ",
-        generation,
+        generation as u64,
         b" is that of generation ",
         sink,
     )?;
-    tell_between(b"", found, b"\n", sink)
+    tell_number(b"", found as u64, b"\n", sink)
 }
 
 /// Writes that a generation has another size.
 fn tell_other_size<F: Sink>(generation: u32, count: u32, sink: &mut F) -> Result<(), WriteFailed>
     ensures { Puts (F.held sink.old) (F.held sink.new) (F.has_failed sink.old) (F.has_failed sink.new) result (line_of_folder (OtherSize generation count)) }
 {
-    tell_between(
+    tell_number(
         b"folder refused: generation ",
-        generation,
+        generation as u64,
         b" has another size and isn't closed; go on with --replicas ",
         sink,
     )?;
-    tell_between(b"", count, b"\n", sink)
+    tell_number(b"", count as u64, b"\n", sink)
 }
 
 /// Writes what failed, and why.
-fn tell_failure<F: Sink>(what: &[u8], cause: Cause, sink: &mut F) -> Result<(), WriteFailed>
+fn tell_failure<F: Sink>(what: &[u8], cause: SystemFault, sink: &mut F) -> Result<(), WriteFailed>
     ensures { Puts (F.held sink.old) (F.held sink.new) (F.has_failed sink.old) (F.has_failed sink.new) result (what.now ++ words_of cause ++ codes "\n") }
 {
     sink.put(what)?;
@@ -233,113 +243,54 @@ fn tell_failure<F: Sink>(what: &[u8], cause: Cause, sink: &mut F) -> Result<(), 
 }
 
 /// Writes that the log failed, and why.
-fn tell_failed<F: Sink>(cause: Cause, sink: &mut F) -> Result<(), WriteFailed>
+fn tell_failed<F: Sink>(cause: SystemFault, sink: &mut F) -> Result<(), WriteFailed>
     ensures { Puts (F.held sink.old) (F.held sink.new) (F.has_failed sink.old) (F.has_failed sink.new) result (log_failed cause) }
 {
     tell_failure(b"log failed: ", cause, sink)
 }
 
 /// Writes why a device failed.
-fn tell_cause<F: Sink>(cause: Cause, sink: &mut F) -> Result<(), WriteFailed>
+fn tell_cause<F: Sink>(cause: SystemFault, sink: &mut F) -> Result<(), WriteFailed>
     ensures { Puts (F.held sink.old) (F.held sink.new) (F.has_failed sink.old) (F.has_failed sink.new) result (words_of cause) }
 {
     match cause {
-        Cause::NotFound => sink.put(b"no such file or directory"),
-        Cause::NotAllowed => sink.put(b"permission denied"),
-        Cause::NotAFile => sink.put(b"not a regular file"),
-        Cause::Locked => sink.put(b"another process has it open"),
-        Cause::NoSpace => sink.put(b"no space left on device"),
-        Cause::OverQuota => sink.put(b"disk quota exceeded"),
-        Cause::TooLarge => sink.put(b"file too large"),
-        Cause::ReadOnly => sink.put(b"read-only file system"),
-        Cause::InputOutput => sink.put(b"input/output error"),
-        Cause::NoMemory => sink.put(b"out of memory"),
-        Cause::System(number) => tell_system(number, sink),
-        Cause::Unknown => sink.put(b"unknown error"),
+        SystemFault::NotFound => sink.put(b"no such file or directory"),
+        SystemFault::NotAllowed => sink.put(b"permission denied"),
+        SystemFault::NotAFile => sink.put(b"not a regular file"),
+        SystemFault::Locked => sink.put(b"another process has it open"),
+        SystemFault::NoSpace => sink.put(b"no space left on device"),
+        SystemFault::OverQuota => sink.put(b"disk quota exceeded"),
+        SystemFault::TooLarge => sink.put(b"file too large"),
+        SystemFault::ReadOnly => sink.put(b"read-only file system"),
+        SystemFault::InputOutput => sink.put(b"input/output error"),
+        SystemFault::NoMemory => sink.put(b"out of memory"),
+        SystemFault::System(number) => tell_number(b"system error ", number as u64, b"", sink),
+        SystemFault::Unknown => sink.put(b"unknown error"),
     }
-}
-
-/// Writes the number of another error of the system.
-fn tell_system<F: Sink>(number: u32, sink: &mut F) -> Result<(), WriteFailed>
-    ensures { Puts (F.held sink.old) (F.held sink.new) (F.has_failed sink.old) (F.has_failed sink.new) result (codes "system error " ++ decimal number) }
-{
-    sink.put(b"system error ")?;
-    tell_digits(number, sink)
-}
-
-/// Writes a number.
-fn tell_digits<F: Sink>(number: u32, sink: &mut F) -> Result<(), WriteFailed>
-    ensures { Puts (F.held sink.old) (F.held sink.new) (F.has_failed sink.old) (F.has_failed sink.new) result (decimal number) }
-{
-    let mut digits = Buffer::new();
-    sink.put(digits.format(number).as_bytes())
 }
 
 /// Writes what was cut off the log.
 pub(crate) fn tell_cut<F: Sink>(cut: Cut, sink: &mut F) -> Result<(), WriteFailed>
     ensures { Puts (F.held sink.old) (F.held sink.new) (F.has_failed sink.old) (F.has_failed sink.new) result (line_of_cut cut) }
 {
-    tell_number(b"log cut at byte ", cut.at as u64, sink)?;
-    tell_number(b": ", cut.behind as u64, sink)?;
-    sink.put(b" bytes behind it were no whole record\n")
+    tell_number(b"log cut at byte ", cut.at as u64, b": ", sink)?;
+    tell_number(
+        b"",
+        cut.behind as u64,
+        b" bytes behind it were no whole record\n",
+        sink,
+    )
 }
 
 /// Writes that a record is damaged which another one says was on the disk.
 fn tell_turned<F: Sink>(at: u64, by: u64, sink: &mut F) -> Result<(), WriteFailed>
     ensures { Puts (F.held sink.old) (F.held sink.new) (F.has_failed sink.old) (F.has_failed sink.new) result (line_of_log (Turned at by)) }
 {
-    tell_number(b"log refused: the record at byte ", at, sink)?;
     tell_number(
+        b"log refused: the record at byte ",
+        at,
         b" is damaged, and was on the disk by the record at byte ",
-        by,
         sink,
     )?;
-    sink.put(b"\n")
-}
-
-/// Writes a number, and what stands before it.
-fn tell_number<F: Sink>(before: &[u8], number: u64, sink: &mut F) -> Result<(), WriteFailed>
-    ensures { Puts (F.held sink.old) (F.held sink.new) (F.has_failed sink.old) (F.has_failed sink.new) result (before.now ++ decimal number) }
-{
-    let mut digits = Buffer::new();
-    sink.put(before)?;
-    sink.put(digits.format(number).as_bytes())
-}
-
-/// Writes a line that ends with a record's place.
-fn tell_record<F: Sink>(what: &[u8], at: u64, sink: &mut F) -> Result<(), WriteFailed>
-    ensures { Puts (F.held sink.old) (F.held sink.new) (F.has_failed sink.old) (F.has_failed sink.new) result (record_line what.now at) }
-{
-    sink.put(what)?;
-    tell_place(b" in the record at byte ", at, b"\n", sink)
-}
-
-/// Writes a number, and what stands before and after it.
-fn tell_place<F: Sink>(
-    before: &[u8],
-    place: u64,
-    after: &[u8],
-    sink: &mut F,
-) -> Result<(), WriteFailed>
-    ensures { Puts (F.held sink.old) (F.held sink.new) (F.has_failed sink.old) (F.has_failed sink.new) result (before.now ++ decimal place ++ after.now) }
-{
-    let mut digits = Buffer::new();
-    sink.put(before)?;
-    sink.put(digits.format(place).as_bytes())?;
-    sink.put(after)
-}
-
-/// Writes a generation or the like, and what stands before and after it.
-fn tell_between<F: Sink>(
-    before: &[u8],
-    number: u32,
-    after: &[u8],
-    sink: &mut F,
-) -> Result<(), WriteFailed>
-    ensures { Puts (F.held sink.old) (F.held sink.new) (F.has_failed sink.old) (F.has_failed sink.new) result (numbered before.now number after.now) }
-{
-    let mut digits = Buffer::new();
-    sink.put(before)?;
-    sink.put(digits.format(number).as_bytes())?;
-    sink.put(after)
+    tell_number(b"", by, b"\n", sink)
 }

@@ -7,7 +7,6 @@ use Rattle.ep_base.specs.Parts.{IsInRange, IsSecond}
 use Rattle.ep_base.specs.Touched.{Touched}
 use Rattle.ep_base.proofs.Same.{Decides-same_list}
 use Rattle.ep_space.specs.Index.{brings}
-use Rattle.ep_space.specs.Keys.{NeedsNoRoom}
 
 -- a run that is changed unless its key stays
 
@@ -21,10 +20,6 @@ unless_goes true false f xs e = refl
 unless_goes false false f xs e = refl
 unless_goes b true f xs e = absurd (true≢false e)
 
-pub or_false : (b : Bool) → (b || false) ≡ b
-or_false true = refl
-or_false false = refl
-
 -- one key
 
 pub brings_one : (own : List (List ℕ)) (key k : List ℕ) → (same_list k key && not (has_key key own)) ≡ brings own (key ∷ []) k
@@ -37,18 +32,7 @@ brings_one own key k = go (same_list k key) refl
 pub same_itself : (k : List ℕ) → same_list k k ≡ true
 same_itself k = (Decides-same_list k k).1 refl
 
-pub no_room_one : (own : List (List ℕ)) (key : List ℕ) → NeedsNoRoom own (key ∷ []) → has_key key own ≡ true
-no_room_one own key h = h key (ap (λ b. b || false) (same_itself key))
-
 -- two keys
-
-pub no_room_two : (own : List (List ℕ)) (p q : List ℕ) → NeedsNoRoom own (p ∷ q ∷ []) → (has_key p own ≡ true) × (has_key q own ≡ true)
-no_room_two own p q h = (h p (ap (λ b. b || (same_list p q || false)) (same_itself p)), h q (second (same_list q p) (same_list q q) (same_itself q)))
-  where
-    second : (a b : Bool) → b ≡ true → (a || (b || false)) ≡ true
-    second true b e = refl
-    second false true e = refl
-    second false false e = e
 
 -- one after the other is both
 pub two_steps : (f : List ℕ → List ℕ) (own : List (List ℕ)) (p q k : List ℕ) (xs : List ℕ) → p ≢ q
@@ -83,11 +67,6 @@ other_run f p q s xs apart = go (same_list q p) refl
     go true e = absurd (apart (sym ((Decides-same_list q p).0 e)))
     go false e = refl
 
--- what is put in and taken out again
-pub back_again : (f g : List ℕ → List ℕ) (b : Bool) (xs : List ℕ) → (b ≡ true → g (f xs) ≡ xs) → cond b (g (cond b (f xs) xs)) (cond b (f xs) xs) ≡ xs
-back_again f g true xs h = h refl
-back_again f g false xs h = refl
-
 -- the same, of what calls tell
 
 pub on_value : {X E : Type 0} {P Q : X → Type 0} (r : Result X E) → ((x : X) → P x → Q x) → IfOk r P → IfOk r Q
@@ -109,19 +88,6 @@ both_steps f own p q k s t a b i xs ys zs apart es et ea eb first second =
     second ∙ (λ d. cond (same_list k q && not (et d)) (f (eb d) (first d)) (first d))
     ∙ (λ d. cond (same_list k q && not (has_key q own)) (f i (cond (same_list k p && not (es d)) (f (ea d) xs) xs)) (cond (same_list k p && not (es d)) (f (ea d) xs) xs))
     ∙ two_steps (f i) own p q k xs apart
-
--- a key brings nothing to the run of another
-pub other_brings : (f : List ℕ → List ℕ) (own : List (List ℕ)) (p q : List ℕ) (xs : List ℕ) → p ≢ q → cond (brings own (p ∷ []) q) (f xs) xs ≡ xs
-other_brings f own p q xs apart = ap (λ b. cond b (f xs) xs) (sym (brings_one own p q)) ∙ other_run f p q (has_key p own) xs apart
-
--- what one key brings and then another, both bring
-pub both_bring : (f : List ℕ → List ℕ) (own : List (List ℕ)) (p q k : List ℕ) (xs ys zs : List ℕ) → p ≢ q
-    → ys ≡ cond (brings own (p ∷ []) k) (f xs) xs → zs ≡ cond (brings own (q ∷ []) k) (f ys) ys → zs ≡ cond (brings own (p ∷ q ∷ []) k) (f xs) xs
-both_bring f own p q k xs ys zs apart first second =
-    let one : ys ≡ cond (same_list k p && not (has_key p own)) (f xs) xs = first ∙ ap (λ b. cond b (f xs) xs) (sym (brings_one own p k)) in
-    second ∙ ap (λ b. cond b (f ys) ys) (sym (brings_one own q k))
-    ∙ (λ d. cond (same_list k q && not (has_key q own)) (f (one d)) (one d))
-    ∙ two_steps f own p q k xs apart
 
 -- the second key of what a command touches
 pub second_in : (c : Command) (p : Touched) (b : List ℕ) → c ≡ Opaque p b → IsInRange c → IsSecond p.first p.second

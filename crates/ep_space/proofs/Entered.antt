@@ -4,13 +4,13 @@ use Rattle.std.proofs.Math.Seq.{drop-cons}
 use Rattle.std.proofs.lemmas.Bool.{eqb-true}
 use Rattle.std.proofs.lemmas.Option.{slice_get_within, get_or_from_slice_get}
 use Rattle.std.specs.Cmp.Lexicographic.{nat_list_eq_equiv}
-use Rattle.std.specs.Prelude.{Vec, is_some, slice_get}
+use Rattle.std.specs.Prelude.{Vec, Option, is_some, slice_get}
 use Rattle.std.specs.Global.{Global}
 use Rattle.std.specs.Map.{lookup, set_value, KeepsOthers}
 use Rattle.ep_base.specs.Attributes.{same_list}
 use Rattle.ep_base.proofs.Same.{Decides-same_list}
 use Rattle.ep_space.specs.declared.index.Index.{Index}
-use Rattle.ep_space.specs.Index.{Entry, is_at, listed, run, run_in}
+use Rattle.ep_space.specs.Index.{Entry, is_at, listed, run, run_in, is_roomy, found_roomy, room_in}
 
 abbrev pub same : Vec ℕ Global → Vec ℕ Global → Bool
 same k l = same_list k.items l.items
@@ -24,38 +24,66 @@ unfolding KeepsOthers
 other_kept old new k q keeps e = keeps (is_at q) (λ x y h. nat_list_eq_equiv.congr q x.items y.items h)
     (λ l h. turned q l.items ∙ sym (nat_list_eq_equiv.congr k l.items q h) ∙ turned k q ∙ e)
 
--- a new entry
-pub run-updated : (old new : List Entry) (k : List ℕ) (v : Vec ℕ Global) → lookup (is_at k) new ≡ Some v → KeepsOthers same (is_at k) old new
-    → (q : List ℕ) → run_in new q ≡ cond (same_list q k) v.items (run_in old q)
-run-updated old new k v here keeps q = go (same_list q k) refl
-  where
-    go : (b : Bool) → same_list q k ≡ b → run_in new q ≡ cond b v.items (run_in old q)
-    go true e = ap (λ z. run_in new z) ((Decides-same_list q k).0 e) ∙ ap listed here
-    go false e = ap listed (other_kept old new k q keeps e)
+-- what is found at each key
 
--- an entry that is written
-pub run-set : (es : List Entry) (k : List ℕ) (v w : Vec ℕ Global) → lookup (is_at k) es ≡ Some v → (q : List ℕ) → run_in (set_value (is_at k) es w) q ≡ cond (same_list q k) w.items (run_in es q)
-run-set [] k v w here q = absurd (true≢false (sym (ap is_some here)))
-run-set (e ∷ es) k v w here q = go (is_at k e.0) refl here (λ h. run-set es k v w h q)
+-- with a new entry
+pub lookup-updated : (old new : List Entry) (k : List ℕ) (v : Vec ℕ Global) → lookup (is_at k) new ≡ Some v → KeepsOthers same (is_at k) old new
+    → (q : List ℕ) → lookup (is_at q) new ≡ cond (same_list q k) (Some v) (lookup (is_at q) old)
+lookup-updated old new k v here keeps q = go (same_list q k) refl
   where
-    at_key : (b : Bool) → same_list q k ≡ b → same_list k e.0.items ≡ true → listed (cond (same_list q e.0.items) (Some w) (lookup (is_at q) es)) ≡ cond b w.items (listed (cond (same_list q e.0.items) (Some e.1) (lookup (is_at q) es)))
+    go : (b : Bool) → same_list q k ≡ b → lookup (is_at q) new ≡ cond b (Some v) (lookup (is_at q) old)
+    go true e = ap (λ z. lookup (is_at z) new) ((Decides-same_list q k).0 e) ∙ here
+    go false e = other_kept old new k q keeps e
+
+-- with an entry that is written
+pub lookup-set : (es : List Entry) (k : List ℕ) (v w : Vec ℕ Global) → lookup (is_at k) es ≡ Some v → (q : List ℕ) → lookup (is_at q) (set_value (is_at k) es w) ≡ cond (same_list q k) (Some w) (lookup (is_at q) es)
+lookup-set [] k v w here q = absurd (true≢false (sym (ap is_some here)))
+lookup-set (e ∷ es) k v w here q = go (is_at k e.0) refl here (λ h. lookup-set es k v w h q)
+  where
+    at_key : (b : Bool) → same_list q k ≡ b → same_list k e.0.items ≡ true → cond (same_list q e.0.items) (Some w) (lookup (is_at q) es) ≡ cond b (Some w) (cond (same_list q e.0.items) (Some e.1) (lookup (is_at q) es))
     at_key true s h =
         let own : same_list q e.0.items ≡ true = nat_list_eq_equiv.congr q k e.0.items s ∙ h in
-        ap (λ b. listed (cond b (Some w) (lookup (is_at q) es))) own
+        ap (λ b. cond b (Some w) (lookup (is_at q) es)) own
     at_key false s h =
         let own : same_list q e.0.items ≡ false = turned q e.0.items ∙ sym (nat_list_eq_equiv.congr k e.0.items q h) ∙ turned k q ∙ s in
-        ap (λ b. listed (cond b (Some w) (lookup (is_at q) es))) own ∙ sym (ap (λ b. listed (cond b (Some e.1) (lookup (is_at q) es))) own)
+        ap (λ b. cond b (Some w) (lookup (is_at q) es)) own ∙ sym (ap (λ b. cond b (Some e.1) (lookup (is_at q) es)) own)
 
-    later : (b c : Bool) → same_list q e.0.items ≡ b → same_list q k ≡ c → same_list k e.0.items ≡ false → run_in (set_value (is_at k) es w) q ≡ cond c w.items (run_in es q)
-        → listed (cond b (Some e.1) (lookup (is_at q) (set_value (is_at k) es w))) ≡ cond c w.items (listed (cond b (Some e.1) (lookup (is_at q) es)))
+    later : (b c : Bool) → same_list q e.0.items ≡ b → same_list q k ≡ c → same_list k e.0.items ≡ false → lookup (is_at q) (set_value (is_at k) es w) ≡ cond c (Some w) (lookup (is_at q) es)
+        → cond b (Some e.1) (lookup (is_at q) (set_value (is_at k) es w)) ≡ cond c (Some w) (cond b (Some e.1) (lookup (is_at q) es))
     later true true s t h rest = absurd (true≢false (sym s ∙ nat_list_eq_equiv.congr q k e.0.items t ∙ h))
     later true false s t h rest = refl
     later false c s t h rest = rest
 
-    go : (b : Bool) → is_at k e.0 ≡ b → cond b (Some e.1) (lookup (is_at k) es) ≡ Some v → (lookup (is_at k) es ≡ Some v → run_in (set_value (is_at k) es w) q ≡ cond (same_list q k) w.items (run_in es q))
-        → run_in (cond b ((e.0, w) ∷ es) (e ∷ set_value (is_at k) es w)) q ≡ cond (same_list q k) w.items (run_in (e ∷ es) q)
+    go : (b : Bool) → is_at k e.0 ≡ b → cond b (Some e.1) (lookup (is_at k) es) ≡ Some v → (lookup (is_at k) es ≡ Some v → lookup (is_at q) (set_value (is_at k) es w) ≡ cond (same_list q k) (Some w) (lookup (is_at q) es))
+        → lookup (is_at q) (cond b ((e.0, w) ∷ es) (e ∷ set_value (is_at k) es w)) ≡ cond (same_list q k) (Some w) (lookup (is_at q) (e ∷ es))
     go true h here rest = at_key (same_list q k) refl h
     go false h here rest = later (same_list q e.0.items) (same_list q k) refl refl h (rest here)
+
+-- the run of each key
+
+listed_either : (b : Bool) (v : Vec ℕ Global) (o : Option (Vec ℕ Global)) → listed (cond b (Some v) o) ≡ cond b v.items (listed o)
+listed_either true v o = refl
+listed_either false v o = refl
+
+pub run-updated : (old new : List Entry) (k : List ℕ) (v : Vec ℕ Global) → lookup (is_at k) new ≡ Some v → KeepsOthers same (is_at k) old new
+    → (q : List ℕ) → run_in new q ≡ cond (same_list q k) v.items (run_in old q)
+run-updated old new k v here keeps q = ap listed (lookup-updated old new k v here keeps q) ∙ listed_either (same_list q k) v (lookup (is_at q) old)
+
+pub run-set : (es : List Entry) (k : List ℕ) (v w : Vec ℕ Global) → lookup (is_at k) es ≡ Some v → (q : List ℕ) → run_in (set_value (is_at k) es w) q ≡ cond (same_list q k) w.items (run_in es q)
+run-set es k v w here q = ap listed (lookup-set es k v w here q) ∙ listed_either (same_list q k) w (lookup (is_at q) es)
+
+-- whether it has a free place
+
+roomy_either : (b : Bool) (v : Vec ℕ Global) (o : Option (Vec ℕ Global)) → found_roomy (cond b (Some v) o) ≡ cond b (is_roomy v) (found_roomy o)
+roomy_either true v o = refl
+roomy_either false v o = refl
+
+pub room-updated : (old new : List Entry) (k : List ℕ) (v : Vec ℕ Global) → lookup (is_at k) new ≡ Some v → KeepsOthers same (is_at k) old new
+    → (q : List ℕ) → room_in new q ≡ cond (same_list q k) (is_roomy v) (room_in old q)
+room-updated old new k v here keeps q = ap found_roomy (lookup-updated old new k v here keeps q) ∙ roomy_either (same_list q k) v (lookup (is_at q) old)
+
+pub room-set : (es : List Entry) (k : List ℕ) (v w : Vec ℕ Global) → lookup (is_at k) es ≡ Some v → (q : List ℕ) → room_in (set_value (is_at k) es w) q ≡ cond (same_list q k) (is_roomy w) (room_in es q)
+room-set es k v w here q = ap found_roomy (lookup-set es k v w here q) ∙ roomy_either (same_list q k) w (lookup (is_at q) es)
 
 abbrev pub Changes : (List ℕ → List ℕ) → List Entry → List ℕ → List Entry → Type 0
 Changes f es k fs = (q : List ℕ) → run_in fs q ≡ cond (same_list q k) (f (run_in es q)) (run_in es q)

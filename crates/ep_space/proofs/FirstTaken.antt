@@ -1,5 +1,6 @@
 -- What a write leaves of the first instances that all have a record.
 use Rattle.std.proofs.Common.{◌≡◌, ℕ, zero, suc, ◌+◌, ◌≤◌, Result, Ok, Err, OnOk, OnErr, List, [], ◌∷◌, Option, is_none, inl, inr, refl, sym, ap, subst, ◌∙◌, arith}
+use Rattle.std.proofs.lemmas.Bool.{cases_eq}
 use Rattle.std.specs.FinSet as set
 use Rattle.std.specs.declared.alloc.AllocError.{AllocError}
 use Rattle.std.specs.List.{AllByRecursion}
@@ -9,7 +10,7 @@ use Rattle.ep_rules.specs.States.{with_held}
 use Rattle.ep_rules.specs.declared.record.Record.{Record}
 use Rattle.ep_space.specs.Held.{Held}
 use Rattle.ep_space.specs.Taken.{taken_by, AreTaken, AreTakenBut}
-use Rattle.ep_space.proofs.Kept.{either_way, get-other, get-own}
+use Rattle.ep_space.proofs.Kept.{get-other, get-own}
 
 -- a write says nothing of other instances
 pub taken-written : (m : Map Record) (i : ℕ) (o : Option Record) (ns : List ℕ) → AreTaken m ns → AreTakenBut i (with_held m i o) ns
@@ -22,7 +23,7 @@ taken-written m i o ns k = record {
 pub taken-kept : (m : Map Record) (i : ℕ) (o : Option Record) (ns : List ℕ) → AreTaken m ns → is_none o ≡ is_none (get m i) → AreTaken (with_held m i o) ns
 taken-kept m i o ns k same = record {
   bounded = k.bounded;
-  full = λ r n low. elim (either_way (instance_of r (n + 1)) i) [
+  full = λ r n low. elim (cases_eq (instance_of r (n + 1)) i) [
     | inl it ↦ ap (λ q. is_none (get (with_held m i o) q)) it ∙ ap is_none (get-own m i o) ∙ same ∙ sym (ap (λ q. is_none (get m q)) it) ∙ k.full r n low
     | inr apart ↦ ap is_none (get-other m i o (instance_of r (n + 1)) apart) ∙ k.full r n low
   ];

@@ -1,15 +1,13 @@
 -- What is gathered of the run of a command's key is its interference set.
-use Rattle.std.proofs.Common.{◌≡◌, ◌⊎◌, inl, inr, ℕ, ◌+◌, Bool, true, false, cond, not, ◌&&◌, ◌||◌, Option, Some, None, List, [], ◌∷◌, ◌++◌, max, refl, sym, ap, ◌∙◌, arith, append_assoc, append-nil, true≢false, eqb, subst, suc, drop, length}
-use Rattle.std.specs.Prelude.{slice_get, is_some}
-use Rattle.std.proofs.lemmas.Option.{slice_get_within, get_or_from_slice_get}
-use Rattle.std.proofs.Math.Seq.{drop-cons}
+use Rattle.std.proofs.Common.{◌≡◌, ◌⊎◌, inl, inr, ℕ, ◌+◌, Bool, true, false, cond, not, ◌&&◌, ◌||◌, Option, Some, None, List, [], ◌∷◌, ◌++◌, max, refl, sym, ap, ◌∙◌, arith, append_assoc, append-nil, true≢false, eqb, subst, suc, length}
+use Rattle.std.specs.Prelude.{is_some}
 use Rattle.std.specs.Cmp.{unsigned_tied}
 use Rattle.std.specs.FinMap as map
 use Rattle.std.specs.FinMap.{find, is_sorted}
 use Rattle.std.specs.FinMap.Entries.{below_all}
 use Rattle.std.specs.List.{AllByRecursion}
 use Rattle.std.specs.Ordering.{nat_cmp}
-use Rattle.std.proofs.lemmas.Bool.{and_parts, eq-eqb, eqb-true}
+use Rattle.std.proofs.lemmas.Bool.{and_parts, eq-eqb, eqb-true, or_cases, or_left, or_right}
 use Rattle.ep_base.specs.Deps.{IsRising, union}
 use Rattle.ep_base.specs.Interference.{keys_of, has_key, share_key, only_reads, is_seal, meet, part, interfere}
 use Rattle.ep_base.specs.Places.{Has}
@@ -127,18 +125,6 @@ share_end (l ∷ ks) k ls = ap (λ b. has_key l ls || b) (share_end ks k ls) ∙
     go true b c = refl
     go false b c = refl
 
-or_cases : (a b : Bool) → (a || b) ≡ true → (a ≡ true) ⊎ (b ≡ true)
-or_cases true b e = inl refl
-or_cases false b e = inr e
-
-or_first : (a b : Bool) → a ≡ true → (a || b) ≡ true
-or_first true b e = refl
-or_first false b e = absurd (true≢false (sym e))
-
-or_second : (a b : Bool) → b ≡ true → (a || b) ≡ true
-or_second true b e = refl
-or_second false b e = e
-
 module _ (c : Command) (except : ℕ) where
   pub gathered-some : (m : Map Record) (some : Entry → Bool) → ((e : Entry) → touches c except e ≡ true → some e ≡ true) →
       next_attrs (gather_all (touches c except) m (record { seq = 0; deps = [] }) (instances (those some (entries m)))) ≡ interference m except c
@@ -157,9 +143,9 @@ module _ (c : Command) (except : ℕ) where
       go : (v : Option Vote) → votes_against c v ≡ true → share_key (keys_of c ++ [] ∷ []) (voted_keys v) ≡ true
       go None x = absurd (true≢false (sym x))
       go (Some v) x = share_end (keys_of c) [] (index_keys v.decree.command) ∙ elim (or_cases (meet c v.decree.command) (part c v.decree.command) x) [
-        | inl met ↦ or_first (share_key (keys_of c) (index_keys v.decree.command)) (has_key [] (index_keys v.decree.command))
+        | inl met ↦ or_left (share_key (keys_of c) (index_keys v.decree.command)) (has_key [] (index_keys v.decree.command))
             (indexed (keys_of c) v.decree.command (and_parts (share_key (keys_of c) (keys_of v.decree.command)) (not (only_reads c && only_reads v.decree.command)) met).0)
-        | inr apart ↦ or_second (share_key (keys_of c) (index_keys v.decree.command)) (has_key [] (index_keys v.decree.command))
+        | inr apart ↦ or_right (share_key (keys_of c) (index_keys v.decree.command)) (has_key [] (index_keys v.decree.command))
             (seal_index v.decree.command (ap (λ b. b || is_seal v.decree.command) (sym none) ∙ (and_parts (is_seal c || is_seal v.decree.command) (not (is_noop c || is_noop v.decree.command)) apart).0))
       ]
 
@@ -329,17 +315,7 @@ rising_gathered t g i (Some r) ys h =
       | false ↦ rising_without g.deps i ys h
     ]
 
-pub drop_here : {X : Type 0} (es : List X) (k : ℕ) (x : X) → slice_get es k ≡ Some x → drop k es ≡ x ∷ drop (k + 1) es
-drop_here es k x h =
-    let cons = drop-cons es k x (slice_get_within es k x h) in
-    let place : suc k ≡ k + 1 = omega arith in
-    cons ∙ (λ t. get_or_from_slice_get es k x x h t ∷ drop (place t) es)
-
 -- One run and none.
-
-pub none_of : (ys : List ℕ) → true ≡ eqb (length ys) 0 → ys ≡ []
-none_of [] e = refl
-none_of (y ∷ ys) e = absurd (let is = eqb-true (suc (length ys)) 0 (sym e) in omega arith)
 
 pub union_none : (xs ys : List ℕ) → true ≡ eqb (length ys) 0 → union xs ys ≡ xs
 union_none xs ys e = ap (union xs) (none ys e) ∙ alone xs

@@ -1,5 +1,5 @@
 -- The instances whose recorded command has a key.
-use Rattle.std.proofs.Common.{◌≡◌, ℕ, ◌<◌, Bool, true, false, cond, List, [], ◌∷◌, ◌++◌, ◌||◌, ◌⊎◌, Option, Some, None, refl, sym, ap, subst, ◌∙◌, arith, true≢false, inl, inr, T}
+use Rattle.std.proofs.Common.{◌≡◌, ℕ, ◌<◌, Bool, true, false, cond, List, [], ◌∷◌, ◌++◌, ◌||◌, ◌⊎◌, Option, Some, None, refl, sym, ap, subst, ◌∙◌, arith, true≢false, inl, inr}
 use Rattle.std.specs.Cmp.{unsigned_tied}
 use Rattle.std.specs.FinMap as map
 use Rattle.std.specs.FinMap.{find, is_sorted}
@@ -9,19 +9,18 @@ use Rattle.std.specs.declared.cmp.Ordering.{Ordering}
 use Rattle.std.specs.declared.cmp.Ordering.TheVariants.{Less, Equal, Greater}
 use Rattle.std.proofs.lemmas.Bool.{and_parts, eq-eqb, eqb-true}
 use Rattle.std.proofs.lemmas.Cmp.{ranked}
-use Rattle.std.proofs.lemmas.Option.{none-some}
+use Rattle.std.proofs.lemmas.Option.{none-some, same_Some}
 use Rattle.ep_base.specs.Deps.{IsRising, IsBelowFirst, union}
 use Rattle.ep_base.specs.Interference.{has_key, share_key}
 use Rattle.ep_base.specs.Places.{Has}
-use Rattle.ep_base.proofs.Keys.{or_false}
 use Rattle.ep_base.proofs.Members.{same_members, union-cases, Has-union}
 use Rattle.ep_base.proofs.Union.{IsRising-union}
 use Rattle.ep_base.proofs.Places.{Has-empty, Has-cons_cases, Has-head, Has-tail}
+use Rattle.ep_base.proofs.Tests.{true_of}
 use Rattle.ep_rules.specs.InterferenceSet.{those, instances}
 use Rattle.ep_rules.specs.Maps.{Map, none, get}
 use Rattle.ep_rules.specs.declared.record.Record.{Record}
 use Rattle.ep_space.specs.Keys.{voted_keys, recorded_keys, keys_at, names_key, holders, names_one, holders_of}
-use Rattle.ep_space.proofs.Rising.{some_is}
 
 -- The instances of those entries of a map that pass a test.
 
@@ -105,15 +104,11 @@ module _ (t : ℕ × Record → Bool) where
 
       go : (b : Bool) → eq_by_cmp nat_cmp i e.0 ≡ b → cond b (Some e.1) (find nat_cmp i es) ≡ Some r → (find nat_cmp i es ≡ Some r → Has (instances (those t es)) i)
           → Has (instances (those t (e ∷ es))) i
-      go true tied at rest = here (sym (eqb-true i e.0 (sym (unsigned_tied i e.0) ∙ tied))) (some_is e.1 r at) (t e) refl
+      go true tied at rest = here (sym (eqb-true i e.0 (sym (unsigned_tied i e.0) ∙ tied))) (same_Some e.1 r at) (t e) refl
       go false apart at rest = there (t e) (rest at)
 
-true_from : (b : Bool) → T b → b ≡ true
-true_from true h = refl
-true_from false h = absurd h
-
 pub sorted_true : (m : Map Record) → is_sorted nat_cmp (map.entries m) ≡ true
-sorted_true m = true_from (is_sorted nat_cmp (map.entries m)) (map.entries_sorted m)
+sorted_true m = true_of (is_sorted nat_cmp (map.entries m)) (map.entries_sorted m)
 
 pub rising-holders : (l : List ℕ) (m : Map Record) → IsRising (holders l m)
 rising-holders l m = rising_those (names_key l) (map.entries m) (sorted_true m)
@@ -148,13 +143,6 @@ holders-same k m n same =
     (λ i has. key-holds k m i (ap (has_key k) (same i) ∙ holds-key k n i has))
 
 -- Who holds one of some keys.
-
-those-same : (t u : ℕ × Record → Bool) (es : List (ℕ × Record)) → ((e : ℕ × Record) → t e ≡ u e) → those t es ≡ those u es
-those-same t u [] h = refl
-those-same t u (e ∷ es) h = ap (λ b. cond b (e ∷ those t es) (those t es)) (h e) ∙ ap (λ (fs : List (ℕ × Record)). cond (u e) (e ∷ fs) fs) (those-same t u es h)
-
-pub holders-one : (k : List ℕ) (m : Map Record) → holders k m ≡ holders_of (k ∷ []) m
-holders-one k m = ap instances (those-same (names_key k) (names_one (k ∷ [])) (map.entries m) (λ e. sym (or_false (has_key k (voted_keys e.1.vote)))))
 
 either_key : (a b : Bool) → (a || (b || false)) ≡ true → (a ≡ true) ⊎ (b ≡ true)
 either_key true b e = inl refl

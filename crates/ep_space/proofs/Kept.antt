@@ -1,11 +1,11 @@
 -- What a write keeps of the index.
-use Rattle.std.proofs.Common.{◌≡◌, ◌≢◌, ℕ, Bool, true, false, cond, not, ◌&&◌, List, [], Option, Some, None, refl, sym, ap, subst, ◌∙◌, true≢false, ◌⊎◌, inl, inr, ◌==◌, Result, Ok, Err, OnOk, OnErr}
+use Rattle.std.proofs.Common.{◌≡◌, ◌≢◌, ℕ, Bool, true, false, cond, not, ◌&&◌, List, [], Option, Some, None, refl, sym, ap, subst, ◌∙◌, true≢false, inl, inr, Result, Ok, Err, OnOk, OnErr}
 use Rattle.std.specs.Cmp.{nat_cmp_total, unsigned_tied}
 use Rattle.std.specs.FinMap as map
 use Rattle.std.specs.FinSet as set
 use Rattle.std.specs.Ordering.{nat_cmp, eq_by_cmp}
 use Rattle.std.specs.declared.alloc.AllocError.{AllocError}
-use Rattle.std.proofs.lemmas.Bool.{eq-eqb, eqb-true, ne_eqb}
+use Rattle.std.proofs.lemmas.Bool.{ne_eqb, cases_eq}
 use Rattle.ep_base.specs.Deps.{IsRising}
 use Rattle.ep_base.specs.Interference.{has_key}
 use Rattle.ep_base.specs.Places.{Has}
@@ -14,6 +14,7 @@ use Rattle.ep_rules.specs.Cells.{record_or_fresh}
 use Rattle.ep_rules.specs.Maps.{Map, none, get}
 use Rattle.ep_rules.specs.States.{with_held}
 use Rattle.ep_rules.specs.declared.record.Record.{Record}
+use Rattle.ep_rules.proofs.Lookups.{self_equal}
 use Rattle.ep_space.specs.Held.{Held, Places}
 use Rattle.ep_space.specs.Index.{run, with_instance, without, brings, IsKept, StandsUnder}
 use Rattle.ep_space.specs.declared.index.Index.{Index}
@@ -24,16 +25,6 @@ use Rattle.ep_space.proofs.Rising.{with-cases, with-Has, rising-with, Has-withou
 pub tied_apart : (q i : ℕ) → q ≢ i → eq_by_cmp nat_cmp q i ≡ false
 tied_apart q i apart = unsigned_tied q i ∙ ne_eqb q i apart
 
-tied_itself : (i : ℕ) → eq_by_cmp nat_cmp i i ≡ true
-tied_itself i = unsigned_tied i i ∙ eq-eqb i i refl
-
-pub either_way : (q i : ℕ) → (q ≡ i) ⊎ (q ≢ i)
-either_way q i = go (q == i) refl
-  where
-    go : (b : Bool) → (q == i) ≡ b → (q ≡ i) ⊎ (q ≢ i)
-    go true e = inl (eqb-true q i e)
-    go false e = inr (λ same. true≢false (sym (eq-eqb q i same) ∙ e))
-
 -- What is there after a write.
 
 pub get-other : (m : Map Record) (i : ℕ) (o : Option Record) (q : ℕ) → q ≢ i → get (with_held m i o) q ≡ get m q
@@ -41,8 +32,8 @@ get-other m i None q apart = map.get-remove nat_cmp_total m i q ∙ ap (λ b. co
 get-other m i (Some r) q apart = map.get-insert nat_cmp_total m i r q ∙ ap (λ b. cond b (Some r) (get m q)) (tied_apart q i apart)
 
 pub get-own : (m : Map Record) (i : ℕ) (o : Option Record) → get (with_held m i o) i ≡ o
-get-own m i None = map.get-remove nat_cmp_total m i i ∙ ap (λ b. cond b None (get m i)) (tied_itself i)
-get-own m i (Some r) = map.get-insert nat_cmp_total m i r i ∙ ap (λ b. cond b (Some r) (get m i)) (tied_itself i)
+get-own m i None = map.get-remove nat_cmp_total m i i ∙ ap (λ b. cond b None (get m i)) (self_equal i)
+get-own m i (Some r) = map.get-insert nat_cmp_total m i r i ∙ ap (λ b. cond b (Some r) (get m i)) (self_equal i)
 
 -- a promise leaves the key
 pub keys_promised : (i : ℕ) (o : Option Record) → voted_keys (record_or_fresh i o).vote ≡ recorded_keys o
@@ -63,7 +54,7 @@ module _ (m : Map Record) (i : ℕ) (o : Option Record) where
 
   pub key_kept : recorded_keys o ≡ keys_at m i → (q : ℕ) → keys_at after q ≡ keys_at m q
   key_kept e q =
-      elim (either_way q i) [
+      elim (cases_eq q i) [
         | inl same ↦ subst (λ p. keys_at after p ≡ keys_at m p) (sym same) (key-own ∙ e)
         | inr apart ↦ key-other q apart
       ]
@@ -92,7 +83,7 @@ module _ (m : Map Record) (i : ℕ) (o : Option Record) where
     lost : has_key k (keys_at m i) ≡ true → holders k after ≡ without i (holders k m)
     lost own =
         same_members (holders k after) (without i (holders k m)) (rising-holders k after) (rising-without i (holders k m) (rising-holders k m))
-        (λ q has. elim (either_way q i) [
+        (λ q has. elim (cases_eq q i) [
           | inl same ↦ absurd (true≢false (sym (has_new k q same has) ∙ new))
           | inr apart ↦ without-Has i (holders k m) q (stays k q apart has) apart
         ])
@@ -101,11 +92,11 @@ module _ (m : Map Record) (i : ℕ) (o : Option Record) where
     neither : has_key k (keys_at m i) ≡ false → holders k after ≡ holders k m
     neither own =
         same_members (holders k after) (holders k m) (rising-holders k after) (rising-holders k m)
-        (λ q has. elim (either_way q i) [
+        (λ q has. elim (cases_eq q i) [
           | inl same ↦ absurd (true≢false (sym (has_new k q same has) ∙ new))
           | inr apart ↦ stays k q apart has
         ])
-        (λ q has. elim (either_way q i) [
+        (λ q has. elim (cases_eq q i) [
           | inl same ↦ absurd (true≢false (sym (had_own k q same has) ∙ own))
           | inr apart ↦ stood k q apart has
         ])
@@ -116,7 +107,7 @@ module _ (m : Map Record) (i : ℕ) (o : Option Record) where
   gained : (k : List ℕ) → has_key k (recorded_keys o) ≡ true → has_key k (keys_at m i) ≡ false → holders k after ≡ with_instance i (holders k m)
   gained k new own =
       same_members (holders k after) (with_instance i (holders k m)) (rising-holders k after) (rising-with i (holders k m) (rising-holders k m) (not_held k own))
-      (λ q has. elim (either_way q i) [
+      (λ q has. elim (cases_eq q i) [
         | inl same ↦ with-Has i (holders k m) q (inl (sym same))
         | inr apart ↦ with-Has i (holders k m) q (inr (stays k q apart has))
       ])
@@ -129,11 +120,11 @@ module _ (m : Map Record) (i : ℕ) (o : Option Record) where
   both : (k : List ℕ) → has_key k (recorded_keys o) ≡ true → has_key k (keys_at m i) ≡ true → holders k after ≡ holders k m
   both k new own =
       same_members (holders k after) (holders k m) (rising-holders k after) (rising-holders k m)
-      (λ q has. elim (either_way q i) [
+      (λ q has. elim (cases_eq q i) [
         | inl same ↦ subst (Has (holders k m)) (sym same) (key-holds k m i own)
         | inr apart ↦ stays k q apart has
       ])
-      (λ q has. elim (either_way q i) [
+      (λ q has. elim (cases_eq q i) [
         | inl same ↦ subst (Has (holders k after)) (sym same) (key-holds k after i (ap (has_key k) key-own ∙ new))
         | inr apart ↦ stood k q apart has
       ])
@@ -179,15 +170,11 @@ module _ (m : Map Record) (i : ℕ) (o : Option Record) where
         changed k false own true new = gained k new own
         changed k false own false new = neither k new own
 
--- a run without i takes i and gives it back
-pub without-with : (i : ℕ) (xs : List ℕ) → IsRising xs → ¬ (Has xs i) → without i (with_instance i xs) ≡ xs
-without-with i xs rising none =
-    same_members (without i (with_instance i xs)) xs (rising-without i (with_instance i xs) (rising-with i xs rising none)) rising
-    (λ q has. elim (with-cases i xs q (Has-without i (with_instance i xs) q has)) [
-      | inl same ↦ absurd (without-gone i (with_instance i xs) (rising-with i xs rising none) (subst (Has (without i (with_instance i xs))) (sym same) has))
-      | inr t ↦ t
-    ])
-    (λ q has. without-Has i (with_instance i xs) q (with-Has i xs q (inr has)) (λ same. none (subst (Has xs) same has)))
+-- other room
+pub kept-same : (t : Held Record) (x y : Index) → IsKept t x → ((k : List ℕ) → run y k ≡ run x k) → IsKept t y
+kept-same t x y kept same = record {
+  runs = λ k. same k ∙ kept.runs k;
+}
 
 -- an instance without a key isn't in its run
 pub not_in_run : (t : Held Record) (es : Index) → IsKept t es → (k : List ℕ) (i : ℕ) → has_key k (keys_at t.held i) ≡ false → ¬ (Has (run es k) i)

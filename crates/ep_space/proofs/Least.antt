@@ -1,9 +1,6 @@
 -- The least number that passes, and the least one that is free.
 use Rattle.std.proofs.Common.{◌≡◌, ℕ, suc, zero, ◌<◌, ◌≤◌, ◌⊎◌, Bool, true, false, ltb, Some, None, sym, ap, ◌∙◌, arith, inl, inr, subst, refl, true≢false}
 use Rattle.ep_base.specs.Instances.{highest_number}
-use Rattle.ep_base.specs.Versions.{highest_in}
-use Rattle.ep_base.specs.declared.version.Version.{Version}
-use Rattle.ep_base.specs.declared.version_kind.VersionKind.TheVariants.{V1, V2, V3}
 use Rattle.ep_rules.specs.Counting.{least, or_this}
 use Rattle.ep_rules.specs.Maps.{Map}
 use Rattle.ep_rules.specs.States.{is_free, free_number}
@@ -43,8 +40,3 @@ free_past m r k n i e h is = let past = least_past (is_free m r) k highest_numbe
 pub least_none : (p : ℕ → Bool) (k : ℕ) → ((n : ℕ) → n < k → p n ≡ false) → least k p ≡ None
 least_none p zero h = refl
 least_none p (suc k) h = ap (or_this k (p k)) (least_none p k (λ n low. h n (omega (arith, low)))) ∙ ap (λ b. or_this k b None) (h k (omega arith))
-
-pub highest_low : (v : Version) → highest_in v ≤ 2000
-highest_low V1 = omega arith
-highest_low V2 = omega arith
-highest_low (V3 g) = omega arith

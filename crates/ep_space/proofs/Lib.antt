@@ -5,8 +5,8 @@ pub mod Rising
 pub mod Holders
 pub mod Entered
 pub mod Bringing
+pub mod Room
 pub mod Kept
-pub mod Undone
 pub mod Gathering
 pub mod FirstTaken
 pub mod Least

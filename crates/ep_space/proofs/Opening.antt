@@ -2,7 +2,7 @@
 use Rattle.std.proofs.Common.{◌≡◌, ℕ, ◌<◌, ◌≤◌, ◌⊎◌, Bool, true, false, cond, ltb, Option, Some, None, is_none, List, [], ◌∷◌, ◌++◌, length, take, inl, inr, refl, sym, ap, subst, ◌∙◌, arith, true≢false}
 use Rattle.std.specs.Prelude.{◌&&◌}
 use Rattle.std.specs.Map.{keys_of, lookup}
-use Rattle.std.proofs.lemmas.Bool.{ltb-true, ltb-false, lt-ltb, eqb-true}
+use Rattle.std.proofs.lemmas.Bool.{ltb-true, ltb-false, lt-ltb, eqb-true, and_parts}
 use Rattle.std.proofs.lemmas.List.{take_all}
 use Rattle.std.proofs.lemmas.Map.{lookup-none}
 use Rattle.std.proofs.lemmas.Map.Entries.{none_past_head}
@@ -140,17 +140,12 @@ is_so : (after : Option ℕ) (i : ℕ) → IsAbove after i → is_above after i 
 is_so None i h = refl
 is_so (Some j) i h = lt-ltb j i h
 
-both : (a b : Bool) → (a && b) ≡ true → (a ≡ true) × (b ≡ true)
-both true true e = (refl, refl)
-both true false e = absurd (true≢false (sym e))
-both false b e = absurd (true≢false (sym e))
-
 none_is : (o : Option Decree) → is_none o ≡ true → o ≡ None
 none_is None e = refl
 none_is (Some x) e = absurd (true≢false (sym e))
 
 left_is : (m : Map Record) (after : Option ℕ) (i : ℕ) → is_left m after i ≡ true → IsAbove after i × (committed_in m i ≡ None)
-left_is m after i e = let parts = both (is_above after i) (is_none (committed_in m i)) e in (above_is after i parts.0, none_is (committed_in m i) parts.1)
+left_is m after i e = let parts = and_parts (is_above after i) (is_none (committed_in m i)) e in (above_is after i parts.0, none_is (committed_in m i) parts.1)
 
 is_left_so : (m : Map Record) (after : Option ℕ) (i : ℕ) → IsAbove after i → committed_in m i ≡ None → is_left m after i ≡ true
 is_left_so m after i above free = ap (λ b. b && is_none (committed_in m i)) (is_so after i above) ∙ ap (λ (o : Option Decree). is_none o) free

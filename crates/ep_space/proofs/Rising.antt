@@ -1,23 +1,21 @@
 -- Rising lists, with a number more or less.
 use Rattle.std.proofs.Common.{◌≡◌, ◌≢◌, ℕ, zero, suc, ◌<◌, ◌≤◌, Bool, true, false, cond, List, [], ◌∷◌, length, Some, refl, sym, ap, subst, ◌∙◌, arith, true≢false, ◌⊎◌, inl, inr, ◌==◌, slice_get}
 use Rattle.std.specs.List.{AllByRecursion, insert, remove}
-use Rattle.std.specs.Prelude.{nat_lt, unwrap_or}
+use Rattle.std.specs.Prelude.{nat_lt}
 use Rattle.std.proofs.lemmas.Bool.{eq-eqb, eqb-true, lt-ltb, ltb-true, le-ltb, ltb-false}
-use Rattle.std.proofs.lemmas.Option.{none-some}
+use Rattle.std.proofs.lemmas.Option.{none-some, same_Some}
 use Rattle.ep_base.specs.Deps.{IsRising, IsBelowFirst, union}
 use Rattle.ep_base.specs.Places.{Has}
 use Rattle.ep_base.proofs.Members.{first_below, same_members, union-cases, Has-union}
 use Rattle.ep_base.proofs.Union.{IsRising-union}
 use Rattle.ep_base.proofs.Places.{Has-empty, Has-cons_cases, Has-head, Has-tail}
 use Rattle.ep_space.specs.Index.{count_below, with_instance, without}
-
-pub some_is : {X : Type 0} (x y : X) → Some x ≡ Some y → x ≡ y
-some_is x y e = ap (λ o. unwrap_or o x) e
+use Rattle.ep_rules.proofs.Places.{has_single}
 
 -- what stands at a place is a member
 pub Has-at : (xs : List ℕ) (k y : ℕ) → slice_get xs k ≡ Some y → Has xs y
 Has-at [] k y e = absurd (none-some y e)
-Has-at (x ∷ xs) zero y e = Has-head x xs y (some_is x y e)
+Has-at (x ∷ xs) zero y e = Has-head x xs y (same_Some x y e)
 Has-at (x ∷ xs) (suc k) y e = Has-tail x xs y (Has-at xs k y e)
 
 pub all_from : (P : ℕ → Type 0) (xs : List ℕ) → ((i : ℕ) → Has xs i → P i) → AllByRecursion P xs
@@ -40,7 +38,7 @@ count_within i (x ∷ xs) =
 pub count_after : (i : ℕ) (xs : List ℕ) (k y : ℕ) → IsRising xs → slice_get xs k ≡ Some y → y < i → k < count_below i xs
 count_after i [] k y o e h = absurd (none-some y e)
 count_after i (x ∷ xs) zero y o e h =
-    let here : nat_lt x i ≡ true = lt-ltb x i (subst (λ z. z < i) (sym (some_is x y e)) h) in
+    let here : nat_lt x i ≡ true = lt-ltb x i (subst (λ z. z < i) (sym (same_Some x y e)) h) in
     subst (λ b. 0 < cond b (suc (count_below i xs)) 0) (sym here) (omega arith)
 count_after i (x ∷ xs) (suc k) y o e h =
     let first : x < y = first_below x xs o y (Has-at xs k y e) in
@@ -51,7 +49,7 @@ count_after i (x ∷ xs) (suc k) y o e h =
 pub count_upto : (i : ℕ) (xs : List ℕ) (k y : ℕ) → slice_get xs k ≡ Some y → i ≤ y → count_below i xs ≤ k
 count_upto i [] k y e h = absurd (none-some y e)
 count_upto i (x ∷ xs) zero y e h =
-    let here : nat_lt x i ≡ false = le-ltb x i (subst (λ z. i ≤ z) (sym (some_is x y e)) h) in
+    let here : nat_lt x i ≡ false = le-ltb x i (subst (λ z. i ≤ z) (sym (same_Some x y e)) h) in
     subst (λ b. cond b (suc (count_below i xs)) 0 ≤ 0) (sym here) (omega arith)
 count_upto i (x ∷ xs) (suc k) y e h =
     let rest = count_upto i xs k y e h in
@@ -131,21 +129,18 @@ at_count i (x ∷ xs) o has =
           ap (λ b. slice_get (x ∷ xs) (cond b (suc (count_below i xs)) 0)) here ∙ at_count i xs o.1 t
     ]
 
-single : (i q : ℕ) → Has (i ∷ []) q → i ≡ q
-single i q has = elim (Has-cons_cases i [] q has) [ inl same ↦ same | inr none ↦ absurd (Has-empty q none) ]
-
 -- with one member more, the union
 pub union_there : (i : ℕ) (xs : List ℕ) → IsRising xs → Has xs i → xs ≡ union xs (i ∷ [])
 union_there i xs o has =
     same_members xs (union xs (i ∷ [])) o (IsRising-union xs (i ∷ []) o (tt, tt))
     (λ q h. Has-union xs (i ∷ []) q (inl h))
-    (λ q h. elim (union-cases xs (i ∷ []) q h) [ inl a ↦ a | inr b ↦ subst (Has xs) (single i q b) has ])
+    (λ q h. elim (union-cases xs (i ∷ []) q h) [ inl a ↦ a | inr b ↦ subst (Has xs) (has_single i q b) has ])
 
 pub union_new : (i : ℕ) (xs : List ℕ) → IsRising xs → ¬ (Has xs i) → with_instance i xs ≡ union xs (i ∷ [])
 union_new i xs o none =
     same_members (with_instance i xs) (union xs (i ∷ [])) (rising-with i xs o none) (IsRising-union xs (i ∷ []) o (tt, tt))
     (λ q h. Has-union xs (i ∷ []) q (elim (with-cases i xs q h) [ inl same ↦ inr (Has-head i [] q same) | inr t ↦ inl t ]))
-    (λ q h. with-Has i xs q (elim (union-cases xs (i ∷ []) q h) [ inl a ↦ inr a | inr b ↦ inl (single i q b) ]))
+    (λ q h. with-Has i xs q (elim (union-cases xs (i ∷ []) q h) [ inl a ↦ inr a | inr b ↦ inl (has_single i q b) ]))
 
 -- A number less.
 

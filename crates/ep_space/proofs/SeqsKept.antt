@@ -6,7 +6,7 @@ use Rattle.std.specs.FinMap as map
 use Rattle.std.specs.FinSet as set
 use Rattle.std.specs.Ordering.{nat_cmp, eq_by_cmp}
 use Rattle.std.specs.declared.alloc.AllocError.{AllocError}
-use Rattle.std.proofs.lemmas.Bool.{eqb-true}
+use Rattle.std.proofs.lemmas.Bool.{eqb-true, cases_eq}
 use Rattle.std.proofs.Math.Seq.{lt-length-set}
 use Rattle.std.proofs.lemmas.List.{get_or-set_same, get_or-set_other}
 use Rattle.ep_base.specs.Instances.{IsInstance}
@@ -20,7 +20,7 @@ use Rattle.ep_space.specs.Entries.{slot}
 use Rattle.ep_space.specs.Held.{Held, Places}
 use Rattle.ep_space.specs.Seqs.{recorded_seq, AreSeqs}
 use Rattle.ep_space.specs.Settled.{committed_vote, as_settled}
-use Rattle.ep_space.proofs.Kept.{either_way, get-other, get-own}
+use Rattle.ep_space.proofs.Kept.{get-other, get-own}
 use Rattle.ep_space.proofs.Spots.{slot-is}
 
 pub seqs-none : (ns : List ℕ) → ns ≡ [] → AreSeqs (record { held = none; places = set.empty }) ns
@@ -32,7 +32,7 @@ seqs-none ns e = record {
 pub seqs-written : (m : Map Record) (places : Places) (i n : ℕ) (o : Option Record) (ns : List ℕ) → AreSeqs (record { held = m; places = places }) ns → IsInstance i → slot i < length ns → n ≡ recorded_seq o
     → AreSeqs (record { held = with_held m i o; places = places }) (slice_set ns (slot i) n)
 seqs-written m places i n o ns s known within is = record {
-  told = λ q h. elim (either_way q i) [
+  told = λ q h. elim (cases_eq q i) [
     | inl same ↦
         subst (λ j. slice_index_or (slice_set ns (slot i) n) (slot j) 0 ≡ recorded_seq (get (with_held m i o) j)) (sym same)
         (get_or-set_same ns (slot i) n 0 within ∙ is ∙ sym (ap recorded_seq (get-own m i o)))
@@ -46,7 +46,7 @@ seqs-written m places i n o ns s known within is = record {
 pub seqs-kept : (m : Map Record) (places : Places) (i : ℕ) (o : Option Record) (ns : List ℕ) → AreSeqs (record { held = m; places = places }) ns → recorded_seq o ≡ recorded_seq (get m i)
     → AreSeqs (record { held = with_held m i o; places = places }) ns
 seqs-kept m places i o ns s is = record {
-  told = λ q h. elim (either_way q i) [
+  told = λ q h. elim (cases_eq q i) [
     | inl same ↦
         subst (λ j. slice_index_or ns (slot j) 0 ≡ recorded_seq (get (with_held m i o) j)) (sym same)
         (s.told i (subst IsInstance same h) ∙ sym is ∙ sym (ap recorded_seq (get-own m i o)))

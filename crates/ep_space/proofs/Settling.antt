@@ -5,13 +5,14 @@ use Rattle.std.proofs.lemmas.Bool.{eqb-true}
 use Rattle.std.specs.FinMap as map
 use Rattle.std.specs.FinMap.{nat_cmp-IsAntisymmetric}
 use Rattle.std.specs.Ordering.{nat_cmp, eq_by_cmp}
-use Rattle.ep_base.specs.declared.vote.Status.TheVariants.{Committed}
+use Rattle.ep_base.specs.declared.vote.VoteStatus.TheVariants.{Committed}
 use Rattle.ep_base.specs.declared.vote.Vote.{Vote}
 use Rattle.ep_rules.specs.Cells.{record_or_fresh, voted_ballot}
 use Rattle.ep_rules.specs.Maps.{Map, get, insert, remove}
 use Rattle.ep_rules.specs.States.{with_held, with_entry}
 use Rattle.ep_rules.specs.declared.record.Record.{Record}
 use Rattle.ep_space.specs.Held.{Held}
+use Rattle.ep_space.specs.Indexed.{Indexed}
 use Rattle.ep_space.specs.Keys.{voted_keys, recorded_keys}
 use Rattle.ep_base.specs.declared.version.Version.{Version}
 use Rattle.ep_space.specs.Records.{Records, record_at}
@@ -66,8 +67,8 @@ settled-entry m i = by_record m i (get m i) refl
 pub cleared : {X : Type 0} (h : Held X) (i : ℕ) → get h.held i ≡ None → h ≡ record { held = remove h.held i; places = h.places }
 cleared h i e = ap (λ m. record { held = m; places = h.places }) (sym (remove_none h.held i e))
 
-pub settled-records : (f : ℕ) (v : Version) (h : Held Record) (i : ℕ) (s : Records) → record { faults = f; version = v; records = h.held; places = h.places } ≡ s
-    → record { faults = f; version = v; records = with_held h.held i (as_settled (get h.held i)); places = h.places } ≡ record s { records = with_entry s.records i (settled i (record_at s i) (record_at s i).vote) }
-settled-records f v h i s is =
-    ap (λ (m : Map Record). record { faults = f; version = v; records = m; places = h.places }) (settled-entry h.held i)
+pub settled-records : (f : ℕ) (v : Version) (x : Indexed) (i : ℕ) (s : Records) → record { faults = f; version = v; records = x.held; places = x.places; room = x.room } ≡ s
+    → record { faults = f; version = v; records = with_held x.held i (as_settled (get x.held i)); places = x.places; room = x.room } ≡ record s { records = with_entry s.records i (settled i (record_at s i) (record_at s i).vote) }
+settled-records f v x i s is =
+    ap (λ (m : Map Record). record { faults = f; version = v; records = m; places = x.places; room = x.room }) (settled-entry x.held i)
     ∙ ap (λ (q : Records). record q { records = with_entry q.records i (settled i (record_at q i) (record_at q i).vote) }) is

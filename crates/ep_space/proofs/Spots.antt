@@ -7,11 +7,10 @@ use Rattle.indexmap.specs.IndexMap.{insert_entry, set_value_at}
 use Rattle.std.proofs.lemmas.Bool.{eq-eqb, eqb-true}
 use Rattle.std.proofs.lemmas.List.{get_or-set_same, get_or-set_other, take_more}
 use Rattle.std.proofs.lemmas.Map.Keys.{IsDistinct-head, IsDistinct-tail, IsDistinct-push}
-use Rattle.std.proofs.lemmas.Option.{none-some, slice_get-get_or}
+use Rattle.std.proofs.lemmas.Option.{none-some, slice_get-get_or, same_Some}
 use Rattle.ep_base.specs.Instances.{IsInstance}
 use Rattle.ep_space.specs.Entries.{same, slot, spot, spot_after, value_at, with_place, AreSpots}
 use Rattle.ep_space.proofs.Order.{same_equiv, same_number}
-use Rattle.ep_space.proofs.Rising.{some_is}
 
 after_within : (n m : ℕ) → n ≤ m → spot_after n ≤ suc m
 after_within zero m h = omega arith
@@ -68,7 +67,7 @@ module _ {X : Type 0} where
 
 pub get-keys : {X : Type 0} (es : List (ℕ × X)) (n : ℕ) (e : ℕ × X) → slice_get es n ≡ Some e → slice_get (keys_of es) n ≡ Some e.0
 get-keys [] n e at = absurd (none-some e at)
-get-keys {X} (f ∷ es) zero e at = ap (λ (x : ℕ × X). Some x.0) (some_is f e at)
+get-keys {X} (f ∷ es) zero e at = ap (λ (x : ℕ × X). Some x.0) (same_Some f e at)
 get-keys (f ∷ es) (suc n) e at = get-keys es n e at
 
 -- An entry more.
@@ -102,7 +101,7 @@ absent i (k ∷ ks) e = go (same i k) e (absent i ks)
 
 apart_at : (x : ℕ) (xs : List ℕ) (n k : ℕ) → AllByRecursion (λ y. same x y ≡ false) xs → slice_get xs n ≡ Some k → same x k ≡ false
 apart_at x [] n k h e = absurd (none-some k e)
-apart_at x (y ∷ ys) zero k h e = subst (λ z. same x z ≡ false) (some_is y k e) h.0
+apart_at x (y ∷ ys) zero k h e = subst (λ z. same x z ≡ false) (same_Some y k e) h.0
 apart_at x (y ∷ ys) (suc n) k h e = apart_at x ys n k h.1 e
 
 apart_other : (i x k : ℕ) → same i k ≡ true → same x k ≡ false → same i x ≡ false
@@ -114,7 +113,7 @@ apart_other i x k is apart = go (same i x) refl
 
 pub spot-first : (i : ℕ) (ks : List ℕ) (n k : ℕ) → IsDistinct same ks → slice_get ks n ≡ Some k → same i k ≡ true → spot i ks ≡ suc n
 spot-first i [] n k d at is = absurd (none-some k at)
-spot-first i (x ∷ xs) zero k d at is = ap (λ b. cond b 1 (spot_after (spot i xs))) (subst (λ z. same i z ≡ true) (sym (some_is x k at)) is)
+spot-first i (x ∷ xs) zero k d at is = ap (λ b. cond b 1 (spot_after (spot i xs))) (subst (λ z. same i z ≡ true) (sym (same_Some x k at)) is)
 spot-first i (x ∷ xs) (suc n) k d at is =
     let apart : same x k ≡ false = apart_at x xs n k (IsDistinct-head same x xs d) at in
     ap (λ b. cond b 1 (spot_after (spot i xs))) (apart_other i x k is apart) ∙ ap spot_after (spot-first i xs n k (IsDistinct-tail same x xs d) at is)
@@ -233,7 +232,7 @@ spots-none ns ks e f = subst (λ qs. AreSpots ns qs) (sym f) (subst (λ ms. AreS
 -- The entries in front of one.
 
 pub take-next : {X : Type 0} (xs : List X) (k : ℕ) (x : X) → k < length xs → slice_get xs k ≡ Some x → take (k + 1) xs ≡ take k xs ++ x ∷ []
-take-next xs k x inside at = take_more xs k x inside ∙ ap (λ y. take k xs ++ y ∷ []) (some_is (slice_index_or xs k x) x (sym (slice_get-get_or xs k x inside) ∙ at))
+take-next xs k x inside at = take_more xs k x inside ∙ ap (λ y. take k xs ++ y ∷ []) (same_Some (slice_index_or xs k x) x (sym (slice_get-get_or xs k x inside) ∙ at))
 
 spot-before : {X : Type 0} (i : ℕ) (es : List (ℕ × X)) (n : ℕ) → spot i (keys_of es) ≡ suc n → spot i (keys_of (take n es)) ≡ 0
 spot-before i [] n h = absurd (omega (arith, h))

@@ -1,7 +1,8 @@
 -- An index by key: for each key the instances whose recorded command has it, in rising order.
-use Rattle.std.specs.Prelude.{◌≡◌, ℕ, suc, cond, not, ◌&&◌, List, [], ◌∷◌, Option, Some, None, Bool, false, Vec, ◌==◌, nat_lt}
+use Rattle.std.specs.Prelude.{◌≡◌, ℕ, suc, cond, not, ◌&&◌, List, [], ◌∷◌, Option, Some, None, Bool, true, false, Vec, ◌==◌, nat_lt}
 use Rattle.std.specs.Global.{Global}
 use Rattle.std.specs.Map.{lookup}
+use Rattle.std.specs.Vec.{vec_len, vec_capacity}
 use Rattle.ep_base.specs.Attributes.{same_list}
 use Rattle.ep_base.specs.Deps.{IsRising}
 use Rattle.ep_base.specs.Interference.{has_key}
@@ -30,6 +31,45 @@ run_in es k = listed (lookup (is_at k) es)
 abbrev pub run : Index → List ℕ → List ℕ
 run x [] = x.seals.items
 run x (b ∷ bs) = run_in x.runs.entries (b ∷ bs)
+
+-- the list has a free place: one more takes no memory
+abbrev pub is_roomy : Vec ℕ Global → Bool
+is_roomy v = nat_lt (vec_len v) (vec_capacity v)
+
+-- there is a list, and it has one
+abbrev pub found_roomy : Option (Vec ℕ Global) → Bool
+found_roomy None = false
+found_roomy (Some v) = is_roomy v
+
+-- the key k has a run, with a free place
+abbrev pub room_in : List Entry → List ℕ → Bool
+room_in es k = found_roomy (lookup (is_at k) es)
+
+-- the same of an index
+abbrev pub has_room : Index → List ℕ → Bool
+has_room x [] = is_roomy x.seals
+has_room x (b ∷ bs) = room_in x.runs.entries (b ∷ bs)
+
+-- those of the keys that pass
+abbrev pub passing : (List ℕ → Bool) → List (List ℕ) → List (List ℕ)
+passing test [] = []
+passing test (k ∷ ks) = cond (test k) (k ∷ passing test ks) (passing test ks)
+
+abbrev pub entry_keys : List Entry → List (List ℕ)
+entry_keys [] = []
+entry_keys (e ∷ es) = e.0.items ∷ entry_keys es
+
+-- the keys whose runs have a free place
+abbrev pub roomy_keys : Index → List (List ℕ)
+roomy_keys x = passing (has_room x) ([] ∷ entry_keys x.runs.entries)
+
+-- each key that a record of the keys `new` brings, where the one before had the keys `own`, has a run with a free place
+abbrev pub HasRuns : Index → List (List ℕ) → List (List ℕ) → Type 0
+HasRuns x own new = (k : List ℕ) → has_key k new ≡ true → has_key k own ≡ false → has_room x k ≡ true
+
+-- the runs that have a free place still have one
+abbrev pub KeepsRoom : Index → Index → Type 0
+KeepsRoom x y = (k : List ℕ) → has_room x k ≡ true → has_room y k ≡ true
 
 -- how many are less than i, from the front
 abbrev pub count_below : ℕ → List ℕ → ℕ

@@ -31,9 +31,9 @@ recorded_keys (Some r) = voted_keys r.vote
 abbrev pub keys_at : Map Record → ℕ → List (List ℕ)
 keys_at m i = recorded_keys (get m i)
 
--- a record of the keys `new` takes no room in the index, where the one before had the keys `own`: it brings none
-abbrev pub NeedsNoRoom : List (List ℕ) → List (List ℕ) → Type 0
-NeedsNoRoom own new = (k : List ℕ) → has_key k new ≡ true → has_key k own ≡ true
+-- each key that a record of the keys `new` brings, where the one before had the keys `own`, is one of those that have room
+abbrev pub HasRoom : List (List ℕ) → List (List ℕ) → List (List ℕ) → Type 0
+HasRoom room own new = (k : List ℕ) → has_key k new ≡ true → has_key k own ≡ false → has_key k room ≡ true
 
 -- the recorded command has the key k
 abbrev pub names_key : List ℕ → ℕ × Record → Bool

@@ -3,6 +3,7 @@ pub mod Entries
 pub mod PlaceHash
 pub mod Keys
 pub mod Index
+pub mod Indexed
 pub mod Seqs
 pub mod Records
 pub mod Taken

@@ -1,6 +1,6 @@
 -- Committing what was voted for: both ballots and the decree stay.
 use Rattle.std.specs.Prelude.{ℕ, Option, Some, None}
-use Rattle.ep_base.specs.declared.vote.Status.TheVariants.{Committed}
+use Rattle.ep_base.specs.declared.vote.VoteStatus.TheVariants.{Committed}
 use Rattle.ep_base.specs.declared.vote.Vote.{Vote}
 use Rattle.ep_rules.specs.Phases.{with_commit}
 use Rattle.ep_rules.specs.declared.record.Record.{Record}

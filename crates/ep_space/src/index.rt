@@ -1,7 +1,8 @@
 //! An index of records by key.
 
-ghost use Rattle.std.specs.Prelude.{◌≡◌, ◌≢◌, ◌≤◌, ℕ, List, [], ◌∷◌, ◌&&◌, not, length, None, true, false, cond, IsOk, IfOk, OnOk, OnErr};
+ghost use Rattle.std.specs.Prelude.{◌≡◌, ◌≢◌, ◌≤◌, ◌<◌, ℕ, List, [], ◌∷◌, ◌&&◌, not, length, None, true, false, cond, IfOk, OnOk};
 ghost use Rattle.std.specs.Map.{lookup};
+ghost use Rattle.std.specs.Vec.{vec_len, vec_capacity};
 ghost use Rattle.ep_base.specs.Attributes.{same_list};
 ghost use Rattle.ep_base.specs.Deps.{IsRising};
 ghost use Rattle.ep_base.specs.Interference.{has_key, keys_in, listed};
@@ -9,8 +10,8 @@ ghost use Rattle.ep_base.specs.Parts.{IsSecond};
 ghost use Rattle.ep_base.specs.Views.{touched};
 ghost use Rattle.std.specs.Option.{option_copied};
 ghost use Rattle.ep_base.specs.Places.{Has};
-ghost use Rattle.ep_space.specs.Index.{is_at, run, run_in, count_below, with_instance, without, brings, StandsUnder};
-ghost use Rattle.ep_space.specs.Keys.{index_keys, voted_keys, recorded_keys, NeedsNoRoom};
+ghost use Rattle.ep_space.specs.Index.{is_at, run, run_in, room_in, has_room, count_below, with_instance, without, brings, HasRuns, KeepsRoom, StandsUnder};
+ghost use Rattle.ep_space.specs.Keys.{index_keys, voted_keys, recorded_keys};
 
 use ep_base::{Command, CommandView, InstanceId, Touching};
 use ep_rules::Record;
@@ -97,55 +98,159 @@ fn set_run(runs: &mut Runs, key: &[u8], instances: &[InstanceId]) -> Result<(), 
     }
 }
 
-/// Puts the instance into the run of each key that this brings: that it has, and the instance's record hasn't. At want of memory
-/// all runs stay as they were.
+/// Makes room in the run of each key that the command brings: that it has, and the instance's record hasn't. A key that had no run gets an
+/// empty one. No run changes, at want of memory either.
+pub(crate) fn make_room(
+    index: &mut Index,
+    there: Option<&Record>,
+    command: &Command,
+) -> Result<(), AllocError>
+    ensures room { OnOk result (HasRuns index.new (recorded_keys (option_copied there.entry)) (index_keys command.now)) }
+    ensures same { (k : List ℕ) → run index.new k ≡ run index.old k }
+{
+    match command.view() {
+        CommandView::Noop => Ok(()),
+        CommandView::Get(key)
+        | CommandView::Put(key, _)
+        | CommandView::Del(key)
+        | CommandView::Cas(key, _, _) => room_for_one(index, there, key),
+        CommandView::Swap(first, second) => room_for_two(index, there, first, second),
+        CommandView::Seal(_) => room_for_seal(index, there),
+        CommandView::Opaque(own, _) => room_for_touched(index, there, &own),
+    }
+}
+
+fn room_for_one(index: &mut Index, there: Option<&Record>, key: &[u8]) -> Result<(), AllocError>
+    ensures room { OnOk result (HasRuns index.new (recorded_keys (option_copied there.entry)) (key.now ∷ [])) }
+    ensures same { (k : List ℕ) → run index.new k ≡ run index.old k }
+    ensures keeps { KeepsRoom index.old index.new }
+{
+    if is_named(there, key) {
+        return Ok(());
+    }
+    widen_key(index, key)
+}
+
+fn room_for_seal(index: &mut Index, there: Option<&Record>) -> Result<(), AllocError>
+    ensures room { OnOk result (HasRuns index.new (recorded_keys (option_copied there.entry)) ([] ∷ [])) }
+    ensures same { (k : List ℕ) → run index.new k ≡ run index.old k }
+{
+    if is_sealed(there) {
+        return Ok(());
+    }
+    widen_run(&mut index.seals)
+}
+
+fn room_for_touched(
+    index: &mut Index,
+    there: Option<&Record>,
+    own: &Touching<'_>,
+) -> Result<(), AllocError>
+    ensures room { OnOk result (HasRuns index.new (recorded_keys (option_copied there.entry)) (keys_in (touched own.now))) }
+    ensures same { (k : List ℕ) → run index.new k ≡ run index.old k }
+{
+    match own.second {
+        None => room_for_one(index, there, own.first),
+        Some(second) => room_for_two(index, there, own.first, second),
+    }
+}
+
+fn room_for_two(
+    index: &mut Index,
+    there: Option<&Record>,
+    first: &[u8],
+    second: &[u8],
+) -> Result<(), AllocError>
+    ensures room { OnOk result (HasRuns index.new (recorded_keys (option_copied there.entry)) (first.now ∷ second.now ∷ [])) }
+    ensures same { (k : List ℕ) → run index.new k ≡ run index.old k }
+{
+    room_for_one(index, there, first)?;
+    room_for_one(index, there, second)
+}
+
+// Makes room for one instance more in the key's run.
+fn widen_key(index: &mut Index, key: &[u8]) -> Result<(), AllocError>
+    ensures room { OnOk result (has_room index.new key.now ≡ true) }
+    ensures same { (k : List ℕ) → run index.new k ≡ run index.old k }
+    ensures keeps { KeepsRoom index.old index.new }
+{
+    if key.is_empty() {
+        return widen_run(&mut index.seals);
+    }
+    widen_under(&mut index.runs, key)
+}
+
+fn widen_under(runs: &mut Runs, key: &[u8]) -> Result<(), AllocError>
+    ensures room { OnOk result (room_in runs.new.entries key.now ≡ true) }
+    ensures same { (k : List ℕ) → run_in runs.new.entries k ≡ run_in runs.old.entries k }
+    ensures keeps { (k : List ℕ) → room_in runs.old.entries k ≡ true → room_in runs.new.entries k ≡ true }
+{
+    match runs.get_mut(key) {
+        Some(run) => widen_run(run),
+        None => add_run(runs, key),
+    }
+}
+
+fn widen_run(run: &mut Vec<InstanceId>) -> Result<(), AllocError>
+    ensures room { OnOk result (vec_len run.new < vec_capacity run.new) }
+    ensures same { run.new.items ≡ run.old.items }
+    ensures keeps { vec_len run.old < vec_capacity run.old → vec_len run.new < vec_capacity run.new }
+{
+    run.reserve(1)
+}
+
+// An empty run with a free place.
+fn add_run(runs: &mut Runs, key: &[u8]) -> Result<(), AllocError>
+    requires { lookup (is_at key.now) runs.old.entries ≡ None }
+    ensures room { OnOk result (room_in runs.new.entries key.now ≡ true) }
+    ensures same { (k : List ℕ) → run_in runs.new.entries k ≡ run_in runs.old.entries k }
+    ensures keeps { (k : List ℕ) → room_in runs.old.entries k ≡ true → room_in runs.new.entries k ≡ true }
+{
+    let alloc = *runs.allocator();
+    let key = Vec::from_slice(alloc, key)?;
+    let mut run = Vec::new(alloc);
+    widen_run(&mut run)?;
+    match runs.insert(key, run) {
+        Ok(_) => Ok(()),
+        Err(_) => Err(AllocError),
+    }
+}
+
+/// Puts the instance into the run of each key that this brings: that it has, and the instance's record hasn't. It takes no memory.
 pub(crate) fn enter(
     index: &mut Index,
     id: InstanceId,
     there: Option<&Record>,
     value: &Option<Record>,
-) -> Result<(), AllocError>
-    requires { StandsUnder id (recorded_keys (option_copied there)) index.old }
-    ensures ok { OnOk result ((k : List ℕ) → run index.new k ≡ cond (brings (recorded_keys (option_copied there.entry)) (recorded_keys value.now) k) (with_instance id (run index.old k)) (run index.old k)) }
-    ensures err { OnErr result ((k : List ℕ) → run index.new k ≡ run index.old k) }
-    ensures succeeds { NeedsNoRoom (recorded_keys (option_copied there.entry)) (recorded_keys value.now) → IsOk result }
+)
+    requires stands { StandsUnder id (recorded_keys (option_copied there)) index.old }
+    requires room { HasRuns index.old (recorded_keys (option_copied there)) (recorded_keys value.now) }
+    ensures { (k : List ℕ) → run index.new k ≡ cond (brings (recorded_keys (option_copied there.entry)) (recorded_keys value.now) k) (with_instance id (run index.old k)) (run index.old k) }
 {
     match value {
-        None => Ok(()),
+        None => (),
         Some(record) => enter_record(index, id, there, record),
     }
 }
 
-fn enter_record(
-    index: &mut Index,
-    id: InstanceId,
-    there: Option<&Record>,
-    written: &Record,
-) -> Result<(), AllocError>
-    requires { StandsUnder id (recorded_keys (option_copied there)) index.old }
-    ensures ok { OnOk result ((k : List ℕ) → run index.new k ≡ cond (brings (recorded_keys (option_copied there.entry)) (voted_keys written.now.vote) k) (with_instance id (run index.old k)) (run index.old k)) }
-    ensures err { OnErr result ((k : List ℕ) → run index.new k ≡ run index.old k) }
-    ensures succeeds { NeedsNoRoom (recorded_keys (option_copied there.entry)) (voted_keys written.now.vote) → IsOk result }
+fn enter_record(index: &mut Index, id: InstanceId, there: Option<&Record>, written: &Record)
+    requires stands { StandsUnder id (recorded_keys (option_copied there)) index.old }
+    requires room { HasRuns index.old (recorded_keys (option_copied there)) (voted_keys written.now.vote) }
+    ensures { (k : List ℕ) → run index.new k ≡ cond (brings (recorded_keys (option_copied there.entry)) (voted_keys written.now.vote) k) (with_instance id (run index.old k)) (run index.old k) }
 {
     match &written.vote {
-        None => Ok(()),
+        None => (),
         Some(vote) => enter_command(index, id, there, &vote.decree.command),
     }
 }
 
-fn enter_command(
-    index: &mut Index,
-    id: InstanceId,
-    there: Option<&Record>,
-    command: &Command,
-) -> Result<(), AllocError>
-    requires { StandsUnder id (recorded_keys (option_copied there)) index.old }
-    ensures ok { OnOk result ((k : List ℕ) → run index.new k ≡ cond (brings (recorded_keys (option_copied there.entry)) (index_keys command.now) k) (with_instance id (run index.old k)) (run index.old k)) }
-    ensures err { OnErr result ((k : List ℕ) → run index.new k ≡ run index.old k) }
-    ensures succeeds { NeedsNoRoom (recorded_keys (option_copied there.entry)) (index_keys command.now) → IsOk result }
+fn enter_command(index: &mut Index, id: InstanceId, there: Option<&Record>, command: &Command)
+    requires stands { StandsUnder id (recorded_keys (option_copied there)) index.old }
+    requires room { HasRuns index.old (recorded_keys (option_copied there)) (index_keys command.now) }
+    ensures { (k : List ℕ) → run index.new k ≡ cond (brings (recorded_keys (option_copied there.entry)) (index_keys command.now) k) (with_instance id (run index.old k)) (run index.old k) }
 {
     match command.view() {
-        CommandView::Noop => Ok(()),
+        CommandView::Noop => (),
         CommandView::Get(key)
         | CommandView::Put(key, _)
         | CommandView::Del(key)
@@ -156,42 +261,29 @@ fn enter_command(
     }
 }
 
-fn enter_one(
-    index: &mut Index,
-    id: InstanceId,
-    there: Option<&Record>,
-    key: &[u8],
-) -> Result<(), AllocError>
-    requires { StandsUnder id (recorded_keys (option_copied there)) index.old }
-    ensures ok { OnOk result ((k : List ℕ) → run index.new k ≡ cond (brings (recorded_keys (option_copied there.entry)) (key.now ∷ []) k) (with_instance id (run index.old k)) (run index.old k)) }
-    ensures err { OnErr result ((k : List ℕ) → run index.new k ≡ run index.old k) }
-    ensures succeeds { NeedsNoRoom (recorded_keys (option_copied there.entry)) (key.now ∷ []) → IsOk result }
+fn enter_one(index: &mut Index, id: InstanceId, there: Option<&Record>, key: &[u8])
+    requires stands { StandsUnder id (recorded_keys (option_copied there)) index.old }
+    requires room { HasRuns index.old (recorded_keys (option_copied there)) (key.now ∷ []) }
+    ensures { (k : List ℕ) → run index.new k ≡ cond (brings (recorded_keys (option_copied there.entry)) (key.now ∷ []) k) (with_instance id (run index.old k)) (run index.old k) }
 {
     let stays = is_named(there, key);
     add_unless(index, stays, key, id)
 }
 
-fn enter_seal(index: &mut Index, id: InstanceId, there: Option<&Record>) -> Result<(), AllocError>
-    requires { StandsUnder id (recorded_keys (option_copied there)) index.old }
-    ensures ok { OnOk result ((k : List ℕ) → run index.new k ≡ cond (brings (recorded_keys (option_copied there.entry)) ([] ∷ []) k) (with_instance id (run index.old k)) (run index.old k)) }
-    ensures err { OnErr result ((k : List ℕ) → run index.new k ≡ run index.old k) }
-    ensures succeeds { NeedsNoRoom (recorded_keys (option_copied there.entry)) ([] ∷ []) → IsOk result }
+fn enter_seal(index: &mut Index, id: InstanceId, there: Option<&Record>)
+    requires stands { StandsUnder id (recorded_keys (option_copied there)) index.old }
+    requires room { HasRuns index.old (recorded_keys (option_copied there)) ([] ∷ []) }
+    ensures { (k : List ℕ) → run index.new k ≡ cond (brings (recorded_keys (option_copied there.entry)) ([] ∷ []) k) (with_instance id (run index.old k)) (run index.old k) }
 {
     let stays = is_sealed(there);
     add_seal_unless(index, stays, id)
 }
 
-fn enter_touched(
-    index: &mut Index,
-    id: InstanceId,
-    there: Option<&Record>,
-    own: &Touching<'_>,
-) -> Result<(), AllocError>
+fn enter_touched(index: &mut Index, id: InstanceId, there: Option<&Record>, own: &Touching<'_>)
     requires second { IsSecond own.now.first.now (option_copied own.now.second) }
     requires stands { StandsUnder id (recorded_keys (option_copied there)) index.old }
-    ensures ok { OnOk result ((k : List ℕ) → run index.new k ≡ cond (brings (recorded_keys (option_copied there.entry)) (keys_in (touched own.now)) k) (with_instance id (run index.old k)) (run index.old k)) }
-    ensures err { OnErr result ((k : List ℕ) → run index.new k ≡ run index.old k) }
-    ensures succeeds { NeedsNoRoom (recorded_keys (option_copied there.entry)) (keys_in (touched own.now)) → IsOk result }
+    requires room { HasRuns index.old (recorded_keys (option_copied there)) (keys_in (touched own.now)) }
+    ensures { (k : List ℕ) → run index.new k ≡ cond (brings (recorded_keys (option_copied there.entry)) (keys_in (touched own.now)) k) (with_instance id (run index.old k)) (run index.old k) }
 {
     match own.second {
         None => enter_one(index, id, there, own.first),
@@ -199,30 +291,16 @@ fn enter_touched(
     }
 }
 
-// Where memory is refused for the second key, the instance is taken back out of the run of the first.
-fn enter_two(
-    index: &mut Index,
-    id: InstanceId,
-    there: Option<&Record>,
-    first: &[u8],
-    second: &[u8],
-) -> Result<(), AllocError>
+fn enter_two(index: &mut Index, id: InstanceId, there: Option<&Record>, first: &[u8], second: &[u8])
     requires stands { StandsUnder id (recorded_keys (option_copied there)) index.old }
+    requires room { HasRuns index.old (recorded_keys (option_copied there)) (first.now ∷ second.now ∷ []) }
     requires apart { first.now ≢ second.now }
-    ensures ok { OnOk result ((k : List ℕ) → run index.new k ≡ cond (brings (recorded_keys (option_copied there.entry)) (first.now ∷ second.now ∷ []) k) (with_instance id (run index.old k)) (run index.old k)) }
-    ensures err { OnErr result ((k : List ℕ) → run index.new k ≡ run index.old k) }
-    ensures succeeds { NeedsNoRoom (recorded_keys (option_copied there.entry)) (first.now ∷ second.now ∷ []) → IsOk result }
+    ensures { (k : List ℕ) → run index.new k ≡ cond (brings (recorded_keys (option_copied there.entry)) (first.now ∷ second.now ∷ []) k) (with_instance id (run index.old k)) (run index.old k) }
 {
     let first_stays = is_named(there, first);
     let second_stays = is_named(there, second);
-    add_unless(index, first_stays, first, id)?;
-    match add_unless(index, second_stays, second, id) {
-        Ok(()) => Ok(()),
-        Err(fault) => {
-            remove_unless(index, first_stays, first, id);
-            Err(fault)
-        }
-    }
+    add_unless(index, first_stays, first, id);
+    add_unless(index, second_stays, second, id)
 }
 
 /// Takes the instance out of the run of each key that this takes away: that the instance's record has, and this hasn't.
@@ -311,14 +389,14 @@ fn leave_two(index: &mut Index, id: InstanceId, first: &[u8], second: &[u8], val
 }
 
 // Puts the instance into the key's run, unless it stays there.
-fn add_unless(index: &mut Index, stays: bool, key: &[u8], id: InstanceId) -> Result<(), AllocError>
-    requires { IsRising (run index.old key.now) }
-    ensures ok { OnOk result ((k : List ℕ) → run index.new k ≡ cond (same_list k key.now && not stays) (with_instance id (run index.old k)) (run index.old k)) }
-    ensures err { OnErr result ((k : List ℕ) → run index.new k ≡ run index.old k) }
-    ensures succeeds { stays ≡ true → IsOk result }
+fn add_unless(index: &mut Index, stays: bool, key: &[u8], id: InstanceId)
+    requires rising { IsRising (run index.old key.now) }
+    requires room { stays ≡ false → has_room index.old key.now ≡ true }
+    ensures runs { (k : List ℕ) → run index.new k ≡ cond (same_list k key.now && not stays) (with_instance id (run index.old k)) (run index.old k) }
+    ensures others { (k : List ℕ) → same_list k key.now ≡ false → has_room index.new k ≡ has_room index.old k }
 {
     if stays {
-        return Ok(());
+        return;
     }
     add(index, key, id)
 }
@@ -336,14 +414,13 @@ fn remove_unless(index: &mut Index, stays: bool, key: &[u8], id: InstanceId)
 }
 
 // The same of the run of seals.
-fn add_seal_unless(index: &mut Index, stays: bool, id: InstanceId) -> Result<(), AllocError>
-    requires { IsRising (run index.old []) }
-    ensures ok { OnOk result ((k : List ℕ) → run index.new k ≡ cond (same_list k [] && not stays) (with_instance id (run index.old k)) (run index.old k)) }
-    ensures err { OnErr result ((k : List ℕ) → run index.new k ≡ run index.old k) }
-    ensures succeeds { stays ≡ true → IsOk result }
+fn add_seal_unless(index: &mut Index, stays: bool, id: InstanceId)
+    requires rising { IsRising (run index.old []) }
+    requires room { stays ≡ false → has_room index.old [] ≡ true }
+    ensures { (k : List ℕ) → run index.new k ≡ cond (same_list k [] && not stays) (with_instance id (run index.old k)) (run index.old k) }
 {
     if stays {
-        return Ok(());
+        return;
     }
     insert(&mut index.seals, id)
 }
@@ -359,10 +436,11 @@ fn remove_seal_unless(index: &mut Index, stays: bool, id: InstanceId)
     take(&mut index.seals, id)
 }
 
-fn add(index: &mut Index, key: &[u8], id: InstanceId) -> Result<(), AllocError>
-    requires { IsRising (run index.old key.now) }
-    ensures ok { OnOk result ((k : List ℕ) → run index.new k ≡ cond (same_list k key.now) (with_instance id (run index.old k)) (run index.old k)) }
-    ensures err { OnErr result ((k : List ℕ) → run index.new k ≡ run index.old k) }
+fn add(index: &mut Index, key: &[u8], id: InstanceId)
+    requires rising { IsRising (run index.old key.now) }
+    requires room { has_room index.old key.now ≡ true }
+    ensures runs { (k : List ℕ) → run index.new k ≡ cond (same_list k key.now) (with_instance id (run index.old k)) (run index.old k) }
+    ensures others { (k : List ℕ) → same_list k key.now ≡ false → has_room index.new k ≡ has_room index.old k }
 {
     if key.is_empty() {
         return insert(&mut index.seals, id);
@@ -381,29 +459,15 @@ fn remove(index: &mut Index, key: &[u8], id: InstanceId)
     remove_under(&mut index.runs, key, id)
 }
 
-fn add_under(runs: &mut Runs, key: &[u8], id: InstanceId) -> Result<(), AllocError>
-    requires { IsRising (run_in runs.old.entries key.now) }
-    ensures ok { OnOk result ((k : List ℕ) → run_in runs.new.entries k ≡ cond (same_list k key.now) (with_instance id (run_in runs.old.entries k)) (run_in runs.old.entries k)) }
-    ensures err { OnErr result ((k : List ℕ) → run_in runs.new.entries k ≡ run_in runs.old.entries k) }
+fn add_under(runs: &mut Runs, key: &[u8], id: InstanceId)
+    requires rising { IsRising (run_in runs.old.entries key.now) }
+    requires room { room_in runs.old.entries key.now ≡ true }
+    ensures runs { (k : List ℕ) → run_in runs.new.entries k ≡ cond (same_list k key.now) (with_instance id (run_in runs.old.entries k)) (run_in runs.old.entries k) }
+    ensures others { (k : List ℕ) → same_list k key.now ≡ false → room_in runs.new.entries k ≡ room_in runs.old.entries k }
 {
     match runs.get_mut(key) {
         Some(run) => insert(run, id),
-        None => add_run(runs, key, id),
-    }
-}
-
-fn add_run(runs: &mut Runs, key: &[u8], id: InstanceId) -> Result<(), AllocError>
-    requires { lookup (is_at key.now) runs.old.entries ≡ None }
-    ensures ok { OnOk result ((k : List ℕ) → run_in runs.new.entries k ≡ cond (same_list k key.now) (id ∷ []) (run_in runs.old.entries k)) }
-    ensures err { OnErr result ((k : List ℕ) → run_in runs.new.entries k ≡ run_in runs.old.entries k) }
-{
-    let alloc = *runs.allocator();
-    let key = Vec::from_slice(alloc, key)?;
-    let mut run = Vec::new(alloc);
-    run.push(id)?;
-    match runs.insert(key, run) {
-        Ok(_) => Ok(()),
-        Err(_) => Err(AllocError),
+        None => unreachable!(),
     }
 }
 
@@ -418,14 +482,14 @@ fn remove_under(runs: &mut Runs, key: &[u8], id: InstanceId)
     }
 }
 
-pub(crate) fn insert(run: &mut Vec<InstanceId>, id: InstanceId) -> Result<(), AllocError>
-    requires { IsRising run.old.items }
-    ensures ok { OnOk result (run.new.items ≡ with_instance id run.old.items) }
-    ensures err { OnErr result (run.new.items ≡ run.old.items) }
+/// Puts the instance into the run, in its place.
+pub(crate) fn insert(run: &mut Vec<InstanceId>, id: InstanceId)
+    requires rising { IsRising run.old.items }
+    requires room { vec_len run.old < vec_capacity run.old }
+    ensures { run.new.items ≡ with_instance id run.old.items }
 {
     let at = position(run.as_slice(), id);
-    run.insert(at, id)?;
-    Ok(())
+    run.insert(at, id).unwrap();
 }
 
 // Whether the instance is one of the run's.
@@ -526,7 +590,7 @@ fn stands_under(written: &Record, key: &[u8]) -> bool
     }
 }
 
-#[tactic(auto, using(crate::proofs::Bringing::or_false))]
+#[tactic(auto, using(ep_base::proofs::Tests::or_false))]
 fn is_under(command: &Command, key: &[u8]) -> bool
     ensures { result ≡ has_key key.now (index_keys command.now) }
 {
@@ -548,7 +612,7 @@ fn is_touched(own: &Touching<'_>, key: &[u8]) -> bool
     key == own.first || is_listed(own.second, key)
 }
 
-#[tactic(auto, using(crate::proofs::Bringing::or_false))]
+#[tactic(auto, using(ep_base::proofs::Tests::or_false))]
 fn is_listed(own: Option<&[u8]>, key: &[u8]) -> bool
     ensures { result ≡ has_key key.now (listed (option_copied own.entry)) }
 {

@@ -1,23 +1,23 @@
 //! Records of instances, with an index by key.
 
-ghost use Rattle.std.specs.Prelude.{◌≡◌, [], ◌≤◌, ◌<◌, ℕ, false, Some, None, IsOk, IfOk, OnOk, OnErr, if◌then◌else◌};
+ghost use Rattle.std.specs.Prelude.{◌≡◌, [], List, ◌≤◌, ◌<◌, ℕ, false, Some, None, IfOk, OnOk, OnErr, if◌then◌else◌};
 ghost use Rattle.std.specs.FinSet as set;
 ghost use Rattle.std.specs.Option.{option_copied};
 ghost use Rattle.ep_rules.specs.Cells.{record_or_fresh};
 ghost use Rattle.ep_rules.specs.Maps.{none, get, insert};
 ghost use Rattle.ep_rules.specs.States.{with_held, is_free};
 ghost use Rattle.ep_space.specs.Held.{HasPlace};
-ghost use Rattle.ep_space.specs.Index.{IsKept};
-ghost use Rattle.ep_space.specs.Keys.{recorded_keys, keys_at, holders, NeedsNoRoom};
+ghost use Rattle.ep_space.specs.Index.{run, HasRuns, IsKept};
+ghost use Rattle.ep_space.specs.Keys.{index_keys, recorded_keys, keys_at, holders, HasRoom};
 ghost use Rattle.ep_space.specs.Open.{AreRecords};
 ghost use Rattle.ep_space.specs.Seqs.{recorded_seq};
 ghost use Rattle.ep_space.specs.Settled.{as_settled, committed_vote};
 
-use crate::index::{self, Index, enter, leave, new_index, run_of, seals_of};
+use crate::index::{self, Index, enter, leave, make_room, new_index, run_of, seals_of};
 use crate::seqs::{Seqs, note_seq, seq_at, seq_of, widen};
 use crate::table::Table;
 use crate::taken::note;
-use ep_base::{Ballot, InstanceId, ReplicaId, Status, Vote};
+use ep_base::{Ballot, Command, InstanceId, ReplicaId, Vote, VoteStatus};
 use ep_rules::Record;
 use indexmap::map::Slice;
 use std::alloc::{AllocError, Global};
@@ -33,19 +33,17 @@ pub struct Keyed {
 }
 
 impl Model for Keyed {
-    ghost use Rattle.ep_rules.specs.declared.record.Record.{Record};
-    ghost use Rattle.ep_rules.specs.contracts.record.Record as record_facts;
-    ghost use Rattle.ep_space.specs.Held.{Held, held_code};
+    ghost use Rattle.ep_space.specs.Indexed.{Indexed, indexed_code};
 
-    ghost Value = { Held Record };
+    ghost Value = { Indexed };
 
-    ghost coded = { held_code record_facts.the_row.coded };
+    ghost coded = { indexed_code };
 
-    ghost use Rattle.ep_space.specs.Index.{IsKept};
+    ghost use Rattle.ep_space.specs.Index.{roomy_keys, IsKept};
     ghost use Rattle.ep_space.specs.Seqs.{AreSeqs};
     ghost use Rattle.ep_space.specs.Taken.{AreTaken};
 
-    ghost view = { λ k. k.table };
+    ghost view = { λ k. record { held = k.table.held; places = k.table.places; room = roomy_keys k.index } };
 
     ghost invariant = { λ k. IsKept k.table k.index × AreSeqs k.table k.seqs.items × AreTaken k.table.held k.taken };
 }
@@ -53,7 +51,7 @@ impl Model for Keyed {
 impl Keyed {
     /// No records, and no places.
     pub fn new(alloc: Global) -> Keyed
-        ensures { result ≡ record { held = none; places = set.empty } }
+        ensures { result ≡ record { held = none; places = set.empty; room = result.room } }
     {
         Keyed {
             table: Table::new(alloc),
@@ -63,9 +61,9 @@ impl Keyed {
         }
     }
 
-    /// The same records again.
+    /// The same records and places again.
     pub fn duplicate(&self, alloc: Global) -> Result<Keyed, AllocError>
-        ensures { IfOk result (λ k. k ≡ self.now) }
+        ensures { IfOk result (λ k. k ≡ record { held = self.now.held; places = self.now.places; room = k.room }) }
     {
         let table = self.table.duplicate(alloc)?;
         let index = index::duplicate(&self.index, alloc)?;
@@ -94,7 +92,7 @@ impl Keyed {
 
     /// Makes a place for the instance, if it has none.
     pub fn reserve(&mut self, id: InstanceId) -> Result<(), AllocError>
-        ensures ok { OnOk result (self.new ≡ record { held = self.old.held; places = set.insert self.old.places id }) }
+        ensures ok { OnOk result (self.new ≡ record { held = self.old.held; places = set.insert self.old.places id; room = self.old.room }) }
         ensures place { OnOk result (HasPlace self.new.places id) }
         ensures err { OnErr result (self.new ≡ self.old) }
     {
@@ -102,42 +100,43 @@ impl Keyed {
         self.table.reserve(id)
     }
 
-    /// Writes this record, or none, at the instance's place, and gives what was there. A key that the instance's command didn't have may
-    /// take memory in the index; at want of it nothing has changed.
-    pub fn put_back(
-        &mut self,
-        id: InstanceId,
-        value: Option<Record>,
-    ) -> Result<Option<Record>, AllocError>
-        requires { HasPlace self.old.places id }
-        ensures old { IfOk result (λ there. there ≡ get self.old.held id) }
-        ensures new { OnOk result (self.new ≡ record { held = with_held self.old.held id value; places = self.old.places }) }
-        ensures err { OnErr result (self.new ≡ self.old) }
-        ensures succeeds { NeedsNoRoom (keys_at self.old.held id) (recorded_keys value) → IsOk result }
+    /// Makes room for each key that the command brings to the instance. There may be more room at want of memory too; nothing else changes.
+    pub fn make_room(&mut self, id: InstanceId, command: &Command) -> Result<(), AllocError>
+        ensures room { OnOk result (HasRoom self.new.room (keys_at self.old.held id) (index_keys command.now)) }
+        ensures same { self.new ≡ record { held = self.old.held; places = self.old.places; room = self.new.room } }
+    {
+        room_at(&self.table, &mut self.index, id, command)
+    }
+
+    /// Writes this record, or none, at the instance's place, and gives what was there. Each key that it brings has room, which may be used up
+    /// then. It takes no memory.
+    pub fn put_back(&mut self, id: InstanceId, value: Option<Record>) -> Option<Record>
+        requires place { HasPlace self.old.places id }
+        requires room { HasRoom self.old.room (keys_at self.old.held id) (recorded_keys value) }
+        ensures old { result ≡ get self.old.held id }
+        ensures new { self.new ≡ record { held = with_held self.old.held id value; places = self.old.places; room = self.new.room } }
     {
         let seq = seq_of(&value);
         let is_there = value.is_some();
-        let earlier = exchange(&mut self.table, &mut self.index, id, value)?;
+        let earlier = exchange(&mut self.table, &mut self.index, id, value);
         note_seq(&mut self.seqs, id, seq);
         note(&mut self.taken, &self.table, id, is_there);
-        Ok(earlier)
+        earlier
     }
 
     /// Writes this record, or none, at the instance's place, as `put_back` does.
-    pub fn write(&mut self, id: InstanceId, value: Option<Record>) -> Result<(), AllocError>
-        requires { HasPlace self.old.places id }
-        ensures ok { OnOk result (self.new ≡ record { held = with_held self.old.held id value; places = self.old.places }) }
-        ensures err { OnErr result (self.new ≡ self.old) }
-        ensures succeeds { NeedsNoRoom (keys_at self.old.held id) (recorded_keys value) → IsOk result }
+    pub fn write(&mut self, id: InstanceId, value: Option<Record>)
+        requires place { HasPlace self.old.places id }
+        requires room { HasRoom self.old.room (keys_at self.old.held id) (recorded_keys value) }
+        ensures { self.new ≡ record { held = with_held self.old.held id value; places = self.old.places; room = self.new.room } }
     {
-        let _ = self.put_back(id, value)?;
-        Ok(())
+        let _ = self.put_back(id, value);
     }
 
     /// Writes this ballot as the one that is promised in the instance; the vote stays. It takes no memory.
     pub fn promise(&mut self, id: InstanceId, ballot: Ballot)
         requires { HasPlace self.old.places id }
-        ensures { self.new ≡ record { held = insert self.old.held id (record { promised = ballot; vote = (record_or_fresh id (get self.old.held id)).vote }); places = self.old.places } }
+        ensures { self.new ≡ record { held = insert self.old.held id (record { promised = ballot; vote = (record_or_fresh id (get self.old.held id)).vote }); places = self.old.places; room = self.old.room } }
     {
         write_promise(&mut self.table, id, ballot);
         note(&mut self.taken, &self.table, id, true);
@@ -146,7 +145,7 @@ impl Keyed {
     /// Commits what the record voted for, if it voted: both ballots stay. It takes no memory.
     pub fn settle(&mut self, id: InstanceId)
         requires { HasPlace self.old.places id }
-        ensures { self.new ≡ record { held = with_held self.old.held id (as_settled (get self.old.held id)); places = self.old.places } }
+        ensures { self.new ≡ record { held = with_held self.old.held id (as_settled (get self.old.held id)); places = self.old.places; room = self.old.room } }
     {
         write_settled(&mut self.table, id);
     }
@@ -181,26 +180,37 @@ impl Keyed {
     }
 }
 
-/// Writes this record, or none, at the instance's place, and gives what was there; the index follows. All that may fail comes before
-/// anything changes.
+/// Makes room in the index for each key that the command brings to the instance.
+fn room_at(
+    table: &Table<Record>,
+    index: &mut Index,
+    id: InstanceId,
+    command: &Command,
+) -> Result<(), AllocError>
+    ensures room { OnOk result (HasRuns index.new (keys_at table.now.held id) (index_keys command.now)) }
+    ensures same { (k : List ℕ) → run index.new k ≡ run index.old k }
+{
+    make_room(index, table.get(id), command)
+}
+
+/// Writes this record, or none, at the instance's place, and gives what was there; the index follows.
 fn exchange(
     table: &mut Table<Record>,
     index: &mut Index,
     id: InstanceId,
     value: Option<Record>,
-) -> Result<Option<Record>, AllocError>
+) -> Option<Record>
     requires place { HasPlace table.old.places id }
     requires kept { IsKept table.old index.old }
-    ensures old { IfOk result (λ there. there ≡ get table.old.held id) }
-    ensures new { OnOk result (table.new ≡ record { held = with_held table.old.held id value; places = table.old.places }) }
-    ensures err { OnErr result (table.new ≡ table.old) }
-    ensures succeeds { NeedsNoRoom (keys_at table.old.held id) (recorded_keys value) → IsOk result }
+    requires room { HasRuns index.old (keys_at table.old.held id) (recorded_keys value) }
+    ensures old { result ≡ get table.old.held id }
+    ensures new { table.new ≡ record { held = with_held table.old.held id value; places = table.old.places } }
     ensures kept { IsKept table.new index.new }
 {
     let there = table.get(id);
-    enter(index, id, there, &value)?;
+    enter(index, id, there, &value);
     leave(index, id, there, &value);
-    Ok(table.put_back(id, value))
+    table.put_back(id, value)
 }
 
 #[tactic(auto, using(crate::proofs::Twice::insert_after_remove))]
@@ -243,7 +253,7 @@ fn settle_vote(vote: &mut Option<Vote>)
     ensures { vote.new ≡ committed_vote vote.old }
 {
     match vote {
-        Some(vote) => vote.status = Status::Committed,
+        Some(vote) => vote.status = VoteStatus::Committed,
         None => (),
     }
 }

@@ -1,6 +1,6 @@
 //! The records of a replica.
 
-ghost use Rattle.std.specs.Prelude.{ℕ, ◌≡◌, ◌≤◌, ◌<◌, ◌-◌, true, Ok, Err, Some, None, IsOk, IfOk, IsErr, OnOk, OnErr, if◌then◌else◌};
+ghost use Rattle.std.specs.Prelude.{ℕ, ◌≡◌, ◌≤◌, ◌<◌, ◌-◌, true, Ok, Err, Some, None, IfOk, IsErr, OnOk, OnErr, if◌then◌else◌};
 ghost use Rattle.std.specs.Option.{option_copied};
 ghost use Rattle.std.specs.FinSet as set;
 ghost use Rattle.ep_base.specs.Instances.{highest_number};
@@ -13,9 +13,9 @@ ghost use Rattle.ep_rules.specs.Phases.{with_commit};
 ghost use Rattle.ep_rules.specs.States.{is_free, free_number, committed_in, with_entry};
 ghost use Rattle.ep_space.specs.Gathering.{next_attrs};
 ghost use Rattle.ep_space.specs.Held.{HasPlace};
-ghost use Rattle.ep_space.specs.Keys.{index_keys, recorded_keys, keys_at, holders, NeedsNoRoom};
+ghost use Rattle.ep_space.specs.Keys.{recorded_keys, keys_at, holders, HasRoom};
 ghost use Rattle.ep_space.specs.Open.{AreRecords};
-ghost use Rattle.ep_space.specs.Records.{record_at, with_record, with_earlier};
+ghost use Rattle.ep_space.specs.Records.{record_at, with_record, with_earlier, IsReady};
 ghost use Rattle.ep_space.specs.Settled.{settled};
 
 use crate::gathered::{Gathered, gathered_from};
@@ -23,7 +23,7 @@ use crate::interference_fault::InterferenceFault;
 use crate::keyed::Keyed;
 use crate::space_full::SpaceFull;
 use ep_base::{
-    Attrs, Ballot, Command, Decree, InstanceId, ReplicaId, Seq, Size, Status, Version, Vote,
+    Attrs, Ballot, Command, Decree, InstanceId, ReplicaId, Seq, Size, Version, Vote, VoteStatus,
 };
 use ep_rules::Record;
 use indexmap::map::Slice;
@@ -31,8 +31,8 @@ use std::alloc::{AllocError, Global};
 use std::marker::Model;
 
 /// The records of a replica, one for each instance of which it knows anything (EPaxos, section 4.3: the `cmds` array).
-/// An instance first gets a place, which takes memory; its record is then written there, and may take memory where its command has a key
-/// that it didn't have.
+/// An instance first gets a place, and room in the index for the keys of its next command, both of which take memory; its record is then
+/// written without.
 #[derive(Drop)]
 pub struct Space {
     size: Size,
@@ -47,13 +47,13 @@ impl Model for Space {
 
     ghost coded = { records_code };
 
-    ghost view = { λ s. record { faults = s.size; version = s.version; records = s.table.held; places = s.table.places } };
+    ghost view = { λ s. record { faults = s.size; version = s.version; records = s.table.held; places = s.table.places; room = s.table.room } };
 }
 
 impl Space {
     /// No records, of a cluster of this size, at a replica of this version.
     pub fn new(alloc: Global, size: Size, version: Version) -> Space
-        ensures { result ≡ record { faults = size; version = version; records = none; places = set.empty } }
+        ensures { result ≡ record { faults = size; version = version; records = none; places = set.empty; room = result.room } }
     {
         Space {
             size,
@@ -97,9 +97,9 @@ impl Space {
         self.table.entries()
     }
 
-    /// All records again.
+    /// All records and places again. It may have less room.
     pub fn duplicate(&self, alloc: Global) -> Result<Space, AllocError>
-        ensures { IfOk result (λ s. s ≡ self.now) }
+        ensures { IfOk result (λ s. s ≡ record self.now { room = s.room }) }
     {
         let table = self.table.duplicate(alloc)?;
         Ok(Space {
@@ -121,25 +121,31 @@ impl Space {
 
     /// Makes a place for the instance's record, if it has none. It counts as no record.
     pub fn reserve(&mut self, id: InstanceId) -> Result<(), AllocError>
-        ensures ok { OnOk result (self.new ≡ record { faults = self.old.faults; version = self.old.version; records = self.old.records; places = set.insert self.old.places id }) }
+        ensures ok { OnOk result (self.new ≡ record self.old { places = set.insert self.old.places id }) }
         ensures place { OnOk result (HasPlace self.new.places id) }
         ensures err { OnErr result (self.new ≡ self.old) }
     {
         self.table.reserve(id)
     }
 
-    /// Puts back an earlier record, or that there was none, and gives what there is now. It takes no memory where the key stays, or there
-    /// is none; at want of memory, nothing has changed.
-    pub fn put_back(
-        &mut self,
-        id: InstanceId,
-        earlier: Option<Record>,
-    ) -> Result<Option<Record>, AllocError>
-        requires { HasPlace self.old.places id }
-        ensures old { IfOk result (λ there. there ≡ get self.old.records id) }
-        ensures new { OnOk result (self.new ≡ with_earlier self.old id earlier) }
-        ensures err { OnErr result (self.new ≡ self.old) }
-        ensures succeeds { NeedsNoRoom (keys_at self.old.records id) (recorded_keys earlier) → IsOk result }
+    /// Makes a place for the instance's record, if it has none, and room in the index for what a vote for this command brings there. Nothing
+    /// else changes; at want of memory there may be more room, and no place more.
+    pub fn reserve_for(&mut self, id: InstanceId, command: &Command) -> Result<(), AllocError>
+        ensures ok { OnOk result (self.new ≡ record self.old { places = set.insert self.old.places id; room = self.new.room }) }
+        ensures ready { OnOk result (IsReady self.new id command.now) }
+        ensures err { OnErr result (self.new ≡ record self.old { room = self.new.room }) }
+    {
+        self.table.make_room(id, command)?;
+        self.table.reserve(id)
+    }
+
+    /// Puts back an earlier record, or that there was none, and gives what there is now. Each key that it brings has room, which may be used
+    /// up then. It takes no memory.
+    pub fn put_back(&mut self, id: InstanceId, earlier: Option<Record>) -> Option<Record>
+        requires place { HasPlace self.old.places id }
+        requires room { HasRoom self.old.room (keys_at self.old.records id) (recorded_keys earlier) }
+        ensures old { result ≡ get self.old.records id }
+        ensures new { self.new ≡ record (with_earlier self.old id earlier) { room = self.new.room } }
     {
         self.table.put_back(id, earlier)
     }
@@ -182,7 +188,7 @@ impl Space {
     {
         match self.vote(id) {
             None => false,
-            Some(vote) => matches!(vote.status, Status::Committed),
+            Some(vote) => matches!(vote.status, VoteStatus::Committed),
         }
     }
 
@@ -192,7 +198,7 @@ impl Space {
     {
         match self.vote(id) {
             None => false,
-            Some(vote) => matches!(vote.status, Status::Committed) || vote.ballot == ballot,
+            Some(vote) => matches!(vote.status, VoteStatus::Committed) || vote.ballot == ballot,
         }
     }
 
@@ -203,9 +209,9 @@ impl Space {
         match self.vote(id) {
             None => false,
             Some(vote) => match vote.status {
-                Status::PreAccepted => false,
-                Status::Accepted => vote.ballot == ballot,
-                Status::Committed => true,
+                VoteStatus::PreAccepted => false,
+                VoteStatus::Accepted => vote.ballot == ballot,
+                VoteStatus::Committed => true,
             },
         }
     }
@@ -217,16 +223,15 @@ impl Space {
         match self.vote(id) {
             None => None,
             Some(vote) => match vote.status {
-                Status::Committed => Some(&vote.decree),
+                VoteStatus::Committed => Some(&vote.decree),
                 _ => None,
             },
         }
     }
 
-    // What is written. A vote may take memory in the index by key, unless its command has the key that the one before had, or none. At want
-    // of it nothing has changed.
+    // What is written. It takes no memory. A vote may use up the room that its command's keys have.
 
-    /// Joins the ballot (Sutra, 2019): the last vote stays. It takes no memory.
+    /// Joins the ballot (Sutra, 2019): the last vote stays.
     pub fn join_ballot(&mut self, id: InstanceId, ballot: Ballot)
         requires { HasPlace self.old.places id }
         ensures { self.new ≡ with_record self.old id (record { promised = ballot; vote = (record_at self.old id).vote }) }
@@ -235,46 +240,30 @@ impl Space {
     }
 
     /// Pre-accepts the decree at the ballot.
-    pub fn vote_pre(
-        &mut self,
-        id: InstanceId,
-        ballot: Ballot,
-        decree: Decree,
-    ) -> Result<(), AllocError>
-        requires { HasPlace self.old.places id }
-        ensures ok { OnOk result (self.new ≡ with_record self.old id (voted ballot Status.PreAccepted decree)) }
-        ensures err { OnErr result (self.new ≡ self.old) }
-        ensures succeeds { NeedsNoRoom (keys_at self.old.records id) (index_keys decree.command) → IsOk result }
+    pub fn vote_pre(&mut self, id: InstanceId, ballot: Ballot, decree: Decree)
+        requires { IsReady self.old id decree.command }
+        ensures { self.new ≡ record (with_record self.old id (voted ballot VoteStatus.PreAccepted decree)) { room = self.new.room } }
     {
-        self.write_vote(id, ballot, Status::PreAccepted, decree)
+        self.write_vote(id, ballot, VoteStatus::PreAccepted, decree);
     }
 
     /// Accepts the decree at the ballot.
-    pub fn vote_accept(
-        &mut self,
-        id: InstanceId,
-        ballot: Ballot,
-        decree: Decree,
-    ) -> Result<(), AllocError>
-        requires { HasPlace self.old.places id }
-        ensures ok { OnOk result (self.new ≡ with_record self.old id (voted ballot Status.Accepted decree)) }
-        ensures err { OnErr result (self.new ≡ self.old) }
-        ensures succeeds { NeedsNoRoom (keys_at self.old.records id) (index_keys decree.command) → IsOk result }
+    pub fn vote_accept(&mut self, id: InstanceId, ballot: Ballot, decree: Decree)
+        requires { IsReady self.old id decree.command }
+        ensures { self.new ≡ record (with_record self.old id (voted ballot VoteStatus.Accepted decree)) { room = self.new.room } }
     {
-        self.write_vote(id, ballot, Status::Accepted, decree)
+        self.write_vote(id, ballot, VoteStatus::Accepted, decree);
     }
 
     /// Commits the decree: both ballots stay.
-    pub fn commit(&mut self, id: InstanceId, decree: Decree) -> Result<(), AllocError>
-        requires { HasPlace self.old.places id }
-        ensures ok { OnOk result (self.new ≡ with_record self.old id (with_commit id (record_at self.old id) decree)) }
-        ensures err { OnErr result (self.new ≡ self.old) }
-        ensures succeeds { NeedsNoRoom (keys_at self.old.records id) (index_keys decree.command) → IsOk result }
+    pub fn commit(&mut self, id: InstanceId, decree: Decree)
+        requires { IsReady self.old id decree.command }
+        ensures { self.new ≡ record (with_record self.old id (with_commit id (record_at self.old id) decree)) { room = self.new.room } }
     {
         let promised = self.promised(id);
         let ballot = self.voted_ballot(id);
         let vote = Vote {
-            status: Status::Committed,
+            status: VoteStatus::Committed,
             ballot,
             decree,
         };
@@ -284,10 +273,10 @@ impl Space {
                 promised,
                 vote: Some(vote),
             }),
-        )
+        );
     }
 
-    /// Commits what was voted for, if something was: both ballots and the decree stay. It takes no memory.
+    /// Commits what was voted for, if something was: both ballots and the decree stay.
     pub fn settle(&mut self, id: InstanceId)
         requires { HasPlace self.old.places id }
         ensures { self.new ≡ record self.old { records = with_entry self.old.records id (settled id (record_at self.old id) (record_at self.old id).vote) } }
@@ -295,17 +284,9 @@ impl Space {
         self.table.settle(id);
     }
 
-    fn write_vote(
-        &mut self,
-        id: InstanceId,
-        ballot: Ballot,
-        status: Status,
-        decree: Decree,
-    ) -> Result<(), AllocError>
-        requires { HasPlace self.old.places id }
-        ensures ok { OnOk result (self.new ≡ with_record self.old id (voted ballot status decree)) }
-        ensures err { OnErr result (self.new ≡ self.old) }
-        ensures succeeds { NeedsNoRoom (keys_at self.old.records id) (index_keys decree.command) → IsOk result }
+    fn write_vote(&mut self, id: InstanceId, ballot: Ballot, status: VoteStatus, decree: Decree)
+        requires { IsReady self.old id decree.command }
+        ensures { self.new ≡ record (with_record self.old id (voted ballot status decree)) { room = self.new.room } }
     {
         let promised = ballot;
         let vote = Vote {
@@ -319,7 +300,7 @@ impl Space {
                 promised,
                 vote: Some(vote),
             }),
-        )
+        );
     }
 
     // What is free, and what interferes.

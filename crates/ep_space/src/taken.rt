@@ -34,7 +34,7 @@ fn advanced(table: &Table<Record>, leader: ReplicaId, known: u16) -> u16
     ensures full { (n : ℕ) → n < result → is_free table.now.held leader n ≡ false }
 {
     let mut taken = known;
-    while taken < 2000 && has_record(table, leader, taken) {
+    while taken < InstanceId::HIGHEST_NUMBER && has_record(table, leader, taken) {
         taken += 1;
     }
     taken

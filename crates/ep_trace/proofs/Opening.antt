@@ -11,6 +11,7 @@ use Rattle.ep_rules.proofs.Merged.{in_left, in_right, in_split}
 use Rattle.ep_space.specs.Open.{IsOpen, IsNextOpen}
 use Rattle.ep_trace.specs.Left.{open_line, open_lines, AddsOpen, OpenBelow}
 use Rattle.ep_world.specs.Played.{Played, replica_in}
+use Rattle.ep_replay.proofs.Flagging.{in_one}
 
 open_in : Kept → ℕ → Type 0
 open_in k i = IsOpen (state_of k).records i
@@ -35,10 +36,6 @@ pub record Listed (k : Kept) (next : Option ℕ) (old new : List ℕ) : Type 0 w
 abbrev pub left_after : Option ℕ → ℕ
 left_after None = 0
 left_after (Some n) = 500000 - n
-
-in_one : (m n : ℕ) → In m (n ∷ []) → n ≡ m
-in_one m n (inl is) = is
-in_one m n (inr h) = absurd h
 
 pub starts : (k : Kept) (next : Option ℕ) (t : List ℕ) → IsNextOpen (state_of k).records None next → Listed k next t t
 starts k None t found = record { is = []; rising = tt; these = (λ i. ((λ h. absurd h), (λ h. absurd (found i h.0 tt)))); too = tt; text = sym (append-nil t) }
@@ -116,9 +113,6 @@ over k old new was = (was.is, record { rising = was.rising; these = (λ i. ((λ 
 -- those of the replicas below n were told
 abbrev pub ToldBelow : Played → ℕ → List ℕ → List ℕ → Type 0
 ToldBelow w n old new = (more : List ℕ) × OpenBelow w n more × (new ≡ old ++ more)
-
-pub none_below : (w : Played) (t : List ℕ) → ToldBelow w 0 t t
-none_below w t = ([], refl, sym (append-nil t))
 
 pub one_below : (w : Played) (n m : ℕ) (old mid new : List ℕ) → m ≡ suc n → ToldBelow w n old mid → AddsOpen (replica_in w n) mid new → ToldBelow w m old new
 one_below w n m old mid new is below adds = subst (λ (j : ℕ). ToldBelow w j old new) (sym is) (

@@ -9,7 +9,7 @@ use crate::numbers::{Numbers, next};
 use ep_base::{Command, InstanceId, ReplicaId};
 use ep_frame::Frame;
 use ep_journal::{Entry, Event};
-use ep_report::{Cause, push_command, push_instance, push_number};
+use ep_report::{EventFault, push_command, push_instance, push_number};
 use ep_view::{push_between, push_done, push_message, push_taken, words_of};
 use ep_world::WorldEvent;
 use std::alloc::AllocError;
@@ -223,7 +223,7 @@ pub(crate) fn push_refused(
     text: &mut Vec<u8>,
     line: u32,
     event: &WorldEvent,
-    cause: Cause,
+    cause: EventFault,
 ) -> Result<(), AllocError>
     ensures { OnOk result (text.new.items ≡ text.old.items ++ refused_line line event.now cause) }
 {

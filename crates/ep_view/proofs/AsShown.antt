@@ -2,13 +2,13 @@
 use Rattle.std.proofs.Common.{◌≡◌, ◌<◌, ◌≤◌, ◌+◌, ◌++◌, ℕ, Bool, length, length-append, append-nil, List, [], ◌∷◌, ap, ◌∙◌, arith}
 use Rattle.ep_journal.specs.Entries.{Collected}
 use Rattle.ep_view.specs.Editions.{edition_line}
-use Rattle.ep_view.specs.declared.part.Part.{Part}
+use Rattle.ep_view.specs.declared.selection.Selection.{Selection}
 use Rattle.ep_view.specs.Handled.{is_in, is_handled, AreHandled}
 use Rattle.ep_view.specs.Shown.{lines_at, none_kept, or_none, IsInOrder, IsShown}
 use Rattle.ep_view.specs.declared.handled.Handled.{Handled}
 
 pub is_shown :
-    (c : Collected) (part : Part) (h : Handled) (all : List (ℕ × ℕ)) (text : List ℕ) → AreHandled c h → IsInOrder c all →
+    (c : Collected) (part : Selection) (h : Handled) (all : List (ℕ × ℕ)) (text : List ℕ) → AreHandled c h → IsInOrder c all →
     text ≡ edition_line c.version c.opening ++ or_none (length all) (lines_at (is_in h) part c all) → IsShown c part text
 is_shown c part h all text are ordered lines =
     record { all = all; ordered = ordered; lines = lines ∙ ap (λ (f : List ℕ → Bool). edition_line c.version c.opening ++ or_none (length all) (lines_at f part c all)) (λ i b. are b i) }

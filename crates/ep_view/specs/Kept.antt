@@ -5,7 +5,7 @@ use Rattle.ep_frame.specs.Meaning.{instance_at}
 use Rattle.ep_journal.specs.declared.entry.Entry.{Entry}
 use Rattle.ep_journal.specs.declared.event.Event.{Event}
 use Rattle.ep_journal.specs.declared.event.Event.TheVariants.{Propose, Handle, GiveUp, Recover, Execute}
-use Rattle.ep_view.specs.declared.part.Part.{Part}
+use Rattle.ep_view.specs.declared.selection.Selection.{Selection}
 
 -- the instance is one of these
 abbrev pub is_one_of : List ℕ → ℕ → Bool
@@ -51,5 +51,5 @@ is_of_replica (Some q) r = eqb r q
 
 -- the entry of replica r is asked for: it is that replica's, its stamp is in the range, both ends included, and it is about the instance, and
 -- about one of the instances
-abbrev pub keeps : Part → ℕ → Entry → Bool
+abbrev pub keeps : Selection → ℕ → Entry → Bool
 keeps part r e = is_of_replica part.replica r && (nat_le part.from e.stamp && (nat_le e.stamp part.to && (is_of_instance part.instance e && is_of_some part.about e)))

@@ -6,12 +6,12 @@ use Rattle.ep_rules.specs.Journals.{Scheduled, IsSchedule}
 use Rattle.ep_audit.specs.Verdicts.{places_of}
 use Rattle.ep_view.specs.Editions.{edition_line}
 use Rattle.ep_view.specs.Kept.{keeps}
-use Rattle.ep_view.specs.declared.part.Part.{Part}
+use Rattle.ep_view.specs.declared.selection.Selection.{Selection}
 use Rattle.ep_view.specs.Handled.{is_handled}
 use Rattle.ep_view.specs.Lines.{entry_text}
 use Rattle.ep_audit.specs.Lookups.{entry_at}
 
-module _ (handled : List ℕ → Bool) (part : Part) where
+module _ (handled : List ℕ → Bool) (part : Selection) where
   -- the line of an entry, if it is asked for
   abbrev pub line_of : ℕ → Option Entry → List ℕ
   line_of r None = []
@@ -39,7 +39,7 @@ pub record IsInOrder (c : Collected) (all : List (ℕ × ℕ)) : Type 0 where
 
 -- The text begins with the line of the journals' edition, if there is one. It has a line for each entry that is asked for, in the order of the journals'
 -- schedule, or says that there is none. In it a frame is told as never handled exactly where no entry of any journal handles it.
-pub record IsShown (c : Collected) (part : Part) (text : List ℕ) : Type 0 where
+pub record IsShown (c : Collected) (part : Selection) (text : List ℕ) : Type 0 where
   pub all : List (ℕ × ℕ)
   pub ordered : IsInOrder c all
   pub lines : text ≡ edition_line c.version c.opening ++ or_none (length all) (lines_at (is_handled c) part c all)

@@ -9,7 +9,7 @@ use Rattle.ep_journal.specs.Entries.{Collected, entries_at}
 use Rattle.ep_journal.specs.declared.entry.Entry.{Entry}
 use Rattle.ep_journal.specs.declared.event.Event.{Event}
 use Rattle.ep_journal.specs.declared.event.Event.TheVariants.{Propose, Handle, GiveUp, Recover, Execute}
-use Rattle.ep_view.specs.declared.part.Part.{Part}
+use Rattle.ep_view.specs.declared.selection.Selection.{Selection}
 use Rattle.ep_view.specs.declared.wanted.Wanted.{Wanted}
 
 -- any client, or this one
@@ -53,5 +53,5 @@ about_of c None (Some client) = Some (taken_below None (Some client) c (size c.f
 about_of c (Some key) client = Some (taken_below (Some key) client c (size c.faults))
 
 -- the part that has what is wanted: what is about an instance that a wanted proposal took
-abbrev pub part_of : Collected → Wanted → Part
+abbrev pub part_of : Collected → Wanted → Selection
 part_of c w = record { instance = w.instance; about = about_of c w.key w.client; replica = w.replica; from = w.from; to = w.to }

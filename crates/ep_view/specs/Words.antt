@@ -5,8 +5,8 @@ use Rattle.ep_base.specs.declared.attrs.Attrs.{Attrs}
 use Rattle.ep_base.specs.declared.decree.Decree.{Decree}
 use Rattle.ep_base.specs.declared.message.Message.{Message}
 use Rattle.ep_base.specs.declared.message.Message.TheVariants.{PreAccept, PreAcceptOk, Accept, AcceptOk, Commit, Prepare, PrepareOk, Nack}
-use Rattle.ep_base.specs.declared.vote.Status.{Status}
-use Rattle.ep_base.specs.declared.vote.Status.TheVariants.{PreAccepted, Accepted, Committed}
+use Rattle.ep_base.specs.declared.vote.VoteStatus.{VoteStatus}
+use Rattle.ep_base.specs.declared.vote.VoteStatus.TheVariants.{PreAccepted, Accepted, Committed}
 use Rattle.ep_base.specs.declared.vote.Vote.{Vote}
 use Rattle.ep_frame.specs.Meaning.{sender_at, origin_at, message_at}
 use Rattle.ep_journal.specs.declared.event.Event.{Event}
@@ -26,7 +26,7 @@ attrs_text a = codes " seq " ++ decimal a.seq ++ codes " deps " ++ deps_text a.d
 abbrev pub decree_text : Decree → List ℕ
 decree_text x = codes " " ++ command_text x.command ++ attrs_text x.attrs
 
-abbrev pub status_text : Status → List ℕ
+abbrev pub status_text : VoteStatus → List ℕ
 status_text PreAccepted = codes "pre-accepted"
 status_text Accepted = codes "accepted"
 status_text Committed = codes "committed"

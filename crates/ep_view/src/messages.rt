@@ -5,7 +5,7 @@ ghost use Rattle.ep_base.specs.declared.message.Message.TheVariants as message;
 ghost use Rattle.ep_frame.specs.Meaning.{message_at};
 ghost use Rattle.ep_view.specs.Words.{ballot_text, attrs_text, decree_text, status_text, vote_text, about_text, message_text, origin_text};
 
-use ep_base::{Attrs, Ballot, Decree, InstanceId, Message, Status, Vote};
+use ep_base::{Attrs, Ballot, Decree, InstanceId, Message, Vote, VoteStatus};
 use ep_frame::Frame;
 use ep_report::{push_command, push_deps, push_instance, push_number};
 use std::alloc::AllocError;
@@ -40,13 +40,13 @@ fn push_decree(text: &mut Vec<u8>, decree: &Decree) -> Result<(), AllocError>
     push_attrs(text, &decree.attrs)
 }
 
-fn push_status(text: &mut Vec<u8>, status: Status) -> Result<(), AllocError>
+fn push_status(text: &mut Vec<u8>, status: VoteStatus) -> Result<(), AllocError>
     ensures { OnOk result (text.new.items ≡ text.old.items ++ status_text status) }
 {
     match status {
-        Status::PreAccepted => text.extend_from_slice(b"pre-accepted"),
-        Status::Accepted => text.extend_from_slice(b"accepted"),
-        Status::Committed => text.extend_from_slice(b"committed"),
+        VoteStatus::PreAccepted => text.extend_from_slice(b"pre-accepted"),
+        VoteStatus::Accepted => text.extend_from_slice(b"accepted"),
+        VoteStatus::Committed => text.extend_from_slice(b"committed"),
     }
 }
 

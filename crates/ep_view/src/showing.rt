@@ -9,7 +9,7 @@ ghost use Rattle.ep_view.specs.Shown.{line_of, lines_at, none_kept, or_none, IsI
 use crate::editions::push_edition;
 use crate::handled::Handled;
 use crate::lines::push_entry;
-use crate::part::Part;
+use crate::selection::Selection;
 use ep_audit::{Verdict, entry_at};
 use ep_base::ReplicaId;
 use ep_journal::{Entry, Journals};
@@ -34,7 +34,7 @@ pub fn schedule(alloc: Global, journals: &Journals) -> Result<Vec<(ReplicaId, u3
 fn push_kept(
     text: &mut Vec<u8>,
     handled: &Handled,
-    part: &Part,
+    part: &Selection,
     replica: ReplicaId,
     entry: &Entry,
 ) -> Result<(), AllocError>
@@ -53,7 +53,7 @@ fn push_place(
     text: &mut Vec<u8>,
     journals: &Journals,
     handled: &Handled,
-    part: &Part,
+    part: &Selection,
     place: &(ReplicaId, u32),
 ) -> Result<(), AllocError>
     requires { AreJournals journals.now }
@@ -71,7 +71,7 @@ fn push_lines(
     text: &mut Vec<u8>,
     journals: &Journals,
     handled: &Handled,
-    part: &Part,
+    part: &Selection,
     places: &[(ReplicaId, u32)],
 ) -> Result<(), AllocError>
     requires { AreJournals journals.now }
@@ -101,7 +101,7 @@ fn push_shown(
     text: &mut Vec<u8>,
     journals: &Journals,
     handled: &Handled,
-    part: &Part,
+    part: &Selection,
     places: &[(ReplicaId, u32)],
 ) -> Result<(), AllocError>
     requires { AreJournals journals.now }
@@ -120,7 +120,7 @@ fn push_shown(
 /// answers. Where it keeps none of them, a line that says how many there are. Of journals of version 3 a line stands first
 /// that tells their generation and what they begin with.
 #[tactic(auto, using(crate::proofs::AsShown::is_shown))]
-pub fn show(alloc: Global, journals: &Journals, part: &Part) -> Result<Vec<u8>, AllocError>
+pub fn show(alloc: Global, journals: &Journals, part: &Selection) -> Result<Vec<u8>, AllocError>
     ensures { IfOk result (λ text. IsShown journals.now part.now text.items) }
 {
     journals.are_journals();

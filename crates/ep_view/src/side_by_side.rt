@@ -3,7 +3,7 @@
 use crate::editions::push_edition;
 use crate::handled::Handled;
 use crate::lines::push_happened;
-use crate::part::Part;
+use crate::selection::Selection;
 use crate::showing::{push_none_kept, schedule};
 use ep_audit::entry_at;
 use ep_base::ReplicaId;
@@ -77,7 +77,7 @@ fn cell_of(alloc: Global, handled: &Handled, entry: &Entry) -> Result<Vec<u8>, A
 fn push_kept(
     text: &mut Vec<u8>,
     handled: &Handled,
-    part: &Part,
+    part: &Selection,
     replica: ReplicaId,
     entry: &Entry,
 ) -> Result<(), AllocError> {
@@ -93,7 +93,7 @@ fn push_cells(
     text: &mut Vec<u8>,
     journals: &Journals,
     handled: &Handled,
-    part: &Part,
+    part: &Selection,
     places: &[(ReplicaId, u32)],
 ) -> Result<(), AllocError> {
     journals.are_journals();
@@ -123,7 +123,11 @@ fn push_names(text: &mut Vec<u8>, count: u8) -> Result<(), AllocError> {
 /// The entries of the journals that the part keeps, as `show` tells them, by stamp and then by replica, each in the column of
 /// its replica, or that it keeps none. A column is 32 wide, with two spaces between two: 100 for three replicas. The line of the
 /// journals' edition, if there is one, stands first, in no column.
-pub fn columns(alloc: Global, journals: &Journals, part: &Part) -> Result<Vec<u8>, AllocError> {
+pub fn columns(
+    alloc: Global,
+    journals: &Journals,
+    part: &Selection,
+) -> Result<Vec<u8>, AllocError> {
     let handled = Handled::of(alloc, journals)?;
     let places = schedule(alloc, journals)?;
     let mut text = Vec::new(alloc);

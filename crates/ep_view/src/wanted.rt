@@ -5,7 +5,7 @@ ghost use Rattle.ep_base.specs.Quorums.{size};
 ghost use Rattle.ep_journal.specs.Entries.{AreJournals, entries_at};
 ghost use Rattle.ep_view.specs.Wanted.{is_of_client, is_on_key, is_wanted, with_taken, with_entries, taken_below, about_of, part_of};
 
-use crate::part::Part;
+use crate::selection::Selection;
 use ep_audit::entries_of;
 use ep_base::{Command, Deps, InstanceId, Key, ReplicaId};
 use ep_frame::Frame;
@@ -49,11 +49,11 @@ fn is_on_key(key: &Option<Key>, command: &Command) -> bool
 
 impl Wanted {
     /// The part of these journals that has what is wanted.
-    pub fn part(&self, alloc: Global, journals: &Journals) -> Result<Part, AllocError>
+    pub fn part(&self, alloc: Global, journals: &Journals) -> Result<Selection, AllocError>
         ensures { IfOk result (λ part. part ≡ part_of journals.now self.now) }
     {
         let about = self.about(alloc, journals)?;
-        Ok(Part {
+        Ok(Selection {
             instance: self.instance,
             about,
             replica: self.replica,

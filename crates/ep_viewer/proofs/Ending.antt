@@ -1,60 +1,164 @@
 -- What became of what the program was asked for.
-use Rattle.std.proofs.Common.{◌≡◌, ℕ, Bool, true, false, List, Option, Some, None, Result, Ok, Err, ◌++◌, append-nil, refl, sym, ◌∙◌, ap, subst}
+use Rattle.std.proofs.Common.{◌≡◌, ℕ, Bool, true, false, List, Option, Result, Ok, Err, IfOk, IfErr, refl, sym, ◌∙◌, ap, subst, codes, string_bytes}
 use Rattle.std.specs.Prelude.{◌||◌, IsErrAnd}
 use Rattle.ep_base.specs.Devices.{FailsAsTold}
+use Rattle.std.specs.Global.{Vec}
 use Rattle.ep_bundle.specs.Journals.{ReadsBundle, Finds}
 use Rattle.ep_bundle.specs.Reading.{Left, is_read_failed}
-use Rattle.ep_advice.specs.Kept.{is_read_failed as is_explain_read}
-use Rattle.ep_advice.specs.declared.explain_fault.ExplainFault.{ExplainFault}
-use Rattle.ep_advice.specs.declared.explain_fault.ExplainFault.TheVariants as explain
+use Rattle.ep_explain.specs.Kept.{is_read_failed as is_explain_read}
+use Rattle.ep_explain.specs.declared.explain_fault.ExplainFault.{ExplainFault}
+use Rattle.ep_explain.specs.declared.explain_fault.ExplainFault.TheVariants as explain
 use Rattle.ep_bundle.specs.declared.bundle_fault.BundleFault.{BundleFault}
 use Rattle.ep_bundle.specs.declared.bundle_fault.BundleFault.TheVariants as bundle
 use Rattle.ep_journal.specs.Entries.{Collected}
+use Rattle.ep_script.specs.Outcome.{IsScript}
+use Rattle.ep_script.specs.Plan.{script_of}
 use Rattle.ep_script.specs.Faults.{is_read_failed as is_script_read}
 use Rattle.ep_script.specs.declared.script_fault.ScriptFault.{ScriptFault}
 use Rattle.ep_script.specs.declared.script_fault.ScriptFault.TheVariants as script
 use Rattle.ep_viewer.specs.Faults.{of_bundle, of_diagram, of_explained, of_graph, of_script, is_read, is_write}
 use Rattle.ep_rules.specs.declared.receipt.Receipt.{Receipt}
-use Rattle.ep_cli.specs.Outputs.{Output, output, Wrote, WroteNothing}
-use Rattle.ep_viewer.specs.Views.{Does, IsCrowded, IsMany, IsNever, IsView, Views, Explains}
-use Rattle.ep_view.specs.Shown.{IsShown}
+use Rattle.ep_cli.proofs.Printed.{not_made, put_to}
+use Rattle.ep_cli.specs.Outputs.{Output, Wrote, WroteNothing, became}
+use Rattle.ep_cli.specs.Printed.{IsPut, IsTextPut, Makes}
+use Rattle.ep_cli.specs.declared.made.Made.{Made}
+use Rattle.ep_viewer.specs.Views.{Concludes, Does, IsNoText, Prints, Tells}
 use Rattle.ep_view.specs.Wanted.{part_of}
 use Rattle.ep_view.specs.declared.wanted.Wanted.{Wanted}
-use Rattle.ep_view.specs.declared.part.Part.{Part}
-use Rattle.ep_viewer.specs.declared.asked.Asked.{Asked}
-use Rattle.ep_viewer.specs.declared.asked.Asked.TheVariants.{Show, Draw, Page, Events}
-use Rattle.ep_browser.specs.Files.{IsTraceFile}
-use Rattle.ep_browser.specs.Pages.{IsPage}
-use Rattle.ep_draw.specs.Drawn.{IsDrawn, IsTooMany, IsRefused}
+use Rattle.ep_view.specs.declared.selection.Selection.{Selection}
+use Rattle.ep_viewer.specs.declared.viewer_asked.ViewerAsked.{ViewerAsked}
+use Rattle.ep_viewer.specs.declared.viewer_asked.ViewerAsked.TheVariants.{View as OfBundle, Trace, Explain, Version, Help}
+use Rattle.ep_viewer.specs.declared.view.View.{View}
+use Rattle.ep_viewer.specs.declared.view.View.TheVariants.{Columns, Draw, Graph}
+use Rattle.ep_draw.specs.Drawn.{IsTooMany, IsRefused}
 use Rattle.ep_draw.specs.declared.draw_fault.DrawFault.{DrawFault}
 use Rattle.ep_draw.specs.declared.draw_fault.DrawFault.TheVariants as draw
-use Rattle.ep_graph.specs.Graphs.{IsMore}
-use Rattle.ep_graph.specs.declared.graph_fault.GraphFault.{GraphFault}
-use Rattle.ep_graph.specs.declared.graph_fault.GraphFault.TheVariants as graph
+use Rattle.ep_draw.specs.Graphs.{IsMore}
+use Rattle.ep_draw.specs.declared.graph_fault.GraphFault.{GraphFault}
+use Rattle.ep_draw.specs.declared.graph_fault.GraphFault.TheVariants as graph
 use Rattle.ep_cli.specs.declared.status.Status.{Status}
-use Rattle.ep_viewer.specs.declared.fault.Fault.{Fault}
-use Rattle.ep_viewer.specs.declared.fault.Fault.TheVariants.{Script, BadBundle, NotARun, TooMany, TooManyEvents, Memory, Read, Write}
+use Rattle.ep_cli.specs.declared.status.Status.TheVariants.{Done}
+use Rattle.ep_viewer.specs.declared.viewer_fault.ViewerFault.{ViewerFault}
+use Rattle.ep_viewer.specs.declared.viewer_fault.ViewerFault.TheVariants.{Script, BadBundle, NotARun, TooMany, TooManyEvents, Memory, Read, Write}
+
+-- where the output fails, nothing more is promised
+free : (asked : ViewerAsked) (zs : List ℕ) (out : Output) → Does asked (Err Write) zs out
+free (OfBundle view) zs out = tt
+free Trace zs out = tt
+free Explain zs out = tt
+free Version zs out = tt
+free (Help text) zs out = tt
+
+pub done_as :
+    (asked other : ViewerAsked) (made : Result Made ViewerFault) (r : Result Status ViewerFault) (zs : List ℕ) (out : Output) → asked ≡ other → Makes (Does other) made zs → IsPut Write made r out → Does asked r zs out
+done_as asked other made r zs out is makes put = subst (λ (a : ViewerAsked). Does a r zs out) (sym is) (put_to (Does other) Write made r zs out (free other zs out) makes put)
+
+text_put : (text : List ℕ) (r : Result Status ViewerFault) (out : Output) → IsTextPut Write text Done r out → Prints r text out
+text_put text (Ok found) out put = (put.0, put.1)
+text_put text (Err e) out put = subst (λ (x : ViewerFault). Prints (Err x) text out) (sym put.0) tt
+
+pub version_put : (asked : ViewerAsked) (r : Result Status ViewerFault) (zs : List ℕ) (out : Output) → asked ≡ Version → IsTextPut Write (codes "epaxos 0.1.0\n") Done r out → Does asked r zs out
+version_put asked r zs out is put = subst (λ (a : ViewerAsked). Does a r zs out) (sym is) (text_put (codes "epaxos 0.1.0\n") r out put)
+
+-- help is asked for, with this text
+abbrev pub IsHelpText : ViewerAsked → List ℕ → Type 0
+IsHelpText (OfBundle view) bytes = ⊥
+IsHelpText Trace bytes = ⊥
+IsHelpText Explain bytes = ⊥
+IsHelpText Version bytes = ⊥
+IsHelpText (Help text) bytes = bytes ≡ string_bytes text
+
+pub help_put :
+    (asked other : ViewerAsked) (bytes : List ℕ) (r : Result Status ViewerFault) (zs : List ℕ) (out : Output) → asked ≡ other → IsHelpText other bytes → IsTextPut Write bytes Done r out → Does asked r zs out
+help_put asked other bytes r zs out is text put = subst (λ (a : ViewerAsked). Does a r zs out) (sym is) (go other text)
+  where
+    go : (a : ViewerAsked) → IsHelpText a bytes → Does a r zs out
+    go (OfBundle view) h = absurd h
+    go Trace h = absurd h
+    go Explain h = absurd h
+    go Version h = absurd h
+    go (Help text) h = text_put (string_bytes text) r out (subst (λ (l : List ℕ). IsTextPut Write l Done r out) h put)
 
 -- a bundle that isn't read isn't viewed
 pub not_read :
-    (Tells : Collected → List ℕ → Type 0) (Crowds : ℕ → List ℕ → Collected → Type 0) (b : BundleFault) (r : Result Status Fault) (zs : List ℕ) (place : ℕ) (left : Option (List ℕ)) (out : Output) → IsErrAnd r (λ e. e ≡ of_bundle b) →
-    Finds (ReadsBundle (record { at = 0; bytes = zs })) (Err b) place left → WroteNothing out → Views Tells Crowds r zs out
-not_read Tells Crowds b (Ok done) zs place left out is found silent = absurd is
-not_read Tells Crowds bundle.Memory (Err e) zs place left out is found silent = subst (λ (x : Fault). Views Tells Crowds (Err x) zs out) (sym is) silent
-not_read Tells Crowds bundle.ReadFailed (Err e) zs place left out is found silent = subst (λ (x : Fault). Views Tells Crowds (Err x) zs out) (sym is) silent
-not_read Tells Crowds (bundle.BadBundle offset) (Err e) zs place left out is found silent = subst (λ (x : Fault). Views Tells Crowds (Err x) zs out) (sym is) (found, silent)
-not_read Tells Crowds (bundle.NotARun replica entry) (Err e) zs place left out is found silent = subst (λ (x : Fault). Views Tells Crowds (Err x) zs out) (sym is) (found, silent)
+    (view : View) (b : BundleFault) (r : Result Made ViewerFault) (zs : List ℕ) (place : ℕ) (left : Option (List ℕ)) → IsErrAnd r (λ e. e ≡ of_bundle b) →
+    Finds (ReadsBundle (record { at = 0; bytes = zs })) (Err b) place left → Makes (Does (OfBundle view)) r zs
+not_read view b r zs place left is found = not_made (Does (OfBundle view)) r (of_bundle b) zs is (go b found)
+  where
+    go : (b : BundleFault) → Finds (ReadsBundle (record { at = 0; bytes = zs })) (Err b) place left → (out : Output) → WroteNothing out → Does (OfBundle view) (Err (of_bundle b)) zs out
+    go bundle.Memory found out silent = silent
+    go bundle.ReadFailed found out silent = silent
+    go (bundle.BadBundle offset) found out silent = (found, silent)
+    go (bundle.NotARun replica entry) found out silent = (found, silent)
 
--- want of memory leaves the output as it was
-pub stopped : (Tells : Collected → List ℕ → Type 0) (Crowds : ℕ → List ℕ → Collected → Type 0) (r : Result Status Fault) (zs : List ℕ) (out : Output) → IsErrAnd r (λ e. e ≡ Memory) → WroteNothing out → Views Tells Crowds r zs out
-stopped Tells Crowds (Ok done) zs out is silent = absurd is
-stopped Tells Crowds (Err e) zs out is silent = subst (λ (x : Fault). Views Tells Crowds (Err x) zs out) (sym is) silent
-
+-- a text of the journals that are read is a view
 pub viewed :
-    (Tells : Collected → List ℕ → Type 0) (journals : Collected) (receipts : List Receipt) (end : Left) (zs text : List ℕ) (out : Output) →
-    ReadsBundle (record { at = 0; bytes = zs }) (Ok ((journals, receipts), end)) → Tells journals text → Wrote out text → IsView Tells zs out
-viewed Tells journals receipts end zs text out read tells wrote =
-    record { journals = journals; receipts = receipts; end = end; read = read; text = text; tells = tells; wrote = wrote }
+    (view : View) (journals : Collected) (receipts : List Receipt) (end : Left) (zs text : List ℕ) (out : Output) → ReadsBundle (record { at = 0; bytes = zs }) (Ok ((journals, receipts), end)) →
+    Tells view journals text → Wrote out text → Does (OfBundle view) (Ok Done) zs out
+viewed view journals receipts end zs text out read tells wrote =
+    (refl, record { journals = journals; receipts = receipts; end = end; read = read; text = text; tells = tells; wrote = wrote })
+
+-- or there is none
+pub not_viewed :
+    (view : View) (journals : Collected) (receipts : List Receipt) (end : Left) (zs : List ℕ) (e : ViewerFault) (out : Output) → ReadsBundle (record { at = 0; bytes = zs }) (Ok ((journals, receipts), end)) →
+    IsNoText view journals e → WroteNothing out → Does (OfBundle view) (Err e) zs out
+not_viewed view journals receipts end zs (Script line) out read why silent = absurd why
+not_viewed view journals receipts end zs (BadBundle offset) out read why silent = absurd why
+not_viewed view journals receipts end zs (NotARun replica entry) out read why silent = absurd why
+not_viewed view journals receipts end zs (TooMany count) out read why silent = record { journals = journals; receipts = receipts; end = end; read = read; crowds = why; silent = silent }
+not_viewed view journals receipts end zs (TooManyEvents count lines) out read why silent = record { journals = journals; receipts = receipts; end = end; read = read; crowds = why; silent = silent }
+not_viewed view journals receipts end zs Memory out read why silent = silent
+not_viewed view journals receipts end zs Read out read why silent = absurd why
+not_viewed view journals receipts end zs Write out read why silent = absurd why
+
+-- and then neither the reader nor the output has failed
+no_text_not_read : (view : View) (journals : Collected) (e : ViewerFault) → IsNoText view journals e → is_read e ≡ false
+no_text_not_read view journals (Script line) why = refl
+no_text_not_read view journals (BadBundle offset) why = refl
+no_text_not_read view journals (NotARun replica entry) why = refl
+no_text_not_read view journals (TooMany count) why = refl
+no_text_not_read view journals (TooManyEvents count lines) why = refl
+no_text_not_read view journals Memory why = refl
+no_text_not_read view journals Read why = absurd why
+no_text_not_read view journals Write why = refl
+
+pub no_text_read : (view : View) (journals : Collected) (e : ViewerFault) (had has : Bool) → IsNoText view journals e → has ≡ (false || had) → FailsAsTold {T = Made} is_read (Err e) had has
+no_text_read view journals e had has why flag = flag ∙ ap (λ (b : Bool). b || had) (sym (no_text_not_read view journals e why))
+
+pub no_text_not_written : (view : View) (journals : Collected) (e : ViewerFault) → IsNoText view journals e → is_write e ≡ false
+no_text_not_written view journals (Script line) why = refl
+no_text_not_written view journals (BadBundle offset) why = refl
+no_text_not_written view journals (NotARun replica entry) why = refl
+no_text_not_written view journals (TooMany count) why = refl
+no_text_not_written view journals (TooManyEvents count lines) why = refl
+no_text_not_written view journals Memory why = refl
+no_text_not_written view journals Read why = refl
+no_text_not_written view journals Write why = absurd why
+
+-- of columns nothing is promised
+pub any_text : (wanted : Wanted) (journals : Collected) (r : Result (Vec ℕ) ViewerFault) → IfOk r (λ t. Tells (Columns wanted) journals t.items)
+any_text wanted journals (Ok text) = tt
+any_text wanted journals (Err e) = tt
+
+-- want of memory
+pub no_memory : (view : View) (journals : Collected) (r : Result (Vec ℕ) ViewerFault) → IfErr r (λ e. e ≡ Memory) → IfErr r (IsNoText view journals)
+no_memory view journals (Ok text) is = tt
+no_memory view journals (Err e) is = subst (λ (x : ViewerFault). IsNoText view journals x) (sym is) tt
+
+-- what isn't drawn
+pub crowded : (wanted : Wanted) (part : Selection) (d : DrawFault) (e : ViewerFault) (journals : Collected) → e ≡ of_diagram d → part ≡ part_of journals wanted → IsRefused journals part d → IsNoText (Draw wanted) journals e
+crowded wanted part d e journals is same why = subst (λ (x : ViewerFault). IsNoText (Draw wanted) journals x) (sym is) (go d why)
+  where
+    go : (d : DrawFault) → IsRefused journals part d → IsNoText (Draw wanted) journals (of_diagram d)
+    go draw.Memory why = tt
+    go (draw.TooMany n told) why = subst (λ (p : Selection). IsTooMany journals p n told.items) same why
+
+pub graph_crowded : (d : GraphFault) (e : ViewerFault) (journals : Collected) → e ≡ of_graph d → IsMore 2000 d → IsNoText Graph journals e
+graph_crowded d e journals is why = subst (λ (x : ViewerFault). IsNoText Graph journals x) (sym is) (go d why)
+  where
+    go : (d : GraphFault) → IsMore 2000 d → IsNoText Graph journals (of_graph d)
+    go graph.Memory why = tt
+    go (graph.TooMany n) why = (why, refl)
 
 read_of_bundle : (b : BundleFault) → is_read (of_bundle b) ≡ is_read_failed b
 read_of_bundle bundle.Memory = refl
@@ -79,96 +183,15 @@ write_of_script script.ReadFailed = refl
 write_of_script (script.Refused n) = refl
 
 -- an answer tells the fault e, of which `is_its` says this
-as_told : {A : Type 0} (is_its : Fault → Bool) (e : Fault) (told had has : Bool) (r : Result A Fault) → IsErrAnd r (λ x. x ≡ e) → is_its e ≡ told → has ≡ (told || had) → FailsAsTold is_its r had has
+as_told : {A : Type 0} (is_its : ViewerFault → Bool) (e : ViewerFault) (told had has : Bool) (r : Result A ViewerFault) → IsErrAnd r (λ x. x ≡ e) → is_its e ≡ told → has ≡ (told || had) → FailsAsTold is_its r had has
 as_told is_its e told had has (Ok a) is same flag = absurd is
 as_told is_its e told had has (Err x) is same flag = flag ∙ ap (λ (b : Bool). b || had) (sym (ap is_its is ∙ same))
 
-pub bundle_read : {A : Type 0} (b : BundleFault) (r : Result A Fault) (had has : Bool) → IsErrAnd r (λ x. x ≡ of_bundle b) → has ≡ (is_read_failed b || had) → FailsAsTold is_read r had has
+pub bundle_read : {A : Type 0} (b : BundleFault) (r : Result A ViewerFault) (had has : Bool) → IsErrAnd r (λ x. x ≡ of_bundle b) → has ≡ (is_read_failed b || had) → FailsAsTold is_read r had has
 bundle_read b r had has is flag = as_told is_read (of_bundle b) (is_read_failed b) had has r is (read_of_bundle b) flag
 
-pub bundle_not_written : {A : Type 0} (b : BundleFault) (r : Result A Fault) (had : Bool) → IsErrAnd r (λ x. x ≡ of_bundle b) → FailsAsTold is_write r had had
-bundle_not_written b r had is = as_told is_write (of_bundle b) false had had r is (write_of_bundle b) refl
-
-pub script_read : {A : Type 0} (s : ScriptFault) (r : Result A Fault) (had has : Bool) → IsErrAnd r (λ x. x ≡ of_script s) → has ≡ (is_script_read s || had) → FailsAsTold is_read r had has
+pub script_read : {A : Type 0} (s : ScriptFault) (r : Result A ViewerFault) (had has : Bool) → IsErrAnd r (λ x. x ≡ of_script s) → has ≡ (is_script_read s || had) → FailsAsTold is_read r had has
 script_read s r had has is flag = as_told is_read (of_script s) (is_script_read s) had has r is (read_of_script s) flag
-
-pub script_not_written : {A : Type 0} (s : ScriptFault) (r : Result A Fault) (had : Bool) → IsErrAnd r (λ x. x ≡ of_script s) → FailsAsTold is_write r had had
-script_not_written s r had is = as_told is_write (of_script s) false had had r is (write_of_script s) refl
-
-pub shown_as_asked :
-    (asked : Asked) (wanted : Wanted) (r : Result Status Fault) (zs : List ℕ) (out : Output) → asked ≡ Show wanted →
-    Views (λ journals text. IsShown journals (part_of journals wanted) text) IsNever r zs out → Does asked r zs out
-shown_as_asked asked wanted r zs out is views = subst (λ (a : Asked). Does a r zs out) (sym is) views
-
-pub drawn_as_asked :
-    (asked : Asked) (wanted : Wanted) (r : Result Status Fault) (zs : List ℕ) (out : Output) → asked ≡ Draw wanted →
-    Views (λ journals text. IsDrawn journals (part_of journals wanted) text) (λ count lines journals. IsTooMany journals (part_of journals wanted) count lines) r zs out → Does asked r zs out
-drawn_as_asked asked wanted r zs out is views = subst (λ (a : Asked). Does a r zs out) (sym is) views
-
-pub paged_as_asked :
-    (asked : Asked) (wanted : Wanted) (r : Result Status Fault) (zs : List ℕ) (out : Output) → asked ≡ Page wanted →
-    Views (λ journals text. IsPage journals (part_of journals wanted) text) IsNever r zs out → Does asked r zs out
-paged_as_asked asked wanted r zs out is views = subst (λ (a : Asked). Does a r zs out) (sym is) views
-
-pub events_as_asked :
-    (asked : Asked) (wanted : Wanted) (r : Result Status Fault) (zs : List ℕ) (out : Output) → asked ≡ Events wanted →
-    Views (λ journals text. IsTraceFile journals (part_of journals wanted) text) IsNever r zs out → Does asked r zs out
-events_as_asked asked wanted r zs out is views = subst (λ (a : Asked). Does a r zs out) (sym is) views
-
--- an output on which nothing was put
-pub nothing_put : (held : Option (List ℕ)) (had has : Bool) → WroteNothing (output held held had has)
-nothing_put None had has = tt
-nothing_put (Some bytes) had has = sym (append-nil bytes)
-
--- what isn't drawn
-pub crowded :
-    (Tells : Collected → List ℕ → Type 0) (wanted : Wanted) (part : Part) (d : DrawFault) (r : Result Status Fault) (journals : Collected) (receipts : List Receipt) (end : Left) (zs : List ℕ) (out : Output) →
-    IsErrAnd r (λ e. e ≡ of_diagram d) → ReadsBundle (record { at = 0; bytes = zs }) (Ok ((journals, receipts), end)) → part ≡ part_of journals wanted → IsRefused journals part d → WroteNothing out →
-    Views Tells (λ count lines js. IsTooMany js (part_of js wanted) count lines) r zs out
-crowded Tells wanted part d (Ok status) journals receipts end zs out is read same why silent = absurd is
-crowded Tells wanted part draw.Memory (Err e) journals receipts end zs out is read same why silent =
-    subst (λ (x : Fault). Views Tells (λ count lines js. IsTooMany js (part_of js wanted) count lines) (Err x) zs out) (sym is) silent
-crowded Tells wanted part (draw.TooMany n told) (Err e) journals receipts end zs out is read same why silent =
-    subst (λ (x : Fault). Views Tells (λ count lines js. IsTooMany js (part_of js wanted) count lines) (Err x) zs out) (sym is)
-    (record { journals = journals; receipts = receipts; end = end; read = read; crowds = subst (λ (p : Part). IsTooMany journals p n told.items) same why; silent = silent })
-
-read_of_diagram : (d : DrawFault) → is_read (of_diagram d) ≡ false
-read_of_diagram draw.Memory = refl
-read_of_diagram (draw.TooMany n told) = refl
-
-write_of_diagram : (d : DrawFault) → is_write (of_diagram d) ≡ false
-write_of_diagram draw.Memory = refl
-write_of_diagram (draw.TooMany n told) = refl
-
-pub diagram_not_read : {A : Type 0} (d : DrawFault) (r : Result A Fault) (had has : Bool) → IsErrAnd r (λ x. x ≡ of_diagram d) → has ≡ had → FailsAsTold is_read r had has
-diagram_not_read d r had has is flag = as_told is_read (of_diagram d) false had has r is (read_of_diagram d) flag
-
-pub diagram_not_written : {A : Type 0} (d : DrawFault) (r : Result A Fault) (had : Bool) → IsErrAnd r (λ x. x ≡ of_diagram d) → FailsAsTold is_write r had had
-diagram_not_written d r had is = as_told is_write (of_diagram d) false had had r is (write_of_diagram d) refl
-
--- a graph that isn't drawn
-pub graph_crowded :
-    (Tells : Collected → List ℕ → Type 0) (d : GraphFault) (r : Result Status Fault) (journals : Collected) (receipts : List Receipt) (end : Left) (zs : List ℕ) (out : Output) →
-    IsErrAnd r (λ e. e ≡ of_graph d) → ReadsBundle (record { at = 0; bytes = zs }) (Ok ((journals, receipts), end)) → IsMore 2000 d → WroteNothing out → Views Tells IsMany r zs out
-graph_crowded Tells d (Ok status) journals receipts end zs out is read why silent = absurd is
-graph_crowded Tells graph.Memory (Err e) journals receipts end zs out is read why silent = subst (λ (x : Fault). Views Tells IsMany (Err x) zs out) (sym is) silent
-graph_crowded Tells (graph.TooMany n) (Err e) journals receipts end zs out is read why silent =
-    subst (λ (x : Fault). Views Tells IsMany (Err x) zs out) (sym is)
-    (record { journals = journals; receipts = receipts; end = end; read = read; crowds = (why, refl); silent = silent })
-
-read_of_graph : (d : GraphFault) → is_read (of_graph d) ≡ false
-read_of_graph graph.Memory = refl
-read_of_graph (graph.TooMany n) = refl
-
-write_of_graph : (d : GraphFault) → is_write (of_graph d) ≡ false
-write_of_graph graph.Memory = refl
-write_of_graph (graph.TooMany n) = refl
-
-pub graph_not_read : {A : Type 0} (d : GraphFault) (r : Result A Fault) (had has : Bool) → IsErrAnd r (λ x. x ≡ of_graph d) → has ≡ had → FailsAsTold is_read r had has
-graph_not_read d r had has is flag = as_told is_read (of_graph d) false had has r is (read_of_graph d) flag
-
-pub graph_not_written : {A : Type 0} (d : GraphFault) (r : Result A Fault) (had : Bool) → IsErrAnd r (λ x. x ≡ of_graph d) → FailsAsTold is_write r had had
-graph_not_written d r had is = as_told is_write (of_graph d) false had had r is (write_of_graph d) refl
 
 read_of_explained : (x : ExplainFault) → is_read (of_explained x) ≡ is_explain_read x
 read_of_explained explain.Memory = refl
@@ -178,14 +201,42 @@ write_of_explained : (x : ExplainFault) → is_write (of_explained x) ≡ false
 write_of_explained explain.Memory = refl
 write_of_explained explain.ReadFailed = refl
 
-pub explained_read : {A : Type 0} (x : ExplainFault) (r : Result A Fault) (had has : Bool) → IsErrAnd r (λ e. e ≡ of_explained x) → has ≡ (is_explain_read x || had) → FailsAsTold is_read r had has
+pub explained_read : {A : Type 0} (x : ExplainFault) (r : Result A ViewerFault) (had has : Bool) → IsErrAnd r (λ e. e ≡ of_explained x) → has ≡ (is_explain_read x || had) → FailsAsTold is_read r had has
 explained_read x r had has is flag = as_told is_read (of_explained x) (is_explain_read x) had has r is (read_of_explained x) flag
 
-pub explained_not_written : {A : Type 0} (x : ExplainFault) (r : Result A Fault) (had : Bool) → IsErrAnd r (λ e. e ≡ of_explained x) → FailsAsTold is_write r had had
-explained_not_written x r had is = as_told is_write (of_explained x) false had had r is (write_of_explained x) refl
+-- what a reader tells is not that the output has failed
+as_err : {A : Type 0} (f : ViewerFault) (r : Result A ViewerFault) → IsErrAnd r (λ e. e ≡ f) → is_write f ≡ false → IfErr r (λ e. is_write e ≡ false)
+as_err f (Ok a) is same = absurd is
+as_err f (Err e) is same = ap is_write is ∙ same
+
+pub bundle_unwritten : {A : Type 0} (b : BundleFault) (r : Result A ViewerFault) → IsErrAnd r (λ e. e ≡ of_bundle b) → IfErr r (λ e. is_write e ≡ false)
+bundle_unwritten b r is = as_err (of_bundle b) r is (write_of_bundle b)
+
+pub script_unwritten : {A : Type 0} (s : ScriptFault) (r : Result A ViewerFault) → IsErrAnd r (λ e. e ≡ of_script s) → IfErr r (λ e. is_write e ≡ false)
+script_unwritten s r is = as_err (of_script s) r is (write_of_script s)
+
+pub explained_unwritten : {A : Type 0} (x : ExplainFault) (r : Result A ViewerFault) → IsErrAnd r (λ e. e ≡ of_explained x) → IfErr r (λ e. is_write e ≡ false)
+explained_unwritten x r is = as_err (of_explained x) r is (write_of_explained x)
+
+-- a script that isn't read isn't traced
+pub not_traced : (s : ScriptFault) (r : Result Made ViewerFault) (zs : List ℕ) → IsErrAnd r (λ e. e ≡ of_script s) → IsScript (Err s) (script_of zs) → Makes (Does Trace) r zs
+not_traced s r zs is found = not_made (Does Trace) r (of_script s) zs is (go s found)
+  where
+    go : (s : ScriptFault) → IsScript (Err s) (script_of zs) → (out : Output) → WroteNothing out → Does Trace (Err (of_script s)) zs out
+    go script.Memory found out silent = silent
+    go script.ReadFailed found out silent = silent
+    go (script.Refused line) found out silent = (found, silent)
 
 -- what isn't read isn't explained
-pub not_explained : (x : ExplainFault) (r : Result Status Fault) (zs : List ℕ) (out : Output) → IsErrAnd r (λ e. e ≡ of_explained x) → WroteNothing out → Explains r zs out
-not_explained x (Ok status) zs out is silent = absurd is
-not_explained explain.Memory (Err e) zs out is silent = subst (λ (f : Fault). Explains (Err f) zs out) (sym is) silent
-not_explained explain.ReadFailed (Err e) zs out is silent = subst (λ (f : Fault). Explains (Err f) zs out) (sym is) silent
+pub not_explained : (x : ExplainFault) (r : Result Made ViewerFault) (zs : List ℕ) → IsErrAnd r (λ e. e ≡ of_explained x) → Makes (Does Explain) r zs
+not_explained x r zs is = not_made (Does Explain) r (of_explained x) zs is (go x)
+  where
+    go : (x : ExplainFault) (out : Output) → WroteNothing out → Does Explain (Err (of_explained x)) zs out
+    go explain.Memory out silent = silent
+    go explain.ReadFailed out silent = silent
+
+-- on a fault output that stayed as it was before
+pub concludes_from :
+    {F : Type 0} (held : F → Option (List ℕ)) (has_failed : F → Bool) (outcome : Result Status ViewerFault) (status : Status) (a b c : F) → b ≡ a → Concludes outcome status (became held has_failed b c) →
+    Concludes outcome status (became held has_failed a c)
+concludes_from held has_failed outcome status a b c same h = subst (λ w. Concludes outcome status (became held has_failed w c)) same h

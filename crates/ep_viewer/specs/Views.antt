@@ -1,5 +1,5 @@
 -- What the program does, of the bytes zs that it reads, its output and its fault output.
-use Rattle.std.specs.Prelude.{◌≡◌, ◌<◌, ℕ, List, [], Result, Ok, Err, ◌++◌, codes, string_bytes}
+use Rattle.std.specs.Prelude.{◌≡◌, ◌<◌, ℕ, List, [], Result, Ok, Err, codes, string_bytes}
 use Rattle.ep_bundle.specs.Journals.{ReadsBundle}
 use Rattle.ep_bundle.specs.Reading.{Left}
 use Rattle.ep_bundle.specs.declared.bundle_fault.BundleFault.TheVariants as bundle
@@ -7,7 +7,7 @@ use Rattle.ep_draw.specs.Drawn.{IsDrawn, IsTooMany}
 use Rattle.ep_browser.specs.Files.{IsTraceFile}
 use Rattle.ep_explain.specs.Explained.{IsExplained}
 use Rattle.ep_explain.specs.declared.finding.Finding.{Finding}
-use Rattle.ep_graph.specs.Graphs.{IsGraphFile}
+use Rattle.ep_draw.specs.Graphs.{IsGraphFile}
 use Rattle.ep_journal.specs.Entries.{Collected}
 use Rattle.ep_browser.specs.Pages.{IsPage}
 use Rattle.ep_rules.specs.declared.receipt.Receipt.{Receipt}
@@ -16,17 +16,16 @@ use Rattle.ep_trace.specs.Traced.{IsTraced}
 use Rattle.ep_view.specs.Shown.{IsShown}
 use Rattle.ep_view.specs.Wanted.{part_of}
 use Rattle.ep_base.specs.Devices.{FailsAsTold}
-use Rattle.ep_cli.specs.Lines.{command_line_refused, out_of_memory}
 use Rattle.ep_viewer.specs.Faults.{line_of, status_of, status_found, is_read, is_write}
 use Rattle.ep_cli.specs.Outputs.{Input, Output, Wrote, WroteNothing, Told}
-use Rattle.ep_viewer.specs.declared.asked.Asked.{Asked}
-use Rattle.ep_viewer.specs.declared.asked.Asked.TheVariants.{Show, Columns, Trace, Explain, Draw, Graph, Page, Events, Version, Help}
-use Rattle.ep_cli.specs.declared.declined.Declined.{Declined}
-use Rattle.ep_cli.specs.declared.declined.Declined.TheVariants as declined
-use Rattle.ep_viewer.specs.declared.fault.Fault.{Fault}
-use Rattle.ep_viewer.specs.declared.fault.Fault.TheVariants.{Script, BadBundle, NotARun, TooMany, TooManyEvents, Memory, Read, Write}
+use Rattle.ep_viewer.specs.declared.viewer_asked.ViewerAsked.{ViewerAsked}
+use Rattle.ep_viewer.specs.declared.viewer_asked.ViewerAsked.TheVariants.{View as OfBundle, Trace, Explain, Version, Help}
+use Rattle.ep_viewer.specs.declared.view.View.{View}
+use Rattle.ep_viewer.specs.declared.view.View.TheVariants.{Show, Columns, Draw, Graph, Page, Events}
+use Rattle.ep_viewer.specs.declared.viewer_fault.ViewerFault.{ViewerFault}
+use Rattle.ep_viewer.specs.declared.viewer_fault.ViewerFault.TheVariants.{Script, BadBundle, NotARun, TooMany, TooManyEvents, Memory, Read, Write}
 use Rattle.ep_cli.specs.declared.status.Status.{Status}
-use Rattle.ep_cli.specs.declared.status.Status.TheVariants.{Done, Refused, OutOfMemory}
+use Rattle.ep_cli.specs.declared.status.Status.TheVariants.{Done}
 
 -- The bytes are one bundle, and this was written of its journals.
 pub record IsView (Tells : Collected → List ℕ → Type 0) (zs : List ℕ) (out : Output) : Type 0 where
@@ -48,7 +47,7 @@ pub record IsCrowded (Crowds : Collected → Type 0) (zs : List ℕ) (out : Outp
   pub silent : WroteNothing out
 
 -- a bundle is viewed, or is refused, and then nothing is written
-abbrev pub Views : (Collected → List ℕ → Type 0) → (ℕ → List ℕ → Collected → Type 0) → Result Status Fault → List ℕ → Output → Type 0
+abbrev pub Views : (Collected → List ℕ → Type 0) → (ℕ → List ℕ → Collected → Type 0) → Result Status ViewerFault → List ℕ → Output → Type 0
 Views Tells Crowds (Ok status) zs out = (status ≡ Done) × IsView Tells zs out
 Views Tells Crowds (Err (Script line)) zs out = ⊥
 Views Tells Crowds (Err (BadBundle offset)) zs out = ReadsBundle (record { at = 0; bytes = zs }) (Err (bundle.BadBundle offset)) × WroteNothing out
@@ -68,7 +67,7 @@ pub record IsTrace (zs : List ℕ) (out : Output) : Type 0 where
   pub wrote : Wrote out text
 
 -- a script is traced, or is refused, and then nothing is written
-abbrev pub Traces : Result Status Fault → List ℕ → Output → Type 0
+abbrev pub Traces : Result Status ViewerFault → List ℕ → Output → Type 0
 Traces (Ok status) zs out = (status ≡ Done) × IsTrace zs out
 Traces (Err (Script line)) zs out = (script_of zs ≡ Err line) × WroteNothing out
 Traces (Err (BadBundle offset)) zs out = ⊥
@@ -79,7 +78,7 @@ Traces (Err Memory) zs out = WroteNothing out
 Traces (Err Read) zs out = WroteNothing out
 Traces (Err Write) zs out = Unit {0}
 
-abbrev pub Prints : Result Status Fault → List ℕ → Output → Type 0
+abbrev pub Prints : Result Status ViewerFault → List ℕ → Output → Type 0
 Prints (Ok status) text out = (status ≡ Done) × Wrote out text
 Prints (Err (Script line)) text out = ⊥
 Prints (Err (BadBundle offset)) text out = ⊥
@@ -100,7 +99,7 @@ pub record IsExplanation (status : Status) (zs : List ℕ) (out : Output) : Type
   pub wrote : Wrote out text
 
 -- the bytes are explained
-abbrev pub Explains : Result Status Fault → List ℕ → Output → Type 0
+abbrev pub Explains : Result Status ViewerFault → List ℕ → Output → Type 0
 Explains (Ok status) zs out = IsExplanation status zs out
 Explains (Err (Script line)) zs out = ⊥
 Explains (Err (BadBundle offset)) zs out = ⊥
@@ -111,41 +110,50 @@ Explains (Err Memory) zs out = WroteNothing out
 Explains (Err Read) zs out = WroteNothing out
 Explains (Err Write) zs out = Unit {0}
 
-abbrev pub IsNever : ℕ → List ℕ → Collected → Type 0
-IsNever count lines journals = ⊥
+-- what is told of a bundle's journals; of columns nothing is promised
+abbrev pub Tells : View → Collected → List ℕ → Type 0
+Tells (Show wanted) journals text = IsShown journals (part_of journals wanted) text
+Tells (Columns wanted) journals text = Unit {0}
+Tells (Draw wanted) journals text = IsDrawn journals (part_of journals wanted) text
+Tells Graph journals text = IsGraphFile text
+Tells (Page wanted) journals text = IsPage journals (part_of journals wanted) text
+Tells (Events wanted) journals text = IsTraceFile journals (part_of journals wanted) text
 
-abbrev pub IsMany : ℕ → List ℕ → Collected → Type 0
-IsMany count lines journals = (2000 < count) × (lines ≡ [])
+-- so many entries or instances are asked for that nothing is drawn, and these lines say what there is
+abbrev pub Crowds : View → ℕ → List ℕ → Collected → Type 0
+Crowds (Show wanted) count lines journals = ⊥
+Crowds (Columns wanted) count lines journals = ⊥
+Crowds (Draw wanted) count lines journals = IsTooMany journals (part_of journals wanted) count lines
+Crowds Graph count lines journals = (2000 < count) × (lines ≡ [])
+Crowds (Page wanted) count lines journals = ⊥
+Crowds (Events wanted) count lines journals = ⊥
 
-abbrev pub IsAnyText : Collected → List ℕ → Type 0
-IsAnyText journals text = Unit {0}
+-- why there is no text of these journals
+abbrev pub IsNoText : View → Collected → ViewerFault → Type 0
+IsNoText view journals (Script line) = ⊥
+IsNoText view journals (BadBundle offset) = ⊥
+IsNoText view journals (NotARun replica entry) = ⊥
+IsNoText view journals (TooMany count) = Crowds view count [] journals
+IsNoText view journals (TooManyEvents count lines) = Crowds view count lines.items journals
+IsNoText view journals Memory = Unit {0}
+IsNoText view journals Read = ⊥
+IsNoText view journals Write = ⊥
 
-abbrev pub Does : Asked → Result Status Fault → List ℕ → Output → Type 0
-Does (Show wanted) outcome zs out = Views (λ journals text. IsShown journals (part_of journals wanted) text) IsNever outcome zs out
-Does (Columns wanted) outcome zs out = Views IsAnyText IsNever outcome zs out
+abbrev pub Does : ViewerAsked → Result Status ViewerFault → List ℕ → Output → Type 0
+Does (OfBundle view) outcome zs out = Views (Tells view) (Crowds view) outcome zs out
 Does Explain outcome zs out = Explains outcome zs out
-Does (Draw wanted) outcome zs out =
-    Views (λ journals text. IsDrawn journals (part_of journals wanted) text) (λ count lines journals. IsTooMany journals (part_of journals wanted) count lines) outcome zs out
-Does Graph outcome zs out = Views (λ journals text. IsGraphFile text) IsMany outcome zs out
-Does (Page wanted) outcome zs out = Views (λ journals text. IsPage journals (part_of journals wanted) text) IsNever outcome zs out
-Does (Events wanted) outcome zs out = Views (λ journals text. IsTraceFile journals (part_of journals wanted) text) IsNever outcome zs out
 Does Trace outcome zs out = Traces outcome zs out
 Does Version outcome zs out = Prints outcome (codes "epaxos 0.1.0\n") out
 Does (Help text) outcome zs out = Prints outcome (string_bytes text) out
 
--- why nothing is done is told, and decides on the status
-abbrev pub TellsWhy : Declined → Status → Output → Type 0
-TellsWhy (declined.Words why) status fault = (status ≡ Refused) × Told fault (command_line_refused ++ string_bytes why)
-TellsWhy declined.Memory status fault = (status ≡ OutOfMemory) × Told fault out_of_memory
-
 -- a fault is told, and decides on the status
-abbrev pub Concludes : Result Status Fault → Status → Output → Type 0
+abbrev pub Concludes : Result Status ViewerFault → Status → Output → Type 0
 Concludes (Ok found) status fault = (status ≡ found) × WroteNothing fault
 Concludes (Err e) status fault = (status ≡ status_of e) × Told fault (line_of e)
 
 -- what was asked for was done, or why it wasn't is told; the input and the output failed where the outcome says so, and nowhere else
-pub record Performs (asked : Asked) (status : Status) (zs : List ℕ) (reader : Input) (out fault : Output) : Type 0 where
-  pub outcome : Result Status Fault
+pub record Performs (asked : ViewerAsked) (status : Status) (zs : List ℕ) (reader : Input) (out fault : Output) : Type 0 where
+  pub outcome : Result Status ViewerFault
   pub does : Does asked outcome zs out
   pub concludes : Concludes outcome status fault
   pub read : FailsAsTold is_read outcome reader.had_failed reader.failed

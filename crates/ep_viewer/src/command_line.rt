@@ -1,10 +1,11 @@
 //! The words of the command line.
 
-use crate::asked::Asked;
+use crate::view::View;
+use crate::viewer_asked::ViewerAsked;
 use clap::error::ErrorKind;
 use clap::{Arg, ArgAction, ArgMatches, Command, Error};
 use ep_base::{CommandFault, InstanceId, Key, ReplicaId};
-use ep_cli::Declined;
+use ep_cli::WordsFault;
 use ep_script::{number_in, read_word};
 use ep_view::Wanted;
 use std::alloc::{AllocError, Global};
@@ -99,7 +100,7 @@ Exit status:
   4  reading or writing failed";
 
 /// What the words ask for, of which the first is the program's own name. `Words` where they are none that the program knows.
-pub(crate) fn read_words<T: AsStr>(alloc: Global, words: &[T]) -> Result<Asked, Declined> {
+pub(crate) fn read_words<T: AsStr>(alloc: Global, words: &[T]) -> Result<ViewerAsked, WordsFault> {
     let command = program(alloc)?;
     match command.try_get_matches_from(words) {
         Ok(matches) => asked_by(alloc, &matches),
@@ -108,50 +109,50 @@ pub(crate) fn read_words<T: AsStr>(alloc: Global, words: &[T]) -> Result<Asked, 
 }
 
 /// What is asked for where `clap` finds no matches: the version or help at most.
-fn asked_instead(alloc: Global, error: &Error) -> Result<Asked, Declined> {
+fn asked_instead(alloc: Global, error: &Error) -> Result<ViewerAsked, WordsFault> {
     match error.kind() {
-        ErrorKind::DisplayVersion => Ok(Asked::Version),
-        ErrorKind::DisplayHelp => Ok(Asked::Help(error.to_string(alloc)?)),
-        ErrorKind::OutOfMemory => Err(Declined::Memory),
-        _ => Err(Declined::Words(error.to_string(alloc)?)),
+        ErrorKind::DisplayVersion => Ok(ViewerAsked::Version),
+        ErrorKind::DisplayHelp => Ok(ViewerAsked::Help(error.to_string(alloc)?)),
+        ErrorKind::OutOfMemory => Err(WordsFault::Memory),
+        _ => Err(WordsFault::Words(error.to_string(alloc)?)),
     }
 }
 
-fn asked_by(alloc: Global, matches: &ArgMatches<'_>) -> Result<Asked, Declined> {
+fn asked_by(alloc: Global, matches: &ArgMatches<'_>) -> Result<ViewerAsked, WordsFault> {
     if let Some(options) = matches.subcommand_matches("show") {
         return shown_by(alloc, options);
     }
     if matches.subcommand_matches("explain").is_some() {
-        return Ok(Asked::Explain);
+        return Ok(ViewerAsked::Explain);
     }
     if let Some(options) = matches.subcommand_matches("draw") {
         return drawn_by(alloc, options);
     }
     if let Some(options) = matches.subcommand_matches("trace-events") {
-        return Ok(Asked::Events(wanted_by(alloc, options)?));
+        return Ok(ViewerAsked::View(View::Events(wanted_by(alloc, options)?)));
     }
     if let Some(options) = matches.subcommand_matches("replay") {
         return traced_by(alloc, options);
     }
-    Err(Declined::Words(String::new(alloc)))
+    Err(WordsFault::Words(String::new(alloc)))
 }
 
 /// A graph is of all that is committed, so no part of it is kept.
-fn drawn_by(alloc: Global, options: &ArgMatches<'_>) -> Result<Asked, Declined> {
+fn drawn_by(alloc: Global, options: &ArgMatches<'_>) -> Result<ViewerAsked, WordsFault> {
     if options.get_flag("graph") {
         return graph_by(alloc, options);
     }
     let wanted = wanted_by(alloc, options)?;
     if options.get_flag("page") {
-        Ok(Asked::Page(wanted))
+        Ok(ViewerAsked::View(View::Page(wanted)))
     } else {
-        Ok(Asked::Draw(wanted))
+        Ok(ViewerAsked::View(View::Draw(wanted)))
     }
 }
 
-fn graph_by(alloc: Global, options: &ArgMatches<'_>) -> Result<Asked, Declined> {
+fn graph_by(alloc: Global, options: &ArgMatches<'_>) -> Result<ViewerAsked, WordsFault> {
     if options.get_flag("page") {
-        return Err(Declined::Words(String::from_str(
+        return Err(WordsFault::Words(String::from_str(
             alloc,
             "error: '--graph' and '--page' don't go together\n\nFor more information, try '--help'.\n",
         )?));
@@ -160,39 +161,39 @@ fn graph_by(alloc: Global, options: &ArgMatches<'_>) -> Result<Asked, Declined> 
         .iter()
         .any(|name| options.get_str(name).is_some())
     {
-        return Err(Declined::Words(String::from_str(
+        return Err(WordsFault::Words(String::from_str(
             alloc,
             "error: with '--graph' no part is kept\n\nFor more information, try '--help'.\n",
         )?));
     }
-    Ok(Asked::Graph)
+    Ok(ViewerAsked::View(View::Graph))
 }
 
 /// Of a replay only its trace is asked for here.
-fn traced_by(alloc: Global, options: &ArgMatches<'_>) -> Result<Asked, Declined> {
+fn traced_by(alloc: Global, options: &ArgMatches<'_>) -> Result<ViewerAsked, WordsFault> {
     match options.get_str("emit") {
-        Some("trace") => Ok(Asked::Trace),
-        None | Some("report") | Some("bundle") => Err(Declined::Words(String::from_str(
+        Some("trace") => Ok(ViewerAsked::Trace),
+        None | Some("report") | Some("bundle") => Err(WordsFault::Words(String::from_str(
             alloc,
             "error: of a replay, this program prints a trace alone\n\nFor more information, try '--help'.\n",
         )?)),
-        Some(word) => Err(Declined::Words(format!(in alloc;
+        Some(word) => Err(WordsFault::Words(format!(in alloc;
             "error: invalid value {word:?} for '--emit <WHAT>'\n  [possible values: report, bundle, trace]\n\nFor more information, try '--help'.\n"
         )?)),
     }
 }
 
-fn shown_by(alloc: Global, options: &ArgMatches<'_>) -> Result<Asked, Declined> {
+fn shown_by(alloc: Global, options: &ArgMatches<'_>) -> Result<ViewerAsked, WordsFault> {
     let wanted = wanted_by(alloc, options)?;
     if options.get_flag("columns") {
-        Ok(Asked::Columns(wanted))
+        Ok(ViewerAsked::View(View::Columns(wanted)))
     } else {
-        Ok(Asked::Show(wanted))
+        Ok(ViewerAsked::View(View::Show(wanted)))
     }
 }
 
 /// Which entries are asked for.
-fn wanted_by(alloc: Global, options: &ArgMatches<'_>) -> Result<Wanted, Declined> {
+fn wanted_by(alloc: Global, options: &ArgMatches<'_>) -> Result<Wanted, WordsFault> {
     let instance = instance_of(alloc, options)?;
     let key = key_of(alloc, options)?;
     let client = client_of(alloc, options)?;
@@ -210,13 +211,13 @@ fn wanted_by(alloc: Global, options: &ArgMatches<'_>) -> Result<Wanted, Declined
 }
 
 /// The instance after its option, if it is there.
-fn instance_of(alloc: Global, options: &ArgMatches<'_>) -> Result<Option<InstanceId>, Declined> {
+fn instance_of(alloc: Global, options: &ArgMatches<'_>) -> Result<Option<InstanceId>, WordsFault> {
     let Some(word) = options.get_str("instance") else {
         return Ok(None);
     };
     match instance_named(word.as_bytes()) {
         Some(instance) => Ok(Some(instance)),
-        None => Err(Declined::Words(format!(in alloc;
+        None => Err(WordsFault::Words(format!(in alloc;
             "error: invalid value {word:?} for '--instance <R.N>': it takes an instance, as 0.1: a replica from 0 to 6, and a number from 1 to 2000\n\nFor more information, try '--help'.\n"
         )?)),
     }
@@ -226,7 +227,11 @@ fn instance_of(alloc: Global, options: &ArgMatches<'_>) -> Result<Option<Instanc
 fn instance_named(word: &[u8]) -> Option<InstanceId> {
     let dot = word.iter().position(|byte| *byte == b'.')?;
     let replica = replica_named(word.get(..dot)?)?;
-    let number = number_in(word.get(dot + 1..)?, 1, 2000)?;
+    let number = number_in(
+        word.get(dot + 1..)?,
+        1,
+        u64::from(InstanceId::HIGHEST_NUMBER),
+    )?;
     InstanceId::new(replica, number as u16).ok()
 }
 
@@ -236,51 +241,51 @@ fn replica_named(word: &[u8]) -> Option<ReplicaId> {
 }
 
 /// The key after its option, if it is there.
-fn key_of(alloc: Global, options: &ArgMatches<'_>) -> Result<Option<Key>, Declined> {
+fn key_of(alloc: Global, options: &ArgMatches<'_>) -> Result<Option<Key>, WordsFault> {
     let Some(word) = options.get_str("key") else {
         return Ok(None);
     };
     match key_named(alloc, word.as_bytes())? {
         Some(key) => Ok(Some(key)),
-        None => Err(Declined::Words(format!(in alloc;
+        None => Err(WordsFault::Words(format!(in alloc;
             "error: invalid value {word:?} for '--key <KEY>': it takes a key of 1 to 255 bytes, as scripts have it\n\nFor more information, try '--help'.\n"
         )?)),
     }
 }
 
 /// The key that a word of bytes spells.
-fn key_named(alloc: Global, word: &[u8]) -> Result<Option<Key>, Declined> {
+fn key_named(alloc: Global, word: &[u8]) -> Result<Option<Key>, WordsFault> {
     let Some(bytes) = read_word(alloc, word)? else {
         return Ok(None);
     };
     match Key::new(alloc, &bytes) {
         Ok(key) => Ok(Some(key)),
         Err(CommandFault::OutOfRange) => Ok(None),
-        Err(CommandFault::Memory) => Err(Declined::Memory),
+        Err(CommandFault::Memory) => Err(WordsFault::Memory),
     }
 }
 
 /// The client after its option, if it is there.
-fn client_of(alloc: Global, options: &ArgMatches<'_>) -> Result<Option<u32>, Declined> {
+fn client_of(alloc: Global, options: &ArgMatches<'_>) -> Result<Option<u32>, WordsFault> {
     let Some(word) = options.get_str("client") else {
         return Ok(None);
     };
     match number_in(word.as_bytes(), 1, u64::from(u32::MAX)) {
         Some(client) => Ok(Some(client as u32)),
-        None => Err(Declined::Words(format!(in alloc;
+        None => Err(WordsFault::Words(format!(in alloc;
             "error: invalid value {word:?} for '--client <C>': it takes a number from 1 to 4294967295\n\nFor more information, try '--help'.\n"
         )?)),
     }
 }
 
 /// The replica after its option, if it is there.
-fn replica_of(alloc: Global, options: &ArgMatches<'_>) -> Result<Option<ReplicaId>, Declined> {
+fn replica_of(alloc: Global, options: &ArgMatches<'_>) -> Result<Option<ReplicaId>, WordsFault> {
     let Some(word) = options.get_str("replica") else {
         return Ok(None);
     };
     match replica_named(word.as_bytes()) {
         Some(replica) => Ok(Some(replica)),
-        None => Err(Declined::Words(format!(in alloc;
+        None => Err(WordsFault::Words(format!(in alloc;
             "error: invalid value {word:?} for '--replica <R>': it takes a number from 0 to 6\n\nFor more information, try '--help'.\n"
         )?)),
     }
@@ -292,13 +297,13 @@ fn stamp_of(
     options: &ArgMatches<'_>,
     name: &str,
     default: u64,
-) -> Result<u64, Declined> {
+) -> Result<u64, WordsFault> {
     let Some(word) = options.get_str(name) else {
         return Ok(default);
     };
     match stamp_named(word.as_bytes()) {
         Some(stamp) => Ok(stamp),
-        None => Err(Declined::Words(format!(in alloc;
+        None => Err(WordsFault::Words(format!(in alloc;
             "error: invalid value {word:?} for '--{name} <STAMP>': it takes a number of 1 to 15 digits\n\nFor more information, try '--help'.\n"
         )?)),
     }

@@ -1,36 +1,37 @@
 //! Why bundles and scripts are refused.
 
-ghost use Rattle.std.specs.Prelude.{◌≡◌, ℕ, List, Some};
-ghost use Rattle.ep_advice.specs.Kept.{known_left};
+ghost use Rattle.std.specs.Prelude.{◌≡◌, ℕ, List, Some, IfErr, false};
+ghost use Rattle.ep_explain.specs.Kept.{known_left};
 ghost use Rattle.ep_base.specs.Devices.{FailsAsTold};
+ghost use Rattle.ep_cli.specs.Printed.{Makes};
 ghost use Rattle.ep_viewer.specs.Faults.{is_read, is_write, status_found};
-ghost use Rattle.ep_cli.specs.Outputs.{output};
-ghost use Rattle.ep_viewer.specs.Views.{Explains};
+ghost use Rattle.ep_viewer.specs.Views.{Does};
+ghost use Rattle.ep_viewer.specs.declared.viewer_asked.ViewerAsked.TheVariants.{Explain};
 
-use crate::fault::Fault;
-use ep_advice::Kept;
-use ep_base::{Sink, Source};
-use ep_cli::Status;
-use ep_explain::{Finding, explain};
+use crate::viewer_fault::ViewerFault;
+use ep_base::Source;
+use ep_cli::{Made, Status};
+use ep_explain::{Finding, Kept, explain};
 use std::alloc::Global;
 
-/// Reads a bundle or a script to its end, or to its first field or line at fault, and prints what is found of it, and why.
-pub(crate) fn print_explained<S: Source, W: Sink>(
+/// Reads a bundle or a script to its end, or to its first field or line at fault, and makes what is found of it, and why.
+pub(crate) fn explanation_of<S: Source>(
     alloc: Global,
     reader: &mut Kept<S>,
-    writer: &mut W,
-) -> Result<Status, Fault>
-    ensures done { (zs : List ℕ) → known_left S.left reader.old ≡ Some zs → Explains result zs
-        (output (W.held writer.old) (W.held writer.new) (W.has_failed writer.old) (W.has_failed writer.new)) }
+) -> Result<Made, ViewerFault>
+    ensures made { (zs : List ℕ) → known_left S.left reader.old ≡ Some zs → Makes (Does Explain) result zs }
     ensures read { FailsAsTold is_read result (S.has_failed reader.old.source) (S.has_failed reader.new.source) }
-    ensures written { FailsAsTold is_write result (W.has_failed writer.old) (W.has_failed writer.new) }
+    ensures unwritten { IfErr result (λ e. is_write e ≡ false) }
 {
     let told = explain(alloc, reader)?;
-    writer.put(told.text.as_slice())?;
-    Ok(status_found(told.finding))
+    let status = status_found(told.finding);
+    Ok(Made {
+        text: told.text,
+        status,
+    })
 }
 
-// How the program ends that has explained a bundle or a script.
+/// How the program ends that has explained a bundle or a script.
 fn status_found(finding: Finding) -> Status
     ensures { result ≡ status_found finding }
 {

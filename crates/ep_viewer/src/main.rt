@@ -3,54 +3,60 @@
 //! `main` hands the words to `read_words`, in `command_line.rt`, and what they ask for with the standard streams to `perform`, in
 //! `program.rt`, which is all of the program: over any source and sinks, so that its contract can say what the bytes and the
 //! status mean. It does no more than read a bundle and call `ep_view`,
-//! `ep_explain`, `ep_draw`, `ep_graph` or `ep_browser`, or read a script and call `ep_trace`.
+//! `ep_explain`, `ep_draw` or `ep_browser`, or read a script and call `ep_trace`.
 //!
-//! Start with `program.rt` and specs/Views.antt. A fault has one line on the fault output and one status (`fault.rt`,
+//! Start with `program.rt` and specs/Views.antt. A fault has one line on the fault output and one status (`viewer_fault.rt`,
 //! `telling.rt`, and `ep_cli`), as docs/FORMATS.md, section 6, lists them.
 #![tactic(auto)]
 
-mod ahead;
-mod asked;
 mod command_line;
-mod drawing;
 mod explaining;
-mod fault;
-mod paging;
 mod program;
-mod showing;
 mod telling;
 mod tracing;
+mod view;
+mod viewer_asked;
+mod viewer_fault;
+mod viewing;
 
-use crate::ahead::read_ahead;
 use crate::command_line::read_words;
-use crate::program::{decline, perform};
-use ep_advice::Kept;
-use ep_base::{Noted, Sink};
-use ep_cli::{Declined, Status, words};
-use std::io::Read;
+use crate::program::perform;
+use crate::viewer_asked::ViewerAsked;
+use ep_base::{Noted, Sink, Source};
+use ep_cli::{Status, Streams, WordsFault, decline, read_ahead, words};
+use ep_explain::Kept;
 use std::process::ExitCode;
 use std::rt::Env;
 
 fn main(rt: HostRuntime) -> ExitCode {
-    let mut writer = Noted::new(rt.stdout());
     let mut fault_writer = Noted::new(rt.stderr());
-    let status = match run(&rt, rt.stdin(), &mut writer, &mut fault_writer) {
-        Ok(status) => status,
+    let status = match read_ahead(rt.alloc(), rt.stdin()) {
+        Ok(reader) => {
+            let mut streams = Streams {
+                reader: Kept::new(rt.alloc(), reader),
+                writer: Noted::new(rt.stdout()),
+                fault_writer,
+            };
+            run(&rt, &mut streams)
+        }
         Err(why) => decline(why, &mut fault_writer),
     };
     ExitCode::from(status.code())
 }
 
-/// Does what the words of the command line ask for.
-fn run<R: Env + AllocGlobal, I: Read + Drop, W: Sink, F: Sink>(
+/// Does what the words of the command line ask for, and answers how the program ends.
+fn run<R: Env + AllocGlobal, S: Source, W: Sink, F: Sink>(
     rt: &R,
-    input: I,
-    writer: &mut W,
-    fault_writer: &mut F,
-) -> Result<Status, Declined> {
-    let alloc = rt.alloc();
+    streams: &mut Streams<Kept<S>, W, F>,
+) -> Status {
+    match asked_for(rt) {
+        Ok(asked) => perform(rt.alloc(), &asked, streams),
+        Err(why) => decline(why, &mut streams.fault_writer),
+    }
+}
+
+/// What the words of the command line ask for.
+fn asked_for<R: Env + AllocGlobal>(rt: &R) -> Result<ViewerAsked, WordsFault> {
     let words = words(rt)?;
-    let asked = read_words(alloc, words.as_slice())?;
-    let mut reader = Kept::new(alloc, read_ahead(alloc, input)?);
-    Ok(perform(alloc, &asked, &mut reader, writer, fault_writer))
+    read_words(rt.alloc(), words.as_slice())
 }

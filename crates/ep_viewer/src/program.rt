@@ -1,77 +1,79 @@
 //! The program, over any source and sinks.
 
 ghost use Rattle.std.specs.Prelude.{◌≡◌, ℕ, List, Some};
-ghost use Rattle.ep_advice.specs.Kept.{known_left};
+ghost use Rattle.ep_explain.specs.Kept.{known_left};
 ghost use Rattle.ep_base.specs.Devices.{FailsAsTold};
+ghost use Rattle.ep_cli.specs.Outputs.{became, input};
 ghost use Rattle.ep_viewer.specs.Faults.{is_read, is_write};
-ghost use Rattle.ep_cli.specs.Outputs.{input, output};
-ghost use Rattle.ep_viewer.specs.Views.{Concludes, Does, Performs, TellsWhy};
+ghost use Rattle.ep_viewer.specs.Views.{Concludes, Does, Performs};
 
-use crate::asked::Asked;
-use crate::drawing::{print_drawn, print_graph};
-use crate::explaining::print_explained;
-use crate::fault::Fault;
-use crate::paging::{print_events, print_page};
-use crate::showing::{print_columns, print_shown};
+use crate::explaining::explanation_of;
 use crate::telling::tell;
-use crate::tracing::print_trace;
-use ep_advice::Kept;
+use crate::tracing::trace_of;
+use crate::viewer_asked::ViewerAsked;
+use crate::viewer_fault::ViewerFault;
+use crate::viewing::view_of;
 use ep_base::{Sink, Source};
-use ep_cli::{Declined, Status, tell_words};
+use ep_cli::{Status, Streams, put_made, put_text};
+use ep_explain::Kept;
 use std::alloc::Global;
 
 /// Does what is asked, and answers how the program ends. What stops it is told by one line on the fault output; where telling
 /// fails, the status stays.
 pub fn perform<S: Source, W: Sink, F: Sink>(
     alloc: Global,
-    asked: &Asked,
-    reader: &mut Kept<S>,
-    writer: &mut W,
-    fault_writer: &mut F,
+    asked: &ViewerAsked,
+    streams: &mut Streams<Kept<S>, W, F>,
 ) -> Status
-    ensures { (zs : List ℕ) → known_left S.left reader.old ≡ Some zs → Performs asked.now result zs (input (S.has_failed reader.old.source) (S.has_failed reader.new.source))
-        (output (W.held writer.old) (W.held writer.new) (W.has_failed writer.old) (W.has_failed writer.new))
-        (output (F.held fault_writer.old) (F.held fault_writer.new) (F.has_failed fault_writer.old) (F.has_failed fault_writer.new)) }
+    ensures { (zs : List ℕ) → known_left S.left streams.old.reader ≡ Some zs → Performs asked.now result zs (input (S.has_failed streams.old.reader.source) (S.has_failed streams.new.reader.source))
+        (became W.held W.has_failed streams.old.writer streams.new.writer) (became F.held F.has_failed streams.old.fault_writer streams.new.fault_writer) }
 {
-    let outcome = attempt(alloc, asked, reader, writer);
-    concluded(outcome, fault_writer)
+    let outcome = attempt(alloc, asked, streams);
+    concluded(outcome, &mut streams.fault_writer)
 }
 
-// Does what is asked, as far as no fault stops it.
-fn attempt<S: Source, W: Sink>(
+/// Does what is asked, as far as no fault stops it.
+fn attempt<S: Source, W: Sink, F>(
     alloc: Global,
-    asked: &Asked,
-    reader: &mut Kept<S>,
-    writer: &mut W,
-) -> Result<Status, Fault>
-    ensures done { (zs : List ℕ) → known_left S.left reader.old ≡ Some zs → Does asked.now result zs
-        (output (W.held writer.old) (W.held writer.new) (W.has_failed writer.old) (W.has_failed writer.new)) }
-    ensures read { FailsAsTold is_read result (S.has_failed reader.old.source) (S.has_failed reader.new.source) }
-    ensures written { FailsAsTold is_write result (W.has_failed writer.old) (W.has_failed writer.new) }
+    asked: &ViewerAsked,
+    streams: &mut Streams<Kept<S>, W, F>,
+) -> Result<Status, ViewerFault>
+    ensures done { (zs : List ℕ) → known_left S.left streams.old.reader ≡ Some zs → Does asked.now result zs (became W.held W.has_failed streams.old.writer streams.new.writer) }
+    ensures read { FailsAsTold is_read result (S.has_failed streams.old.reader.source) (S.has_failed streams.new.reader.source) }
+    ensures written { FailsAsTold is_write result (W.has_failed streams.old.writer) (W.has_failed streams.new.writer) }
+    ensures untold { streams.new.fault_writer ≡ streams.old.fault_writer }
 {
     match asked {
-        Asked::Show(wanted) => print_shown(alloc, wanted, reader, writer),
-        Asked::Columns(wanted) => print_columns(alloc, wanted, reader, writer),
-        Asked::Explain => print_explained(alloc, reader, writer),
-        Asked::Draw(wanted) => print_drawn(alloc, wanted, reader, writer),
-        Asked::Graph => print_graph(alloc, reader, writer),
-        Asked::Page(wanted) => print_page(alloc, wanted, reader, writer),
-        Asked::Events(wanted) => print_events(alloc, wanted, reader, writer),
-        Asked::Trace => print_trace(alloc, reader, writer),
-        Asked::Version => {
-            writer.put(b"epaxos 0.1.0\n")?;
-            Ok(Status::Done)
+        ViewerAsked::View(view) => {
+            let made = view_of(alloc, view, &mut streams.reader);
+            put_made(made, ViewerFault::Write, &mut streams.writer)
         }
-        Asked::Help(text) => {
-            writer.put(text.as_bytes())?;
-            Ok(Status::Done)
+        ViewerAsked::Trace => {
+            let made = trace_of(alloc, &mut streams.reader);
+            put_made(made, ViewerFault::Write, &mut streams.writer)
         }
+        ViewerAsked::Explain => {
+            let made = explanation_of(alloc, &mut streams.reader);
+            put_made(made, ViewerFault::Write, &mut streams.writer)
+        }
+        ViewerAsked::Version => put_text(
+            b"epaxos 0.1.0\n",
+            Status::Done,
+            ViewerFault::Write,
+            &mut streams.writer,
+        ),
+        ViewerAsked::Help(text) => put_text(
+            text.as_bytes(),
+            Status::Done,
+            ViewerFault::Write,
+            &mut streams.writer,
+        ),
     }
 }
 
 /// How the program ends. A fault is told on the fault output; where that fails, the status stays.
-fn concluded<F: Sink>(outcome: Result<Status, Fault>, fault_writer: &mut F) -> Status
-    ensures { Concludes outcome result (output (F.held fault_writer.old) (F.held fault_writer.new) (F.has_failed fault_writer.old) (F.has_failed fault_writer.new)) }
+fn concluded<F: Sink>(outcome: Result<Status, ViewerFault>, fault_writer: &mut F) -> Status
+    ensures { Concludes outcome result (became F.held F.has_failed fault_writer.old fault_writer.new) }
 {
     match outcome {
         Ok(status) => status,
@@ -80,18 +82,5 @@ fn concluded<F: Sink>(outcome: Result<Status, Fault>, fault_writer: &mut F) -> S
             let _ = tell(&fault, fault_writer);
             status
         }
-    }
-}
-
-/// How the program ends where it does nothing. Why is told on the fault output; where that fails, the status stays.
-pub(crate) fn decline<F: Sink>(why: Declined, fault_writer: &mut F) -> Status
-    ensures { TellsWhy why result (output (F.held fault_writer.old) (F.held fault_writer.new) (F.has_failed fault_writer.old) (F.has_failed fault_writer.new)) }
-{
-    match why {
-        Declined::Words(text) => {
-            let _ = tell_words(text.as_str(), fault_writer);
-            Status::Refused
-        }
-        Declined::Memory => concluded(Err(Fault::Memory), fault_writer),
     }
 }

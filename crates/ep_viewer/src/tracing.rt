@@ -1,34 +1,35 @@
 //! Traces of scripts.
 
-ghost use Rattle.std.specs.Prelude.{◌≡◌, ℕ, List, Some};
+ghost use Rattle.std.specs.Prelude.{◌≡◌, ℕ, List, Some, IfErr, false};
 ghost use Rattle.ep_base.specs.Devices.{FailsAsTold};
+ghost use Rattle.ep_cli.specs.Printed.{Makes};
 ghost use Rattle.ep_viewer.specs.Faults.{is_read, is_write};
-ghost use Rattle.ep_cli.specs.Outputs.{output};
-ghost use Rattle.ep_viewer.specs.Views.{Traces};
+ghost use Rattle.ep_viewer.specs.Views.{Does};
+ghost use Rattle.ep_viewer.specs.declared.viewer_asked.ViewerAsked.TheVariants.{Trace};
 
-use crate::fault::Fault;
-use ep_base::{Sink, Source};
-use ep_cli::Status;
+use crate::viewer_fault::ViewerFault;
+use ep_base::Source;
+use ep_cli::{Made, Status};
 use ep_script::read_script;
 use ep_trace::trace;
 use std::alloc::Global;
 use std::mem::forget;
 
-/// Reads a script to its end, plays it, and prints its trace.
-pub(crate) fn print_trace<S: Source, W: Sink>(
-    alloc: Global,
-    reader: &mut S,
-    writer: &mut W,
-) -> Result<Status, Fault>
-    ensures done { (zs : List ℕ) → S.left reader.old ≡ Some zs → Traces result zs
-        (output (W.held writer.old) (W.held writer.new) (W.has_failed writer.old) (W.has_failed writer.new)) }
+/// Reads a script to its end, plays it, and makes its trace.
+pub(crate) fn trace_of<S: Source>(alloc: Global, reader: &mut S) -> Result<Made, ViewerFault>
+    ensures made { (zs : List ℕ) → S.left reader.old ≡ Some zs → Makes (Does Trace) result zs }
     ensures read { FailsAsTold is_read result (S.has_failed reader.old) (S.has_failed reader.new) }
-    ensures written { FailsAsTold is_write result (W.has_failed writer.old) (W.has_failed writer.new) }
+    ensures unwritten { IfErr result (λ e. is_write e ≡ false) }
 {
     let script = read_script(alloc, reader)?;
-    let text = trace(alloc, &script)?;
-    writer.put(text.as_slice())?;
+    let text = trace(alloc, &script);
     // The system takes memory back at the process's end, all at once.
     forget(script);
-    Ok(Status::Done)
+    match text {
+        Ok(text) => Ok(Made {
+            text,
+            status: Status::Done,
+        }),
+        Err(_) => Err(ViewerFault::Memory),
+    }
 }

@@ -12,14 +12,15 @@ use Rattle.ep_journal.specs.declared.event.Event.TheVariants.{Propose, Handle, G
 use Rattle.ep_journal.specs.declared.step_fault.StepFault.{StepFault}
 use Rattle.ep_journal.specs.declared.step_fault.StepFault.TheVariants.{Memory, OtherVersion, OtherGeneration, OutOfRange, NotMine, StampFull, SpaceFull, SeqExhausted, NotLeading, TooFewAnswers, AlreadyCommitted, BallotsExhausted, NotCommitted}
 use Rattle.ep_rules.specs.declared.receipt.Receipt.{Receipt}
-use Rattle.ep_wire.specs.declared.field.Field.{Field}
-use Rattle.ep_wire.specs.declared.field.Field.TheVariants.{Kind, Client, ClientRequest, Seen, Op, KeyLength, ValueLength, Key, Value, Replica, Number, Rest, FirstLength, SecondLength, BodyLength, FirstKey, SecondKey, Body, After, Most}
-use Rattle.ep_wire.specs.declared.leading.Leading.{Leading}
-use Rattle.ep_wire.specs.declared.leading.Leading.TheVariants.{Proposing, Accepting, Preparing}
+use Rattle.ep_rules.specs.States.{or_zero}
+use Rattle.ep_wire.specs.declared.request_field.RequestField.{RequestField}
+use Rattle.ep_wire.specs.declared.request_field.RequestField.TheVariants.{Kind, Client, ClientRequest, Seen, Op, KeyLength, ValueLength, Key, Value, Replica, Number, Rest, FirstLength, SecondLength, BodyLength, FirstKey, SecondKey, Body, After, Most}
+use Rattle.ep_wire.specs.declared.lead_progress.LeadProgress.{LeadProgress}
+use Rattle.ep_wire.specs.declared.lead_progress.LeadProgress.TheVariants.{Proposing, Accepting, Preparing}
 use Rattle.ep_wire.specs.declared.malformed.Malformed.{Malformed}
 use Rattle.ep_wire.specs.declared.node_state.NodeState.{NodeState}
-use Rattle.ep_wire.specs.declared.refusal.Refusal.{Refusal}
-use Rattle.ep_wire.specs.declared.refusal.Refusal.TheVariants.{BadFrame, Step}
+use Rattle.ep_wire.specs.declared.take_fault.TakeFault.{TakeFault}
+use Rattle.ep_wire.specs.declared.take_fault.TakeFault.TheVariants.{BadFrame, Step}
 
 -- an instance, or three zero bytes
 abbrev pub instance_or_none : Option ℕ → List ℕ
@@ -97,15 +98,15 @@ step_names AlreadyCommitted = None
 step_names BallotsExhausted = None
 step_names (NotCommitted i) = Some i
 
-abbrev pub code_of : Refusal → ℕ
+abbrev pub code_of : TakeFault → ℕ
 code_of BadFrame = 14
 code_of (Step fault) = step_code fault
 
-abbrev pub names : Refusal → Option ℕ
+abbrev pub names : TakeFault → Option ℕ
 names BadFrame = None
 names (Step fault) = step_names fault
 
-abbrev pub refused_bytes : Refusal → List ℕ
+abbrev pub refused_bytes : TakeFault → List ℕ
 refused_bytes r = number_bytes 4 5 ++ number_bytes 1 2 ++ number_bytes 1 (code_of r) ++ instance_or_none (names r)
 
 abbrev pub value_bytes : Option (List ℕ) → List ℕ
@@ -116,17 +117,17 @@ abbrev pub instance_bytes : Option ℕ → List ℕ
 instance_bytes None = number_bytes 4 2 ++ number_bytes 1 4 ++ number_bytes 1 0
 instance_bytes (Some i) = number_bytes 4 5 ++ number_bytes 1 4 ++ number_bytes 1 1 ++ dep_bytes i
 
-abbrev pub phase_code : Leading → ℕ
+abbrev pub phase_code : LeadProgress → ℕ
 phase_code (Proposing n) = 1
 phase_code (Accepting n) = 2
 phase_code (Preparing n) = 3
 
-abbrev pub answer_count : Leading → ℕ
+abbrev pub answer_count : LeadProgress → ℕ
 answer_count (Proposing n) = n
 answer_count (Accepting n) = n
 answer_count (Preparing n) = n
 
-abbrev pub leading_bytes : Option Leading → List ℕ
+abbrev pub leading_bytes : Option LeadProgress → List ℕ
 leading_bytes None = number_bytes 4 2 ++ number_bytes 1 5 ++ number_bytes 1 0
 leading_bytes (Some l) = number_bytes 4 4 ++ number_bytes 1 5 ++ number_bytes 1 1 ++ number_bytes 1 (phase_code l) ++ number_bytes 1 (answer_count l)
 
@@ -134,7 +135,7 @@ abbrev pub synced_bytes : ℕ → List ℕ
 synced_bytes n = number_bytes 4 5 ++ number_bytes 1 6 ++ number_bytes 4 n
 
 -- the number of a field
-abbrev pub field_code : Field → ℕ
+abbrev pub field_code : RequestField → ℕ
 field_code Kind = 1
 field_code Client = 2
 field_code ClientRequest = 3
@@ -183,18 +184,14 @@ instances_bytes is = number_bytes 4 (length is) ++ flat_map dep_bytes is
 abbrev pub told_receipts_bytes : Version → List Receipt → List ℕ
 told_receipts_bytes v rs = number_bytes 4 (length rs) ++ flat_map (receipt_bytes v) rs
 
-abbrev pub number_or_zero : Option ℕ → ℕ
-number_or_zero None = 0
-number_or_zero (Some n) = n
-
 -- what is led, or two zero bytes
-abbrev pub led_bytes : Option Leading → List ℕ
+abbrev pub led_bytes : Option LeadProgress → List ℕ
 led_bytes None = 0 ∷ 0 ∷ []
 led_bytes (Some l) = number_bytes 1 (phase_code l) ++ number_bytes 1 (answer_count l)
 
 -- an open instance, the number of the first entry about it, and what is led there
-abbrev pub open_bytes : ℕ → Option ℕ → Option Leading → List ℕ
-open_bytes i since leading = dep_bytes i ++ number_bytes 4 (number_or_zero since) ++ led_bytes leading
+abbrev pub open_bytes : ℕ → Option ℕ → Option LeadProgress → List ℕ
+open_bytes i since leading = dep_bytes i ++ number_bytes 4 (or_zero since) ++ led_bytes leading
 
 abbrev pub ready_bytes : List ℕ → List ℕ
 ready_bytes body = number_bytes 4 (1 + length body) ++ number_bytes 1 9 ++ body

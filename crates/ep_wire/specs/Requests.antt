@@ -11,11 +11,14 @@ use Rattle.ep_bundle.specs.Stages.{instance, counted, command}
 use Rattle.ep_bundle.specs.declared.bundle_fault.BundleFault.{BundleFault}
 use Rattle.ep_bundle.specs.declared.bundle_fault.BundleFault.TheVariants as bundle
 use Rattle.ep_bundle.specs.declared.bundle_fault.BundleFault.TheVariants.{BadBundle, NotARun}
+use Rattle.ep_frame.specs.Faults.{fault_of}
+use Rattle.ep_frame.specs.declared.fault.FrameFault.{FrameFault}
+use Rattle.ep_journal.specs.declared.event.Event.TheVariants as event
 use Rattle.ep_wire.specs.declared.dialect.Dialect.{Dialect}
-use Rattle.ep_wire.specs.declared.field.Field.{Field}
-use Rattle.ep_wire.specs.declared.field.Field.TheVariants.{Kind, Client, ClientRequest, Seen, Op, KeyLength, ValueLength, Key, Value, Replica, Number, Rest, FirstLength, SecondLength, BodyLength, FirstKey, SecondKey, Body, After, Most}
+use Rattle.ep_wire.specs.declared.request_field.RequestField.{RequestField}
+use Rattle.ep_wire.specs.declared.request_field.RequestField.TheVariants.{Kind, Client, ClientRequest, Seen, Op, KeyLength, ValueLength, Key, Value, Replica, Number, Rest, FirstLength, SecondLength, BodyLength, FirstKey, SecondKey, Body, After, Most}
 use Rattle.ep_wire.specs.declared.request.Request.{Request}
-use Rattle.ep_wire.specs.declared.request.Request.TheVariants.{Propose, Frame, GiveUp, Recover, Execute, Advance, Get, NextOpen, Leads, Sync, State, ExecuteAll, Ready, Malformed}
+use Rattle.ep_wire.specs.declared.request.Request.TheVariants.{Event, BadFrame, Advance, Get, NextOpen, Leads, Sync, State, ExecuteAll, Ready, Malformed}
 use Rattle.ep_wire.specs.declared.request_fault.RequestFault.{RequestFault}
 use Rattle.ep_wire.specs.declared.request_fault.RequestFault.TheVariants.{Memory, ReadFailed, BadRequest}
 
@@ -43,14 +46,19 @@ given (Err e) = Err (place_of e)
 -- a proposal, as it stands in a bundle of the version
 abbrev pub proposal : Version → Left → Reading Request
 proposal v l =
-    and_then (counted l) (λ client l. and_then (counted l) (λ request l. and_then (number 8 l) (λ seen l. and_then (command v l) (λ c l. Ok (Propose client request seen c, l)))))
+    and_then (counted l) (λ client l. and_then (counted l) (λ request l. and_then (number 8 l) (λ seen l. and_then (command v l) (λ c l. Ok (Event (event.Propose client request c seen), l)))))
+
+-- a peer's bytes: the frame that they are is to be handled
+abbrev pub framed : Result (Unit {0}) FrameFault → List ℕ → Request
+framed (Ok x) bs = Event (event.Handle bs)
+framed (Err fault) bs = BadFrame
 
 -- the requests that have no body
 abbrev pub bare : Request → List ℕ → Result Request ℕ
 bare r bs = cond (eqb (length bs) 0) (Ok r) (Err 5)
 
 abbrev pub about : ℕ → ℕ → Request
-about kind i = cond (eqb kind 3) (GiveUp i) (cond (eqb kind 4) (Recover i) (cond (eqb kind 5) (Execute i) (Leads i)))
+about kind i = cond (eqb kind 3) (Event (event.GiveUp i)) (cond (eqb kind 4) (Event (event.Recover i)) (cond (eqb kind 5) (Event (event.Execute i)) (Leads i)))
 
 -- an instance alone
 abbrev pub named : Dialect → List ℕ → Result ℕ ℕ
@@ -71,7 +79,7 @@ ready l = and_then (field 4 0 4294967295 l) (λ after l. and_then (field 1 0 255
 abbrev pub body_of : Dialect → ℕ → List ℕ → Result Request ℕ
 body_of how kind bs =
     cond (eqb kind 1) (given (alone (proposal how.version (whole bs))))
-    (cond (eqb kind 2) (Ok (Frame bs))
+    (cond (eqb kind 2) (Ok (framed (fault_of bs) bs))
     (cond (eqb kind 6) (bare Advance bs)
     (cond (eqb kind 7) (key bs)
     (cond (eqb kind 8) (next_open how bs)
@@ -82,20 +90,20 @@ body_of how kind bs =
     (map_ok (about kind) (named how bs))))))))))
 
 -- Fields, each with the place behind it: the one in which this place is, or what stands behind them.
-abbrev pub field_in : List (Field × ℕ) → ℕ → Field
+abbrev pub field_in : List (RequestField × ℕ) → ℕ → RequestField
 field_in [] at = Rest
 field_in (f ∷ fs) at = cond (ltb at f.1) f.0 (field_in fs at)
 
 -- of a proposal of version 1 or 2 with so many bytes of key and of value
-abbrev pub early_fields : ℕ → ℕ → List (Field × ℕ)
+abbrev pub early_fields : ℕ → ℕ → List (RequestField × ℕ)
 early_fields k n = (Client, 9) ∷ (ClientRequest, 13) ∷ (Seen, 21) ∷ (Op, 22) ∷ (KeyLength, 23) ∷ (ValueLength, 25) ∷ (Key, 25 + k) ∷ (Value, 25 + k + n) ∷ []
 
 -- of one of version 3 with so many bytes of both keys and of the body
-abbrev pub late_fields : ℕ → ℕ → ℕ → List (Field × ℕ)
+abbrev pub late_fields : ℕ → ℕ → ℕ → List (RequestField × ℕ)
 late_fields k m n =
     (Client, 9) ∷ (ClientRequest, 13) ∷ (Seen, 21) ∷ (Op, 22) ∷ (FirstLength, 23) ∷ (SecondLength, 24) ∷ (BodyLength, 28) ∷ (FirstKey, 28 + k) ∷ (SecondKey, 28 + k + m) ∷ (Body, 28 + k + m + n) ∷ []
 
-abbrev pub instance_fields : List (Field × ℕ)
+abbrev pub instance_fields : List (RequestField × ℕ)
 instance_fields = (Replica, 6) ∷ (Number, 8) ∷ []
 
 -- a byte of a body, 0 where it isn't there
@@ -109,12 +117,12 @@ two_at bs i = 256 * byte_at bs i + byte_at bs (i + 1)
 abbrev pub four_at : List ℕ → ℕ → ℕ
 four_at bs i = 65536 * two_at bs i + two_at bs (i + 2)
 
-abbrev pub proposal_fields : Version → List ℕ → List (Field × ℕ)
+abbrev pub proposal_fields : Version → List ℕ → List (RequestField × ℕ)
 proposal_fields V1 bs = early_fields (byte_at bs 17) (two_at bs 18)
 proposal_fields V2 bs = early_fields (byte_at bs 17) (two_at bs 18)
 proposal_fields (V3 g) bs = late_fields (byte_at bs 17) (byte_at bs 18) (four_at bs 19)
 
-abbrev pub ready_fields : List (Field × ℕ)
+abbrev pub ready_fields : List (RequestField × ℕ)
 ready_fields = (After, 9) ∷ (Most, 10) ∷ []
 
 -- the kinds that have no body, of 1 to 12
@@ -122,7 +130,7 @@ abbrev pub is_bare : ℕ → Bool
 is_bare kind = eqb kind 6 || leb 10 kind
 
 -- of a body of this kind
-abbrev pub fields_of : Version → ℕ → List ℕ → List (Field × ℕ)
+abbrev pub fields_of : Version → ℕ → List ℕ → List (RequestField × ℕ)
 fields_of v kind bs =
     cond (eqb kind 1) (proposal_fields v bs)
     (cond (eqb kind 7) ((Key, 260) ∷ [])

@@ -8,11 +8,11 @@ ghost use Rattle.ep_frame.specs.Fields.{number_bytes};
 ghost use Rattle.ep_bundle.specs.Writing.{All, FrameFits, FramesFit};
 ghost use Rattle.ep_wire.specs.Answers.{answer_count, code_of, counts_bytes, entry_bytes, first_about, frames_bytes, head_bytes, instance_bytes, field_code, instance_or_none, leading_bytes, malformed_bytes, names, phase_code, receipts_bytes, refused_bytes, sealed_code, sent_bytes, space_bytes, state_bytes, step_code, synced_bytes, taken_as, taken_bytes, value_bytes, Fits};
 
-use crate::field::Field;
-use crate::leading::Leading;
+use crate::lead_progress::LeadProgress;
 use crate::malformed::Malformed;
 use crate::node_state::NodeState;
-use crate::refusal::Refusal;
+use crate::request_field::RequestField;
+use crate::take_fault::TakeFault;
 use ep_base::{InstanceId, Sink, Value, Version, WriteFailed};
 use ep_bundle::{
     put_frame, put_instance, put_receipt, put_run, put_u8, put_u16, put_u32, put_u64, put_value,
@@ -141,8 +141,9 @@ pub fn write_taken<K: Sink>(sink: &mut K, body: &[u8]) -> Result<(), WriteFailed
 }
 
 /// The number in the fault's name.
-fn step_code(fault: StepFault) -> u8
-    ensures { result ≡ step_code fault }
+pub fn step_code(fault: StepFault) -> u8
+    ensures value { result ≡ step_code fault }
+    ensures range { (1 ≤ result) × (result ≤ 15) }
 {
     match fault {
         StepFault::Memory => 1,
@@ -162,27 +163,27 @@ fn step_code(fault: StepFault) -> u8
 }
 
 /// The number in the name of what a refusal tells.
-fn code_of(refusal: &Refusal) -> u8
+fn code_of(refusal: &TakeFault) -> u8
     ensures { result ≡ code_of refusal.now }
 {
     match refusal {
-        Refusal::BadFrame => 14,
-        Refusal::Step(fault) => step_code(*fault),
+        TakeFault::BadFrame => 14,
+        TakeFault::Step(fault) => step_code(*fault),
     }
 }
 
 /// The instance that a refusal names.
-fn names(refusal: &Refusal) -> Option<InstanceId>
+fn names(refusal: &TakeFault) -> Option<InstanceId>
     ensures { result ≡ names refusal.now }
 {
     match refusal {
-        Refusal::Step(StepFault::NotCommitted(instance)) => Some(*instance),
-        Refusal::Step(_) | Refusal::BadFrame => None,
+        TakeFault::Step(StepFault::NotCommitted(instance)) => Some(*instance),
+        TakeFault::Step(_) | TakeFault::BadFrame => None,
     }
 }
 
 /// Writes that a node refused an event, and why.
-pub fn write_refused<K: Sink>(sink: &mut K, refusal: &Refusal) -> Result<(), WriteFailed>
+pub fn write_refused<K: Sink>(sink: &mut K, refusal: &TakeFault) -> Result<(), WriteFailed>
     ensures { Puts (K.held sink.old) (K.held sink.new) (K.has_failed sink.old) (K.has_failed sink.new) result (refused_bytes refusal.now) }
 {
     put_u32(sink, 5)?;
@@ -234,27 +235,32 @@ pub fn write_instance<K: Sink>(
 }
 
 /// The number of the phase.
-pub(crate) fn phase_code(leading: &Leading) -> u8
+pub(crate) fn phase_code(leading: &LeadProgress) -> u8
     ensures { result ≡ phase_code leading.now }
 {
     match leading {
-        Leading::Proposing(_) => 1,
-        Leading::Accepting(_) => 2,
-        Leading::Preparing(_) => 3,
+        LeadProgress::Proposing(_) => 1,
+        LeadProgress::Accepting(_) => 2,
+        LeadProgress::Preparing(_) => 3,
     }
 }
 
 /// How many have answered.
-pub(crate) fn answer_count(leading: &Leading) -> u8
+pub(crate) fn answer_count(leading: &LeadProgress) -> u8
     ensures { result ≡ answer_count leading.now }
 {
     match leading {
-        Leading::Proposing(count) | Leading::Accepting(count) | Leading::Preparing(count) => *count,
+        LeadProgress::Proposing(count)
+        | LeadProgress::Accepting(count)
+        | LeadProgress::Preparing(count) => *count,
     }
 }
 
 /// Writes what a replica leads in an instance, or that it leads nothing there.
-pub fn write_leading<K: Sink>(sink: &mut K, leading: &Option<Leading>) -> Result<(), WriteFailed>
+pub fn write_leading<K: Sink>(
+    sink: &mut K,
+    leading: &Option<LeadProgress>,
+) -> Result<(), WriteFailed>
     ensures { Puts (K.held sink.old) (K.held sink.new) (K.has_failed sink.old) (K.has_failed sink.new) result (leading_bytes leading.now) }
 {
     let Some(leading) = leading else {
@@ -277,30 +283,30 @@ pub fn write_synced<K: Sink>(sink: &mut K, entries: u32) -> Result<(), WriteFail
 }
 
 /// The field's number.
-fn field_code(field: Field) -> u8
+fn field_code(field: RequestField) -> u8
     ensures { result ≡ field_code field }
 {
     match field {
-        Field::Kind => 1,
-        Field::Client => 2,
-        Field::ClientRequest => 3,
-        Field::Seen => 4,
-        Field::Op => 5,
-        Field::KeyLength => 6,
-        Field::ValueLength => 7,
-        Field::Key => 8,
-        Field::Value => 9,
-        Field::Replica => 10,
-        Field::Number => 11,
-        Field::Rest => 12,
-        Field::FirstLength => 13,
-        Field::SecondLength => 14,
-        Field::BodyLength => 15,
-        Field::FirstKey => 16,
-        Field::SecondKey => 17,
-        Field::Body => 18,
-        Field::After => 19,
-        Field::Most => 20,
+        RequestField::Kind => 1,
+        RequestField::Client => 2,
+        RequestField::ClientRequest => 3,
+        RequestField::Seen => 4,
+        RequestField::Op => 5,
+        RequestField::KeyLength => 6,
+        RequestField::ValueLength => 7,
+        RequestField::Key => 8,
+        RequestField::Value => 9,
+        RequestField::Replica => 10,
+        RequestField::Number => 11,
+        RequestField::Rest => 12,
+        RequestField::FirstLength => 13,
+        RequestField::SecondLength => 14,
+        RequestField::BodyLength => 15,
+        RequestField::FirstKey => 16,
+        RequestField::SecondKey => 17,
+        RequestField::Body => 18,
+        RequestField::After => 19,
+        RequestField::Most => 20,
     }
 }
 

@@ -12,29 +12,30 @@
 mod answers;
 mod bodies;
 mod dialect;
-mod field;
 mod front;
-mod leading;
+mod lead_progress;
 mod malformed;
 mod node_state;
 mod places;
 mod reading;
-mod refusal;
 mod request;
 mod request_fault;
+mod request_field;
+mod take_fault;
 mod telling;
 
 pub use answers::{
-    put_entry, put_sent, sealed_code, taken_as, write_instance, write_leading, write_malformed,
-    write_no_value, write_refused, write_state, write_synced, write_taken, write_value,
+    put_entry, put_sent, sealed_code, step_code, taken_as, write_instance, write_leading,
+    write_malformed, write_no_value, write_refused, write_state, write_synced, write_taken,
+    write_value,
 };
 pub use dialect::Dialect;
-pub use field::Field;
-pub use leading::Leading;
+pub use lead_progress::LeadProgress;
 pub use malformed::Malformed;
 pub use node_state::NodeState;
 pub use reading::read_request;
-pub use refusal::Refusal;
 pub use request::Request;
 pub use request_fault::RequestFault;
+pub use request_field::RequestField;
+pub use take_fault::TakeFault;
 pub use telling::{put_instances, put_open, put_told_receipts, write_ready};

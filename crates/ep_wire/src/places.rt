@@ -2,10 +2,10 @@
 
 ghost use Rattle.std.specs.Prelude.{◌≡◌, ◌<◌, ◌+◌, ◌^◌, ◌∷◌, []};
 ghost use Rattle.ep_wire.specs.Requests.{byte_at, early_fields, field_in, fields_of, four_at, instance_fields, is_bare, late_fields, proposal_fields, ready_fields, two_at};
-ghost use Rattle.ep_wire.specs.declared.field.Field.TheVariants.{Key};
+ghost use Rattle.ep_wire.specs.declared.request_field.RequestField.TheVariants.{Key};
 
-use crate::field::Field;
 use crate::malformed::Malformed;
+use crate::request_field::RequestField;
 use ep_base::{Version, VersionKind};
 
 /// A byte of a body, 0 where it isn't there.
@@ -37,73 +37,73 @@ fn four_at(body: &[u8], place: usize) -> u64
 }
 
 /// The field at this place of a proposal of version 1 or 2, where key and value have so many bytes.
-fn early_field(key: u64, value: u64, at: u64) -> Field
+fn early_field(key: u64, value: u64, at: u64) -> RequestField
     requires key { key < 2 ^ 8 }
     requires value { value < 2 ^ 16 }
     ensures { result ≡ field_in (early_fields key value) at }
 {
     if at < 9 {
-        Field::Client
+        RequestField::Client
     } else if at < 13 {
-        Field::ClientRequest
+        RequestField::ClientRequest
     } else if at < 21 {
-        Field::Seen
+        RequestField::Seen
     } else if at < 22 {
-        Field::Op
+        RequestField::Op
     } else if at < 23 {
-        Field::KeyLength
+        RequestField::KeyLength
     } else if at < 25 {
-        Field::ValueLength
+        RequestField::ValueLength
     } else if at < 25 + key {
-        Field::Key
+        RequestField::Key
     } else if at < 25 + key + value {
-        Field::Value
+        RequestField::Value
     } else {
-        Field::Rest
+        RequestField::Rest
     }
 }
 
 /// The same of version 3, where both keys and the body have so many bytes.
-fn late_field(first: u64, second: u64, body: u64, at: u64) -> Field
+fn late_field(first: u64, second: u64, body: u64, at: u64) -> RequestField
     requires first { first < 2 ^ 8 }
     requires second { second < 2 ^ 8 }
     requires body { body < 2 ^ 32 }
     ensures { result ≡ field_in (late_fields first second body) at }
 {
     if at < 9 {
-        Field::Client
+        RequestField::Client
     } else if at < 13 {
-        Field::ClientRequest
+        RequestField::ClientRequest
     } else if at < 21 {
-        Field::Seen
+        RequestField::Seen
     } else if at < 22 {
-        Field::Op
+        RequestField::Op
     } else if at < 23 {
-        Field::FirstLength
+        RequestField::FirstLength
     } else if at < 24 {
-        Field::SecondLength
+        RequestField::SecondLength
     } else if at < 28 {
-        Field::BodyLength
+        RequestField::BodyLength
     } else if at < 28 + first {
-        Field::FirstKey
+        RequestField::FirstKey
     } else if at < 28 + first + second {
-        Field::SecondKey
+        RequestField::SecondKey
     } else if at < 28 + first + second + body {
-        Field::Body
+        RequestField::Body
     } else {
-        Field::Rest
+        RequestField::Rest
     }
 }
 
 /// The field at this place of a proposal of version 1 or 2, with this body.
-fn early_field_in(body: &[u8], at: u64) -> Field
+fn early_field_in(body: &[u8], at: u64) -> RequestField
     ensures { result ≡ field_in (early_fields (byte_at body.now 17) (two_at body.now 18)) at }
 {
     early_field(u64::from(byte_at(body, 17)), two_at(body, 18), at)
 }
 
 /// The same of version 3.
-fn late_field_in(body: &[u8], at: u64) -> Field
+fn late_field_in(body: &[u8], at: u64) -> RequestField
     ensures { result ≡ field_in (late_fields (byte_at body.now 17) (byte_at body.now 18) (four_at body.now 19)) at }
 {
     let first = u64::from(byte_at(body, 17));
@@ -112,7 +112,7 @@ fn late_field_in(body: &[u8], at: u64) -> Field
 }
 
 /// The same of the version.
-fn proposal_field(version: Version, body: &[u8], at: u64) -> Field
+fn proposal_field(version: Version, body: &[u8], at: u64) -> RequestField
     ensures { result ≡ field_in (proposal_fields version body.now) at }
 {
     match version.kind() {
@@ -122,35 +122,39 @@ fn proposal_field(version: Version, body: &[u8], at: u64) -> Field
 }
 
 /// The field at this place of a request that names an instance.
-fn instance_field(at: u64) -> Field
+fn instance_field(at: u64) -> RequestField
     ensures { result ≡ field_in instance_fields at }
 {
     if at < 6 {
-        Field::Replica
+        RequestField::Replica
     } else if at < 8 {
-        Field::Number
+        RequestField::Number
     } else {
-        Field::Rest
+        RequestField::Rest
     }
 }
 
 /// The field at this place of a request that has a key alone.
-fn key_field(at: u64) -> Field
+fn key_field(at: u64) -> RequestField
     ensures { result ≡ field_in ((Key, 260) ∷ []) at }
 {
-    if at < 260 { Field::Key } else { Field::Rest }
+    if at < 260 {
+        RequestField::Key
+    } else {
+        RequestField::Rest
+    }
 }
 
 /// The field at this place of a request for what there is to tell.
-fn ready_field(at: u64) -> Field
+fn ready_field(at: u64) -> RequestField
     ensures { result ≡ field_in ready_fields at }
 {
     if at < 9 {
-        Field::After
+        RequestField::After
     } else if at < 10 {
-        Field::Most
+        RequestField::Most
     } else {
-        Field::Rest
+        RequestField::Rest
     }
 }
 
@@ -162,7 +166,7 @@ fn is_bare(kind: u8) -> bool
 }
 
 /// The field at this place of a request of this kind with this body.
-fn field_at(version: Version, kind: u8, body: &[u8], at: u64) -> Field
+fn field_at(version: Version, kind: u8, body: &[u8], at: u64) -> RequestField
     ensures { result ≡ field_in (fields_of version kind body.now) at }
 {
     if kind == 1 {
@@ -175,7 +179,7 @@ fn field_at(version: Version, kind: u8, body: &[u8], at: u64) -> Field
         return ready_field(at);
     }
     if is_bare(kind) {
-        Field::Rest
+        RequestField::Rest
     } else {
         instance_field(at)
     }

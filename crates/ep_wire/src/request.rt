@@ -1,28 +1,16 @@
 //! What a node is asked.
 
 use crate::malformed::Malformed;
-use bytes::Bytes;
-use ep_base::{Command, InstanceId, Key};
+use ep_base::{InstanceId, Key};
+use ep_journal::Event;
 
 /// What a node is asked.
 #[derive(Drop)]
 pub enum Request {
-    /// A command of a client, the client and its request from 1; `seen` is the greatest stamp that the client knows of, 0
-    /// where none.
-    Propose {
-        client: u32,
-        request: u32,
-        seen: u64,
-        command: Command,
-    },
-    /// Bytes that came from a peer are handled. They may be no frame.
-    Frame(Bytes),
-    /// The leader of the instance waits no longer for its fast quorum.
-    GiveUp(InstanceId),
-    /// The replica takes over the instance.
-    Recover(InstanceId),
-    /// The instance is executed, and before it all that it depends on.
-    Execute(InstanceId),
+    /// The node's replica is to take the event.
+    Event(Event),
+    /// A peer's bytes came, and they are no frame.
+    BadFrame,
     /// All own instances that are ready are executed.
     Advance,
     /// What the replica's map has at the key.
@@ -39,10 +27,7 @@ pub enum Request {
     ExecuteAll,
     /// What there is to tell of the node's entries after the first ones, of which so many were told before, and of the least instances
     /// that are open, at most so many.
-    Ready {
-        after: u32,
-        most: u8,
-    },
+    Ready { after: u32, most: u8 },
     /// None of these: a request whose bytes all came, but of no such kind, or with a body that isn't one of its kind.
     Malformed(Malformed),
 }

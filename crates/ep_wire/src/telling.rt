@@ -4,10 +4,11 @@ ghost use Rattle.std.specs.Prelude.{◌≡◌, ◌<◌, ◌+◌, ◌^◌, length
 ghost use Rattle.std.specs.List.{flat_map};
 ghost use Rattle.ep_base.specs.Devices.{Puts};
 ghost use Rattle.ep_frame.specs.Fields.{dep_bytes};
-ghost use Rattle.ep_wire.specs.Answers.{instances_bytes, led_bytes, number_or_zero, open_bytes, ready_bytes, told_receipts_bytes};
+ghost use Rattle.ep_wire.specs.Answers.{instances_bytes, led_bytes, open_bytes, ready_bytes, told_receipts_bytes};
+ghost use Rattle.ep_rules.specs.States.{or_zero};
 
 use crate::answers::{answer_count, phase_code};
-use crate::leading::Leading;
+use crate::lead_progress::LeadProgress;
 use ep_base::{InstanceId, Sink, Version, WriteFailed};
 use ep_bundle::{put_instance, put_receipts, put_run, put_u8, put_u32};
 use ep_rules::Receipt;
@@ -46,7 +47,7 @@ pub fn put_told_receipts<K: Sink>(
 
 /// The number, 0 where there is none.
 fn number_or_zero(number: Option<u32>) -> u32
-    ensures { result ≡ number_or_zero number }
+    ensures { result ≡ or_zero number }
 {
     match number {
         Some(number) => number,
@@ -55,7 +56,7 @@ fn number_or_zero(number: Option<u32>) -> u32
 }
 
 /// What is led, or two zero bytes.
-fn put_led<K: Sink>(sink: &mut K, leading: &Option<Leading>) -> Result<(), WriteFailed>
+fn put_led<K: Sink>(sink: &mut K, leading: &Option<LeadProgress>) -> Result<(), WriteFailed>
     ensures { Puts (K.held sink.old) (K.held sink.new) (K.has_failed sink.old) (K.has_failed sink.new) result (led_bytes leading.now) }
 {
     let Some(leading) = leading else {
@@ -70,7 +71,7 @@ pub fn put_open<K: Sink>(
     sink: &mut K,
     instance: InstanceId,
     since: Option<u32>,
-    leading: &Option<Leading>,
+    leading: &Option<LeadProgress>,
 ) -> Result<(), WriteFailed>
     ensures { Puts (K.held sink.old) (K.held sink.new) (K.has_failed sink.old) (K.has_failed sink.new) result (open_bytes instance since leading.now) }
 {

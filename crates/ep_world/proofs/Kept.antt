@@ -1,15 +1,16 @@
 -- The replicas of a world as its parts.
 use Rattle.std.proofs.Common.{◌≡◌, ℕ, zero, suc, ◌+◌, ◌<◌, ◌≤◌, Option, Some, None, List, [], ◌∷◌, ◌++◌, length, get_or, set, slice_get, refl, sym, ap, subst, ◌∙◌, arith, append-nil, append_assoc, Bor, IfSome, option_copied}
+use Rattle.std.proofs.lemmas.Option.{slice_get_within}
 use Rattle.ep_base.specs.Quorums.{size}
 use Rattle.ep_base.specs.declared.version.Version.{Version}
 use Rattle.ep_base.specs.declared.version_kind.VersionKind.TheVariants.{V2, V3}
 use Rattle.ep_rules.specs.Journals.{AreClocked}
-use Rattle.ep_journal.specs.Entries.{Log, entries_of, IsJournal, AreInOrder, all_entries, first_opening, Collected}
+use Rattle.ep_journal.specs.Entries.{Log, entries_of, IsJournal, AreInOrder, all_entries, first_opening, Collected, frame_in}
 use Rattle.ep_journal.specs.declared.entry.Entry.{Entry}
 use Rattle.ep_replica.specs.Kept.{Kept, first_version}
 use Rattle.ep_journal.proofs.InOrder.{named}
 use Rattle.ep_journal.specs.Openings.{Opening, no_opening, OpensIn}
-use Rattle.ep_world.specs.Played.{collected, replica_in, numbered, frame_of, IsWorld}
+use Rattle.ep_world.specs.Played.{collected, replica_in, numbered, IsWorld}
 use Rattle.ep_world.specs.Playing.{with_entry}
 use Rattle.ep_world.specs.Replicas.{AreReplicas, AreAll, world_of, AreTheirs}
 use Rattle.ep_world.specs.declared.place.Place.{Place}
@@ -79,8 +80,8 @@ no_entry_there ks r n is = ap (λ (es : List Entry). numbered es n) (none_there 
 pub entry_there : (ks : List Kept) (r n : ℕ) (k : Kept) (es : List Entry) → slice_get ks r ≡ Some k → es ≡ k.entries → numbered es n ≡ numbered (get_or (all_entries ks) r []) n
 entry_there ks r n k es there same = ap (λ (xs : List Entry). numbered xs n) (same ∙ sym (entries_there ks r k there))
 
-pub frame_there : (o : Option Entry) (out : ℕ) (e : Entry) (fs : List (List ℕ)) → o ≡ Some e → fs ≡ e.frames → slice_get fs out ≡ frame_of o out
-frame_there o out e fs entry frames = ap (λ (bs : List (List ℕ)). slice_get bs out) frames ∙ sym (ap (λ (q : Option Entry). frame_of q out) entry)
+pub frame_there : (o : Option Entry) (out : ℕ) (e : Entry) (fs : List (List ℕ)) → o ≡ Some e → fs ≡ e.frames → slice_get fs out ≡ frame_in o out
+frame_there o out e fs entry frames = ap (λ (bs : List (List ℕ)). slice_get bs out) frames ∙ sym (ap (λ (q : Option Entry). frame_in q out) entry)
 
 -- Replicas before any event.
 
@@ -135,26 +136,13 @@ past (x ∷ ks) (suc r) is = let q = past ks r is in omega arith
 pub no_replica : (f r : ℕ) (ks : List Kept) → AreAll f ks → slice_get ks r ≡ None → size f ≤ r
 no_replica f r ks h is = let n = as_many f ks h in let p = past ks r is in omega arith
 
-within : (ks : List Kept) (r : ℕ) (k : Kept) → slice_get ks r ≡ Some k → r < length ks
-within [] r k is = absurd (cc)
-within (x ∷ ks) zero k is = omega arith
-within (x ∷ ks) (suc r) k is = let q = within ks r k is in omega arith
-
 pub this_replica : (f r : ℕ) (ks : List Kept) (steps : List (ℕ × ℕ)) (messages : List Place) (k : Kept) → AreAll f ks → slice_get ks r ≡ Some k → (r < size f) × (k ≡ replica_in (world_of f ks steps messages) r)
 this_replica f r ks steps messages k h is =
     let t = kept_at (first_version ks) (first_opening ks) f 0 r ks k h is in
     let n = as_many f ks h in
-    let l = within ks r k is in
+    let l = slice_get_within ks r k is in
     let me : k.me ≡ r = (let q = t.me in omega arith) in
     (omega arith, λ i. record { version = t.version i; faults = t.faults i; me = me i; opening = t.opening i; entries = sym t.entries i })
-
--- the first one
-pub first_there : (f : ℕ) (ks : List Kept) (k : Kept) → AreAll f ks → k ≡ get_or ks 0 k → (k.version ≡ first_version ks) × (k.opening ≡ first_opening ks)
-first_there f [] k h is = absurd (let a : 0 ≡ size f = h in omega arith)
-first_there f (x ∷ ks) k h is = (ap (λ (z : Kept). z.version) is, ap (λ (z : Kept). z.opening) is)
-
-pub some_there : (f : ℕ) (ks : List Kept) → AreAll f ks → 0 < length ks
-some_there f ks h = let n = as_many f ks h in omega arith
 
 -- A world before any event.
 

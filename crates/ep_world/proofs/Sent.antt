@@ -1,5 +1,5 @@
 -- The frames that a world's entries sent stand where their places say.
-use Rattle.std.proofs.Common.{◌≡◌, ℕ, zero, suc, ◌+◌, ◌<◌, ◌≤◌, Option, Some, None, List, [], ◌∷◌, ◌++◌, ◌⊎◌, inl, inr, length, slice_get, refl, sym, ap, subst, ◌∙◌, arith}
+use Rattle.std.proofs.Common.{◌≡◌, ℕ, zero, suc, ◌+◌, ◌<◌, ◌≤◌, Option, Some, None, List, [], ◌∷◌, ◌⊎◌, inl, inr, length, slice_get, refl, sym, ap, subst, ◌∙◌, arith}
 use Rattle.std.proofs.lemmas.Bool.{cases_lt}
 use Rattle.ep_base.specs.Quorums.{size}
 use Rattle.ep_frame.specs.Spelling.{IsFrame}
@@ -10,17 +10,18 @@ use Rattle.ep_rules.specs.Journals.{Scheduled, AreNumbered, IsLocalRun, AreLocal
 use Rattle.ep_rules.proofs.Merged.{in_split, in_at, in_of}
 use Rattle.ep_rules.proofs.Played.{frames_were_sent_lem, played_match_lem}
 use Rattle.ep_rules.proofs.JournalsGrow.{numbers_are_places_lem}
-use Rattle.ep_journal.specs.Entries.{Collected, entry_of, entries_of, frames_at, entries_at, AreFrames, AreReadable, AreJournals}
+use Rattle.ep_journal.specs.Entries.{Collected, entry_of, entries_of, frames_at, entries_at, AreFrames, AreReadable, AreJournals, frame_in}
 use Rattle.ep_journal.specs.Events.{event_of, frame_at}
 use Rattle.ep_journal.specs.declared.entry.Entry.{Entry}
 use Rattle.ep_journal.specs.declared.event.Event.{Event as Happening}
 use Rattle.ep_journal.specs.declared.event.Event.TheVariants as taken
-use Rattle.ep_world.specs.Played.{Played, collected, journals_in, entries_in, numbered, frame_of, frame_at_place, message_in, places_of, IsWorld}
+use Rattle.ep_world.specs.Played.{Played, collected, journals_in, entries_in, numbered, frame_at_place, message_in, places_of, IsWorld}
 use Rattle.ep_world.specs.Playing.{given, asked}
 use Rattle.ep_world.specs.declared.place.Place.{Place}
 use Rattle.ep_world.specs.declared.world_event.WorldEvent.{WorldEvent}
 use Rattle.ep_world.specs.declared.world_event.WorldEvent.TheVariants.{Propose, GiveUp, Recover, Execute, Deliver}
 use Rattle.ep_journal.specs.Openings.{opens}
+use Rattle.ep_journal.proofs.Growing.{frame_there}
 
 abbrev pub place_of : Frame → Place
 place_of m = record { replica = m.sent.from; entry = m.entry; out = m.place }
@@ -56,13 +57,6 @@ readable_entry (y ∷ es) zero x h is =
     subst (λ (z : Entry). AreFrames z.frames) same h.1
 readable_entry (y ∷ es) (suc k) x h is = readable_entry es k x h.2 is
 
-readable_frame : (bs : List (List ℕ)) (k : ℕ) (b : List ℕ) → AreFrames bs → slice_get bs k ≡ Some b → IsFrame b
-readable_frame [] k b h is = absurd (cc)
-readable_frame (x ∷ bs) zero b h is =
-    let same : x ≡ b = (let s : Some x ≡ Some b = is in cc) in
-    subst IsFrame same h.0
-readable_frame (x ∷ bs) (suc k) b h is = readable_frame bs k b h.1 is
-
 -- each replica's entries are a journal; those of others are none
 pub readable_in : (c : Collected) (r : ℕ) → AreJournals c → AreReadable (entries_at c r)
 readable_in c r h = elim (cases_lt r (size c.faults)) [ inl lt ↦ (h.journal r lt).readable | inr ge ↦ subst AreReadable (sym (h.others r ge)) tt ]
@@ -81,7 +75,7 @@ pub record Stands (w : Played) (m : Frame) : Type 0 where
 stands_at : (w : Played) (m : Frame) (k : ℕ) (x : Entry) (b : List ℕ) → m.entry ≡ suc k → slice_get (entries_in w m.sent.from) k ≡ Some x → slice_get x.frames m.place ≡ Some b → frame_at b ≡ m → IsFrame b → Stands w m
 stands_at w m k x b number entry frame is readable = record {
   bytes = b;
-  found = ap (λ n. frame_of (numbered (entries_in w m.sent.from) n) m.place) number ∙ ap (λ (o : Option Entry). frame_of o m.place) entry ∙ frame;
+  found = ap (λ n. frame_in (numbered (entries_in w m.sent.from) n) m.place) number ∙ ap (λ (o : Option Entry). frame_in o m.place) entry ∙ frame;
   is = is;
   frame = readable;
 }
@@ -103,7 +97,7 @@ stands w h m k =
     let there : slice_get (frames_at entry.0.frames) m.place ≡ Some m = subst (λ (e : rules.Entry). slice_get e.out m.place ≡ Some m) (sym entry.2) named.place in
     let frame = frame_behind entry.0.frames m.place m there in
     stands_at w m at.0 entry.0 frame.0 (let q = named.number in omega arith) (subst (λ q. slice_get (entries_in w q) at.0 ≡ Some entry.0) (sym named.sender) entry.1) frame.1 frame.2
-    (readable_frame entry.0.frames m.place frame.0 (readable_entry (entries_in w r) at.0 entry.0 (readable_in (collected w) r h.journals) entry.1) frame.1)
+    (frame_there entry.0.frames m.place frame.0 (readable_entry (entries_in w r) at.0 entry.0 (readable_in (collected w) r h.journals) entry.1) frame.1)
 
 -- Messages by their numbers.
 

@@ -16,7 +16,7 @@ use Rattle.ep_world.specs.Played.{Played, replica_in, places_of, IsWorld}
 use Rattle.ep_world.specs.Playing.{asked, with_entry, IsNotEnabled}
 use Rattle.ep_world.specs.Replicas.{AreReplicas, AreAll, world_of, places_up_to, Took, IsUntaken}
 use Rattle.ep_world.specs.declared.place.Place.{Place}
-use Rattle.ep_world.specs.declared.cause.Cause.TheVariants.{Step}
+use Rattle.ep_world.specs.declared.world_fault.WorldFault.TheVariants.{Step}
 use Rattle.ep_world.specs.declared.world_event.WorldEvent.{WorldEvent}
 use Rattle.ep_world.proofs.Kept.{as_many, count_all, kept_at, replicas_set, first_set, all_set}
 use Rattle.ep_world.proofs.Grown.{with_same, goes_on, places_are, few_frames}
@@ -51,12 +51,6 @@ pub with_last : (k k' j : Kept) (event : Happening) (last : Entry) → (e : Entr
 with_last k k' j event last p same is =
     let at : last ≡ get_or k'.entries (length k'.entries - 1) last = subst (λ (z : Kept). last ≡ get_or z.entries (length z.entries - 1) last) same is in
     subst (λ (z : Entry). Applied k event z k') (last_is k k' event p.0 last p.1 at) p.1
-
-pub some_entries : (k k' j : Kept) (event : Happening) → (e : Entry) × Applied k event e k' → j ≡ k' → 0 < length j.entries
-some_entries k k' j event p same =
-    let n : length k'.entries ≡ length k.entries + 1 = ap length (ap (λ (z : Kept). z.entries) p.1.appended) ∙ length-append k.entries (p.0 ∷ []) in
-    let m : length j.entries ≡ length k'.entries = ap (λ (z : Kept). length z.entries) same in
-    omega arith
 
 pub few_last : (f r : ℕ) (ks : List Kept) (k k' : Kept) (event : Happening) (e : Entry) → Here f r ks k → Applied k event e k' → length e.frames ≤ size f + 1
 few_last f r ks k k' event e h a = subst (λ n. length e.frames ≤ size n + 1) h.faults (few_frames k.faults k.me (state_left k.opening k.faults k.me k.entries) e a.step)

@@ -1,14 +1,13 @@
 -- A world of replicas: their journals, and in which order it played their entries.
 use Rattle.std.specs.Prelude.{◌≡◌, ℕ, zero, suc, List, [], ◌∷◌, Option, Some, None, refl, slice_get}
 use Rattle.std.specs.Coded.{Coded, code_by, coded×, coded_ℕ, coded_list}
-use Rattle.ep_base.specs.Quorums.{size}
 use Rattle.ep_base.specs.contracts.version.Version as version_facts
 use Rattle.ep_base.specs.declared.version.Version.{Version}
 use Rattle.ep_rules.specs.Journals as rules
 use Rattle.ep_rules.specs.Journals.{Scheduled, of, acts_of, ArePlayed, AreClocked, frames_of, messages_of}
 use Rattle.ep_rules.specs.Steps.{Frame}
 use Rattle.ep_rules.specs.Worlds.{opening, IsRun, ends}
-use Rattle.ep_journal.specs.Entries.{Collected, entries_at, journals_of, AreJournals}
+use Rattle.ep_journal.specs.Entries.{Collected, entries_at, journals_of, AreJournals, frame_in}
 use Rattle.ep_journal.specs.contracts.entry.Entry as entry_facts
 use Rattle.ep_journal.specs.declared.entry.Entry.{Entry}
 use Rattle.ep_journal.specs.Openings.{Opening, opening_code, opens}
@@ -59,13 +58,9 @@ abbrev pub numbered : {X : Type 0} → List X → ℕ → Option X
 numbered xs zero = None
 numbered xs (suc n) = slice_get xs n
 
-abbrev pub frame_of : Option Entry → ℕ → Option (List ℕ)
-frame_of None out = None
-frame_of (Some e) out = slice_get e.frames out
-
 abbrev pub frame_at_place : Played → Option Place → Option (List ℕ)
 frame_at_place w None = None
-frame_at_place w (Some p) = frame_of (numbered (entries_in w p.replica) p.entry) p.out
+frame_at_place w (Some p) = frame_in (numbered (entries_in w p.replica) p.entry) p.out
 
 -- the frame of message m: the one out of the entry that its place names
 abbrev pub message_in : Played → ℕ → Option (List ℕ)

@@ -10,15 +10,15 @@
 #![tactic(auto)]
 
 mod advance;
-mod cause;
 mod place;
 mod refused;
 mod replicas;
 mod world;
 mod world_event;
+mod world_fault;
 
-pub use cause::Cause;
 pub use place::Place;
 pub use refused::Refused;
 pub use world::World;
 pub use world_event::WorldEvent;
+pub use world_fault::WorldFault;

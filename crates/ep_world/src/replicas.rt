@@ -4,9 +4,9 @@ ghost use Rattle.std.specs.Prelude.{◌≡◌, ◌<◌, ◌≤◌, ℕ, [], slic
 ghost use Rattle.ep_base.specs.Quorums.{size};
 ghost use Rattle.ep_base.specs.declared.version_kind.VersionKind.TheVariants.{V2, V3};
 ghost use Rattle.ep_frame.specs.Meaning.{origin_at};
-ghost use Rattle.ep_journal.specs.Entries.{IsJournal, all_entries, first_opening};
+ghost use Rattle.ep_journal.specs.Entries.{IsJournal, all_entries, first_opening, frame_in};
 ghost use Rattle.ep_journal.specs.Openings.{no_opening};
-ghost use Rattle.ep_world.specs.Played.{numbered, frame_of};
+ghost use Rattle.ep_world.specs.Played.{numbered};
 ghost use Rattle.ep_replica.specs.Kept.{begun, first_version};
 ghost use Rattle.ep_world.specs.Replicas.{AreAll, AreTheirs};
 
@@ -14,7 +14,7 @@ use crate::place::Place;
 use ep_base::{Generation, ReplicaId, Size};
 use ep_frame::Frame;
 use ep_journal::{Entry, Journal, Opening};
-use ep_replica::{OpeningFault, Replica};
+use ep_replica::{OpenedFault, Replica};
 use std::alloc::{AllocError, Global};
 
 /// The replica of this number, which is one of the cluster's, of version 2, before any event.
@@ -64,8 +64,8 @@ fn opened(
     let opening = opening.copy(alloc)?;
     match Replica::opened(alloc, cluster, me, generation, opening) {
         Ok(replica) => Ok(replica),
-        Err(OpeningFault::Memory) => Err(AllocError),
-        Err(OpeningFault::OutOfRange) => unreachable!(),
+        Err(OpenedFault::Memory) => Err(AllocError),
+        Err(OpenedFault::OutOfRange) => unreachable!(),
     }
 }
 
@@ -140,7 +140,7 @@ pub(crate) fn entry_at<'a>(
 
 /// The frame at this place.
 pub(crate) fn frame_at<'a>(replicas: &'a [Replica], place: Place) -> Option<&'a Frame>
-    ensures { option_copied result ≡ frame_of (numbered (slice_index_or (all_entries replicas.now) place.replica []) place.entry) place.out }
+    ensures { option_copied result ≡ frame_in (numbered (slice_index_or (all_entries replicas.now) place.replica []) place.entry) place.out }
 {
     let Some(entry) = entry_at(replicas, place.replica, place.entry) else {
         return None;

@@ -3,13 +3,13 @@
 ghost use Rattle.std.specs.Prelude.{◌≡◌};
 
 use crate::advance::advance;
-use crate::cause::Cause;
 use crate::place::Place;
 use crate::refused::Refused;
 use crate::replicas::{
     all_fresh, all_opened, entry_at, find, frame_at, into_journals, numbered_place, receiver,
 };
 use crate::world_event::WorldEvent;
+use crate::world_fault::WorldFault;
 use ep_base::{Generation, ReplicaId, Size, Version};
 use ep_frame::Frame;
 use ep_journal::{Entry, Event, Journals, Opening};
@@ -100,7 +100,7 @@ impl World {
     }
 
     /// Plays one event: one step of the rule book's world. What is refused leaves the world as it was; what was committed stays so.
-    pub fn step(&mut self, event: WorldEvent) -> Result<(), Cause>
+    pub fn step(&mut self, event: WorldEvent) -> Result<(), WorldFault>
         ensures ok { OnOk result (Happens self.old event self.new) }
         ensures refused { IfErr result (λ cause. IsNotEnabled self.old event cause) }
         ensures err { OnErr result (self.new ≡ self.old) }
@@ -134,7 +134,7 @@ impl World {
     }
 
     /// Gives the message of this number to its receiver: as `step` does, of `Deliver`.
-    pub fn deliver(&mut self, message: u64) -> Result<(), Cause>
+    pub fn deliver(&mut self, message: u64) -> Result<(), WorldFault>
         ensures ok { OnOk result (Happens self.old (Deliver message) self.new) }
         ensures refused { IfErr result (λ cause. IsNotEnabled self.old (Deliver message) cause) }
         ensures err { OnErr result (self.new ≡ self.old) }
@@ -145,12 +145,12 @@ impl World {
     }
 
     /// The replica that handles a message, and the message's frame.
-    fn receive(&self, message: u64) -> Result<(ReplicaId, Frame), Cause>
+    fn receive(&self, message: u64) -> Result<(ReplicaId, Frame), WorldFault>
         ensures ok { IfOk result (λ p. asked self.now (Deliver message) ≡ Some (p.0, Handle p.1)) }
         ensures refused { IfErr result (λ cause. IsNotEnabled self.now (Deliver message) cause) }
     {
         let Some(frame) = self.message(message) else {
-            return Err(Cause::NoSuchMessage(message));
+            return Err(WorldFault::NoSuchMessage(message));
         };
         let to = receiver(frame);
         let frame = frame.clone()?;
@@ -159,7 +159,7 @@ impl World {
 
     /// The replica takes what some event of the world asks of it.
     #[inline(always)]
-    fn take(&mut self, replica: ReplicaId, taken: Event) -> Result<(), Cause>
+    fn take(&mut self, replica: ReplicaId, taken: Event) -> Result<(), WorldFault>
         requires { (event : Asked) × (asked self.old event ≡ Some (replica, taken)) }
         ensures ok { OnOk result ((event : Asked) → asked self.old event ≡ Some (replica, taken) → Happens self.old event self.new) }
         ensures refused { IfErr result (λ cause. (event : Asked) → asked self.old event ≡ Some (replica, taken) → IsNotEnabled self.old event cause) }
@@ -175,12 +175,12 @@ impl World {
             taken,
         ) {
             Ok(()) => Ok(()),
-            Err(fault) => Err(Cause::Step(fault)),
+            Err(fault) => Err(WorldFault::Step(fault)),
         }
     }
 
     /// Plays a copy of the event.
-    fn step_copy(&mut self, event: &WorldEvent) -> Result<(), Cause>
+    fn step_copy(&mut self, event: &WorldEvent) -> Result<(), WorldFault>
         ensures ok { OnOk result (Happens self.old event.now self.new) }
         ensures refused { IfErr result (λ cause. IsNotEnabled self.old event.now cause) }
         ensures err { OnErr result (self.new ≡ self.old) }

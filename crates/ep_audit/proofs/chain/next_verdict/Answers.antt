@@ -1,5 +1,5 @@
 use Rattle.std.proofs.Common.{◌≡◌, ◌<◌, ◌-◌, ℕ, List, Some, length, slice_get, suc, arith}
-use Rattle.ep_audit.specs.declared.link.Link.{Link}
+use Rattle.ep_audit.specs.declared.chain_link.ChainLink.{ChainLink}
 use Rattle.ep_audit.specs.declared.verdict.Verdict.{Verdict}
 use Rattle.ep_audit.proofs.Differing.{at_place}
 use Rattle.ep_audit.proofs.Linking.{first_judged, first_unjudged, next_judged, next_unfollowed}
@@ -17,7 +17,7 @@ returns-then-place-eq0-clause-refused c =
 
 pub returns-clause-ok : goal.returns-clause-ok
 returns-clause-ok c =
-    let links : List Link = c.args.links.now in
+    let links : List ChainLink = c.args.links.now in
     let vs : List Verdict = c.args.verdicts.now in
     let p : ℕ = c.args.place in
     let lt : p < length links = c.requires.there in
@@ -29,7 +29,7 @@ returns-clause-ok c =
 
 pub returns-clause-refused : goal.returns-clause-refused
 returns-clause-refused c =
-    let links : List Link = c.args.links.now in
+    let links : List ChainLink = c.args.links.now in
     let vs : List Verdict = c.args.verdicts.now in
     let p : ℕ = c.args.place in
     let lt : p < length links = c.requires.there in

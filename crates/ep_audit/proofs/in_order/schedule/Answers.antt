@@ -5,7 +5,7 @@ use Rattle.ep_rules.specs.Journals.{Journals}
 use Rattle.ep_journal.specs.Entries.{journals_of}
 use Rattle.ep_journal.specs.Openings.{opens}
 use Rattle.ep_audit.specs.Turns.{least_turn, least_of, rests, AreFirst}
-use Rattle.ep_audit.specs.declared.turn.Turn.{Turn}
+use Rattle.ep_audit.specs.declared.entry_place.EntryPlace.{EntryPlace}
 use Rattle.ep_audit.proofs.Turning.{Remains, left_below, turn_below, fewer_left, remains_first, remains_next, remains_all, zero_there, least_first, first_begins, first_next}
 use Rattle.ep_audit.proofs.in_order.schedule.Goals as goal
 
@@ -23,9 +23,9 @@ pub index_mut-requires : goal.index_mut-requires
 index_mut-requires c =
     let f : ℕ = c.args.journals.now.faults in
     let journal : Journals = journals_of c.args.journals.now in
-    let t : Turn = c.in-Some.turn in
+    let t : EntryPlace = c.in-Some.turn in
     let done : List ℕ = c.loop-turn.done.items in
-    let e : Some t ≡ least_turn (size f) (rests journal done) = c.in-Some.ensures ∙ ap (λ (ts : List (Option Turn)). least_of (length ts) ts) c.deref.ensures.value ∙ least_first (size f) (rests journal done) c.loop-turn.turns.items c.loop-turn.invariant.firsts in
+    let e : Some t ≡ least_turn (size f) (rests journal done) = c.in-Some.ensures ∙ ap (λ (ts : List (Option EntryPlace)). least_of (length ts) ts) c.deref.ensures.value ∙ least_first (size f) (rests journal done) c.loop-turn.turns.items c.loop-turn.invariant.firsts in
     let below : t.replica < length done = turn_below (opens c.args.journals.now.opening) f journal c.are_local_runs.ensures done c.loop-turn.invariant.replicas t e in
     omega (arith, below, c.from-place.ensures, c.index.ensures.value, c.loop-turn.done.ok.0)
 
@@ -33,9 +33,9 @@ pub index_mut-requires-in-Some : goal.index_mut-requires-in-Some
 index_mut-requires-in-Some c =
     let f : ℕ = c.args.journals.now.faults in
     let journal : Journals = journals_of c.args.journals.now in
-    let t : Turn = c.in-Some.turn in
+    let t : EntryPlace = c.in-Some.turn in
     let done : List ℕ = c.loop-turn.done.items in
-    let e : Some t ≡ least_turn (size f) (rests journal done) = c.in-Some.ensures ∙ ap (λ (ts : List (Option Turn)). least_of (length ts) ts) c.deref.ensures.value ∙ least_first (size f) (rests journal done) c.loop-turn.turns.items c.loop-turn.invariant.firsts in
+    let e : Some t ≡ least_turn (size f) (rests journal done) = c.in-Some.ensures ∙ ap (λ (ts : List (Option EntryPlace)). least_of (length ts) ts) c.deref.ensures.value ∙ least_first (size f) (rests journal done) c.loop-turn.turns.items c.loop-turn.invariant.firsts in
     let below : t.replica < length done = turn_below (opens c.args.journals.now.opening) f journal c.are_local_runs.ensures done c.loop-turn.invariant.replicas t e in
     let many : length c.loop-turn.turns.items ≡ size f = c.loop-turn.invariant.firsts.0 in
     let long : length done ≡ size f = c.loop-turn.invariant.replicas in
@@ -45,9 +45,9 @@ pub first-requires : goal.first-requires
 first-requires c =
     let f : ℕ = c.args.journals.now.faults in
     let journal : Journals = journals_of c.args.journals.now in
-    let t : Turn = c.in-Some.turn in
+    let t : EntryPlace = c.in-Some.turn in
     let done : List ℕ = c.loop-turn.done.items in
-    let e : Some t ≡ least_turn (size f) (rests journal done) = c.in-Some.ensures ∙ ap (λ (ts : List (Option Turn)). least_of (length ts) ts) c.deref.ensures.value ∙ least_first (size f) (rests journal done) c.loop-turn.turns.items c.loop-turn.invariant.firsts in
+    let e : Some t ≡ least_turn (size f) (rests journal done) = c.in-Some.ensures ∙ ap (λ (ts : List (Option EntryPlace)). least_of (length ts) ts) c.deref.ensures.value ∙ least_first (size f) (rests journal done) c.loop-turn.turns.items c.loop-turn.invariant.firsts in
     let below : t.replica < length done = turn_below (opens c.args.journals.now.opening) f journal c.are_local_runs.ensures done c.loop-turn.invariant.replicas t e in
     let long : length done ≡ size f = c.loop-turn.invariant.replicas in
     omega arith
@@ -56,9 +56,9 @@ pub loop-turn-smaller : goal.loop-turn-smaller
 loop-turn-smaller c =
     let f : ℕ = c.args.journals.now.faults in
     let journal : Journals = journals_of c.args.journals.now in
-    let t : Turn = c.in-Some.turn in
+    let t : EntryPlace = c.in-Some.turn in
     let done : List ℕ = c.loop-turn.done.items in
-    let e : Some t ≡ least_turn (size f) (rests journal done) = c.in-Some.ensures ∙ ap (λ (ts : List (Option Turn)). least_of (length ts) ts) c.deref.ensures.value ∙ least_first (size f) (rests journal done) c.loop-turn.turns.items c.loop-turn.invariant.firsts in
+    let e : Some t ≡ least_turn (size f) (rests journal done) = c.in-Some.ensures ∙ ap (λ (ts : List (Option EntryPlace)). least_of (length ts) ts) c.deref.ensures.value ∙ least_first (size f) (rests journal done) c.loop-turn.turns.items c.loop-turn.invariant.firsts in
     let at : c.from-place.result ≡ t.replica = c.from-place.ensures ∙ c.index.ensures.value in
     subst (λ r. left_below (size f) (rests journal (set done r t.number)) < left_below (size f) (rests journal done)) (sym at)
     (fewer_left (opens c.args.journals.now.opening) f journal c.are_local_runs.ensures done c.loop-turn.invariant.replicas t e)
@@ -67,10 +67,10 @@ pub loop-turn-preserved : goal.loop-turn-preserved
 loop-turn-preserved c =
     let f : ℕ = c.args.journals.now.faults in
     let journal : Journals = journals_of c.args.journals.now in
-    let t : Turn = c.in-Some.turn in
+    let t : EntryPlace = c.in-Some.turn in
     let done : List ℕ = c.loop-turn.done.items in
     let made : List (ℕ × ℕ) = c.loop-turn.order.items in
-    let e : Some t ≡ least_turn (size f) (rests journal done) = c.in-Some.ensures ∙ ap (λ (ts : List (Option Turn)). least_of (length ts) ts) c.deref.ensures.value ∙ least_first (size f) (rests journal done) c.loop-turn.turns.items c.loop-turn.invariant.firsts in
+    let e : Some t ≡ least_turn (size f) (rests journal done) = c.in-Some.ensures ∙ ap (λ (ts : List (Option EntryPlace)). least_of (length ts) ts) c.deref.ensures.value ∙ least_first (size f) (rests journal done) c.loop-turn.turns.items c.loop-turn.invariant.firsts in
     let at : c.from-place.result ≡ t.replica = c.from-place.ensures ∙ c.index.ensures.value in
     record {
       replicas = length-set done c.from-place.result t.number ∙ c.loop-turn.invariant.replicas;
@@ -87,5 +87,5 @@ returns c = λ s h.
     let f : ℕ = c.args.journals.now.faults in
     let journal : Journals = journals_of c.args.journals.now in
     let done : List ℕ = c.loop-turn.done.items in
-    let e : None ≡ least_turn (size f) (rests journal done) = sym c.in_default.is ∙ c.least.ensures ∙ ap (λ (ts : List (Option Turn)). least_of (length ts) ts) c.deref.ensures.value ∙ least_first (size f) (rests journal done) c.loop-turn.turns.items c.loop-turn.invariant.firsts in
+    let e : None ≡ least_turn (size f) (rests journal done) = sym c.in_default.is ∙ c.least.ensures ∙ ap (λ (ts : List (Option EntryPlace)). least_of (length ts) ts) c.deref.ensures.value ∙ least_first (size f) (rests journal done) c.loop-turn.turns.items c.loop-turn.invariant.firsts in
     remains_all (opens c.args.journals.now.opening) f journal done c.loop-turn.order.items s c.are_local_runs.ensures e (c.loop-turn.invariant.remains s h)

@@ -1,4 +1,4 @@
-use Rattle.ep_svg.proofs.Joining.{three}
+use Rattle.ep_draw.proofs.Joining.{three}
 use Rattle.ep_draw.specs.Drawn.{classed, spot, titled}
 use Rattle.ep_draw.proofs.dots.push_dot.Goals as goal
 

@@ -1,7 +1,7 @@
 use Rattle.std.proofs.Common.{codes}
 use Rattle.std.specs.Prelude.{decimal}
-use Rattle.ep_svg.specs.Shapes.{attribute}
-use Rattle.ep_svg.proofs.Joining.{three}
+use Rattle.ep_draw.specs.Shapes.{attribute}
+use Rattle.ep_draw.proofs.Joining.{three}
 use Rattle.ep_draw.proofs.drawing.push_viewed.Goals as goal
 
 pub returns : goal.returns

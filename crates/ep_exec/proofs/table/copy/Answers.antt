@@ -3,8 +3,8 @@ use Rattle.std.specs.Global.{Global}
 use Rattle.std.specs.Prelude.{slice_get}
 use Rattle.ep_rules.specs.OneMap.{with_key}
 use Rattle.ep_exec.specs.Table.{Entry, contents_of}
-use Rattle.ep_exec.proofs.Entries.{drop_here}
 use Rattle.ep_exec.proofs.table.copy.Goals as goal
+use Rattle.ep_base.proofs.Lists.{drop_here}
 
 pub loop-index-preserved : goal.loop-index-preserved
 loop-index-preserved c =

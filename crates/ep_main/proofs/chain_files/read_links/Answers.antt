@@ -1,5 +1,5 @@
 use Rattle.std.proofs.Common.{rules, ◌≡◌, ◌<◌, ◌++◌, ◌∷◌, [], ℕ, List, length, length-append, string_bytes, sym, ap, subst, arith}
-use Rattle.ep_audit.specs.declared.link.Link.{Link}
+use Rattle.ep_audit.specs.declared.chain_link.ChainLink.{ChainLink}
 use Rattle.std.proofs.lemmas.Result.{err_from_is_err_and}
 use Rattle.ep_main.specs.Chains.{AreRead, IsNoFile}
 use Rattle.ep_main.proofs.Linked.{read_more, stopped_at}
@@ -20,8 +20,8 @@ returns-in_err-read_link-clause-err g c =
 
 pub loop-name-preserved : goal.loop-name-preserved
 loop-name-preserved g c =
-    let before : List Link = c.loop-name.links.items in
-    let link : Link = c.in_ok-read_link.field-0 in
+    let before : List ChainLink = c.loop-name.links.items in
+    let link : ChainLink = c.in_ok-read_link.field-0 in
     let more : c.push_reserved.new.self.items ≡ before ++ link ∷ [] = search rules in
     let size : length c.push_reserved.new.self.items ≡ length (before ++ link ∷ []) = ap length more in
     record { count = omega (arith, size, length-append before (link ∷ []), c.loop-name.invariant.count); read = subst AreRead (sym more) (read_more before link c.loop-name.invariant.read c.in_ok-read_link.ensures.ok) }

@@ -1,6 +1,6 @@
 use Rattle.std.proofs.Common.{◌≡◌, ◌++◌, drop}
-use Rattle.ep_node.specs.Telling.{frames_of}
 use Rattle.ep_node.proofs.telling.frames_of.Given as goal
+use Rattle.ep_journal.specs.Entries.{frames_of}
 
 -- whatever the rest sends completes the whole
 abbrev pub invariant-loop-entry : goal.invariant-loop-entry

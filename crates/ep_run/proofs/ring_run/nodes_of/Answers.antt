@@ -4,7 +4,8 @@ use Rattle.ep_base.specs.declared.version_kind.VersionKind.TheVariants.{V1, V2, 
 use Rattle.ep_host.specs.Host.{StartsAs}
 use Rattle.ep_journal.specs.Openings.{Opening, no_opening}
 use Rattle.ep_replay.specs.Heads.{opening_of}
-use Rattle.ep_run.proofs.Beginning.{not_first, with_nothing}
+use Rattle.ep_replay.proofs.Beginning.{not_first}
+use Rattle.ep_run.proofs.Beginning.{with_nothing}
 use Rattle.ep_run.proofs.ring_run.nodes_of.Goals as goal
 
 pub unreachable-requires : goal.unreachable-requires

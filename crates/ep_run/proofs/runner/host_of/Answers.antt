@@ -2,7 +2,8 @@ use Rattle.std.proofs.Common.{◌≡◌, ℕ, refl, sym, subst, IfOk, ◌∙◌}
 use Rattle.ep_base.specs.declared.version_kind.VersionKind.TheVariants.{V1, V2, V3}
 use Rattle.ep_journal.specs.Openings.{no_opening}
 use Rattle.ep_replay.specs.Heads.{opening_of}
-use Rattle.ep_run.proofs.Beginning.{not_first, with_nothing, second_start, third_start, locks_begun}
+use Rattle.ep_replay.proofs.Beginning.{not_first}
+use Rattle.ep_run.proofs.Beginning.{with_nothing, second_start, third_start, locks_begun}
 use Rattle.ep_run.proofs.runner.host_of.Goals as goal
 
 pub unreachable-requires : goal.unreachable-requires

@@ -1,6 +1,6 @@
 use Rattle.std.proofs.Common.{rules, ◌≡◌, ◌<◌, ◌≤◌, ℕ, List, length, string_bytes, subst}
 use Rattle.ep_folder.specs.Paths.{file_path}
-use Rattle.ep_server.proofs.FoldersCollected.{all_named, counted, one_more}
+use Rattle.ep_server.proofs.FilesGiven.{all_named, counted, one_more}
 use Rattle.ep_server.proofs.generation_collecting.paths_of.Goals as goal
 
 pub loop-folder-preserved : goal.loop-folder-preserved

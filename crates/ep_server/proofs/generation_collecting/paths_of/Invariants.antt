@@ -1,5 +1,5 @@
 use Rattle.std.proofs.Common.{◌≡◌, length, map, string_bytes, take}
-use Rattle.ep_server.specs.CollectedOf.{paths_in}
+use Rattle.ep_server.specs.NamedFiles.{paths_in}
 use Rattle.ep_server.proofs.generation_collecting.paths_of.Given as goal
 
 abbrev pub invariant-loop-folder : goal.invariant-loop-folder

@@ -1,11 +1,11 @@
 use Rattle.ep_server.proofs.InFolders.{both_cuts, one_cut}
 use Rattle.ep_server.proofs.in_folder.ready.Goals as goal
 
-pub returns-in-Ok-true-clause-told : goal.returns-in-Ok-true-clause-told
-returns-in-Ok-true-clause-told g c = both_cuts _ _ _ _ _ _ c.open_stage.ensures.told c.ready_again.ensures.told
+pub returns-in-Ok-Some-clause-told : goal.returns-in-Ok-Some-clause-told
+returns-in-Ok-Some-clause-told g c = both_cuts _ _ _ _ _ _ c.open_stage.ensures.told c.ready_next.ensures.told
 
-pub returns-in-Ok-false-clause-told : goal.returns-in-Ok-false-clause-told
-returns-in-Ok-false-clause-told g c = one_cut _ _ _ _ c.open_stage.ensures.told
+pub returns-in-Ok-None-clause-told : goal.returns-in-Ok-None-clause-told
+returns-in-Ok-None-clause-told g c = one_cut _ _ _ _ c.open_stage.ensures.told
 
 pub returns-in-Err-clause-told : goal.returns-in-Err-clause-told
 returns-in-Err-clause-told g c = one_cut _ _ _ _ c.open_stage.ensures.told

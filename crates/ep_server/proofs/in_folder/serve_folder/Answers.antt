@@ -1,4 +1,4 @@
-use Rattle.std.proofs.Common.{◌++◌, Err}
+use Rattle.std.proofs.Common.{◌++◌, Err, refl}
 use Rattle.std.proofs.KnownBytes.{Appends-nil}
 use Rattle.ep_server.proofs.InFolders.{has_served_there, unready_there}
 use Rattle.ep_server.proofs.Serving.{ends_after}
@@ -10,11 +10,10 @@ returns-in-Ok g c = λ zs left. record {
   first = c.in-Ok.ensures.told.first;
   then_ = c.in-Ok.ensures.told.then_;
   outcome = c.served-outcome.result;
-  happens = has_served_there _ _ _ _ c.in-Ok.node zs _ _ _ c.in-Ok.ensures.ok.1 (c.served-outcome.ensures zs left);
+  happens = has_served_there _ _ _ _ c.in-Ok.node zs _ _ _ c.in-Ok.ensures.ok.1 (c.served-outcome.ensures.over zs left);
   concluded =
-      ends_after c.served-outcome.result c.concluded.result (g.F.Sink.held c.args.fault_writer.now) (g.F.Sink.held c.ready.new.fault_writer) (g.F.Sink.held c.concluded.new.fault_writer)
-      (g.F.Sink.has_failed c.args.fault_writer.now) (g.F.Sink.has_failed c.ready.new.fault_writer) (g.F.Sink.has_failed c.concluded.new.fault_writer)
-      (told_first c.in-Ok.ensures.told.first ++ told_first c.in-Ok.ensures.told.then_) c.in-Ok.ensures.told.told c.concluded.ensures.for_good c.concluded.ensures.concluded;
+      ends_after g.F.Sink.held g.F.Sink.has_failed c.served-outcome.result c.concluded.result c.args.streams.now.fault_writer c.ready.new.fault_writer _ c.concluded.new.fault_writer
+      (told_first c.in-Ok.ensures.told.first ++ told_first c.in-Ok.ensures.told.then_) c.in-Ok.ensures.told.told c.served-outcome.ensures.untold c.concluded.ensures.for_good c.concluded.ensures.concluded;
 }
 
 pub returns-in-Err : goal.returns-in-Err
@@ -24,7 +23,6 @@ returns-in-Err g c = λ zs left. record {
   outcome = Err c.in-Err.fault;
   happens = unready_there _ _ _ _ zs c.in-Err.fault _ _ c.in-Err.ensures.err (Appends-nil _);
   concluded =
-      ends_after (Err c.in-Err.fault) c.concluded-in-Err.result (g.F.Sink.held c.args.fault_writer.now) (g.F.Sink.held c.ready.new.fault_writer) (g.F.Sink.held c.concluded-in-Err.new.fault_writer)
-      (g.F.Sink.has_failed c.args.fault_writer.now) (g.F.Sink.has_failed c.ready.new.fault_writer) (g.F.Sink.has_failed c.concluded-in-Err.new.fault_writer)
-      (told_first c.in-Err.ensures.told.first ++ told_first c.in-Err.ensures.told.then_) c.in-Err.ensures.told.told c.concluded-in-Err.ensures.for_good c.concluded-in-Err.ensures.concluded;
+      ends_after g.F.Sink.held g.F.Sink.has_failed (Err c.in-Err.fault) c.concluded-in-Err.result c.args.streams.now.fault_writer c.ready.new.fault_writer _ c.concluded-in-Err.new.fault_writer
+      (told_first c.in-Err.ensures.told.first ++ told_first c.in-Err.ensures.told.then_) c.in-Err.ensures.told.told refl c.concluded-in-Err.ensures.for_good c.concluded-in-Err.ensures.concluded;
 }

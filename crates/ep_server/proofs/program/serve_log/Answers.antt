@@ -1,7 +1,7 @@
 use Rattle.std.proofs.Common.{None, Err, refl}
 use Rattle.std.proofs.KnownBytes.{Appends-nil}
 use Rattle.ep_server.proofs.Serving.{concludes_after, has_served}
-use Rattle.ep_server.specs.declared.fault.Fault.TheVariants.{Open}
+use Rattle.ep_server.specs.declared.server_fault.ServerFault.TheVariants.{Open}
 use Rattle.ep_server.proofs.program.serve_log.Goals as goal
 
 pub returns-in-Ok : goal.returns-in-Ok
@@ -11,8 +11,8 @@ returns-in-Ok g c = λ bytes zs was left.
     record {
       cut = c.in-Ok.node.cut;
       outcome = c.served-outcome.result;
-      happens = has_served _ _ _ c.in-Ok.node bytes zs written.0 _ _ _ _ ok.1 ok.2 c.in-Ok.ensures.origin (ok.3 bytes was) written.1 written.2 (c.served-outcome.ensures zs left);
-      concluded = concludes_after _ _ _ _ _ _ _ _ _ _ _ c.cut.ensures c.tell_first.ensures c.concluded.ensures.for_good c.concluded.ensures.concluded;
+      happens = has_served _ _ _ c.in-Ok.node bytes zs written.0 _ _ _ _ ok.1 ok.2 c.in-Ok.ensures.origin (ok.3 bytes was) written.1 written.2 (c.served-outcome.ensures.over zs left);
+      concluded = concludes_after g.F.Sink.held g.F.Sink.has_failed _ _ _ _ _ _ _ _ _ c.cut.ensures c.tell_first.ensures c.served-outcome.ensures.untold c.concluded.ensures.for_good c.concluded.ensures.concluded;
     }
 
 pub returns-in-Err : goal.returns-in-Err

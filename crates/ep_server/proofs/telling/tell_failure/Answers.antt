@@ -1,4 +1,4 @@
-use Rattle.ep_server.proofs.Puts.{puts_third}
+use Rattle.ep_cli.proofs.Puts.{puts_third}
 use Rattle.ep_server.proofs.telling.tell_failure.Goals as goal
 
 pub returns : goal.returns

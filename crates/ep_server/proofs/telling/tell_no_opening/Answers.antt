@@ -1,5 +1,5 @@
 use Rattle.std.proofs.Common.{refl}
-use Rattle.ep_server.proofs.Puts.{puts_in_two}
+use Rattle.ep_cli.proofs.Puts.{puts_in_two}
 use Rattle.ep_server.proofs.telling.tell_no_opening.Goals as goal
 
 pub returns : goal.returns

@@ -1,16 +1,12 @@
-use Rattle.std.proofs.Common.{◌≡◌, ◌<◌, ◌+◌, ◌∙◌, ℕ, List, Some, sym, ap, subst, drop, ◌∷◌, ◌++◌, length, slice_index_or}
-use Rattle.std.proofs.lemmas.Option.{slice_get-get_or}
+use Rattle.std.proofs.Common.{◌+◌, ◌∙◌, sym, ap, subst, drop, ◌++◌}
 use Rattle.ep_base.specs.Deps.{IsRising}
+use Rattle.ep_base.proofs.Lists.{left_at}
 use Rattle.ep_rules.specs.InterferenceSet.{touches}
 use Rattle.ep_rules.specs.Maps.{get}
 use Rattle.ep_space.specs.Gathering.{gather_all}
 use Rattle.ep_space.specs.Keys.{ArePlain}
-use Rattle.ep_space.proofs.Gathering.{drop_here, rising_front, rising_gathered}
+use Rattle.ep_space.proofs.Gathering.{rising_front, rising_gathered}
 use Rattle.ep_space.proofs.gathered.gathered_run.Goals as goal
-
--- what is left at a place, where the instance there is named
-left_at : (run : List ℕ) (k : ℕ) (i : ℕ) → k < length run → i ≡ slice_index_or run k i → drop k run ≡ i ∷ drop (k + 1) run
-left_at run k i inside named = drop_here run k i (slice_get-get_or run k i inside ∙ ap Some (sym named))
 
 pub gather-requires-clause-rising : goal.gather-requires-clause-rising
 gather-requires-clause-rising c =

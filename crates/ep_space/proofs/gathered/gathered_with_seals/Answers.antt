@@ -6,15 +6,16 @@ use Rattle.ep_rules.specs.InterferenceSet.{touches}
 use Rattle.ep_space.specs.Gathering.{gather_all, next_attrs}
 use Rattle.ep_space.specs.Keys.{holders, holders_of}
 use Rattle.ep_space.proofs.Bringing.{on_value}
-use Rattle.ep_space.proofs.Gathering.{gathered-keys, none_of, plain_holders, union_none}
+use Rattle.ep_space.proofs.Gathering.{gathered-keys, plain_holders, union_none}
 use Rattle.ep_space.proofs.Holders.{rising-holders, rising-holders_of}
 use Rattle.ep_space.proofs.gathered.gathered_with_seals.Goals as goal
+use Rattle.ep_space.proofs.Entered.{empty_of}
 
 pub gathered_plain-requires-clause-rising : goal.gathered_plain-requires-clause-rising
 gathered_plain-requires-clause-rising c = subst IsRising (sym c.requires.holders) (rising-holders_of (keys_of c.args.command.now) c.args.records.now.held)
 
 pub gathered_plain-requires-clause-plain : goal.gathered_plain-requires-clause-plain
-gathered_plain-requires-clause-plain c = plain_holders c.args.command.now c.args.records.now.held c.args.run.now (sym c.seals-seals.ensures ∙ none_of c.seals-seals.result.now c.if-is_empty.ensures) c.requires.holders
+gathered_plain-requires-clause-plain c = plain_holders c.args.command.now c.args.records.now.held c.args.run.now (sym c.seals-seals.ensures ∙ empty_of c.seals-seals.result.now c.if-is_empty.ensures) c.requires.holders
 
 pub returns-then-is_empty : goal.returns-then-is_empty
 returns-then-is_empty c =

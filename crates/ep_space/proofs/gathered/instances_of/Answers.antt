@@ -4,9 +4,9 @@ use Rattle.std.specs.Option.{option_map}
 use Rattle.std.specs.Map.Iter.{deref_pair}
 use Rattle.ep_base.specs.Deps.{IsRising, union}
 use Rattle.ep_base.proofs.Union.{IsRising-union}
+use Rattle.ep_base.proofs.Lists.{drop_here}
 use Rattle.ep_rules.specs.declared.record.Record.{Record}
 use Rattle.ep_space.specs.Gathering.{recorded_in}
-use Rattle.ep_space.proofs.Gathering.{drop_here}
 use Rattle.ep_space.proofs.gathered.instances_of.Goals as goal
 
 rises : (b : Bool) (xs : List ℕ) (i : ℕ) → IsRising xs → IsRising (cond b (union xs (i ∷ [])) xs)

@@ -1,43 +1,40 @@
-use Rattle.std.proofs.Common.{◌∙◌, List, ℕ, ap, cond, refl, subst, sym, Result, Ok, Err, OnErr}
+use Rattle.std.proofs.Common.{◌≡◌, ◌∙◌, List, ℕ, true, false, ap, cond, refl, subst, sym}
 use Rattle.ep_base.specs.Attributes.{same_list}
 use Rattle.ep_base.specs.Deps.{IsRising}
-use Rattle.ep_space.specs.Index.{run, with_instance}
-use Rattle.ep_space.proofs.Bringing.{on_ok}
-use Rattle.ep_space.proofs.Entered.{empty_of, some_of, run-of_some, run-of_key, run-of_seals, run-same}
+use Rattle.ep_space.specs.Index.{run, has_room, with_instance}
+use Rattle.ep_space.proofs.Entered.{empty_of, some_of, run-of_some, run-of_key, run-of_seals}
+use Rattle.ep_space.proofs.Room.{has_room-some, others_runs, others_seals, room_of_seals}
 use Rattle.ep_space.proofs.index.add.Goals as goal
 
-on_err : {X E : Type 0} {P Q : Type 0} (r : Result X E) → (P → Q) → OnErr r P → OnErr r Q
-on_err (Ok x) f h = h
-on_err (Err e) f h = f h
+pub insert-requires-clause-rising : goal.insert-requires-clause-rising
+insert-requires-clause-rising c = subst (λ k. IsRising (run c.args.index.now k)) (empty_of c.args.key.now c.if-is_empty.ensures) c.requires.rising
 
-pub insert-requires : goal.insert-requires
-insert-requires c = subst (λ k. IsRising (run c.args.index.now k)) (empty_of c.args.key.now c.if-is_empty.ensures) c.requires
+pub insert-requires-clause-room : goal.insert-requires-clause-room
+insert-requires-clause-room c = room_of_seals c.args.index.now (subst (λ k. has_room c.args.index.now k ≡ true) (empty_of c.args.key.now c.if-is_empty.ensures) c.requires.room)
 
-pub returns-then-is_empty-clause-ok : goal.returns-then-is_empty-clause-ok
-returns-then-is_empty-clause-ok c =
+pub returns-then-is_empty-clause-runs : goal.returns-then-is_empty-clause-runs
+returns-then-is_empty-clause-runs c = λ k.
     let x = c.args.index.now in
-    on_ok c.insert.result
-    (λ h k.
-    run-of_seals (with_instance c.args.id) x (record { runs = x.runs; seals = c.insert.new.run }) h refl k
-    ∙ ap (λ (z : List ℕ). cond (same_list k z) (with_instance c.args.id (run x k)) (run x k)) (sym (empty_of c.args.key.now c.if-is_empty.ensures)))
-    c.insert.ensures.ok
+    run-of_seals (with_instance c.args.id) x (record { runs = x.runs; seals = c.insert.new.run }) c.insert.ensures refl k
+    ∙ ap (λ (z : List ℕ). cond (same_list k z) (with_instance c.args.id (run x k)) (run x k)) (sym (empty_of c.args.key.now c.if-is_empty.ensures))
 
-pub returns-then-is_empty-clause-err : goal.returns-then-is_empty-clause-err
-returns-then-is_empty-clause-err c =
+pub returns-then-is_empty-clause-others : goal.returns-then-is_empty-clause-others
+returns-then-is_empty-clause-others c = λ k other.
     let x = c.args.index.now in
-    on_err c.insert.result (λ h. run-same x (record { runs = x.runs; seals = c.insert.new.run }) h (λ k. refl)) c.insert.ensures.err
+    others_seals x (record { runs = x.runs; seals = c.insert.new.run }) refl k (subst (λ (z : List ℕ). same_list k z ≡ false) (empty_of c.args.key.now c.if-is_empty.ensures) other)
 
-pub add_under-requires : goal.add_under-requires
-add_under-requires c = subst IsRising (run-of_some c.args.index.now c.args.key.now c.if-is_empty.ensures) c.requires
+pub add_under-requires-clause-rising : goal.add_under-requires-clause-rising
+add_under-requires-clause-rising c = subst IsRising (run-of_some c.args.index.now c.args.key.now c.if-is_empty.ensures) c.requires.rising
 
-pub returns-clause-ok : goal.returns-clause-ok
-returns-clause-ok c =
+pub add_under-requires-clause-room : goal.add_under-requires-clause-room
+add_under-requires-clause-room c = sym (has_room-some c.args.index.now c.args.key.now c.if-is_empty.ensures) ∙ c.requires.room
+
+pub returns-clause-runs : goal.returns-clause-runs
+returns-clause-runs c =
     let x = c.args.index.now in
-    on_ok c.add_under.result
-    (λ h. run-of_key (with_instance c.args.id) x (record { runs = c.add_under.new.runs; seals = x.seals }) c.args.key.now (some_of c.args.key.now c.if-is_empty.ensures) refl h)
-    c.add_under.ensures.ok
+    run-of_key (with_instance c.args.id) x (record { runs = c.add_under.new.runs; seals = x.seals }) c.args.key.now (some_of c.args.key.now c.if-is_empty.ensures) refl c.add_under.ensures.runs
 
-pub returns-clause-err : goal.returns-clause-err
-returns-clause-err c =
+pub returns-clause-others : goal.returns-clause-others
+returns-clause-others c =
     let x = c.args.index.now in
-    on_err c.add_under.result (λ h. run-same x (record { runs = c.add_under.new.runs; seals = x.seals }) refl h) c.add_under.ensures.err
+    others_runs x (record { runs = c.add_under.new.runs; seals = x.seals }) c.args.key.now refl c.add_under.ensures.others

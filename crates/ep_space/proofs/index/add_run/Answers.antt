@@ -1,13 +1,21 @@
-use Rattle.std.proofs.Common.{◌≡◌, ◌∙◌, ap, cond, [], ◌∷◌, ◌++◌}
-use Rattle.ep_base.specs.Attributes.{same_list}
-use Rattle.ep_space.specs.Index.{run_in}
-use Rattle.ep_space.proofs.Entered.{run-updated}
+use Rattle.std.proofs.Common.{◌≡◌, ◌∙◌, []}
+use Rattle.ep_space.proofs.Room.{widened_new, new_room}
 use Rattle.ep_space.proofs.index.add_run.Goals as goal
 
-pub returns-in-Ok-clause-ok : goal.returns-in-Ok-clause-ok
-returns-in-Ok-clause-ok c k =
-    let es = c.args.runs.now.entries in
-    let key : c.in_ok-key.key.items ≡ c.args.key.now = c.in_ok-key.ensures.items in
-    let items : c.push.new.self.items ≡ c.args.id ∷ [] = c.in_ok-push.ensures.items ∙ ap (λ xs. xs ++ c.args.id ∷ []) c.new-run.ensures.items in
-    run-updated es c.insert.new.self.entries c.in_ok-key.key.items c.push.new.self c.in-Ok.ensures.updates.1 c.in-Ok.ensures.updates.3 k
-    ∙ (λ d. cond (same_list k (key d)) (items d) (run_in es k))
+pub returns-in-Ok-clause-room : goal.returns-in-Ok-clause-room
+returns-in-Ok-clause-room c =
+    let v = c.widen_run.new.run in
+    let empty : v.items ≡ [] = c.widen_run.ensures.same ∙ c.new-run.ensures.items in
+    new_room c.args.runs.now.entries c.insert.new.self.entries c.args.key.now c.in_ok-key.key.items v c.in_ok-key.ensures.items empty c.in_ok-widen_run.ensures.room c.requires c.in-Ok.ensures.updates.1 c.in-Ok.ensures.updates.3
+
+pub returns-in-Ok-clause-same : goal.returns-in-Ok-clause-same
+returns-in-Ok-clause-same c =
+    let v = c.widen_run.new.run in
+    let empty : v.items ≡ [] = c.widen_run.ensures.same ∙ c.new-run.ensures.items in
+    (widened_new c.args.runs.now.entries c.insert.new.self.entries c.args.key.now c.in_ok-key.key.items v c.in_ok-key.ensures.items empty c.in_ok-widen_run.ensures.room c.requires c.in-Ok.ensures.updates.1 c.in-Ok.ensures.updates.3).kept
+
+pub returns-in-Ok-clause-keeps : goal.returns-in-Ok-clause-keeps
+returns-in-Ok-clause-keeps c =
+    let v = c.widen_run.new.run in
+    let empty : v.items ≡ [] = c.widen_run.ensures.same ∙ c.new-run.ensures.items in
+    (widened_new c.args.runs.now.entries c.insert.new.self.entries c.args.key.now c.in_ok-key.key.items v c.in_ok-key.ensures.items empty c.in_ok-widen_run.ensures.room c.requires c.in-Ok.ensures.updates.1 c.in-Ok.ensures.updates.3).keeps

@@ -1,4 +1,4 @@
-use Rattle.std.proofs.Common.{◌∙◌, subst}
+use Rattle.std.proofs.Common.{subst}
 use Rattle.std.proofs.lemmas.Result.{IfOk-weaker, IfErr-weaker}
 use Rattle.ep_base.specs.declared.version.Version.{Version}
 use Rattle.ep_journal.specs.Openings.{Opening}
@@ -8,7 +8,6 @@ use Rattle.ep_replica.specs.Applied.{IsDeclined}
 use Rattle.ep_replica.specs.Kept.{start_of}
 use Rattle.ep_replica.specs.Pending.{Submits}
 use Rattle.ep_host.specs.Asking.{IsSubmitted, IsDeclinedThere}
-use Rattle.ep_host.proofs.Starting.{start_submitted}
 use Rattle.ep_host.proofs.host_replica.HostReplica.submit.Goals as goal
 
 pub returns-clause-ok : goal.returns-clause-ok

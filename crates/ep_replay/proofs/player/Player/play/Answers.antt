@@ -4,17 +4,11 @@ use Rattle.ep_replay.specs.Replays.{Plays}
 use Rattle.ep_replay.specs.Tables.{Leads}
 use Rattle.ep_replay.proofs.player.Player.play.Goals as goal
 
-pub returns-in-Propose : goal.returns-in-Propose
-returns-in-Propose c = subst (λ (what : Line). OnOk c.propose.result (Leads (λ p q. Plays p c.args.line what q) c.args.self.now c.propose.new.self)) (sym c.in-Propose.is) c.propose.ensures
-
-pub returns-in-GiveUp : goal.returns-in-GiveUp
-returns-in-GiveUp c = subst (λ (what : Line). OnOk c.attempt.result (Leads (λ p q. Plays p c.args.line what q) c.args.self.now c.attempt.new.self)) (sym c.in-GiveUp.is) c.attempt.ensures
-
-pub returns-in-Recover : goal.returns-in-Recover
-returns-in-Recover c = subst (λ (what : Line). OnOk c.attempt-in-Recover.result (Leads (λ p q. Plays p c.args.line what q) c.args.self.now c.attempt-in-Recover.new.self)) (sym c.in-Recover.is) c.attempt-in-Recover.ensures
+pub returns-in-Agenda : goal.returns-in-Agenda
+returns-in-Agenda c = subst (λ (what : Line). OnOk c.ask.result (Leads (λ p q. Plays p c.args.line what q) c.args.self.now c.ask.new.self)) (sym c.in-Agenda.is) c.ask.ensures
 
 pub returns-in-Execute : goal.returns-in-Execute
-returns-in-Execute c = subst (λ (what : Line). OnOk c.attempt-in-Execute.result (Leads (λ p q. Plays p c.args.line what q) c.args.self.now c.attempt-in-Execute.new.self)) (sym c.in-Execute.is) c.attempt-in-Execute.ensures
+returns-in-Execute c = subst (λ (what : Line). OnOk c.attempt.result (Leads (λ p q. Plays p c.args.line what q) c.args.self.now c.attempt.new.self)) (sym c.in-Execute.is) c.attempt.ensures
 
 pub returns-in-Deliver : goal.returns-in-Deliver
 returns-in-Deliver c = subst (λ (what : Line). OnOk c.deliver.result (Leads (λ p q. Plays p c.args.line what q) c.args.self.now c.deliver.new.self)) (sym c.in-Deliver.is) c.deliver.ensures

@@ -1,8 +1,7 @@
 use Rattle.std.proofs.Common.{subst}
-use Rattle.ep_rules.specs.declared.record.Record.{Record}
-use Rattle.ep_space.specs.Held.{Held}
+use Rattle.ep_space.specs.Indexed.{Indexed}
 use Rattle.ep_space.specs.Open.{AreRecords}
 use Rattle.ep_space.proofs.keyed.Keyed.entries.Goals as goal
 
 pub returns : goal.returns
-returns c = subst (λ (h : Held Record). AreRecords h.held c.entries.result) c.self.view_is (λ i r. c.entries.ensures i r)
+returns c = subst (λ (x : Indexed). AreRecords x.held c.entries.result) c.self.view_is (λ i r. c.entries.ensures i r)

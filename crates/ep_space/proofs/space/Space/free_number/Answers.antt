@@ -1,8 +1,9 @@
 use Rattle.std.proofs.Common.{◌≡◌, ◌∙◌, ◌+◌, ◌-◌, ap, sym, arith, Some}
 use Rattle.ep_base.specs.Versions.{highest_in}
+use Rattle.ep_base.proofs.Versions.{highest_low}
 use Rattle.ep_rules.specs.Counting.{least}
 use Rattle.ep_rules.specs.States.{is_free}
-use Rattle.ep_space.proofs.Least.{free_first, free_past, least_none, highest_low}
+use Rattle.ep_space.proofs.Least.{free_first, free_past, least_none}
 use Rattle.ep_space.proofs.space.Space.free_number.Goals as goal
 
 pub loop-place-init : goal.loop-place-init

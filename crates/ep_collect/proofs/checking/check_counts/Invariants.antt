@@ -1,6 +1,0 @@
-use Rattle.std.proofs.Common.{◌≡◌, ◌<◌, ℕ}
-use Rattle.ep_collect.specs.Clusters.{count_of}
-use Rattle.ep_collect.proofs.checking.check_counts.Given as goal
-
-abbrev pub invariant-loop-index : goal.invariant-loop-index
-invariant-loop-index l = (k : ℕ) → k < l.index → count_of k l.journals ≡ 1

@@ -1,6 +1,0 @@
-use Rattle.std.proofs.Common.{◌≡◌, ◌++◌, drop}
-use Rattle.ep_contents.specs.Shown.{pair_lines}
-use Rattle.ep_contents.proofs.lines.push_pairs.Given as goal
-
-abbrev pub invariant-loop-pair : goal.invariant-loop-pair
-invariant-loop-pair l = l.text.items ++ pair_lines (drop l.pair-index l.pairs) ≡ l.initial.text.items ++ pair_lines l.pairs

@@ -1,0 +1,169 @@
+//! What is told of a script.
+
+ghost use Rattle.std.specs.Prelude.{◌≡◌, ◌++◌, ◌∷◌, ℕ, List, Some, IfOk, OnOk};
+ghost use Rattle.ep_base.specs.Devices.{FailsAsTold};
+ghost use Rattle.ep_script.specs.Plan.{script_of, run_of};
+ghost use Rattle.ep_explain.specs.Advice.{IsAdvice, at_line, line_refused, refused_at, script_read, script_refused};
+ghost use Rattle.ep_explain.specs.Kept.{is_read_failed, known_left};
+
+use crate::advice::Advice;
+use crate::explain_fault::ExplainFault;
+use crate::guess::deciding_line;
+use crate::kept::Kept;
+use crate::reasons::{Reasons, push_section};
+use crate::script_grammar::{line_fault, size_line};
+use crate::subcommand::Subcommand;
+use ep_base::Source;
+use ep_report::push_number;
+use ep_script::{ScriptFault, read_run, read_script};
+use std::alloc::{AllocError, Global};
+
+/// What the reader of this subcommand's scripts says of what is left of the source, and why.
+///
+/// Where it reads all of it, one line says so. Else the first line is the reader's, `script refused at line N`, and reasons stand under it, a
+/// line each, indented by two spaces: the first one names that line, the word at fault, what stands there and what may. Past that line
+/// nothing is read, so a source without an end is explained too. The source has to have been looked at, so that it keeps what it gives.
+pub(crate) fn explain_script<S: Source>(
+    alloc: Global,
+    subcommand: Subcommand,
+    source: &mut Kept<S>,
+) -> Result<Advice, ExplainFault>
+    ensures told { (bytes : List ℕ) → known_left S.left source.old ≡ Some bytes → IfOk result (λ a. IsAdvice subcommand (refused_at subcommand bytes) a.is_read a.text.items) }
+    ensures failed { FailsAsTold is_read_failed result (S.has_failed source.old.source) (S.has_failed source.new.source) }
+{
+    let refused = match subcommand {
+        Subcommand::Replay => replay_refused(alloc, source)?,
+        Subcommand::Run => run_refused(alloc, source)?,
+    };
+    Ok(advice(alloc, subcommand, source.bytes(), refused)?)
+}
+
+// The line at which a script for a replay is refused.
+fn replay_refused<S: Source>(
+    alloc: Global,
+    source: &mut Kept<S>,
+) -> Result<Option<u32>, ExplainFault>
+    ensures line { (bytes : List ℕ) → known_left S.left source.old ≡ Some bytes → IfOk result (λ o. o ≡ line_refused (script_of bytes)) }
+    ensures failed { FailsAsTold is_read_failed result (S.has_failed source.old.source) (S.has_failed source.new.source) }
+{
+    match read_script(alloc, source) {
+        Ok(_) => Ok(None),
+        Err(ScriptFault::Refused(line)) => Ok(Some(line)),
+        Err(ScriptFault::Memory) => Err(ExplainFault::Memory),
+        Err(ScriptFault::ReadFailed) => Err(ExplainFault::ReadFailed),
+    }
+}
+
+// The line at which a script for a run is refused.
+fn run_refused<S: Source>(alloc: Global, source: &mut Kept<S>) -> Result<Option<u32>, ExplainFault>
+    ensures line { (bytes : List ℕ) → known_left S.left source.old ≡ Some bytes → IfOk result (λ o. o ≡ line_refused (run_of bytes)) }
+    ensures failed { FailsAsTold is_read_failed result (S.has_failed source.old.source) (S.has_failed source.new.source) }
+{
+    match read_run(alloc, source) {
+        Ok(_) => Ok(None),
+        Err(ScriptFault::Refused(line)) => Ok(Some(line)),
+        Err(ScriptFault::Memory) => Err(ExplainFault::Memory),
+        Err(ScriptFault::ReadFailed) => Err(ExplainFault::ReadFailed),
+    }
+}
+
+fn advice(
+    alloc: Global,
+    subcommand: Subcommand,
+    bytes: Option<&[u8]>,
+    refused: Option<u32>,
+) -> Result<Advice, AllocError>
+    ensures { IfOk result (λ a. IsAdvice subcommand refused a.is_read a.text.items) }
+{
+    match refused {
+        None => accepted(alloc, subcommand),
+        Some(line) => declined(alloc, subcommand, bytes, line),
+    }
+}
+
+fn accepted(alloc: Global, subcommand: Subcommand) -> Result<Advice, AllocError>
+    ensures { IfOk result (λ a. IsAdvice subcommand None a.is_read a.text.items) }
+{
+    let line = match subcommand {
+        Subcommand::Replay => b"script read, for replay\n".as_slice(),
+        Subcommand::Run => b"script read, for run\n".as_slice(),
+    };
+    Ok(Advice {
+        is_read: true,
+        text: Vec::from_slice(alloc, line)?,
+    })
+}
+
+fn declined(
+    alloc: Global,
+    subcommand: Subcommand,
+    bytes: Option<&[u8]>,
+    line: u32,
+) -> Result<Advice, AllocError>
+    ensures { IfOk result (λ a. IsAdvice subcommand (Some line) a.is_read a.text.items) }
+{
+    let Some(bytes) = bytes else {
+        return Err(AllocError);
+    };
+    let reasons = reasons_of(alloc, subcommand, bytes, line)?;
+    let mut refused = Vec::from_slice(alloc, b"script refused at line ")?;
+    push_number(&mut refused, u64::from(line))?;
+    let mut text = Vec::new(alloc);
+    push_section(&mut text, &refused, &reasons)?;
+    Ok(Advice {
+        is_read: false,
+        text,
+    })
+}
+
+// The word at fault, what stands there and what may; and what the lines before say that matters.
+fn reasons_of(
+    alloc: Global,
+    subcommand: Subcommand,
+    bytes: &[u8],
+    line: u32,
+) -> Result<Reasons, AllocError>
+    ensures { IfOk result (λ reasons. (words : List ℕ) × (more : List (List ℕ)) × (reasons ≡ at_line line words ∷ more)) }
+{
+    let mut reasons = Reasons::new(alloc);
+    reasons.add(fault_at(alloc, subcommand, bytes, line)?)?;
+    if let Some(words) = size_line(alloc, bytes, u64::from(line))? {
+        reasons.add(words)?;
+    }
+    reasons.add(taken_for(alloc, subcommand, bytes)?)?;
+    Ok(reasons)
+}
+
+fn fault_at(
+    alloc: Global,
+    subcommand: Subcommand,
+    bytes: &[u8],
+    line: u32,
+) -> Result<Vec<u8>, AllocError>
+    ensures { IfOk result (λ text. (words : List ℕ) × (text.items ≡ at_line line words)) }
+{
+    let words = line_fault(alloc, subcommand, bytes, u64::from(line))?;
+    let mut text = Vec::from_slice(alloc, b"line ")?;
+    push_number(&mut text, u64::from(line))?;
+    text.extend_from_slice(&words)?;
+    Ok(text)
+}
+
+// For which subcommand the script is taken, and why.
+fn taken_for(alloc: Global, subcommand: Subcommand, bytes: &[u8]) -> Result<Vec<u8>, AllocError> {
+    let name = match subcommand {
+        Subcommand::Replay => b"replay".as_slice(),
+        Subcommand::Run => b"run".as_slice(),
+    };
+    let mut text = Vec::from_slice(alloc, b"it is taken for a script for ")?;
+    text.extend_from_slice(name)?;
+    match deciding_line(bytes) {
+        Some((line, other)) if other == subcommand => {
+            text.extend_from_slice(b", by line ")?;
+            push_number(&mut text, line)?;
+        }
+        _ => text.extend_from_slice(b", as no line near its beginning is one of run alone")?,
+    }
+    text.extend_from_slice(b"; docs/FORMATS.md, section 4, has all lines")?;
+    Ok(text)
+}

@@ -1,5 +1,0 @@
-use Rattle.ep_script.proofs.KeySets.{opens_with_none}
-use Rattle.ep_script.proofs.opening.Opening.none.Goals as goal
-
-pub invariant_of-result : goal.invariant_of-result
-invariant_of-result c = opens_with_none c.new.result.items c.new.ensures.items

@@ -1,0 +1,27 @@
+//! What the program is asked for.
+
+use crate::collect_names::CollectNames;
+use crate::folder_options::FolderOptions;
+use crate::generation_asked::GenerationAsked;
+use crate::options::Options;
+
+/// What the words of the command line ask for.
+#[derive(Drop)]
+pub enum ServerAsked {
+    /// To serve as a node of version 2, with its log in a file.
+    Node(Options),
+    /// To serve as a node that lives through generations, in a folder.
+    Folder(FolderOptions),
+    /// To make the bundle of logs and receipts.
+    Collect(CollectNames),
+    /// To make the bundle of a generation, of folders and receipts.
+    CollectGeneration(GenerationAsked),
+    /// To make the opening of generation 2 of these logs.
+    Upgrade(Vec<String>),
+    /// The map of the newest generation in this folder, in words.
+    Contents(String),
+    /// The program's name and its version.
+    Version,
+    /// Help: this text.
+    Help(String),
+}

@@ -1,5 +1,0 @@
-mod Counts
-mod Each
-mod Frames
-mod Places
-mod Reread

@@ -1,0 +1,122 @@
+//! Views of bundles.
+
+ghost use Rattle.std.specs.Prelude.{◌≡◌, ℕ, List, Some, IfOk, IfErr, false};
+ghost use Rattle.ep_base.specs.Devices.{FailsAsTold};
+ghost use Rattle.ep_cli.specs.Printed.{Makes};
+ghost use Rattle.ep_viewer.specs.Faults.{is_read, is_write};
+ghost use Rattle.ep_viewer.specs.Views.{Does, IsNoText, Tells};
+ghost use Rattle.ep_viewer.specs.declared.viewer_asked.ViewerAsked.TheVariants.{View as OfBundle};
+ghost use Rattle.ep_viewer.specs.declared.viewer_fault.ViewerFault.TheVariants.{Memory};
+ghost use Rattle.ep_viewer.specs.declared.view.View.TheVariants.{Show, Draw, Graph, Page, Events};
+
+use crate::view::View;
+use crate::viewer_fault::ViewerFault;
+use ep_base::Source;
+use ep_browser::{page, trace_events};
+use ep_bundle::read_bundle;
+use ep_cli::{Made, Status};
+use ep_draw::{diagram, graph};
+use ep_journal::Journals;
+use ep_view::{Wanted, columns, show};
+use std::alloc::Global;
+use std::mem::forget;
+
+/// Reads a bundle to its end, and makes this of its journals.
+pub(crate) fn view_of<S: Source>(
+    alloc: Global,
+    view: &View,
+    reader: &mut S,
+) -> Result<Made, ViewerFault>
+    ensures made { (zs : List ℕ) → S.left reader.old ≡ Some zs → Makes (Does (OfBundle view.now)) result zs }
+    ensures read { FailsAsTold is_read result (S.has_failed reader.old) (S.has_failed reader.new) }
+    ensures unwritten { IfErr result (λ e. is_write e ≡ false) }
+{
+    let bundle = read_bundle(alloc, reader)?;
+    let text = text_of(alloc, view, &bundle.journals);
+    // The system takes memory back at the process's end, all at once.
+    forget(bundle);
+    match text {
+        Ok(text) => Ok(Made {
+            text,
+            status: Status::Done,
+        }),
+        Err(fault) => Err(fault),
+    }
+}
+
+/// What is printed of the journals.
+fn text_of(alloc: Global, view: &View, journals: &Journals) -> Result<Vec<u8>, ViewerFault>
+    ensures tells { IfOk result (λ text. Tells view.now journals.now text.items) }
+    ensures refused { IfErr result (IsNoText view.now journals.now) }
+{
+    match view {
+        View::Show(wanted) => lines_of(alloc, wanted, journals),
+        View::Columns(wanted) => columns_of(alloc, wanted, journals),
+        View::Draw(wanted) => diagram_of(alloc, wanted, journals),
+        View::Graph => graph_of(alloc, journals),
+        View::Page(wanted) => page_of(alloc, wanted, journals),
+        View::Events(wanted) => events_of(alloc, wanted, journals),
+    }
+}
+
+/// The entries that are wanted, a line each.
+fn lines_of(alloc: Global, wanted: &Wanted, journals: &Journals) -> Result<Vec<u8>, ViewerFault>
+    ensures tells { IfOk result (λ text. Tells (Show wanted.now) journals.now text.items) }
+    ensures refused { IfErr result (λ e. e ≡ Memory) }
+{
+    let part = wanted.part(alloc, journals)?;
+    let text = show(alloc, journals, &part)?;
+    Ok(text)
+}
+
+/// The entries that are wanted, in a column a replica.
+fn columns_of(alloc: Global, wanted: &Wanted, journals: &Journals) -> Result<Vec<u8>, ViewerFault>
+    ensures refused { IfErr result (λ e. e ≡ Memory) }
+{
+    let part = wanted.part(alloc, journals)?;
+    let text = columns(alloc, journals, &part)?;
+    Ok(text)
+}
+
+/// A diagram of the entries that are wanted.
+fn diagram_of(alloc: Global, wanted: &Wanted, journals: &Journals) -> Result<Vec<u8>, ViewerFault>
+    ensures tells { IfOk result (λ text. Tells (Draw wanted.now) journals.now text.items) }
+    ensures refused { IfErr result (IsNoText (Draw wanted.now) journals.now) }
+{
+    let part = wanted.part(alloc, journals)?;
+    match diagram(alloc, journals, &part) {
+        Ok(text) => Ok(text),
+        Err(fault) => Err(ViewerFault::from(fault)),
+    }
+}
+
+/// The dependency graph of what the journals commit.
+fn graph_of(alloc: Global, journals: &Journals) -> Result<Vec<u8>, ViewerFault>
+    ensures tells { IfOk result (λ text. Tells Graph journals.now text.items) }
+    ensures refused { IfErr result (IsNoText Graph journals.now) }
+{
+    match graph(alloc, journals) {
+        Ok(text) => Ok(text),
+        Err(fault) => Err(ViewerFault::from(fault)),
+    }
+}
+
+/// A page for a browser, of the entries that are wanted.
+fn page_of(alloc: Global, wanted: &Wanted, journals: &Journals) -> Result<Vec<u8>, ViewerFault>
+    ensures tells { IfOk result (λ text. Tells (Page wanted.now) journals.now text.items) }
+    ensures refused { IfErr result (λ e. e ≡ Memory) }
+{
+    let part = wanted.part(alloc, journals)?;
+    let text = page(alloc, journals, &part)?;
+    Ok(text)
+}
+
+/// The entries that are wanted, as trace events.
+fn events_of(alloc: Global, wanted: &Wanted, journals: &Journals) -> Result<Vec<u8>, ViewerFault>
+    ensures tells { IfOk result (λ text. Tells (Events wanted.now) journals.now text.items) }
+    ensures refused { IfErr result (λ e. e ≡ Memory) }
+{
+    let part = wanted.part(alloc, journals)?;
+    let text = trace_events(alloc, journals, &part)?;
+    Ok(text)
+}
