@@ -1,0 +1,367 @@
+/* libepaxos: one replica of a replicated key-value core without a leader, as a C library. README.md begins with an example.
+ *
+ * The library has no socket, no timer, no thread and no file: you own those. A replica takes what happened (ep_propose_.., ep_handle, ..), lends the bytes
+ * that you write to its log (ep_ready), and, once you say that they are on the disk (ep_synced), tells what to send and whom to answer (ep_answers).
+ *
+ * What holds of all calls:
+ *
+ *   - Each answers a status, and a call's comment names those that it may answer. Unless it says otherwise, a status that isn't EP_DONE says that the
+ *     replica is as it was, and that nothing was written through the pointers.
+ *   - What is wrong with a replica is a status: none was opened (EP_NO_REPLICA), it is opened twice (EP_HAS_REPLICA), it is freed twice (EP_DONE).
+ *   - Pointers point to what they say, and none is NULL, also where a length is 0: EP_EMPTY has an address. Nothing that is handed in is used after the call.
+ *   - Bytes that are lent lie in the replica, and stay until the next call with it.
+ *   - A replica is used by one call at a time. It may go to another thread in between, by a lock or a join. No call comes from a signal handler.
+ *   - In bytes, numbers have the highest byte first; docs/FORMATS.md has them all: section 10 requests and answers, 9 logs, 12 openings, 2 bundles.
+ */
+#ifndef EPAXOS_H
+#define EPAXOS_H
+
+#include <stddef.h>
+#include <stdint.h>
+
+#ifdef __cplusplus
+extern "C" {
+#endif
+
+/* What ep_version() answers of the library that this header is of. */
+#define EP_VERSION 1
+
+/* Begins a struct ep_bytes of no bytes, and a struct ep_replica of no replica. */
+#define EP_EMPTY { (const uint8_t *)"", 0 }
+#define EP_CLOSED { 0 }
+
+/* tools/c-header writes what follows, from crates/ep_library/src. */
+
+/* A node on the heap, or none, as one pointer. C begins it with a null pointer, and changes nothing in it. So a
+   handle that has no node, that was freed before, or that has one already, is seen as such, and no call is undefined
+   at it. */
+struct ep_replica {
+    void *at;
+};
+
+/* A run of bytes: where it begins, and how many they are. */
+struct ep_bytes {
+    /* Where the first of them stands. Where there is none, it may be any address. */
+    const uint8_t *at;
+    /* How many they are. */
+    size_t len;
+};
+
+/* Whose command is proposed. */
+struct ep_call {
+    /* The greatest stamp of the receipts that the client has seen; 0 where it has seen none. */
+    uint64_t seen;
+    /* The client, from 1. */
+    uint32_t client;
+    /* Its request, from 1. A client's number and its request's name one command, over all starts: what is proposed
+       twice is done twice. */
+    uint32_t request;
+};
+
+/* What a key has to have, and what it then gets. */
+struct ep_exchange {
+    /* The value that the key has to have. */
+    struct ep_bytes expected;
+    /* The value that it then gets. */
+    struct ep_bytes desired;
+    /* 0: the key has to have no value, and `expected` counts for nothing. */
+    uint8_t has_expected;
+    /* 0: the key then has no value, and `desired` counts for nothing. */
+    uint8_t has_desired;
+};
+
+/* An instance, which is a place for one command. */
+struct ep_instance {
+    /* Its number among those of its leader, from 1 to 2,000. */
+    uint16_t number;
+    /* The replica that leads it, from 0. */
+    uint8_t replica;
+};
+
+/* How far a replica leads an instance. */
+struct ep_leading {
+    /* 1: it waits for the answers to its proposal; 2: for votes on what it has chosen; 3: it recovers the instance. */
+    uint8_t phase;
+    /* How many others have answered. */
+    uint8_t answers;
+};
+
+/* Where bytes are refused: as the status says, an offset counted from 0, or a number. */
+struct ep_place {
+    /* The first number of which the status speaks; else 0. */
+    uint64_t at;
+    /* The second one; else 0. */
+    uint64_t by;
+};
+
+/* As what a replica is opened. */
+struct ep_setup {
+    /* The file that its generation opens with, as ep_first_opening or ep_close gives it; of no bytes for a replica
+       of version 2. */
+    struct ep_bytes opening;
+    /* All bytes of its log; none of a new replica. */
+    struct ep_bytes log;
+    /* How many replicas the cluster has: 3, 5 or 7. */
+    uint8_t replicas;
+    /* Which of them this is, from 0. */
+    uint8_t replica;
+    /* 0: the replica goes on from its log; else it is new. A replica whose log is lost must never be new again: it
+       would have forgotten what it told. */
+    uint8_t is_new;
+};
+
+/* The keys of a command of a machine of your own. */
+struct ep_touching {
+    /* A key. */
+    struct ep_bytes first;
+    /* A second one, which differs. */
+    struct ep_bytes second;
+    /* 0: there is no second key, and `second` counts for nothing. */
+    uint8_t has_second;
+    /* 0: the command may change what belongs to the keys; else it only reads that. */
+    uint8_t is_reading;
+};
+
+/* Statuses. Those below 16 are the numbers of the faults' names (docs/FORMATS.md, section 7). */
+enum {
+    /* The call did what it was to do. */
+    EP_DONE = 0,
+    /* There is no memory: the same call may succeed later. */
+    EP_MEMORY = 1,
+    /* A number or a length is out of its range. */
+    EP_OUT_OF_RANGE = 3,
+    /* The replica's numbers of this generation are used up: propose at another one, or propose a seal. */
+    EP_SPACE_FULL = 4,
+    /* The numbers that order commands are used up. */
+    EP_SEQ_EXHAUSTED = 5,
+    /* The replica doesn't lead the instance, or does no longer. */
+    EP_NOT_LEADING = 6,
+    /* Fewer than a slow quorum has answered: wait on, and send the proposal's frames again. */
+    EP_TOO_FEW_ANSWERS = 7,
+    /* The instance is committed: execute it. */
+    EP_ALREADY_COMMITTED = 8,
+    /* The instance was recovered too often. */
+    EP_BALLOTS_EXHAUSTED = 9,
+    /* It waits for an instance that isn't committed here. */
+    EP_NOT_COMMITTED = 10,
+    /* A journal of the bundle isn't what a replica leaves. */
+    EP_NOT_A_RUN = 11,
+    /* The bytes are no bundle. */
+    EP_BAD_BUNDLE = 12,
+    /* The frame is for another replica. */
+    EP_NOT_MINE = 13,
+    /* The bytes are no frame of this version and generation. */
+    EP_BAD_FRAME = 14,
+    /* The seen stamp is out of reach, or the replica's stamps are used up. */
+    EP_STAMP_FULL = 15,
+    /* There is no replica: none was opened, or it was freed. */
+    EP_NO_REPLICA = 32,
+    /* There is a replica already. */
+    EP_HAS_REPLICA = 33,
+    /* What is lent isn't on the disk yet, so nothing is taken: write it, and say so by ep_synced. */
+    EP_LENT = 34,
+    /* Not all that was taken is on the disk, so nothing is told: ep_ready lends it. */
+    EP_UNSYNCED = 35,
+    /* Nothing is lent. */
+    EP_NOT_LENT = 36,
+    /* So many bytes aren't all that are lent. */
+    EP_NOT_ALL = 37,
+    /* There is none: no value, no such instance, nothing that was cut off. */
+    EP_NONE = 38,
+    /* The buffer is too short; how many bytes it needs is told. */
+    EP_TOO_SHORT = 39,
+    /* The bytes aren't one request: its length is out of range, or isn't that of the bytes. */
+    EP_NOT_ONE = 40,
+    /* The audit refuses the bundle; its report says why. */
+    EP_REFUSED = 41,
+    /* No seal was executed. */
+    EP_NOT_SEALED = 42,
+    /* There is no generation after it. */
+    EP_LAST_GENERATION = 43,
+    /* The log has no bytes, and the replica isn't new. */
+    EP_NO_LOG = 48,
+    /* The log has bytes, and the replica is new. */
+    EP_LOG_EXISTS = 49,
+    /* The log is of another replica or cluster. */
+    EP_OTHER_LOG = 50,
+    /* The bytes begin as no log does. */
+    EP_NO_HEADER = 51,
+    /* The log is of another version. */
+    EP_OTHER_VERSION = 52,
+    /* The log was begun with another opening. */
+    EP_OTHER_GENERATION = 53,
+    /* The length of the log's record at byte `at` is wrong. */
+    EP_BAD_LENGTH = 54,
+    /* The checksum of the log's record at byte `at` is wrong. */
+    EP_BAD_CHECKSUM = 55,
+    /* The entry of the log's record at byte `at` is wrong. */
+    EP_BAD_ENTRY = 56,
+    /* The entry of the log's record at byte `at` isn't the next one. */
+    EP_NOT_NEXT = 57,
+    /* A byte of the log's record at byte `at` was turned: it was on the disk, by the record at byte `by`. */
+    EP_TURNED = 58,
+    /* The log's entry of number `at` has a stamp that no clock gave it. */
+    EP_NOT_CLOCKED = 59,
+    /* The opening has `at` bytes, fewer than the shortest. */
+    EP_OPENING_SHORT = 60,
+    /* The opening's digest, which begins at byte `at`, isn't that of the bytes before it. */
+    EP_OPENING_DAMAGED = 61,
+    /* The opening's field at byte `at` is wrong. */
+    EP_OPENING_WRONG = 62,
+    /* The opening is of a cluster of `at` replicas. */
+    EP_OTHER_OPENING = 63
+};
+
+/* ---- A replica's life ---- */
+
+/* Opens a replica, where there is none, of version 2 or of a generation: a new one, or one that goes on from its
+   log. The first thing to do then is `ep_ready`, which lends the whole log, written anew; nothing is taken or told
+   before that is on the disk. `ep_free` ends it. EP_HAS_REPLICA, EP_MEMORY; EP_OUT_OF_RANGE: `replicas` isn't 3, 5
+   or 7, or `replica` isn't below it; and from EP_NO_LOG on what the log or the opening is refused for: `place`
+   becomes where, by the numbers of which the status speaks. */
+uint8_t ep_open(struct ep_replica *replica, const struct ep_setup *setup, struct ep_place *place);
+
+/* Tells what was cut off the log's end as the replica was opened, where a crash had left bytes that are no whole
+   record: from byte `at` on, `by` bytes. Pass it on to whoever runs the replica. EP_NO_REPLICA; EP_NONE: nothing was
+   cut off. */
+uint8_t ep_cut(struct ep_replica *replica, struct ep_place *place);
+
+/* Ends the replica, if there is one. Its log is as what was said to be on the disk; `ep_open` goes on from there.
+   EP_DONE. */
+uint8_t ep_free(struct ep_replica *replica);
+
+/* ---- What clients ask for ---- */
+
+/* A client asks for the value of a key. As any command it is put in order with all others that name the key, so it
+   sees all that was answered before. What is answered comes by `ep_answers`, as a receipt, once the command was
+   executed; so it is with each command. EP_NO_REPLICA, EP_LENT, EP_MEMORY; EP_OUT_OF_RANGE: a key has not 1 to 255
+   bytes, a value more than 65,535, two keys are one, a client or a request is 0, or the version hasn't the command
+   (version 2 has get, put, del and swap, and values of up to 1,024 bytes); EP_SPACE_FULL; EP_SEQ_EXHAUSTED;
+   EP_STAMP_FULL. */
+uint8_t ep_propose_get(struct ep_replica *replica, const struct ep_call *call, const uint8_t *key, size_t key_len);
+
+/* A client gives a key a value. The answer is what it had. Statuses are those of `ep_propose_get`. */
+uint8_t ep_propose_put(struct ep_replica *replica, const struct ep_call *call, const uint8_t *key, size_t key_len,
+                       const uint8_t *value, size_t value_len);
+
+/* A client takes a key's value away. The answer is what it had. Statuses are those of `ep_propose_get`. */
+uint8_t ep_propose_del(struct ep_replica *replica, const struct ep_call *call, const uint8_t *key, size_t key_len);
+
+/* A client has the values of two different keys change places. The answer is what the first had. Statuses are those
+   of `ep_propose_get`. */
+uint8_t ep_propose_swap(struct ep_replica *replica, const struct ep_call *call, const uint8_t *first, size_t first_len,
+                        const uint8_t *second, size_t second_len);
+
+/* A client compares and sets: where the key has what is expected, it gets what is desired. The answer is what it
+   had, so the client knows whether that was done. Statuses are those of `ep_propose_get`. */
+uint8_t ep_propose_cas(struct ep_replica *replica, const struct ep_call *call, const uint8_t *key, size_t key_len,
+                       const struct ep_exchange *exchange);
+
+/* A client asks for a command of a machine of your own: the core puts it in order by its keys, and `ep_answers`
+   tells when it is executed; what its body says only your machine knows. Statuses are those of `ep_propose_get`. */
+uint8_t ep_propose_opaque(struct ep_replica *replica, const struct ep_call *call, const struct ep_touching *touching,
+                          const uint8_t *body, size_t body_len);
+
+/* A client closes the map, and so ends the generation. The value is yours: say who takes part in the next one.
+   Statuses are those of `ep_propose_get`. */
+uint8_t ep_propose_seal(struct ep_replica *replica, const struct ep_call *call, const uint8_t *value,
+                        size_t value_len);
+
+/* ---- What happened to a replica ---- */
+
+/* A frame came from a peer: its bytes, as that one's `ep_answers` told them. EP_NO_REPLICA, EP_LENT, EP_MEMORY;
+   EP_BAD_FRAME; EP_NOT_MINE; EP_OUT_OF_RANGE: a replica of which it speaks isn't of the cluster; EP_SEQ_EXHAUSTED;
+   EP_STAMP_FULL. */
+uint8_t ep_handle(struct ep_replica *replica, const uint8_t *frame, size_t frame_len);
+
+/* The replica waits no longer for its whole fast quorum in an instance that it leads: it goes on by the slow path.
+   EP_NO_REPLICA, EP_LENT, EP_MEMORY; EP_OUT_OF_RANGE: there is no such instance; EP_NOT_LEADING; EP_TOO_FEW_ANSWERS;
+   EP_STAMP_FULL. */
+uint8_t ep_give_up(struct ep_replica *replica, struct ep_instance instance);
+
+/* The replica waits no longer for the one that leads the instance, and takes it over. EP_NO_REPLICA, EP_LENT,
+   EP_MEMORY; EP_OUT_OF_RANGE: there is no such instance; EP_ALREADY_COMMITTED; EP_BALLOTS_EXHAUSTED; EP_STAMP_FULL. */
+uint8_t ep_recover(struct ep_replica *replica, struct ep_instance instance);
+
+/* Executes all instances that the replica leads and that are ready, in rising order, each with all that it waits
+   for, until none is. EP_NO_REPLICA; EP_LENT; EP_MEMORY and EP_STAMP_FULL: some may have been executed, and the next
+   call goes on. */
+uint8_t ep_advance(struct ep_replica *replica);
+
+/* Executes all instances that are ready, whoever leads them: before a local read, or where a machine of your own is
+   to keep up. EP_NO_REPLICA; EP_LENT; EP_MEMORY: some may have been executed, and the next call goes on. */
+uint8_t ep_execute_all(struct ep_replica *replica);
+
+/* ---- Executing an instance ---- */
+
+/* Executes the instance, and before it all that it depends on. EP_NO_REPLICA, EP_LENT, EP_MEMORY; EP_OUT_OF_RANGE:
+   there is no such instance; EP_NOT_COMMITTED: `waits_for` becomes the least instance that it waits for and that
+   isn't committed here; EP_STAMP_FULL. */
+uint8_t ep_execute(struct ep_replica *replica, struct ep_instance instance, struct ep_instance *waits_for);
+
+/* ---- The log, and the answers that wait for it ---- */
+
+/* Lends the bytes that are to be written to the log: the records of all that was taken since the last `ep_synced`,
+   behind the log, or, where `is_anew` becomes 1, in place of all that was there, at once (write another file, sync
+   it, rename it). So it is first after an `ep_open`. Where all is on the disk, there are none. While bytes are lent,
+   nothing is taken (EP_LENT), and a second call lends the same, until `ep_synced` says that they are on the disk.
+   Where writing them fails, free the replica and open it from its log. EP_NO_REPLICA, EP_MEMORY. */
+uint8_t ep_ready(struct ep_replica *replica, struct ep_bytes *log, uint8_t *is_anew);
+
+/* Says that what `ep_ready` lent is on the disk (fsync has returned): all of it, so many bytes; none, where nothing
+   is lent. From now on no crash takes what was taken before. EP_NO_REPLICA, EP_NOT_LENT, EP_NOT_ALL, EP_MEMORY. */
+uint8_t ep_synced(struct ep_replica *replica, size_t count);
+
+/* Lends the answers of all that was asked by `ep_ask` since the last time, in that order, and behind them one of
+   kind 9: all frames, receipts, commits and executions of the entries after the first `told`, each once, and at most
+   `most` open instances. It says how many entries there are: hand that in as `told` the next time; at first 0. All
+   that is told is on the disk. EP_NO_REPLICA; EP_UNSYNCED; EP_MEMORY: what was asked still waits for the next call. */
+uint8_t ep_answers(struct ep_replica *replica, uint32_t told, uint8_t most, struct ep_bytes *answers);
+
+/* Does what a request asks: the bytes of one, from its length on. What it is answered, also where it is refused or
+   malformed, comes by `ep_answers`. EP_NO_REPLICA, EP_LENT; EP_NOT_ONE; EP_MEMORY: nothing was done, but of kinds 6
+   and 12, which execute several instances: some may have been executed, no answer comes, and asking again goes on. */
+uint8_t ep_ask(struct ep_replica *replica, const uint8_t *request, size_t request_len);
+
+/* ---- What a replica knows ---- */
+
+/* Lends the value that the replica's own map has at the key, after all that it executed: a local read, which may be
+   old. EP_NO_REPLICA, EP_UNSYNCED, EP_MEMORY; EP_NONE: the map has none; EP_OUT_OF_RANGE: the key has not 1 to 255
+   bytes. */
+uint8_t ep_get(struct ep_replica *replica, const uint8_t *key, size_t key_len, struct ep_bytes *value);
+
+/* Tells the least instance that the replica knows of and hasn't committed, above this one, or, where its number is
+   0, of all. EP_NO_REPLICA, EP_UNSYNCED; EP_NONE: there is none; EP_OUT_OF_RANGE: there is no such instance. */
+uint8_t ep_next_open(struct ep_replica *replica, struct ep_instance above, struct ep_instance *instance);
+
+/* Tells how far the replica leads the instance. EP_NO_REPLICA, EP_UNSYNCED; EP_NONE: it doesn't lead it;
+   EP_OUT_OF_RANGE: there is no such instance. */
+uint8_t ep_leads(struct ep_replica *replica, struct ep_instance instance, struct ep_leading *leading);
+
+/* Lends the file that the next generation opens with, in a cluster of so many replicas, once a seal was executed
+   here. The replica goes on, and those that lag may still need it. EP_NO_REPLICA, EP_UNSYNCED, EP_MEMORY;
+   EP_NOT_SEALED; EP_LAST_GENERATION; EP_OUT_OF_RANGE: a cluster has 3, 5 or 7 replicas. */
+uint8_t ep_close(struct ep_replica *replica, uint8_t replicas, struct ep_bytes *opening);
+
+/* ---- What is told without a replica ---- */
+
+/* Which library this is: EP_VERSION of the header that it was built with. Another number is another set of calls. */
+uint32_t ep_version(void);
+
+/* Copies the file that generation 1 opens with, in a cluster of so many replicas: no key has a value. `len` becomes
+   how many bytes it has. EP_TOO_SHORT: nothing was copied; EP_MEMORY; EP_OUT_OF_RANGE: a cluster has 3, 5 or 7
+   replicas. */
+uint8_t ep_first_opening(uint8_t replicas, uint8_t *out, size_t out_len, size_t *len);
+
+/* Audits a bundle, of any version, and copies the report of what it finds; of bytes that are no bundle the line that
+   says why. `len` becomes how many bytes that has. EP_DONE: the audit accepts; EP_REFUSED: it refuses; EP_NOT_A_RUN,
+   EP_BAD_BUNDLE; EP_TOO_SHORT: nothing was copied; EP_MEMORY. */
+uint8_t ep_audit(const uint8_t *bundle, size_t bundle_len, uint8_t *out, size_t out_len, size_t *len);
+
+/* What tools/c-header writes ends here. */
+
+#ifdef __cplusplus
+}
+#endif
+
+#endif

@@ -1,0 +1,165 @@
+/* Calls that a program makes by mistake: each is a status, and changes nothing. */
+#include "epaxos.h"
+
+#include <stdio.h>
+#include <string.h>
+
+static int wrong;
+
+static void want(const char *what, int status, int wanted)
+{
+    if (status != wanted)
+        printf("%s answers %d, not %d\n", what, status, wanted), wrong = 1;
+}
+
+#define WANT(wanted, call) want(#call, call, wanted)
+
+int main(void)
+{
+    static const uint8_t key[] = "k", damaged[43] = "EPLG";
+    uint8_t first[64], none[1], is_anew = 7, long_key[256] = { 1 };
+    struct ep_replica replica = EP_CLOSED;
+    struct ep_bytes log = { key, 7 }, value = log, empty = EP_EMPTY;
+    struct ep_place place = { 5, 6 };
+    struct ep_instance instance = { 9, 1 }, nowhere = { 1, 7 }, here = { 1, 0 };
+    struct ep_leading leading = { 8, 8 };
+    struct ep_call call = { 0, 1, 1 };
+    struct ep_exchange exchange = { empty, empty, 0, 1 };
+    struct ep_touching touching = { { key, 1 }, { key, 1 }, 1, 0 };
+    struct ep_setup setup = { empty, empty, 3, 0, 1 };
+    size_t len = 3;
+
+    /* no replica: null, and after it was freed */
+    for (int twice = 0; twice < 2; twice++) {
+        WANT(EP_NO_REPLICA, ep_cut(&replica, &place));
+        WANT(EP_NO_REPLICA, ep_propose_get(&replica, &call, key, 1));
+        WANT(EP_NO_REPLICA, ep_propose_put(&replica, &call, key, 1, key, 1));
+        WANT(EP_NO_REPLICA, ep_propose_del(&replica, &call, key, 1));
+        WANT(EP_NO_REPLICA, ep_propose_swap(&replica, &call, key, 1, (const uint8_t *)"l", 1));
+        WANT(EP_NO_REPLICA, ep_propose_cas(&replica, &call, key, 1, &exchange));
+        WANT(EP_OUT_OF_RANGE, ep_propose_opaque(&replica, &call, &touching, key, 1));
+        touching.has_second = 0;
+        WANT(EP_NO_REPLICA, ep_propose_opaque(&replica, &call, &touching, key, 1));
+        touching.has_second = 1;
+        WANT(EP_NO_REPLICA, ep_propose_seal(&replica, &call, key, 1));
+        WANT(EP_NO_REPLICA, ep_give_up(&replica, here));
+        WANT(EP_NO_REPLICA, ep_recover(&replica, here));
+        WANT(EP_NO_REPLICA, ep_execute(&replica, here, &instance));
+        WANT(EP_NO_REPLICA, ep_advance(&replica));
+        WANT(EP_NO_REPLICA, ep_execute_all(&replica));
+        WANT(EP_NO_REPLICA, ep_ready(&replica, &log, &is_anew));
+        WANT(EP_NO_REPLICA, ep_synced(&replica, 0));
+        WANT(EP_NO_REPLICA, ep_answers(&replica, 0, 0, &value));
+        WANT(EP_NO_REPLICA, ep_ask(&replica, key, 1));
+        WANT(EP_NO_REPLICA, ep_get(&replica, key, 1, &value));
+        WANT(EP_NO_REPLICA, ep_next_open(&replica, here, &instance));
+        WANT(EP_NO_REPLICA, ep_leads(&replica, here, &leading));
+        WANT(EP_NO_REPLICA, ep_close(&replica, 3, &value));
+        WANT(EP_DONE, ep_free(&replica));
+    }
+    /* nothing was written */
+    if (place.at != 5 || place.by != 6 || log.len != 7 || value.at != key || is_anew != 7 || instance.number != 9 || leading.phase != 8 || replica.at)
+        puts("something was written"), wrong = 1;
+
+    /* what isn't a replica of a cluster */
+    setup.replicas = 4;
+    WANT(EP_OUT_OF_RANGE, ep_open(&replica, &setup, &place));
+    setup.replicas = 3, setup.replica = 3;
+    WANT(EP_OUT_OF_RANGE, ep_open(&replica, &setup, &place));
+    setup.replica = 0, setup.is_new = 0;
+    WANT(EP_NO_LOG, ep_open(&replica, &setup, &place));
+    setup.log = (struct ep_bytes){ damaged, sizeof damaged };
+    WANT(EP_OTHER_VERSION, ep_open(&replica, &setup, &place));
+    setup.log.len = 3;
+    WANT(EP_NO_HEADER, ep_open(&replica, &setup, &place));
+    setup.is_new = 1;
+    WANT(EP_LOG_EXISTS, ep_open(&replica, &setup, &place));
+    setup.log = empty, setup.opening = (struct ep_bytes){ key, 1 };
+    WANT(EP_OPENING_SHORT, ep_open(&replica, &setup, &place));
+    WANT(1, (int)place.at);
+    WANT(EP_OUT_OF_RANGE, ep_first_opening(6, first, sizeof first, &len));
+    WANT(EP_TOO_SHORT, ep_first_opening(5, none, sizeof none, &len));
+    WANT(59, (int)len);
+    WANT(EP_DONE, ep_first_opening(5, first, sizeof first, &len));
+    setup.opening = (struct ep_bytes){ first, len };
+    WANT(EP_OTHER_OPENING, ep_open(&replica, &setup, &place));
+    WANT(5, (int)place.at);
+    first[50] ^= 1;
+    WANT(EP_OPENING_DAMAGED, ep_open(&replica, &setup, &place));
+    WANT(27, (int)place.at);
+    WANT(EP_DONE, ep_first_opening(3, first, sizeof first, &len));
+    WANT(EP_DONE, ep_open(&replica, &setup, &place));
+    WANT(EP_HAS_REPLICA, ep_open(&replica, &setup, &place));
+    WANT(EP_NONE, ep_cut(&replica, &place));
+
+    /* the log comes first */
+    WANT(EP_LENT, ep_propose_get(&replica, &call, key, 1));
+    WANT(EP_LENT, ep_advance(&replica));
+    WANT(EP_LENT, ep_ask(&replica, (const uint8_t *)"\0\0\0\1\13", 5));
+    WANT(EP_UNSYNCED, ep_answers(&replica, 0, 0, &value));
+    WANT(EP_UNSYNCED, ep_get(&replica, key, 1, &value));
+    WANT(EP_UNSYNCED, ep_next_open(&replica, here, &instance));
+    WANT(EP_UNSYNCED, ep_leads(&replica, here, &leading));
+    WANT(EP_UNSYNCED, ep_close(&replica, 3, &value));
+    WANT(EP_DONE, ep_ready(&replica, &log, &is_anew));
+    WANT(1, is_anew);
+    WANT(EP_NOT_ALL, ep_synced(&replica, log.len + 1));
+    WANT(EP_DONE, ep_synced(&replica, log.len));
+    WANT(EP_NOT_LENT, ep_synced(&replica, log.len));
+    WANT(EP_DONE, ep_ready(&replica, &log, &is_anew));
+    WANT(0, (int)log.len + is_anew);
+    WANT(EP_DONE, ep_synced(&replica, 0));
+
+    /* what is no command, no frame, no instance, no request */
+    WANT(EP_OUT_OF_RANGE, ep_propose_get(&replica, &call, empty.at, 0));
+    WANT(EP_OUT_OF_RANGE, ep_propose_put(&replica, &call, long_key, 256, key, 1));
+    WANT(EP_OUT_OF_RANGE, ep_propose_swap(&replica, &call, key, 1, key, 1));
+    WANT(EP_OUT_OF_RANGE, ep_propose_opaque(&replica, &call, &touching, key, 1));
+    call.client = 0;
+    WANT(EP_OUT_OF_RANGE, ep_propose_get(&replica, &call, key, 1));
+    call.client = 1, call.seen = (1ull << 40) + 1;
+    WANT(EP_STAMP_FULL, ep_propose_get(&replica, &call, key, 1));
+    call.seen = 0;
+    WANT(EP_BAD_FRAME, ep_handle(&replica, key, 1));
+    WANT(EP_OUT_OF_RANGE, ep_give_up(&replica, nowhere));
+    WANT(EP_OUT_OF_RANGE, ep_recover(&replica, nowhere));
+    WANT(EP_OUT_OF_RANGE, ep_execute(&replica, nowhere, &instance));
+    WANT(EP_OUT_OF_RANGE, ep_leads(&replica, nowhere, &leading));
+    WANT(EP_OUT_OF_RANGE, ep_next_open(&replica, nowhere, &instance));
+    WANT(EP_OUT_OF_RANGE, ep_close(&replica, 4, &value));
+    WANT(EP_OUT_OF_RANGE, ep_get(&replica, long_key, 256, &value));
+    WANT(EP_NOT_ONE, ep_ask(&replica, (const uint8_t *)"\0\0\0\1\13x", 6));
+    WANT(EP_NOT_ONE, ep_ask(&replica, (const uint8_t *)"\0\0\0\2\13", 5));
+    WANT(EP_NOT_SEALED, ep_close(&replica, 3, &value));
+    WANT(EP_NONE, ep_get(&replica, key, 1, &value));
+    WANT(EP_NONE, ep_leads(&replica, here, &leading));
+    WANT(EP_NONE, ep_next_open(&replica, (struct ep_instance){ 0, 0 }, &instance));
+
+    /* none of it was taken; and what the core refuses */
+    WANT(EP_DONE, ep_ready(&replica, &log, &is_anew));
+    WANT(0, (int)log.len);
+    WANT(EP_NOT_COMMITTED, ep_execute(&replica, here, &instance));
+    if (instance.number != here.number || instance.replica != here.replica)
+        puts("another instance is waited for"), wrong = 1;
+    WANT(EP_NOT_LEADING, ep_give_up(&replica, here));
+    WANT(EP_DONE, ep_propose_put(&replica, &call, key, 1, key, 1));
+    WANT(EP_TOO_FEW_ANSWERS, ep_give_up(&replica, here));
+    WANT(EP_DONE, ep_ready(&replica, &log, &is_anew));
+    WANT(EP_LENT, ep_execute_all(&replica));
+    WANT(EP_DONE, ep_synced(&replica, log.len));
+    WANT(EP_DONE, ep_leads(&replica, here, &leading));
+    WANT(10, leading.phase * 10 + leading.answers);
+    WANT(EP_DONE, ep_next_open(&replica, (struct ep_instance){ 0, 0 }, &instance));
+    WANT(1, instance.number + instance.replica);
+
+    /* audits */
+    char text[64];
+    WANT(EP_BAD_BUNDLE, ep_audit(key, 1, (uint8_t *)text, sizeof text, &len));
+    if (len != strlen("bundle refused E12 at byte 0\n") || memcmp(text, "bundle refused E12 at byte 0\n", len))
+        puts("another line says why bytes are no bundle"), wrong = 1;
+    WANT(EP_TOO_SHORT, ep_audit(key, 1, none, sizeof none, &len));
+    WANT(EP_DONE, ep_free(&replica));
+    if (!wrong)
+        puts("each mistake is a status");
+    return wrong;
+}

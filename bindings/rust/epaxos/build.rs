@@ -1,0 +1,49 @@
+//! Links the library libepaxos.a, where there is one, so that a replica's core runs in the program itself.
+#![forbid(unsafe_code)]
+
+use std::path::{Path, PathBuf};
+use std::{env, fs};
+
+/// The variable that names the library's folder.
+const NAMED: &str = "EPAXOS_LIBRARY";
+/// Where builds put it, below the top of the repository: first the proved one. All is in the first folder.
+const PLACES: [&str; 2] = ["out", "out/unproved"];
+const FILE: &str = "libepaxos.a";
+/// What a library that isn't proved has.
+const UNPROVED: &[u8] = b"ep_unproved";
+
+/// The library: the one that is named, or that a build made. None where there is none, and none is named.
+fn find() -> Option<PathBuf> {
+    if let Some(named) = env::var_os(NAMED).filter(|it| !it.is_empty()) {
+        return Some(Path::new(&named).join(FILE));
+    }
+    let top = Path::new(env!("CARGO_MANIFEST_DIR")).join("../../..");
+    println!("cargo:rerun-if-changed={}", top.join(PLACES[0]).display());
+    PLACES.map(|place| top.join(place).join(FILE)).into_iter().find(|it| it.is_file())
+}
+
+/// Whether these bytes are somewhere in the others.
+fn has(bytes: &[u8], part: &[u8]) -> bool {
+    bytes.windows(part.len()).any(|it| it == part)
+}
+
+/// Whether the program is for what the library is for.
+fn fits() -> bool {
+    let is = |name: &str, value: &str| env::var(name).is_ok_and(|it| it == value);
+    is("CARGO_CFG_TARGET_OS", "linux") && is("CARGO_CFG_TARGET_ARCH", "x86_64")
+}
+
+fn main() {
+    println!("cargo:rerun-if-changed=build.rs");
+    println!("cargo:rerun-if-env-changed={NAMED}");
+    println!("cargo:rustc-check-cfg=cfg(has_library, library_is_unproved)");
+    let Some(library) = find().filter(|_| fits()) else { return };
+    println!("cargo:rerun-if-changed={}", library.display());
+    let bytes = fs::read(&library).unwrap_or_else(|error| panic!("{NAMED}: {}: {error}", library.display()));
+    println!("cargo:rustc-link-search=native={}", library.with_file_name("").display());
+    println!("cargo:rustc-link-lib=static=epaxos");
+    println!("cargo:rustc-cfg=has_library");
+    if has(&bytes, UNPROVED) {
+        println!("cargo:rustc-cfg=library_is_unproved");
+    }
+}

@@ -1,0 +1,163 @@
+//! A replicated key-value core without a leader, as a library: Egalitarian Paxos, proved.
+//!
+//! Three, five or seven replicas hold one map. Any of them takes any command; commands on a common key are executed in one order at all of them, and whatever a
+//! majority has is never lost. The crate has no socket, no timer and no thread: you own those. A [`Replica`] takes what happened, and leaves a [`Ready`]:
+//! bytes for your log, and, *once you say that these are on the disk*, what to send and whom to answer. The types have you do it in this order.
+//!
+//! ```
+//! use epaxos::{Call, Cluster, Command, Event, LogFile, Replica};
+//! # fn main() -> Result<(), Box<dyn std::error::Error>> {
+//! # let folder = std::env::temp_dir().join(format!("epaxos-page-{}", std::process::id()));
+//! # std::fs::create_dir_all(&folder)?;
+//! # let path = folder.join("zero.log");
+//! # let send = |_to: u8, _frame: &[u8]| ();
+//! # let answer = |_client: u32, _answer: epaxos::Answer| ();
+//! # let came = [Event::Propose { call: Call::new(1, 1), command: Command::Put { key: b"x", value: b"1" } }];
+//!
+//! let mut file = LogFile::begin(&path)?;
+//! let mut replica = Replica::new(Cluster::Three, 0)?;
+//! loop {
+//!     let ready = replica.ready()?;
+//!     file.keep(&ready)?;                         // one write and one sync for all that was taken; at first, the log's beginning
+//!     let output = ready.synced()?;               // only then is there anything to send
+//!     output.frames().for_each(|frame| send(frame.to, frame.bytes));
+//!     output.receipts().for_each(|receipt| answer(receipt.client, receipt.answer));
+//! #   if output.entries() > 0 { break }
+//!     for event in &came {
+//!         let _refused = replica.take(event);     // a refusal has changed nothing
+//!     }
+//!     replica.advance()?;                         // executes what can be executed
+//! }
+//! # std::fs::remove_dir_all(&folder)?;
+//! # Ok(()) }
+//! ```
+//!
+//! `examples/three.rs` is a cluster of three threads with a file each, `examples/lock.rs` a lock, `examples/machine.rs` a machine of one's own that is replicated.
+//!
+//! # Where the core runs
+//!
+//! There are two cores behind the same calls, made of the same sources. **The library** runs in the program itself; the crate is linked with it where it is
+//! found as the crate is built. **A process** of its own for each replica, `epaxos node`, is the other one: it is slower, and its memory is its own.
+//! Neither keeps anything that outlives it: the log is yours. [`Setup`] and [`Core`] choose; by itself a replica takes the library, where there is one.
+//!
+//! `./epaxos --build` at the top of the repository proves and builds both, and `./epaxos --build --unproved` builds both in minutes, without their proofs;
+//! [`Replica::said`] then says so. Build the crate again behind it. `EPAXOS_LIBRARY` names another folder of `libepaxos.a` as the crate is built, and
+//! `EPAXOS` another program as yours runs.
+//!
+//! A host that keeps a process `epaxos node` itself, with the log in the process's hands, finds its bytes in [`wire`].
+//!
+//! # What is proved, and what you owe
+//!
+//! Proved of the core, by its prover: it is safe, it ends, want of memory is an answer, a refused call has changed nothing, what is taken is one step of
+//! the protocol, and nothing is told of an entry that isn't among those that you said are on the disk. So no two replicas commit different commands in an
+//! instance, and all execute interfering commands in one order. This crate, which carries bytes to the core and back, isn't proved. You owe:
+//!
+//! - The bytes of [`Ready::log`] are on the disk before you call [`Ready::synced`]. One replica, one log; a replica never starts from an older copy, and
+//!   one whose log is lost doesn't come back under its number in its generation.
+//! - A client and its request name one command, over all starts. Hand on stamps of receipts, and nothing else, as [`Call::seen`].
+//! - A frame that is handled was sent. It may be lost, repeated, delayed, overtaken; nobody may forge one.
+//!
+//! When to wait no longer is a question of time, of which the core knows nothing: [`Patience`] tells.
+//!
+//! # Generations
+//!
+//! A replica takes 1,990 commands in a generation. When [`State::used`] comes near, propose [`Command::Seal`]; once it is executed
+//! ([`Output::is_sealed`]), [`Replica::close`] hands out the opening of the next generation, with which each replica begins anew, of another number of replicas if you like.
+//! A command whose answer is [`Answer::Closed`] is asked again there.
+#![deny(unsafe_code)]
+
+mod answer;
+mod bytes;
+mod call;
+mod close_fault;
+mod cluster;
+mod command;
+mod core;
+mod event;
+mod executed;
+mod fault;
+#[cfg(has_library)]
+mod ffi;
+mod found;
+mod frame;
+mod instance;
+mod leading;
+#[cfg(has_library)]
+mod library;
+mod log_file;
+mod open_fault;
+mod open_instance;
+mod out_of_range;
+mod output;
+mod patience;
+mod process;
+mod program;
+mod proposed;
+mod ready;
+mod receipt;
+mod records;
+mod replica;
+mod running;
+mod scratch;
+mod setup;
+mod state;
+#[cfg(has_library)]
+mod status;
+#[cfg(test)]
+mod vectors;
+pub mod wire;
+
+pub use answer::{Answer, AnswerOf, OwnedAnswer};
+pub use bytes::Fields;
+pub use call::Call;
+pub use close_fault::CloseFault;
+pub use cluster::Cluster;
+pub use command::{Command, CommandOf, OwnedCommand};
+pub use core::Core;
+pub use event::Event;
+pub use executed::Executed;
+pub use fault::Fault;
+pub use frame::Frame;
+pub use instance::Instance;
+pub use leading::{Leading, Phase};
+pub use log_file::LogFile;
+pub use open_fault::OpenFault;
+pub use open_instance::OpenInstance;
+pub use out_of_range::OutOfRange;
+pub use output::Output;
+pub use patience::{Patience, Waits};
+pub use proposed::Proposed;
+pub use ready::Ready;
+pub use receipt::Receipt;
+pub use replica::Replica;
+pub(crate) use setup::Begin;
+pub use setup::Setup;
+pub use state::State;
+
+/// A replica proposes so many commands in a generation at most. Its numbers above are for seals.
+///
+/// ```
+/// assert_eq!(epaxos::MOST_COMMANDS, 1_990);
+/// ```
+pub const MOST_COMMANDS: u16 = 1_990;
+
+/// The greatest number of an instance. Only seals have one above [`MOST_COMMANDS`].
+///
+/// ```
+/// assert_eq!(epaxos::MOST_INSTANCES, 2_000);
+/// ```
+pub const MOST_INSTANCES: u16 = 2_000;
+
+/// A key has 1 to so many bytes.
+///
+/// ```
+/// assert_eq!(epaxos::LONGEST_KEY, 255);
+/// ```
+pub const LONGEST_KEY: usize = 255;
+
+/// A value has 0 to so many bytes.
+///
+/// ```
+/// assert_eq!(epaxos::LONGEST_VALUE, 65_535);
+/// ```
+pub const LONGEST_VALUE: usize = 65_535;

@@ -1,0 +1,146 @@
+//! What may be sent and told.
+#![forbid(unsafe_code)]
+
+use crate::records::Follower;
+use crate::wire::Told;
+use crate::{Executed, Frame, Instance, Leading, OpenInstance, Proposed, Receipt};
+
+/// What may be sent and told, now that what it rests on is on the disk. Each thing is told once, in the order of the entries.
+///
+/// It lives until the next call of the replica, and its parts are lent, not copied. What is dropped unused is as good as lost on its way: frames may be.
+///
+/// ```
+/// use epaxos::{Call, Cluster, Command, Replica};
+///
+/// let mut replica = Replica::new(Cluster::Three, 0)?;
+/// replica.ready()?.synced()?;                         // (its log is on the disk)
+/// replica.propose(Call::new(1, 1), Command::Put { key: b"x", value: b"1" })?;
+/// let output = replica.ready()?.synced()?;
+/// let frame = output.frames().next().unwrap();
+/// assert_eq!(frame.to, 1);                            // the other member of its fast quorum
+/// assert_eq!(output.receipts().count(), 0);           // nobody has answered yet
+/// assert_eq!(output.proposed().next().unwrap().instance.to_string(), "0.1");
+/// # Ok::<(), Box<dyn std::error::Error>>(())
+/// ```
+pub struct Output<'a> {
+    told: Told<'a>,
+    follower: &'a Follower,
+}
+
+impl<'a> Output<'a> {
+    pub(crate) fn new(told: Told<'a>, follower: &'a Follower) -> Output<'a> {
+        Output { told, follower }
+    }
+
+    /// How many entries there are, all of which were told with this. A host that keeps the number beside the log can have a start go on
+    /// from there ([`Setup::told`](crate::Setup)).
+    ///
+    /// ```
+    /// # fn of(output: &epaxos::Output) -> std::io::Result<()> {
+    /// std::fs::write("told", output.entries().to_string())
+    /// # }
+    /// ```
+    pub fn entries(&self) -> u32 {
+        self.told.entries
+    }
+
+    /// The frames to be sent. Any of them may be lost, repeated or overtaken.
+    ///
+    /// ```
+    /// # fn of(output: &epaxos::Output, peers: &[std::sync::mpsc::Sender<Vec<u8>>]) {
+    /// for frame in output.frames() {
+    ///     let _ = peers[usize::from(frame.to)].send(frame.bytes.to_vec());
+    /// }
+    /// # }
+    /// ```
+    pub fn frames(&self) -> impl Iterator<Item = Frame<'a>> + use<'a> {
+        self.told.frames()
+    }
+
+    /// What clients may be told of the commands that were proposed here.
+    ///
+    /// ```
+    /// # fn of(output: &epaxos::Output, audited: &mut Vec<u8>) {
+    /// for receipt in output.receipts() {
+    ///     audited.extend(receipt.bytes);
+    ///     println!("client {} request {}: {:?}", receipt.client, receipt.request, receipt.answer);
+    /// }
+    /// # }
+    /// ```
+    pub fn receipts(&self) -> impl Iterator<Item = Receipt<'a>> + use<'a> {
+        self.told.receipts()
+    }
+
+    /// The commands that were proposed here, each with its instance.
+    ///
+    /// ```
+    /// # fn of(output: &epaxos::Output) {
+    /// for proposed in output.proposed() {
+    ///     println!("client {} waits for {}", proposed.client, proposed.instance);
+    /// }
+    /// # }
+    /// ```
+    pub fn proposed(&self) -> impl ExactSizeIterator<Item = Proposed> + use<'a> {
+        self.follower.proposed()
+    }
+
+    /// The instances that got committed, own and others': they may be executed, once what they depend on is committed too.
+    ///
+    /// ```
+    /// # fn of(output: &epaxos::Output) -> Vec<epaxos::Instance> {
+    /// output.committed().collect()
+    /// # }
+    /// ```
+    pub fn committed(&self) -> impl ExactSizeIterator<Item = Instance> + use<'a> {
+        self.told.committed()
+    }
+
+    /// The instances that were executed, own and others', in order, with their commands and answers: for whoever keeps more than the map.
+    ///
+    /// ```
+    /// # fn of(output: &epaxos::Output) {
+    /// for executed in output.executed() {
+    ///     println!("{} did {:?}: {:?}", executed.instance, executed.command, executed.answer);
+    /// }
+    /// # }
+    /// ```
+    pub fn executed(&self) -> impl ExactSizeIterator<Item = Executed<'a>> + use<'a> {
+        self.follower.executed()
+    }
+
+    /// The least instances that are open, in rising order, as many as [`ready_with_open`](crate::Replica::ready_with_open) was asked for.
+    ///
+    /// ```
+    /// # fn of(output: &epaxos::Output, patience: &mut epaxos::Patience, now: u64) {
+    /// let late = patience.turn(now, output.open());
+    /// # drop(late);
+    /// # }
+    /// ```
+    pub fn open(&self) -> impl Iterator<Item = OpenInstance> + use<'a> {
+        self.told.open()
+    }
+
+    /// Those of them that are led here, and how far.
+    ///
+    /// ```
+    /// # fn of(output: &epaxos::Output) -> bool {
+    /// output.led().any(|(_, leading)| leading.answers == 0)
+    /// # }
+    /// ```
+    pub fn led(&self) -> impl Iterator<Item = (Instance, Leading)> + use<'a> {
+        self.open().filter_map(|open| Some((open.instance, open.led?)))
+    }
+
+    /// Whether a seal was executed: the generation's map is closed, and [`close`](crate::Replica::close) has the next one's opening.
+    ///
+    /// ```
+    /// # fn of(output: &epaxos::Output) {
+    /// if output.is_sealed() {
+    ///     println!("the next generation may begin");
+    /// }
+    /// # }
+    /// ```
+    pub fn is_sealed(&self) -> bool {
+        self.told.is_sealed
+    }
+}

@@ -1,0 +1,465 @@
+//! A replica.
+#![forbid(unsafe_code)]
+
+use crate::core::{Host, Lent};
+use crate::records::{self, Follower, HEADER};
+use crate::wire::Told;
+use crate::{
+    Begin, Call, CloseFault, Cluster, Command, Event, Fault, Instance, OpenFault, Output, Ready, Setup, State, found,
+};
+use std::cell::Cell;
+use std::fmt;
+use std::marker::PhantomData;
+
+/// One replica. It takes what happens, and tells what is to be done, once what it took is on the disk. See [the crate's page](crate).
+///
+/// It is [`Send`] and not [`Sync`]: it lives on one thread at a time, and every call takes `&mut self`.
+///
+/// ```
+/// fn is_send<T: Send>() {}
+/// is_send::<epaxos::Replica>();
+/// ```
+///
+/// ```compile_fail
+/// fn is_sync<T: Sync>() {}
+/// is_sync::<epaxos::Replica>();
+/// ```
+pub struct Replica {
+    host: Box<dyn Host>,
+    follower: Follower,
+    /// One that has found nothing.
+    idle: Follower,
+    /// Whether what the follower found was told.
+    is_told: bool,
+    /// How many of the bytes that are lent next the follower has gone over.
+    passed: usize,
+    /// How many entries were told.
+    told: u32,
+    cut: u64,
+    is_alone: PhantomData<Cell<()>>,
+}
+
+impl fmt::Debug for Replica {
+    fn fmt(&self, f: &mut fmt::Formatter) -> fmt::Result {
+        f.debug_struct("Replica").field("told", &self.told).finish_non_exhaustive()
+    }
+}
+
+impl Replica {
+    /// The replica of this number in a new cluster, before any event. Its log comes first: [`ready`](Replica::ready) lends its beginning, and nothing is taken
+    /// before that is [`synced`](Ready::synced).
+    ///
+    /// # Errors
+    ///
+    /// [`OpenFault::OutOfRange`] where the number isn't below the cluster's size; [`OpenFault::NoCore`].
+    ///
+    /// ```
+    /// use epaxos::{Cluster, Replica};
+    ///
+    /// let replica = Replica::new(Cluster::Three, 0)?;
+    /// # drop(replica);
+    /// # Ok::<(), epaxos::OpenFault>(())
+    /// ```
+    pub fn new(cluster: Cluster, me: u8) -> Result<Replica, OpenFault> {
+        Setup::new(cluster, me).begin()
+    }
+
+    /// The replica that this log is of, as if it had never stopped; the log is all that its file has. What was handed out is there again, and what
+    /// wasn't synced is gone, as if it had never come. As with [`new`](Replica::new) the log comes first: it is written anew.
+    ///
+    /// # Errors
+    ///
+    /// [`OpenFault`] says why this log can't be gone on from.
+    ///
+    /// ```
+    /// use epaxos::{Call, Cluster, Command, Replica};
+    ///
+    /// let mut log = Vec::new();
+    /// {
+    ///     let mut replica = Replica::new(Cluster::Three, 0)?;
+    ///     for request in [None, Some(1)] {
+    ///         if let Some(request) = request {
+    ///             replica.propose(Call::new(1, request), Command::Put { key: b"x", value: b"1" })?;
+    ///         }
+    ///         let ready = replica.ready()?;
+    ///         log.extend(ready.log());
+    ///         ready.synced()?;
+    ///     }
+    /// }
+    /// log.extend(b"torn");
+    /// let mut replica = Replica::open(Cluster::Three, 0, &log)?;
+    /// assert_eq!(replica.cut(), 4);
+    /// let output = replica.ready_with_open(1)?.synced()?;
+    /// assert_eq!(output.open().next().unwrap().instance.to_string(), "0.1");
+    /// # Ok::<(), Box<dyn std::error::Error>>(())
+    /// ```
+    pub fn open(cluster: Cluster, me: u8, log: &[u8]) -> Result<Replica, OpenFault> {
+        Setup::new(cluster, me).open(log)
+    }
+
+    pub(crate) fn begun(setup: &Setup, log: Option<&[u8]>) -> Result<Replica, OpenFault> {
+        let Setup { cluster, me, opening, .. } = *setup;
+        if me >= cluster.replicas() {
+            return Err(OpenFault::OutOfRange);
+        }
+        let host = found::start(&setup.core, &Begin { cluster, me, opening, log })?;
+        let (mut follower, mut cut, mut passed) = (Follower::default(), 0, HEADER);
+        if let Some(log) = log {
+            passed = records::whole(log);
+            cut = (log.len() - passed) as u64;
+            let records = log.get(HEADER..passed).unwrap_or_default();
+            follower.follow(records).ok_or_else(|| OpenFault::BadLog("it can't be followed".into()))?;
+        }
+        let told = setup.told.map_or(follower.entries(), |told| told.min(follower.entries()));
+        follower.pass(told);
+        Ok(Replica {
+            host,
+            follower,
+            idle: Follower::default(),
+            is_told: false,
+            passed,
+            told,
+            cut,
+            is_alone: PhantomData,
+        })
+    }
+
+    /// How many bytes were left out behind the last whole record of the log that was opened: what a crash has left. Tell it to whoever runs the replica.
+    ///
+    /// ```
+    /// # use epaxos::{Cluster, Replica};
+    /// assert_eq!(Replica::new(Cluster::Three, 0)?.cut(), 0);
+    /// # Ok::<(), epaxos::OpenFault>(())
+    /// ```
+    pub fn cut(&self) -> u64 {
+        self.cut
+    }
+
+    /// What the core has told people: lines, mostly none. A program that isn't proved says so here.
+    ///
+    /// ```
+    /// # use epaxos::{Cluster, Replica};
+    /// let replica = Replica::new(Cluster::Three, 0)?;
+    /// eprint!("{}", replica.said());
+    /// # Ok::<(), epaxos::OpenFault>(())
+    /// ```
+    pub fn said(&self) -> String {
+        self.host.said()
+    }
+
+    /// Takes an event, of which nothing is told before it is on the disk.
+    ///
+    /// # Errors
+    ///
+    /// [`Fault`] says which. What is refused has changed nothing.
+    ///
+    /// ```
+    /// # use epaxos::{Cluster, Event, Fault, Instance, Replica};
+    /// let mut replica = Replica::new(Cluster::Three, 0)?;
+    /// # replica.ready()?.synced()?;
+    /// let instance = Instance { replica: 1, number: 1 };
+    /// assert_eq!(replica.take(&Event::Execute(instance)), Err(Fault::NotCommitted(instance)));
+    /// # Ok::<(), Box<dyn std::error::Error>>(())
+    /// ```
+    pub fn take(&mut self, event: &Event) -> Result<(), Fault> {
+        self.host.take(event)
+    }
+
+    /// Takes events, one after the other, and tells of each what came of it: what is refused changes nothing, and the next one is taken all the
+    /// same. Where the core is a process, this asks for many with one write.
+    ///
+    /// ```
+    /// # use epaxos::{Call, Cluster, Command, Event, Fault, Replica};
+    /// let mut replica = Replica::new(Cluster::Three, 0)?;
+    /// # replica.ready()?.synced()?;
+    /// let put = Event::Propose { call: Call::new(1, 1), command: Command::Put { key: b"x", value: b"1" } };
+    /// assert_eq!(replica.take_all(&[Event::Handle(b"garbage"), put]), [Err(Fault::BadFrame), Ok(())]);
+    /// # Ok::<(), Box<dyn std::error::Error>>(())
+    /// ```
+    pub fn take_all(&mut self, events: &[Event]) -> Vec<Result<(), Fault>> {
+        self.host.take_all(events)
+    }
+
+    /// Proposes a client's command. Its instance is told by [`Output::proposed`], and its answer by [`Output::receipts`].
+    ///
+    /// # Errors
+    ///
+    /// As [`take`](Replica::take).
+    ///
+    /// ```
+    /// # use epaxos::{Call, Cluster, Command, Fault, Replica};
+    /// let mut replica = Replica::new(Cluster::Three, 0)?;
+    /// # replica.ready()?.synced()?;
+    /// replica.propose(Call::new(1, 1), Command::Get { key: b"x" })?;
+    /// assert_eq!(replica.propose(Call::new(1, 2), Command::Get { key: b"" }), Err(Fault::OutOfRange));
+    /// # Ok::<(), Box<dyn std::error::Error>>(())
+    /// ```
+    pub fn propose(&mut self, call: Call, command: Command) -> Result<(), Fault> {
+        self.take(&Event::Propose { call, command })
+    }
+
+    /// Handles bytes that came from a peer. They may be anything: what is no frame for this replica is refused.
+    ///
+    /// # Errors
+    ///
+    /// As [`take`](Replica::take). A frame that was refused for want of memory may be treated as lost.
+    ///
+    /// ```
+    /// # use epaxos::{Call, Cluster, Command, Replica};
+    /// let mut zero = Replica::new(Cluster::Three, 0)?;
+    /// let mut one = Replica::new(Cluster::Three, 1)?;
+    /// # zero.ready()?.synced()?;
+    /// # one.ready()?.synced()?;
+    /// zero.propose(Call::new(1, 1), Command::Put { key: b"x", value: b"1" })?;
+    /// for frame in zero.ready()?.synced()?.frames() {
+    ///     one.handle(frame.bytes)?;
+    /// }
+    /// assert_eq!(one.ready()?.synced()?.frames().next().unwrap().to, 0);      // it agrees
+    /// # Ok::<(), Box<dyn std::error::Error>>(())
+    /// ```
+    pub fn handle(&mut self, frame: &[u8]) -> Result<(), Fault> {
+        self.take(&Event::Handle(frame))
+    }
+
+    /// Waits no longer for the fast quorum of an own instance: it commits by the slow path, with the answers that are there.
+    ///
+    /// # Errors
+    ///
+    /// As [`take`](Replica::take): [`Fault::TooFewAnswers`], [`Fault::NotLeading`].
+    ///
+    /// ```
+    /// # use epaxos::{Call, Cluster, Command, Fault, Instance, Replica};
+    /// let mut replica = Replica::new(Cluster::Three, 0)?;
+    /// # replica.ready()?.synced()?;
+    /// replica.propose(Call::new(1, 1), Command::Get { key: b"x" })?;
+    /// let instance = Instance { replica: 0, number: 1 };
+    /// assert_eq!(replica.give_up(instance), Err(Fault::TooFewAnswers));
+    /// # Ok::<(), Box<dyn std::error::Error>>(())
+    /// ```
+    pub fn give_up(&mut self, instance: Instance) -> Result<(), Fault> {
+        self.take(&Event::GiveUp(instance))
+    }
+
+    /// Takes over an instance that stays open, by explicit prepare. Safe at any time; [`Patience`](crate::Patience) tells when it is wise.
+    ///
+    /// # Errors
+    ///
+    /// As [`take`](Replica::take): [`Fault::AlreadyCommitted`].
+    ///
+    /// ```
+    /// # use epaxos::{Cluster, Instance, Replica};
+    /// let mut replica = Replica::new(Cluster::Three, 0)?;
+    /// # replica.ready()?.synced()?;
+    /// replica.recover(Instance { replica: 1, number: 1 })?;
+    /// assert_eq!(replica.ready()?.synced()?.frames().count(), 2);     // Prepare, to both others
+    /// # Ok::<(), Box<dyn std::error::Error>>(())
+    /// ```
+    pub fn recover(&mut self, instance: Instance) -> Result<(), Fault> {
+        self.take(&Event::Recover(instance))
+    }
+
+    /// Executes an instance, and before it all that it depends on.
+    ///
+    /// # Errors
+    ///
+    /// As [`take`](Replica::take): [`Fault::NotCommitted`].
+    ///
+    /// ```
+    /// # use epaxos::{Cluster, Instance, Replica};
+    /// let mut replica = Replica::new(Cluster::Three, 0)?;
+    /// # replica.ready()?.synced()?;
+    /// assert!(replica.execute(Instance { replica: 0, number: 1 }).is_err());
+    /// # Ok::<(), Box<dyn std::error::Error>>(())
+    /// ```
+    pub fn execute(&mut self, instance: Instance) -> Result<(), Fault> {
+        self.take(&Event::Execute(instance))
+    }
+
+    /// Executes all own instances that are ready: committed, and waiting for none that isn't. So clients get their answers.
+    ///
+    /// # Errors
+    ///
+    /// [`Fault::Memory`], [`Fault::Unsynced`], [`Fault::Ended`].
+    ///
+    /// ```
+    /// # use epaxos::{Cluster, Replica};
+    /// let mut replica = Replica::new(Cluster::Three, 0)?;
+    /// # replica.ready()?.synced()?;
+    /// replica.advance()?;                  // nothing is ready
+    /// # Ok::<(), Box<dyn std::error::Error>>(())
+    /// ```
+    pub fn advance(&mut self) -> Result<(), Fault> {
+        self.host.advance()
+    }
+
+    /// Executes all instances that are ready, others' too: before a local read, or where a machine of one's own is to keep up.
+    ///
+    /// # Errors
+    ///
+    /// As [`advance`](Replica::advance).
+    ///
+    /// ```
+    /// # use epaxos::{Cluster, Replica};
+    /// let mut replica = Replica::new(Cluster::Three, 0)?;
+    /// # replica.ready()?.synced()?;
+    /// replica.execute_all()?;
+    /// # Ok::<(), Box<dyn std::error::Error>>(())
+    /// ```
+    pub fn execute_all(&mut self) -> Result<(), Fault> {
+        self.host.execute_all()
+    }
+
+    /// What all that was taken leaves to be done: bytes for the log first, then frames and receipts.
+    ///
+    /// # Errors
+    ///
+    /// [`Fault::Memory`], [`Fault::Ended`].
+    ///
+    /// ```
+    /// # use epaxos::{Cluster, Replica};
+    /// # let mut replica = Replica::new(Cluster::Three, 0)?;
+    /// # let mut file = std::io::sink();
+    /// # use std::io::Write;
+    /// let ready = replica.ready()?;
+    /// file.write_all(ready.log())?;
+    /// let output = ready.synced()?;
+    /// # drop(output);
+    /// # Ok::<(), Box<dyn std::error::Error>>(())
+    /// ```
+    pub fn ready(&mut self) -> Result<Ready<'_>, Fault> {
+        self.ready_with_open(0)
+    }
+
+    /// The same, with the least `most` instances that are open: to learn what is late, a few times a second. Each takes a pass over what the replica knows.
+    ///
+    /// # Errors
+    ///
+    /// As [`ready`](Replica::ready).
+    ///
+    /// ```
+    /// # use epaxos::{Call, Cluster, Command, Phase, Replica};
+    /// let mut replica = Replica::new(Cluster::Three, 0)?;
+    /// # replica.ready()?.synced()?;
+    /// replica.propose(Call::new(1, 1), Command::Get { key: b"x" })?;
+    /// let output = replica.ready_with_open(64)?.synced()?;
+    /// let (instance, leading) = output.led().next().unwrap();
+    /// assert_eq!((instance.number, leading.phase, leading.answers), (1, Phase::Proposing, 0));
+    /// # Ok::<(), Box<dyn std::error::Error>>(())
+    /// ```
+    pub fn ready_with_open(&mut self, most: u8) -> Result<Ready<'_>, Fault> {
+        self.host.lend()?;
+        if self.is_told {
+            self.follower.clear();
+            self.is_told = false;
+        }
+        let lent = self.host.lent().bytes;
+        let records = lent.get(self.passed..).unwrap_or_default();
+        if !records.is_empty() {
+            let followed = self.follower.follow(records);
+            self.passed = lent.len();
+            followed.ok_or_else(|| Fault::Ended("its records can't be followed".into()))?;
+        }
+        Ok(Ready::new(self, most))
+    }
+
+    pub(crate) fn lent(&self) -> Lent<'_> {
+        self.host.lent()
+    }
+
+    pub(crate) fn synced(&mut self, most: u8) -> Result<Output<'_>, Fault> {
+        self.host.sync()?;
+        self.passed = 0;
+        self.host.tell(self.told, most)?;
+        let told = Told::read(self.host.told()).ok_or_else(bad_report)?;
+        self.told = told.entries;
+        self.is_told = true;
+        Ok(Output::new(told, &self.follower))
+    }
+
+    /// Reports once more what there was to report behind the first `after` entries, for who has to send it again: frames, receipts and commits; not what was
+    /// proposed or executed. And the least `most` instances that are open. With `u32::MAX` it reports these alone.
+    ///
+    /// # Errors
+    ///
+    /// [`Fault::Unsynced`], as [`get`](Replica::get); [`Fault::Memory`].
+    ///
+    /// ```
+    /// # use epaxos::{Call, Cluster, Command, Replica};
+    /// let mut replica = Replica::new(Cluster::Three, 0)?;
+    /// # replica.ready()?.synced()?;
+    /// replica.propose(Call::new(1, 1), Command::Get { key: b"x" })?;
+    /// assert_eq!(replica.ready()?.synced()?.frames().count(), 1);
+    /// let output = replica.report(0, 64)?;
+    /// assert_eq!((output.frames().count(), output.open().count()), (1, 1));
+    /// assert_eq!(replica.report(1, 0)?.frames().count(), 0);
+    /// # Ok::<(), Box<dyn std::error::Error>>(())
+    /// ```
+    pub fn report(&mut self, after: u32, most: u8) -> Result<Output<'_>, Fault> {
+        self.host.tell(after, most)?;
+        let told = Told::read(self.host.told()).ok_or_else(bad_report)?;
+        Ok(Output::new(told, &self.idle))
+    }
+
+    /// What this replica's map has at the key, after all that was executed here: a local read, which may be old. A client's read is a command.
+    ///
+    /// # Errors
+    ///
+    /// [`Fault::Unsynced`] while something that was taken isn't on the disk: after [`synced`](Ready::synced) nothing is. [`Fault::OutOfRange`] of a key
+    /// that can't be.
+    ///
+    /// ```
+    /// # use epaxos::{Cluster, Replica};
+    /// let mut replica = Replica::new(Cluster::Three, 0)?;
+    /// replica.ready()?.synced()?;
+    /// assert_eq!(replica.get(b"x")?, None);
+    /// # Ok::<(), Box<dyn std::error::Error>>(())
+    /// ```
+    pub fn get(&mut self, key: &[u8]) -> Result<Option<&[u8]>, Fault> {
+        self.host.get(key)
+    }
+
+    /// How far it is in its generation.
+    ///
+    /// # Errors
+    ///
+    /// [`Fault::Unsynced`], as [`get`](Replica::get).
+    ///
+    /// ```
+    /// # use epaxos::{Cluster, Replica};
+    /// let mut replica = Replica::new(Cluster::Three, 0)?;
+    /// replica.ready()?.synced()?;
+    /// assert!(!replica.state()?.is_sealed);
+    /// # Ok::<(), Box<dyn std::error::Error>>(())
+    /// ```
+    pub fn state(&mut self) -> Result<State, Fault> {
+        self.host.state()
+    }
+
+    /// Closes the generation, once a seal was executed: the opening of the next one, for so many replicas. Keep it on the disk, begin each replica with it
+    /// ([`Setup::opening`]), and let none act in the generation before: so the replica is gone with this.
+    ///
+    /// # Errors
+    ///
+    /// [`CloseFault`] says why, and the replica comes back with it.
+    ///
+    /// ```no_run
+    /// # fn of(mut replica: epaxos::Replica) -> Result<(), Box<dyn std::error::Error>> {
+    /// use epaxos::{Cluster, Setup};
+    ///
+    /// let opening = replica.close(Cluster::Three).map_err(|(_, fault)| fault)?;
+    /// std::fs::write("2.opening", &opening)?;
+    /// let next = Setup { opening: Some(&opening), ..Setup::new(Cluster::Three, 0) }.begin()?;
+    /// # drop(next);
+    /// # Ok(()) }
+    /// ```
+    pub fn close(mut self, next: Cluster) -> Result<Vec<u8>, (Box<Replica>, CloseFault)> {
+        match self.host.close(next) {
+            Ok(opening) => Ok(opening),
+            Err(fault) => Err((Box::new(self), fault)),
+        }
+    }
+}
+
+fn bad_report() -> Fault {
+    Fault::Ended("what it tells isn't of the protocol".into())
+}

@@ -1,0 +1,184 @@
+//! Replicas agree, whatever is lost, and whoever stops.
+#![forbid(unsafe_code)]
+
+mod common;
+
+use common::{Owned, Plain, Random, Reply, World, cores, program};
+use epaxos::{Cluster, Core};
+use std::fs;
+use std::path::Path;
+use std::process::{Command, Stdio};
+
+const SEEDS: u64 = 4;
+const COMMANDS: u32 = 60;
+
+fn key(random: &mut Random) -> Vec<u8> {
+    vec![b'a' + random.below(4) as u8]
+}
+
+fn value(random: &mut Random) -> Vec<u8> {
+    let length = [0, 1, 7, 300][random.below(4) as usize];
+    (0..length).map(|_| random.below(256) as u8).collect()
+}
+
+fn drawn(random: &mut Random) -> Owned {
+    let (first, second) = (key(random), key(random));
+    let other = (first != second).then_some(second);
+    match (random.below(8), other) {
+        (0, _) => Owned::Get(first),
+        (1, _) => Owned::Del(first),
+        (2, Some(second)) => Owned::Swap(first, second),
+        (3, _) => Owned::Cas(first, None, Some(value(random))),
+        (4, _) => Owned::Cas(first, Some(Vec::new()), None),
+        (5, second) => Owned::Opaque(random.below(2) == 0, first, second, value(random)),
+        _ => Owned::Put(first, value(random)),
+    }
+}
+
+/// Plays so many commands, with losses and stops.
+fn play(world: &mut World) {
+    let mut request = 0;
+    while request < COMMANDS {
+        world.now += 1;
+        let me = world.random.below(world.seats.len() as u64) as usize;
+        match world.random.below(12) {
+            0..3 if world.seats[me].replica.is_some() => {
+                request += 1;
+                let command = drawn(&mut world.random);
+                world.propose(me, me as u32 + 1, request, &command);
+            }
+            3 if world.seats.iter().all(|it| it.replica.is_some()) => world.stop(me),
+            4 if world.seats[me].replica.is_none() => {
+                let torn: Vec<u8> = (0..world.random.below(40)).map(|it| it as u8).collect();
+                world.start(me, &torn);
+            }
+            5..8 => {
+                if let Some(replica) = &mut world.seats[me].replica {
+                    replica.advance().unwrap();
+                }
+                world.settle(me);
+            }
+            _ => world.deliver(true),
+        }
+    }
+    for me in 0..world.seats.len() {
+        if world.seats[me].replica.is_none() {
+            world.start(me, &[]);
+        }
+        world.settle(me);
+    }
+    world.finish();
+}
+
+/// Whether `epaxos collect` makes a bundle of the logs, and `epaxos audit` accepts it with the receipts.
+fn audit(world: &World, folder: &Path) {
+    let opening = world.opening.map(<[u8]>::to_vec).unwrap_or_else(|| opening_of_the_page(world.cluster));
+    let mut words = vec!["collect".to_string(), "--generation".into(), "1".into()];
+    for seat in &world.seats {
+        let store = folder.join(seat.me.to_string());
+        fs::create_dir_all(store.join("1")).unwrap();
+        fs::write(store.join("1/opening"), &opening).unwrap();
+        fs::write(store.join("1/log"), &seat.log).unwrap();
+        words.push(store.to_str().unwrap().into());
+    }
+    for seat in &world.seats {
+        let told = folder.join(format!("told.{}", seat.me));
+        fs::write(&told, &seat.receipts).unwrap();
+        words.extend(["--receipts".into(), told.to_str().unwrap().into()]);
+    }
+    let collected = Command::new(program()).args(&words).stdin(Stdio::null()).output().unwrap();
+    assert!(collected.status.success(), "{}", String::from_utf8_lossy(&collected.stderr));
+    let bundle = folder.join("bundle");
+    fs::write(&bundle, &collected.stdout).unwrap();
+    let audited = Command::new(program()).arg("audit").stdin(fs::File::open(&bundle).unwrap()).output().unwrap();
+    let report = String::from_utf8_lossy(&audited.stdout);
+    assert!(report.starts_with("verdict accepted\n"), "{report}{}", String::from_utf8_lossy(&audited.stderr));
+    let told: usize = world.seats.iter().map(|it| it.told.len()).sum();
+    assert!(report.contains(&format!("\nreceipts {told}\n")), "{report}");
+}
+
+/// The opening of generation 1 of three replicas, by hand (examples/openings.txt).
+fn opening_of_the_page(cluster: Cluster) -> Vec<u8> {
+    assert_eq!(cluster, Cluster::Three);
+    let page = include_str!("../../../../examples/openings.txt");
+    let lines = page.lines().filter_map(|it| it.strip_prefix("    ")).take(2);
+    let digits: String = lines.flat_map(str::chars).filter(|it| *it != ' ').collect();
+    let bytes = digits.as_bytes().chunks(2);
+    bytes.map(|it| u8::from_str_radix(std::str::from_utf8(it).unwrap(), 16).unwrap()).collect()
+}
+
+#[test]
+fn replicas_agree_and_the_audit_accepts() {
+    let folder = std::env::temp_dir().join(format!("epaxos-agree-{}", std::process::id()));
+    for core in cores() {
+        for seed in 0..SEEDS {
+            let mut world = World::new(Cluster::Three, &core, None, seed);
+            play(&mut world);
+            world.check();
+            audit(&world, &folder.join(seed.to_string()));
+        }
+    }
+    fs::remove_dir_all(folder).unwrap();
+}
+
+/// Each core writes the same logs and tells the same, byte for byte.
+#[test]
+fn cores_do_the_same() {
+    let done = cores().into_iter().map(|core| {
+        let mut world = World::new(Cluster::Three, &core, None, 21);
+        play(&mut world);
+        let seats = world.seats.into_iter();
+        seats.map(|it| (it.log, it.receipts, it.did, it.entries)).collect::<Vec<_>>()
+    });
+    let done: Vec<_> = done.collect();
+    assert!(done.iter().all(|it| *it == done[0]));
+}
+
+#[test]
+fn five_replicas_agree() {
+    for core in cores() {
+        let mut world = World::new(Cluster::Five, &core, None, 5);
+        play(&mut world);
+        world.check();
+    }
+}
+
+#[test]
+fn a_generation_is_closed_and_the_next_one_opened() {
+    for core in cores() {
+        let mut world = World::new(Cluster::Three, &core, None, 11);
+        world.propose(0, 1, 1, &Owned::Put(b"x".to_vec(), b"1".to_vec()));
+        world.settle(0);
+        world.finish();
+        world.propose(1, 2, 1, &Owned::Seal(b"next".to_vec()));
+        world.settle(1);
+        world.finish();
+        world.propose(2, 3, 1, &Owned::Put(b"x".to_vec(), b"2".to_vec()));
+        world.settle(2);
+        world.finish();
+        let plain = world.check();
+        assert!(plain.is_closed);
+        assert_eq!(world.seats[2].told.last().unwrap().reply, Reply::Closed);
+        assert!(world.replica(0).state().unwrap().is_sealed);
+        let openings: Vec<Vec<u8>> = (0..3)
+            .map(|me| world.seats[me].replica.take().unwrap().close(Cluster::Five).map_err(|it| it.1).unwrap())
+            .collect();
+        next(&core, &openings[1], &plain);
+    }
+}
+
+/// Any of the openings begins the next generation, of another number of replicas.
+fn next(core: &Core, opening: &[u8], plain: &Plain) {
+    let mut world = World::new(Cluster::Five, core, Some(opening), 12);
+    for me in 0..5 {
+        world.settle(me);
+        assert_eq!(world.replica(me).state().unwrap().generation, 2);
+        assert_eq!(world.replica(me).get(b"x").unwrap(), plain.map.get(&b"x"[..]).map(|it| &it[..]));
+    }
+    world.propose(4, 9, 1, &Owned::Get(b"x".to_vec()));
+    world.settle(4);
+    world.stop(3);
+    world.start(3, b"torn");
+    world.finish();
+    assert_eq!(world.seats[4].told[0].reply, Reply::Present(b"1".to_vec()));
+}
