@@ -108,10 +108,10 @@ def work(port, resource, rounds):
 
 def sleep_and_lose(port, resource):
     """Takes the lock, sleeps for too long, and then doesn't harm: its token is old."""
-    lock = Lock(redis.Redis(port=port), "worked-example", time=0.2)
+    lock = Lock(redis.Redis(port=port), "worked-example", time=1)
     lock.take()
-    time.sleep(1)
-    other = Lock(redis.Redis(port=port), "worked-example", time=2)
+    time.sleep(1.5)
+    other = Lock(redis.Redis(port=port), "worked-example", time=60)
     other.take()
     assert other.token > lock.token, (other.token, lock.token)
     resource.write(other.token, resource.value)

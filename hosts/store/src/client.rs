@@ -20,6 +20,27 @@ pub enum Reply {
     Map(Vec<(Reply, Reply)>),
 }
 
+/// What an error in the place of a reply says of the command.
+#[derive(Clone, Copy, PartialEq, Eq, Debug)]
+pub enum Refusal {
+    /// It wasn't done, and won't be: it may be asked again.
+    Undone,
+    /// It may be done, now or later.
+    Doubtful,
+}
+
+impl Refusal {
+    /// What an error of this text says, of a command that the store understands. None of an error that asking again doesn't mend.
+    pub fn of(text: &str) -> Option<Refusal> {
+        match text.split(' ').next() {
+            Some("FULL" | "OOM") => Some(Refusal::Undone),
+            Some("TRYAGAIN") if text.contains("the command wasn't done") => Some(Refusal::Undone),
+            Some("TRYAGAIN") => Some(Refusal::Doubtful),
+            _ => None,
+        }
+    }
+}
+
 impl Client {
     pub fn connect(port: u16, patience: Duration) -> io::Result<Client> {
         let stream = TcpStream::connect_timeout(&SocketAddr::from(([127, 0, 0, 1], port)), patience)?;
@@ -76,6 +97,41 @@ impl Client {
                 Ok(Reply::Map(pairs.collect::<io::Result<_>>()?))
             }
             _ => Err(bad()),
+        }
+    }
+}
+
+#[cfg(test)]
+mod tests {
+    use super::*;
+    use crate::command_fault::CommandFault;
+    use epaxos::Fault;
+
+    #[test]
+    fn what_errors_say_of_the_command() {
+        let undone = [
+            CommandFault::NoMajority,
+            CommandFault::Lost,
+            CommandFault::Contended,
+            CommandFault::Waiting,
+            CommandFault::NotInTime,
+            CommandFault::NoMemory,
+            CommandFault::Node(Fault::Memory),
+            CommandFault::Node(Fault::SpaceFull),
+            CommandFault::Node(Fault::StampFull),
+        ];
+        let doubtful =
+            [CommandFault::Unanswered, CommandFault::StoreEnds, CommandFault::Doubtful, CommandFault::Unseen];
+        for (faults, refusal) in [(&undone[..], Refusal::Undone), (&doubtful[..], Refusal::Doubtful)] {
+            for fault in faults {
+                assert_eq!(fault.may_be_done(), refusal == Refusal::Doubtful);
+                assert_eq!(Refusal::of(&fault.to_string()), Some(refusal), "{fault}");
+                let at_key = CommandFault::AtKey(Box::new(fault.clone()), 2);
+                assert_eq!(Refusal::of(&at_key.to_string()), Some(refusal), "{at_key}");
+            }
+        }
+        for fault in [CommandFault::Syntax, CommandFault::WrongType, CommandFault::Watch, CommandFault::NoScript] {
+            assert_eq!(Refusal::of(&fault.to_string()), None);
         }
     }
 }

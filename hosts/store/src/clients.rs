@@ -10,7 +10,7 @@ use crate::listing::Listing;
 use crate::memory::{Memory, Share};
 use crate::metrics::Metrics;
 use crate::password::Password;
-use crate::replies::{Combine, Message, Over, Part, Replies, ReplyTo, Slot, Window};
+use crate::replies::{Combine, Due, Message, Over, Part, Replies, ReplyTo, Slot, Window};
 use crate::resp::{Input, Reply, Version, read_command};
 use crate::say::say;
 use crate::stored::{self, Stored};
@@ -28,6 +28,8 @@ use std::time::{Duration, Instant};
 const WRITE_PATIENCE: Duration = Duration::from_secs(30);
 /// A client that asks nothing for so long is gone, or connects again.
 const SILENCE: Duration = Duration::from_secs(3_600);
+/// (none is no wait without an end)
+const LEAST_SILENCE: Duration = Duration::from_millis(1);
 const STACK: usize = 256 << 10;
 /// So much is read at once.
 const CHUNK: usize = 16 << 10;
@@ -50,6 +52,7 @@ pub struct Shared {
     pub memory: Arc<Memory>,
     pub metrics: Arc<Metrics>,
     pub connections: Arc<Connections>,
+    pub due: Arc<Due>,
     /// How many connections there have been.
     pub served: AtomicU64,
     pub started: Instant,
@@ -84,7 +87,7 @@ pub fn listen(listener: TcpListener, shared: Arc<Shared>) {
         let Some(connection) = shared.connections.take(id, &stream) else {
             // (who doesn't take it at once isn't waited for)
             let _ = stream.set_nonblocking(true);
-            let _ = (&*stream).write_all(b"-ERR max number of clients reached\r\n");
+            let _ = write!(&*stream, "-{}\r\n", CommandFault::NoPlace);
             continue;
         };
         let served = shared.clone();
@@ -183,11 +186,15 @@ impl Session {
     fn read(&mut self, mut stream: &TcpStream) -> io::Result<()> {
         let (mut bytes, mut start) = (Vec::new(), 0);
         let mut chunk = vec![0; CHUNK];
+        let mut ends_at = None;
         let Some(mut share) = self.shared.memory.share(CHUNK) else {
             let _ = self.fail(CommandFault::NoMemory);
             return Ok(());
         };
         loop {
+            if self.shared.due.is_over() {
+                return Ok(());
+            }
             match read_command(&bytes[start..]) {
                 Input::Command(words, length) => {
                     start += length;
@@ -204,14 +211,19 @@ impl Session {
                         let _ = self.fail(CommandFault::NoMemory);
                         return Ok(());
                     }
+                    if ends_at != self.transaction.ends_at() {
+                        ends_at = self.transaction.ends_at();
+                        let left = ends_at.map(|at| at.saturating_duration_since(Instant::now()).max(LEAST_SILENCE));
+                        stream.set_read_timeout(left.or(Some(SILENCE)))?;
+                    }
                     match stream.read(&mut chunk)? {
                         0 => return Ok(()),
                         length => bytes.extend(&chunk[..length]),
                     }
                     self.connection.hear();
                 }
-                Input::Fault(what) => {
-                    let _ = self.fail(CommandFault::Malformed(what));
+                Input::Fault(fault) => {
+                    let _ = self.fail(CommandFault::Malformed(fault));
                     return Ok(());
                 }
             }
@@ -325,7 +337,8 @@ impl Session {
         self.commands += 1;
         let begun = Instant::now();
         let is_counted = !parts.iter().all(|part| matches!(part, Part::Come(_)));
-        let slot = Slot { combine, parts, version: self.version, begun, deadline: begun + patience, share, is_counted };
+        let (deadline, due) = (begun + patience, self.shared.due.begin());
+        let slot = Slot { combine, parts, version: self.version, begun, deadline, share, is_counted, due };
         self.messages.send(Message::Begun(slot)).map_err(|_| Over)?;
         Ok(command)
     }
@@ -390,7 +403,7 @@ impl Session {
             to.tell(match told {
                 Told::Info(text) => Reply::Bulk((text + &shared.about_clients()).into_bytes()),
                 Told::Managed(Ok(text)) => Reply::Bulk(text.into_bytes()),
-                Told::Managed(Err(what)) => Reply::Error(CommandFault::Managing(what)),
+                Told::Managed(Err(fault)) => Reply::Error(CommandFault::Managing(fault)),
                 told => Reply::Error(fault_of(told)),
             });
         });

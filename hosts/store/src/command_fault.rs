@@ -1,6 +1,10 @@
 //! Why a client's command isn't answered by its reply.
-use crate::protocol::{Fault, LONGEST_KEY};
+use crate::listing_fault::ListingFault;
+use crate::malformed_fault::MalformedFault;
+use crate::manage_fault::ManageFault;
+use crate::numbers_fault::NumbersFault;
 use crate::stored::{LONGEST_CONTENT, LONGEST_OWNER};
+use epaxos::{Fault, LONGEST_KEY};
 use std::fmt;
 
 /// What a client is told in the place of a reply.
@@ -26,19 +30,19 @@ pub enum CommandFault {
     NotInTime,
     /// It wasn't done: the node refused it.
     Node(Fault),
-    /// It wasn't done: no client number is left, or their file can't be written.
-    Numbers(String),
+    /// It wasn't done: there is no client number for it.
+    Numbers(NumbersFault),
     /// The keys can't be listed.
-    Listing(String),
+    Listing(ListingFault),
     /// What somebody who runs the store has asked for isn't done.
-    Managing(String),
+    Managing(ManageFault),
     /// It isn't an identity: 32 hexadecimal digits.
     Identity,
     /// Of a command of several keys: what befell this one, counted from 1.
     AtKey(Box<CommandFault>, usize),
 
     /// These bytes aren't of the Redis protocol.
-    Malformed(&'static str),
+    Malformed(MalformedFault),
     Unknown(String),
     /// No such subcommand of this command.
     UnknownSubcommand(&'static str, String),
@@ -69,6 +73,8 @@ pub enum CommandFault {
     NotKnown,
     /// All places are taken: it is asked on one for who asks how the store is.
     Full,
+    /// All of these places are taken too, and the connection is closed.
+    NoPlace,
     /// Clients have too much under way together.
     NoMemory,
     /// This replica doesn't take part.
@@ -107,20 +113,20 @@ impl fmt::Display for CommandFault {
             CommandFault::Contended => f.write_str("TRYAGAIN the command wasn't done: others changed the key at each try"),
             CommandFault::Waiting => f.write_str("TRYAGAIN the command wasn't done: too many others wait"),
             CommandFault::NotInTime => f.write_str("TRYAGAIN the command wasn't done: no majority has answered in time"),
-            CommandFault::Node(fault) => match *fault {
-                Fault::SPACE_FULL => f.write_str("FULL this replica has used all of its instances; ask another one"),
-                Fault::SEQ_EXHAUSTED | Fault::STAMP_FULL => write!(f, "FULL the node refused: {fault}"),
-                Fault::MEMORY => write!(f, "OOM the node refused, ask again: {fault}"),
+            CommandFault::Node(fault) => match fault {
+                Fault::SpaceFull => f.write_str("FULL this replica has used all of its instances; ask another one"),
+                Fault::SeqExhausted | Fault::StampFull => write!(f, "FULL the node refused: {fault}"),
+                Fault::Memory => write!(f, "OOM the node refused, ask again: {fault}"),
                 _ => write!(f, "ERR the node refused: {fault}"),
             },
-            CommandFault::Numbers(what) => write!(f, "ERR {what}"),
-            CommandFault::Listing(what) => write!(f, "ERR the keys can't be listed: {what}"),
-            CommandFault::Managing(what) => write!(f, "ERR {what}"),
+            CommandFault::Numbers(fault) => write!(f, "ERR {fault}"),
+            CommandFault::Listing(fault) => write!(f, "ERR the keys can't be listed: {fault}"),
+            CommandFault::Managing(fault) => write!(f, "ERR {fault}"),
             CommandFault::Identity => f.write_str("ERR an identity has 32 hexadecimal digits"),
             CommandFault::AtKey(fault, place) => {
                 write!(f, "{fault} (this is of key {place}; each key is a command of its own, and others may be done)")
             }
-            CommandFault::Malformed(what) => write!(f, "ERR Protocol error: {what}"),
+            CommandFault::Malformed(fault) => write!(f, "ERR Protocol error: {fault}"),
             CommandFault::Unknown(name) => write!(f, "ERR unknown command '{name}'"),
             CommandFault::UnknownSubcommand(name, sub) => write!(f, "ERR unknown subcommand '{sub}' of {name}"),
             CommandFault::WrongCount(name) => write!(f, "ERR wrong number of arguments for '{name}' command"),
@@ -154,6 +160,7 @@ impl fmt::Display for CommandFault {
             }
             CommandFault::NotKnown => f.write_str("NOAUTH Authentication required."),
             CommandFault::Full => f.write_str("ERR max number of clients reached; PING and INFO are answered"),
+            CommandFault::NoPlace => f.write_str("ERR max number of clients reached"),
             CommandFault::NoMemory => {
                 f.write_str("OOM the command wasn't done: clients have more under way than --memory allows")
             }

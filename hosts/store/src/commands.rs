@@ -3,12 +3,12 @@ use crate::actions::{Action, Keep, Only, OnlyExpire, Set, Tells, Unit, integer};
 use crate::command_fault::CommandFault;
 use crate::driver::Manage;
 use crate::identities::identity;
-use crate::protocol::LONGEST_KEY;
 use crate::replies::Combine;
 use crate::resp::{Reply, Version};
 use crate::scripts;
 use crate::stored::{LONGEST_CONTENT, LONGEST_OWNER, now};
-use crate::table::{Entry, TABLE, entry};
+use crate::table::{self, Entry, entry};
+use epaxos::LONGEST_KEY;
 use std::time::{Duration, SystemTime, UNIX_EPOCH};
 
 type Words = Vec<Vec<u8>>;
@@ -116,7 +116,7 @@ fn attempt(mut words: Words) -> Result<Asked, CommandFault> {
 }
 
 /// A command of keys, which are in range.
-fn keyed(entry: &Entry, words: Words) -> Result<Asked, CommandFault> {
+fn keyed(entry: Entry, words: Words) -> Result<Asked, CommandFault> {
     let (combine, actions) = actions(entry.name, words)?;
     if actions.iter().any(|(key, _)| key.is_empty() || key.len() > LONGEST_KEY) {
         return Err(CommandFault::KeyLength);
@@ -449,7 +449,7 @@ fn config(words: &[Vec<u8>]) -> Result<Reply, CommandFault> {
 fn about_commands(words: &[Vec<u8>]) -> Result<Reply, CommandFault> {
     let sub = words.first().map(|word| word.to_ascii_lowercase());
     // (two of the table are no commands)
-    let all = || TABLE.iter().filter(|entry| !matches!(entry.name, "host:" | "post"));
+    let all = || table::all().filter(|entry| !matches!(entry.name, "host:" | "post"));
     match sub.as_deref() {
         None => Ok(Reply::Array(all().map(described).collect())),
         Some(b"count") => Ok(Reply::Integer(all().count() as i64)),
@@ -464,7 +464,7 @@ fn about_commands(words: &[Vec<u8>]) -> Result<Reply, CommandFault> {
     }
 }
 
-fn described(entry: &Entry) -> Reply {
+fn described(entry: Entry) -> Reply {
     let (first, last, step) = entry.keys;
     let flag = if entry.writes { "write" } else { "readonly" };
     Reply::Array(vec![

@@ -150,6 +150,7 @@ mod tests {
             ends.iter().enumerate().map(|(id, end)| connections.take(id as u64, &end.1).unwrap()).collect();
         assert!(all.iter().enumerate().all(|(place, it)| it.is_kept() == (place >= 2)));
         let more = connect(&listener);
+        all.iter().for_each(Connection::hear);
         assert!(connections.take(100, &more.1).is_none());
         // The one that was silent for longest makes room, but for those that came first.
         thread::sleep(KEPT_SILENCE);

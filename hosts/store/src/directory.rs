@@ -347,11 +347,11 @@ mod tests {
         directory.prepare().unwrap();
         directory.check_files().unwrap();
         directory.check_entries(1, 5, 5).unwrap();
-        let told = directory.check_entries(1, 4, 5).unwrap_err();
-        assert!(told.to_string().contains("4 entries, and a client was told of entry 5"));
+        let forgotten = directory.check_entries(1, 4, 5).unwrap_err();
+        assert!(matches!(forgotten, DirectoryFault::Forgotten { generation: 1, entries: 4, told: 5 }));
         fs::remove_file(directory.log(1)).unwrap();
-        let told = directory.check_files().unwrap_err();
-        assert!(told.is_lasting() && told.to_string().contains("generations was lost"));
+        let lost = directory.check_files().unwrap_err();
+        assert!(lost.is_lasting() && matches!(lost, DirectoryFault::Lost(it) if it == directory.generations()));
         fs::remove_dir_all(top).unwrap();
     }
 

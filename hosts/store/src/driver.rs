@@ -1,23 +1,27 @@
 //! The one thread that drives the core: it gathers what is waiting, asks the core all of it, and hands out the answers.
+use crate::commits::{Commits, Committed, Lacking};
+use crate::core::Core;
 use crate::directory::Directory;
 use crate::frames::Head;
-use crate::generation::{Generation, Limits};
+use crate::generation::{Generation, Limits, Stage};
 use crate::identities::Identity;
+use crate::manage_fault::ManageFault;
 use crate::members::{Member, Members};
 use crate::messages::Message;
 use crate::metrics::Metrics;
-use crate::node::{Core, NodeFault};
+use crate::node_fault::NodeFault;
 use crate::openings::Fetch;
-use crate::options::Plant;
 use crate::others::Others;
+use crate::outcome::{Asked, Outcome, Outgoing, Report, receipts};
 use crate::peers::{Membership, Peers, Place};
-use crate::protocol::{Answer, Command, Entry, Fault, INSTANCES, Instance, Outgoing, Receipt, Reply, Request, State};
+use crate::plants::{Plant, changed};
 use crate::receipts::Receipts;
+use crate::stop_fault::StopFault;
 use crate::teller::Teller;
-use crate::timers::{Remedy, Timers, remedy};
+use crate::timers::{Due, Timers};
+use epaxos::{Answer, Call, Fault, Instance, MOST_COMMANDS, OwnedAnswer, OwnedCommand, Proposed, State};
 use std::collections::{HashMap, VecDeque};
 use std::fmt::Write;
-use std::io;
 use std::path::PathBuf;
 use std::sync::mpsc::{Receiver, RecvTimeoutError};
 use std::sync::{Arc, Mutex};
@@ -25,12 +29,21 @@ use std::time::{Duration, Instant};
 
 /// At most so many events share one sync.
 const MOST_EVENTS: usize = 512;
-/// At most so many requests in one look for open instances.
-const MOST_LOOKS: usize = 64;
+/// At most so many open instances are found in one look.
+const MOST_FOUND: u8 = 64;
+/// For INFO the core is asked at most that often: many may ask for it.
+const BETWEEN_INFOS: Duration = Duration::from_millis(50);
+/// INFO counts at most so many.
+const MOST_TOLD: u8 = 255;
 /// Where no majority is reached, what clients propose is held for so long since then: a peer may just be starting.
 const ALONE_PATIENCE: Duration = Duration::from_secs(1);
 /// At most so many own commands are under way: what is cut off uses up no more numbers.
 const MOST_OPEN: usize = 1_000;
+
+/// Commits that nobody here waits for may wait so long for something that their sync is shared with.
+const COMMITS_PATIENCE: Duration = Duration::from_millis(3);
+/// So many bytes of Commits are sent a peer again at once.
+const MOST_AGAIN: usize = 4 << 20;
 
 /// What comes to the driver.
 pub enum Event {
@@ -55,7 +68,7 @@ pub struct Ask {
 }
 
 pub enum What {
-    Propose { client: u32, request: u32, seen: u64, command: Command },
+    Propose { client: u32, request: u32, seen: u64, command: OwnedCommand },
     Read(Vec<u8>),
     Info,
     Manage(Manage),
@@ -80,7 +93,7 @@ pub enum Told {
     /// What the command was answered. Where the reply says that it wasn't done it may be asked again, as a new request.
     Done {
         stamp: u64,
-        reply: Reply,
+        reply: OwnedAnswer,
     },
     /// It was done, and what it was answered isn't known.
     DoneUnseen {
@@ -95,116 +108,69 @@ pub enum Told {
     Late,
     Value(Option<Vec<u8>>),
     Info(String),
-    Managed(Result<String, String>),
+    Managed(Result<String, ManageFault>),
     /// The driver has ended: what was proposed may still be done.
     Ended,
 }
 
-/// Why the store ends.
-#[derive(Debug)]
-pub enum Stop {
-    Node(NodeFault),
-    Receipts(io::Error),
-    /// A file of the folder can't be read or written.
-    File(PathBuf, io::Error),
-    /// A peer saw a later entry of this replica than its log has.
-    Forgotten {
-        peer: u8,
-        generation: u32,
-        seen: u32,
-        entries: u32,
-    },
-    /// From this generation on there are so many replicas: the store has to begin anew, for as many.
-    Resized(u32, u8),
-    /// From this generation on this replica takes part no more.
-    Left(u32),
-    /// Another one has this replica's number, by the seal that began this generation.
-    Replaced(u32),
-    /// It was told to end.
-    Asked,
-    /// Nobody is left who could ask.
-    Alone,
-}
-
-impl Stop {
-    /// Whether the replica must not come back with this folder.
-    pub fn is_lasting(&self) -> bool {
-        match self {
-            Stop::Node(fault) => fault.is_lasting(),
-            Stop::Forgotten { .. } | Stop::Replaced(_) | Stop::Left(_) => true,
-            _ => false,
-        }
-    }
-}
-
-impl std::fmt::Display for Stop {
-    fn fmt(&self, f: &mut std::fmt::Formatter) -> std::fmt::Result {
-        match self {
-            Stop::Node(fault) => fault.fmt(f),
-            Stop::Receipts(error) => write!(f, "the receipts can't be written: {error}"),
-            Stop::File(path, error) => write!(f, "{}: {error}", path.display()),
-            Stop::Forgotten { peer, generation, seen, entries } => write!(
-                f,
-                "replica {peer} has seen entry {seen} of this one in generation {generation}, and here are {entries} entries: the folder is \
-                 an older copy. This replica must not come back with it: it has forgotten what it promised"
-            ),
-            Stop::Resized(generation, size) => {
-                write!(f, "from generation {generation} on there are {size} replicas: it begins anew")
-            }
-            Stop::Left(generation) => write!(f, "from generation {generation} on this replica takes part no more"),
-            Stop::Replaced(generation) => write!(
-                f,
-                "from generation {generation} on another machine has this replica's number: this one must not come back"
-            ),
-            Stop::Asked => write!(f, "it ends as it was told to"),
-            Stop::Alone => write!(f, "all threads have ended"),
-        }
-    }
-}
-
-/// For whom a request is.
-enum Purpose {
-    Proposal {
-        client: u32,
-        request: u32,
-        is_put: bool,
+/// What the core is asked to take, and for whom.
+enum Request {
+    /// A client's command, and whom to tell.
+    Propose {
+        call: Call,
+        command: OwnedCommand,
         reply: Teller,
     },
-    Seal,
-    /// Of a frame that came from a peer.
-    Frame(u8, Head),
-    Late(Instance),
-    Read(Teller),
-    Host,
+    Seal {
+        call: Call,
+        command: OwnedCommand,
+    },
+    /// A frame that came from a peer.
+    Frame {
+        from: u8,
+        head: Head,
+        bytes: Vec<u8>,
+    },
+    GiveUp(Instance),
+    Recover(Instance),
 }
 
-/// Requests that are asked together.
+impl Request {
+    fn event(&self) -> epaxos::Event<'_> {
+        match self {
+            Request::Propose { call, command, .. } | Request::Seal { call, command } => {
+                epaxos::Event::Propose { call: *call, command: command.lent() }
+            }
+            Request::Frame { bytes, .. } => epaxos::Event::Handle(bytes),
+            Request::GiveUp(instance) => epaxos::Event::GiveUp(*instance),
+            Request::Recover(instance) => epaxos::Event::Recover(*instance),
+        }
+    }
+}
+
+/// What is asked together.
 #[derive(Default)]
 pub(crate) struct Batch {
     requests: Vec<Request>,
-    purposes: Vec<Purpose>,
     /// Local reads come last, and tell of all that was executed before them.
     reads: Vec<(Vec<u8>, Teller)>,
 }
 
 impl Batch {
-    fn push(&mut self, request: Request, purpose: Purpose) {
-        self.requests.push(request);
-        self.purposes.push(purpose);
+    fn append(&mut self, more: Batch) {
+        self.requests.extend(more.requests);
+        self.reads.extend(more.reads);
     }
-}
 
-/// What came out of a batch, to be handed out.
-#[derive(Default)]
-struct Outcome {
-    frames: Vec<Outgoing>,
-    receipts: Vec<Receipt>,
-}
+    fn is_empty(&self) -> bool {
+        self.requests.is_empty() && self.reads.is_empty()
+    }
 
-impl Outcome {
-    fn add(&mut self, entry: Entry) {
-        self.frames.extend(entry.frames);
-        self.receipts.extend(entry.receipts);
+    /// Whether it has nothing but commits of peers, of which none is a seal's.
+    fn is_commits(&self) -> bool {
+        let is_it = |head: &Head| head.is_commit() && !head.is_seal_committed();
+        let is_commit = |request: &Request| matches!(request, Request::Frame { head, .. } if is_it(head));
+        self.reads.is_empty() && self.requests.iter().all(is_commit)
     }
 }
 
@@ -214,7 +180,7 @@ pub struct Held {
     pub client: u32,
     pub request: u32,
     pub seen: u64,
-    pub command: Command,
+    pub command: OwnedCommand,
     pub reply: Teller,
     /// Whether another replica handed it to this one, which doesn't hand it on.
     pub is_handed: bool,
@@ -277,10 +243,18 @@ pub struct Driver<C> {
     pub(crate) handed: HashMap<(u32, u32), (u8, Instant, Teller)>,
     /// What is to be told to replicas that have handed commands to this one.
     pub(crate) answers: Arc<Mutex<Vec<(u8, Message)>>>,
+    /// Commits that wait for something else to be asked, and until when.
+    pub(crate) delayed: (Batch, Option<Instant>),
+    /// Who asks for INFO, and when the core may be asked for them.
+    pub(crate) infos: Vec<Teller>,
+    pub(crate) next_info: Instant,
     /// The clients that wait, by client and request.
     pub(crate) waiting: HashMap<(u32, u32), Waiting>,
     pub(crate) generation: Generation,
     pub(crate) others: Others,
+    pub(crate) commits: Commits,
+    /// How many Commits were sent again since the start.
+    pub(crate) sent_again: u64,
     /// An opening that is on its way, or has come whole, with its generation.
     pub(crate) fetch: Option<Fetch>,
     pub(crate) taken: Option<(u32, PathBuf)>,
@@ -324,9 +298,14 @@ impl<C: Core> Driver<C> {
             alone_since: None,
             handed: HashMap::new(),
             answers: Arc::default(),
+            delayed: (Batch::default(), None),
+            infos: Vec::new(),
+            next_info: now,
             waiting: HashMap::new(),
             generation: Generation::new(state, Duration::ZERO, now),
             others,
+            commits: Commits::new(place.replicas),
+            sent_again: 0,
             fetch: None,
             taken: None,
             behind_since: None,
@@ -343,8 +322,8 @@ impl<C: Core> Driver<C> {
     }
 
     /// Drives the core until something ends.
-    pub fn run(mut self) -> Stop {
-        if let Err(stop) = self.meet_members() {
+    pub fn run(mut self) -> StopFault {
+        if let Err(stop) = self.meet_members().and_then(|()| self.recollect()) {
             return stop;
         }
         loop {
@@ -354,16 +333,18 @@ impl<C: Core> Driver<C> {
         }
     }
 
-    pub(crate) fn turn(&mut self) -> Result<(), Stop> {
-        let mut batch = self.gather()?;
+    pub(crate) fn turn(&mut self) -> Result<(), StopFault> {
+        let batch = self.gather()?;
+        let mut batch = self.with_commits(batch);
         self.tick()?;
         self.release(&mut batch);
         self.seal(&mut batch);
         if !self.generation.is_sealed() {
             self.look()?;
-            self.remedy_late(&mut batch)?;
+            self.remedy_late(&mut batch);
         }
         self.carry_out(batch)?;
+        self.tell_infos()?;
         self.close()?;
         self.answer_peers();
         self.go_on()?;
@@ -381,6 +362,7 @@ impl<C: Core> Driver<C> {
             (&metrics.open_instances, self.timers.count() as u64),
             (&metrics.peers_reached, reached as u64),
             (&metrics.frames_lost, self.peers.lost()),
+            (&metrics.commits_sent_again, self.sent_again),
             (&metrics.frames_refused, self.refused_frames),
             (&metrics.takes_part, u64::from(!self.is_alone())),
         ] {
@@ -389,7 +371,7 @@ impl<C: Core> Driver<C> {
     }
 
     /// Waits until there is something to do, then takes what is there.
-    fn gather(&mut self) -> Result<Batch, Stop> {
+    fn gather(&mut self) -> Result<Batch, StopFault> {
         let mut batch = Batch::default();
         let early = self.others.take_early(self.generation.number);
         if early.is_empty() {
@@ -410,28 +392,50 @@ impl<C: Core> Driver<C> {
         Ok(batch)
     }
 
-    fn wait(&mut self) -> Result<Option<Event>, Stop> {
+    /// What is to be asked now. Commits that nobody here waits for wait for what else comes: by themselves they would take a sync.
+    fn with_commits(&mut self, batch: Batch) -> Batch {
+        let (delayed, until) = &mut self.delayed;
+        let is_idle = self.waiting.is_empty() && self.held.is_empty() && self.generation.stage == Stage::Open;
+        let may_wait = is_idle && batch.is_commits();
+        delayed.append(batch);
+        if delayed.is_empty() {
+            return Batch::default();
+        }
+        let now = Instant::now();
+        if may_wait && now < *until.get_or_insert(now + COMMITS_PATIENCE) {
+            return Batch::default();
+        }
+        *until = None;
+        std::mem::take(delayed)
+    }
+
+    fn wait(&mut self) -> Result<Option<Event>, StopFault> {
         let due = if self.generation.is_sealed() { None } else { self.timers.next(self.is_alone()) };
-        let next = due.into_iter().chain(self.next_of_life()).min().unwrap_or(self.next_tick);
+        let all = [due, self.delayed.1, self.info_due(), self.next_of_life()];
+        let next = all.into_iter().flatten().min().unwrap_or(self.next_tick);
         match self.events.recv_timeout(next.saturating_duration_since(Instant::now())) {
             Ok(event) => Ok(Some(event)),
             Err(RecvTimeoutError::Timeout) => Ok(None),
-            Err(RecvTimeoutError::Disconnected) => Err(Stop::Alone),
+            Err(RecvTimeoutError::Disconnected) => Err(StopFault::Alone),
         }
     }
 
-    fn take(&mut self, event: Event, batch: &mut Batch) -> Result<(), Stop> {
+    fn take(&mut self, event: Event, batch: &mut Batch) -> Result<(), StopFault> {
         match event {
             Event::Came { from, bytes } if Message::is_one(&bytes) => self.hear(from, &bytes)?,
             Event::Came { from, bytes } => self.take_frame(from, bytes, batch),
             Event::PeerReached(peer) => self.greet(peer),
-            Event::PeerCame(peer) => self.peers.hurry(peer),
-            Event::NodeEnded(run) if run == self.node.run() => return Err(Stop::Node(self.node.ended())),
+            Event::PeerCame(peer) => {
+                self.peers.hurry(peer);
+                // (what came on the connection before may have been lost)
+                self.tell_commits(peer);
+            }
+            Event::NodeEnded(run) if run == self.node.run() => return Err(StopFault::Node(self.node.ended())),
             Event::NodeEnded(_) => {}
             Event::End => self.end(),
             Event::Ask(Ask { what, reply }) => match what {
                 What::Read(key) => batch.reads.push((key, reply)),
-                What::Info => reply.send(Told::Info(self.info())),
+                What::Info => self.infos.push(reply),
                 What::Manage(manage) => self.manage(manage, reply),
                 What::Propose { .. } if self.ends_at.is_some() => reply.send(Told::Late),
                 What::Propose { client, request, seen, command } => {
@@ -450,15 +454,17 @@ impl<C: Core> Driver<C> {
         Ok(())
     }
 
-    /// A frame of this generation is for the core. One of an earlier generation is of a peer that lags; one of a later one is kept until
-    /// this replica is there.
+    /// A frame of this generation is for the core, but for a Commit of what is committed: it would change nothing. One of an earlier generation
+    /// is of a peer that lags; one of a later one is kept until this replica is there.
     fn take_frame(&mut self, from: u8, bytes: Vec<u8>, batch: &mut Batch) {
         let Some(head) = Head::read(&bytes) else {
             self.refused_frames += 1;
             return;
         };
         if head.generation == self.generation.number {
-            batch.push(Request::Frame(bytes), Purpose::Frame(from, head));
+            if !head.is_commit() || !self.commits.here.has(head.instance) {
+                batch.requests.push(Request::Frame { from, head, bytes });
+            }
         } else if head.generation < self.generation.number {
             self.greet_late(from);
         } else {
@@ -490,9 +496,8 @@ impl<C: Core> Driver<C> {
                 break;
             };
             count += 1;
-            let is_put = matches!(command, Command::Put { .. });
-            let purpose = Purpose::Proposal { client, request, is_put, reply };
-            batch.push(Request::Propose { client, request, seen, command }, purpose);
+            let call = Call { client, request, seen };
+            batch.requests.push(Request::Propose { call, command, reply });
         }
     }
 
@@ -505,38 +510,41 @@ impl<C: Core> Driver<C> {
         self.generation.note_seal(now);
         let (client, requests) = self.sealer;
         self.sealer.1 += 1;
-        let command = Command::Seal { value: self.next_members().write().into_bytes() };
-        batch.push(Request::Propose { client, request: requests + 1, seen: 0, command }, Purpose::Seal);
+        let command = OwnedCommand::Seal { value: self.next_members().write().into_bytes() };
+        batch.requests.push(Request::Seal { call: Call::new(client, requests + 1), command });
     }
 
-    pub(crate) fn ask(&mut self, requests: &[Request]) -> Result<Vec<Answer>, Stop> {
-        self.node.ask(requests).map_err(Stop::Node)
-    }
-
-    pub(crate) fn bad_answer<T>(&self, answer: &Answer) -> Result<T, Stop> {
-        let kind = format!("{answer:?}").chars().take(80).collect();
-        Err(Stop::Node(NodeFault::BadAnswer(kind)))
-    }
-
-    /// Looks for open instances, for a while.
-    fn look(&mut self) -> Result<(), Stop> {
+    /// Looks for open instances, for a while: for the least ones by one question, which mostly tells all, and for those behind them one by one.
+    fn look(&mut self) -> Result<(), StopFault> {
         let start = Instant::now();
         if !self.timers.is_look_due(start) {
             return Ok(());
         }
         let is_hopeless = self.is_hopeless();
-        for _ in 0..MOST_LOOKS {
-            let after = self.timers.after();
-            let answers = self.ask(&[Request::NextOpen(after)])?;
-            let [Answer::Open(instance)] = answers[..] else {
-                return self.bad_answer(&answers[0]);
+        let mut left = usize::from(MOST_FOUND);
+        while left > 0 {
+            let (found, wanted) = match self.timers.after() {
+                None => (self.report(u32::MAX, MOST_FOUND)?.open, usize::from(MOST_FOUND)),
+                Some(after) => {
+                    self.metrics.asks.add(1);
+                    (self.node.next_open(after).map_err(StopFault::Node)?.into_iter().collect(), 1)
+                }
             };
-            if !self.timers.find(instance, is_hopeless, start) {
+            self.timers.find(&found, is_hopeless, start);
+            if found.len() < wanted {
+                self.timers.find_no_more();
                 break;
             }
+            left -= wanted;
         }
         self.timers.end_look(start.elapsed(), Instant::now());
         Ok(())
+    }
+
+    /// What there is to report of the entries after so many, and at most so many open instances.
+    fn report(&mut self, after: u32, most: u8) -> Result<Report, StopFault> {
+        self.metrics.asks.add(1);
+        self.node.report(after, most).map_err(StopFault::Node)
     }
 
     /// Whether frames to a peer go out: it is reached, and has told what it saw of this replica.
@@ -583,95 +591,121 @@ impl<C: Core> Driver<C> {
         self.peer_numbers().filter(|replica| self.is_reached(*replica)).count() < self.place.replicas / 2
     }
 
-    /// Gives up or recovers what is late.
-    fn remedy_late(&mut self, batch: &mut Batch) -> Result<(), Stop> {
+    /// Has what is late recovered; an own instance that is late for the first time is given up, where enough have answered.
+    fn remedy_late(&mut self, batch: &mut Batch) {
         if self.is_alone() {
-            return Ok(());
+            return;
         }
-        for due in self.timers.take_due(Instant::now()) {
-            let is_own = due.instance.replica == self.place.replica;
-            let remedy = if is_own && due.is_first { self.first_remedy(due.instance)? } else { Remedy::Recover };
-            match remedy {
-                Remedy::GiveUp => batch.push(Request::GiveUp(due.instance), Purpose::Late(due.instance)),
-                Remedy::Recover => batch.push(Request::Recover(due.instance), Purpose::Late(due.instance)),
-                Remedy::Wait => {}
-            }
+        for Due { instance, is_first } in self.timers.take_due(Instant::now()) {
+            let gives_up = is_first && instance.replica == self.place.replica;
+            batch.requests.push(if gives_up { Request::GiveUp(instance) } else { Request::Recover(instance) });
         }
-        Ok(())
-    }
-
-    fn first_remedy(&mut self, instance: Instance) -> Result<Remedy, Stop> {
-        let answers = self.ask(&[Request::Leads(instance)])?;
-        let [Answer::Leads(leading)] = answers[..] else {
-            return self.bad_answer(&answers[0]);
-        };
-        Ok(remedy(leading, (self.place.replicas / 2) as u8))
     }
 
     /// Asks all of a batch with one sync, and hands out what comes of it: first the receipts to their file.
-    fn carry_out(&mut self, mut batch: Batch) -> Result<(), Stop> {
-        let executes = !batch.reads.is_empty() && self.is_unexecuted;
-        let takes = executes || !batch.requests.is_empty();
-        if takes {
-            batch.push(Request::Advance, Purpose::Host);
-        }
-        if executes {
-            // A local read tells of all that is known to be committed.
-            batch.push(Request::ExecuteAll, Purpose::Host);
-            self.is_unexecuted = false;
-        }
-        for (key, reply) in std::mem::take(&mut batch.reads) {
-            batch.push(Request::Get(key), Purpose::Read(reply));
-        }
-        if takes {
-            batch.push(Request::Sync, Purpose::Host);
-            self.metrics.syncs.add(1);
-        }
-        if batch.requests.is_empty() {
+    fn carry_out(&mut self, batch: Batch) -> Result<(), StopFault> {
+        if batch.is_empty() {
             return Ok(());
         }
-        let answers = self.ask(&batch.requests)?;
-        let mut outcome = Outcome::default();
-        for ((request, purpose), answer) in batch.requests.into_iter().zip(batch.purposes).zip(answers) {
-            self.accept(request, purpose, answer, &mut outcome)?;
+        // A local read tells of all that is known to be committed.
+        let executes_all = !batch.reads.is_empty() && self.is_unexecuted;
+        self.is_unexecuted &= !executes_all;
+        let asked = Asked {
+            events: batch.requests.iter().map(Request::event).collect(),
+            executes_all,
+            reads: batch.reads.iter().map(|(key, _)| &key[..]).collect(),
+        };
+        let mut outcome = self.ask(&asked)?;
+        drop(asked);
+        let mut proposed = std::mem::take(&mut outcome.proposed).into_iter();
+        for (request, done) in batch.requests.into_iter().zip(std::mem::take(&mut outcome.done)) {
+            self.accept(request, done, &mut proposed)?;
+        }
+        for ((_, reply), value) in batch.reads.into_iter().zip(std::mem::take(&mut outcome.values)) {
+            reply.send(Told::Value(value));
         }
         self.hand_out(outcome)
+    }
+
+    fn ask(&mut self, asked: &Asked) -> Result<Outcome, StopFault> {
+        self.metrics.asks.add(1);
+        self.metrics.syncs.add(u64::from(asked.takes()));
+        self.node.carry_out(asked).map_err(StopFault::Node)
     }
 
     /// Executes all that is known to be committed, and learns what the core then is.
-    pub(crate) fn execute_all(&mut self) -> Result<(), Stop> {
+    pub(crate) fn execute_all(&mut self) -> Result<(), StopFault> {
         self.is_unexecuted = false;
-        let answers = self.ask(&[Request::ExecuteAll, Request::Sync, Request::State])?;
-        let mut outcome = Outcome::default();
-        for answer in answers {
-            match answer {
-                Answer::Taken(entries) => self.take_in(entries, &mut outcome),
-                Answer::State(state) => self.generation.learn(state, Instant::now()),
-                Answer::Synced(_) | Answer::Refused(..) => {}
-                answer => return self.bad_answer(&answer),
-            }
-        }
+        let outcome = self.ask(&Asked { executes_all: true, ..Asked::default() })?;
+        let state = self.node.state().map_err(StopFault::Node)?;
+        self.generation.learn(state, Instant::now());
         self.hand_out(outcome)
     }
 
-    fn hand_out(&mut self, outcome: Outcome) -> Result<(), Stop> {
-        self.receipts.append(&outcome.receipts).map_err(Stop::Receipts)?;
+    fn hand_out(&mut self, mut outcome: Outcome) -> Result<(), StopFault> {
+        if let Some(entries) = outcome.entries {
+            self.generation.entries = self.generation.entries.max(entries);
+            self.timers.change();
+            self.is_unexecuted = true;
+        }
+        if self.plant == Some(Plant::Changed) {
+            outcome.receipts = changed(&outcome.receipts);
+        }
+        self.receipts.append(&outcome.receipts).map_err(StopFault::Receipts)?;
         for Outgoing { to, frame } in outcome.frames {
             self.note_own_frame(&frame);
             if self.others.is_heard(to) {
                 self.peers.send(to, frame);
             }
         }
-        for receipt in outcome.receipts {
+        for receipt in receipts(&outcome.receipts) {
             if receipt.client == self.sealer.0 {
-                self.note_own_seal(&receipt.reply);
+                self.note_own_seal(receipt.answer);
             }
             // A receipt for nobody is of a proposal before this start, or its client waits no longer.
             if let Some(waiting) = self.waiting.remove(&(receipt.client, receipt.request)) {
                 let is_undone = self.plant == Some(Plant::Again) && receipt.entry % 8 == 0;
-                let reply = if is_undone { Reply::Closed } else { receipt.reply };
+                let reply = if is_undone { OwnedAnswer::Closed } else { receipt.answer.to_owned() };
                 waiting.reply.send(Told::Done { stamp: receipt.stamp, reply });
             }
+        }
+        Ok(())
+    }
+
+    /// Learns what is committed in a generation that the core goes on with.
+    pub(crate) fn recollect(&mut self) -> Result<(), StopFault> {
+        self.commits = Commits::new(self.place.replicas);
+        if self.generation.entries == 0 {
+            return Ok(());
+        }
+        let Report { frames, committed, .. } = self.report(0, 0)?;
+        committed.into_iter().for_each(|instance| self.commits.here.insert(instance));
+        let heads = frames.iter().filter_map(|Outgoing { frame, .. }| Head::read(frame));
+        heads.filter(Head::is_commit).for_each(|head| self.commits.send(head.instance, head.entry, None));
+        Ok(())
+    }
+
+    /// A peer has told what is committed there. What is committed here by this replica's Commits is sent again where it is lost; what isn't
+    /// committed here comes so too, or is recovered.
+    pub(crate) fn hear_commits(&mut self, from: u8, there: &Committed) -> Result<(), StopFault> {
+        if there.replicas() != self.place.replicas {
+            return Ok(());
+        }
+        let now = Instant::now();
+        self.timers.hear(there.beyond(&self.commits.here), now);
+        let Some(Lacking { entry, instances }) = self.commits.lacking(from, there, now) else { return Ok(()) };
+        let mut bytes = 0;
+        for Outgoing { to, frame } in self.report(entry.saturating_sub(1), 0)?.frames {
+            let is_lost = |head: Head| head.is_commit() && instances.contains(&head.instance);
+            if to != from || !Head::read(&frame).is_some_and(is_lost) {
+                continue;
+            }
+            bytes += frame.len();
+            if bytes > MOST_AGAIN {
+                break;
+            }
+            self.peers.send(to, frame);
+            self.sent_again += 1;
         }
         Ok(())
     }
@@ -679,87 +713,128 @@ impl<C: Core> Driver<C> {
     /// What a frame of this replica tells of the generation.
     fn note_own_frame(&mut self, frame: &[u8]) {
         let Some(head) = Head::read(frame) else { return };
+        let now = Instant::now();
+        if head.is_commit() {
+            self.commits.send(head.instance, head.entry, Some(now));
+            self.timers.forget(head.instance);
+        } else if head.is_prepare() {
+            self.timers.put_off(head.instance, head.ballot, now);
+        }
         if head.instance.replica == self.place.replica {
             self.generation.dependencies = self.generation.dependencies.max(head.dependencies);
         }
         if head.is_seal_committed() {
-            self.generation.commit_seal();
+            self.commit_seal(head.seal(frame));
         }
     }
 
-    fn note_own_seal(&mut self, reply: &Reply) {
-        match reply {
-            Reply::Lost => self.generation.lose_seal(),
-            _ => self.generation.commit_seal(),
+    /// A seal of this value is committed. What it stands behind has to be committed too, so that nothing that is open waits for long.
+    fn commit_seal(&mut self, value: Option<&[u8]>) {
+        if self.generation.commit_seal() {
+            self.timers.hurry(Instant::now());
+        }
+        if let Some(members) = value.and_then(Members::read) {
+            self.generation.next_size = Some(members.0.len());
         }
     }
 
-    fn accept(&mut self, asked: Request, purpose: Purpose, answer: Answer, outcome: &mut Outcome) -> Result<(), Stop> {
-        match (purpose, answer) {
-            (Purpose::Proposal { client, request, is_put, reply }, Answer::Taken(entries)) => {
-                let [Entry { took: Some(instance), stamp, .. }] = entries[..] else {
-                    return self.bad_answer(&Answer::Taken(entries));
-                };
-                self.generation.used = self.generation.used.max(instance.number);
-                if is_put && self.plant == Some(Plant::Early) {
-                    reply.send(Told::Done { stamp, reply: Reply::Absent });
+    fn note_own_seal(&mut self, answer: Answer) {
+        match answer {
+            Answer::Lost => self.generation.lose_seal(),
+            _ => self.commit_seal(None),
+        }
+    }
+
+    /// What came of a request. `proposed` tells the instances of those that are proposals, in their order.
+    fn accept(
+        &mut self,
+        request: Request,
+        done: Result<(), Fault>,
+        proposed: &mut impl Iterator<Item = Proposed>,
+    ) -> Result<(), StopFault> {
+        match (request, done) {
+            (Request::Propose { call, command, reply }, Ok(())) => {
+                let instance = self.own_instance(call, proposed)?;
+                if matches!(command, OwnedCommand::Put { .. }) && self.plant == Some(Plant::Early) {
+                    reply.send(Told::Done { stamp: call.seen, reply: OwnedAnswer::Absent });
                 } else {
-                    self.waiting.insert((client, request), Waiting { instance, reply });
+                    self.waiting.insert((call.client, call.request), Waiting { instance, reply });
                 }
-                self.take_in(entries, outcome);
             }
-            (Purpose::Frame(from, head), Answer::Taken(entries)) => {
+            (Request::Seal { call, .. }, Ok(())) => _ = self.own_instance(call, proposed)?,
+            (Request::Frame { from, head, bytes }, Ok(())) => {
                 self.others.see(from, head.entry);
+                if head.is_commit() {
+                    self.commits.here.insert(head.instance);
+                    self.timers.forget(head.instance);
+                } else if head.is_prepare() && !self.commits.here.has(head.instance) {
+                    self.timers.put_off(head.instance, head.ballot, Instant::now());
+                }
                 if head.is_seal_committed() {
-                    self.generation.commit_seal();
+                    self.commit_seal(head.seal(&bytes));
                 } else if head.is_seal_proposed() {
                     self.generation.note_seal(Instant::now());
                 }
-                self.take_in(entries, outcome);
             }
-            (Purpose::Late(_) | Purpose::Seal | Purpose::Host, Answer::Taken(entries)) => {
-                self.take_in(entries, outcome);
-            }
-            (Purpose::Proposal { reply, .. }, Answer::Refused(Fault::SPACE_FULL, _)) => {
+            (Request::Propose { call, command, reply }, Err(Fault::SpaceFull)) => {
                 // It waits for the next generation.
-                self.generation.used = INSTANCES;
-                if let Request::Propose { client, request, seen, command } = asked {
-                    let since = Instant::now();
-                    self.held.push_front(Held { since, client, request, seen, command, reply, is_handed: true });
-                }
+                self.generation.used = MOST_COMMANDS;
+                let Call { client, request, seen } = call;
+                let since = Instant::now();
+                self.held.push_front(Held { since, client, request, seen, command, reply, is_handed: true });
             }
-            (Purpose::Proposal { reply, .. }, Answer::Refused(fault, _)) => reply.send(Told::Refused(fault)),
-            (Purpose::Seal, Answer::Refused(..)) => self.generation.lose_seal(),
+            (Request::Propose { reply, .. }, Err(fault)) => reply.send(Told::Refused(fault)),
+            (Request::Seal { .. }, Err(_)) => self.generation.lose_seal(),
             // Nothing of such a frame is believed.
-            (Purpose::Frame(..), Answer::Refused(..)) => self.refused_frames += 1,
-            (Purpose::Late(instance), Answer::Refused(fault, _)) => {
-                if fault == Fault::ALREADY_COMMITTED {
-                    self.timers.forget(instance);
-                }
-            }
-            (Purpose::Host, Answer::Refused(..) | Answer::Synced(_)) => {}
-            (Purpose::Read(reply), Answer::Value(value)) => reply.send(Told::Value(value)),
-            (_, answer) => return self.bad_answer(&answer),
+            (Request::Frame { .. }, Err(_)) => self.refused_frames += 1,
+            (Request::GiveUp(instance) | Request::Recover(instance), Err(fault)) => match fault {
+                Fault::AlreadyCommitted => self.timers.forget(instance),
+                // It can't be given up, and is recovered.
+                Fault::TooFewAnswers => self.timers.retry(instance, Instant::now()),
+                _ => {}
+            },
+            (Request::GiveUp(_) | Request::Recover(_), Ok(())) => {}
         }
         Ok(())
     }
 
-    /// What the core has taken is to be handed out.
-    fn take_in(&mut self, entries: Vec<Entry>, outcome: &mut Outcome) {
-        if !entries.is_empty() {
-            self.timers.change();
-            self.is_unexecuted = true;
+    /// The instance that a proposal took, which is the next one that is told.
+    fn own_instance(
+        &mut self,
+        call: Call,
+        proposed: &mut impl Iterator<Item = Proposed>,
+    ) -> Result<Instance, StopFault> {
+        let of_call = |it: &Proposed| (it.client, it.request) == (call.client, call.request);
+        let Some(Proposed { instance, .. }) = proposed.next().filter(of_call) else {
+            return Err(StopFault::Node(NodeFault::NotProposed));
+        };
+        if instance.number <= MOST_COMMANDS {
+            self.generation.used = self.generation.used.max(instance.number);
         }
-        for mut entry in entries {
-            self.generation.entries = self.generation.entries.max(entry.number);
-            if self.plant == Some(Plant::Changed) && entry.number % 16 == 0 {
-                entry.receipts.iter_mut().for_each(change);
-            }
-            outcome.add(entry);
-        }
+        Ok(instance)
     }
 
-    fn info(&self) -> String {
+    /// When the core may be asked for those who ask for INFO.
+    fn info_due(&self) -> Option<Instant> {
+        (!self.infos.is_empty()).then_some(self.next_info)
+    }
+
+    /// Tells those who ask for INFO, where the core may be asked for them.
+    fn tell_infos(&mut self) -> Result<(), StopFault> {
+        let now = Instant::now();
+        if self.info_due().is_none_or(|due| now < due) {
+            return Ok(());
+        }
+        self.next_info = now + BETWEEN_INFOS;
+        let open = self.report(u32::MAX, MOST_TOLD)?.open;
+        let text = self.info(&open);
+        std::mem::take(&mut self.infos).into_iter().for_each(|reply| reply.send(Told::Info(text.clone())));
+        Ok(())
+    }
+
+    /// What INFO tells, where these instances are open.
+    fn info(&self, open: &[Instance]) -> String {
+        let open = self.timers.count_with(open).min(MOST_TOLD.into());
         let mut text = String::new();
         let mut line = |name: &str, value: &dyn std::fmt::Display| {
             let _ = write!(text, "{name}:{value}\r\n");
@@ -773,27 +848,20 @@ impl<C: Core> Driver<C> {
         line("generation_changes", &self.changes.0);
         line("generation_change_ms", &self.changes.1.as_millis());
         line("instances_used", &self.generation.used);
-        line("instances_total", &INSTANCES);
+        line("instances_total", &MOST_COMMANDS);
         line("dependencies", &self.generation.dependencies);
         line("log_bytes", &self.generation.log);
         line("commands_waiting", &(self.waiting.len() + self.handed.len() + self.held.len()));
-        line("instances_open", &self.timers.count());
+        line("instances_open", &open);
         line("frames_refused", &self.refused_frames);
         line("frames_lost", &self.peers.lost());
+        line("commits_sent_again", &self.sent_again);
         for replica in self.peer_numbers() {
             let state = if self.is_reached(replica) { "reached" } else { "lost" };
             line(&format!("peer_{replica}"), &state);
         }
         text
     }
-}
-
-/// The plant of a receipt whose reply is another one.
-fn change(receipt: &mut Receipt) {
-    receipt.reply = match receipt.reply {
-        Reply::Present(_) => Reply::Absent,
-        _ => Reply::Present(vec![0; 4]),
-    };
 }
 
 #[cfg(test)]

@@ -1,11 +1,15 @@
 //! What the host reads of frames: a part of their headers, and nothing that it has to trust.
-use crate::bytes::Fields;
-use crate::protocol::{Instance, SEAL};
+use epaxos::{Fields, Instance};
 
 const MAGIC: &[u8] = b"EP";
 const VERSION: u8 = 3;
 const PRE_ACCEPT: u8 = 1;
 const COMMIT: u8 = 5;
+const PREPARE: u8 = 6;
+/// The op of a seal.
+const SEAL: u8 = 9;
+/// Where the length of the body stands, at the end of the header. (A seal has no key, so that its value comes next.)
+const LENGTH_AT: usize = 44;
 
 /// A part of a frame's header.
 #[derive(Clone, Copy, PartialEq, Eq, Debug)]
@@ -15,6 +19,8 @@ pub struct Head {
     /// The entry of its sender that it is of.
     pub entry: u32,
     pub instance: Instance,
+    /// The counter of its ballot; 0 of a Commit.
+    pub ballot: u16,
     pub dependencies: u16,
     pub generation: u32,
 }
@@ -31,12 +37,23 @@ impl Head {
         let entry = fields.u32()?;
         fields.run(8)?;
         let instance = Instance { replica: fields.u8()?, number: fields.u16()? };
-        fields.run(11)?;
+        let ballot = fields.u16()?;
+        fields.run(9)?;
         let op = fields.u8()?;
         fields.run(3)?;
         let dependencies = fields.u16()?;
         let generation = fields.u32()?;
-        Some(Head { kind, op, entry, instance, dependencies, generation })
+        Some(Head { kind, op, entry, instance, ballot, dependencies, generation })
+    }
+
+    /// Whether it tells that a command, or a seal, is committed.
+    pub fn is_commit(&self) -> bool {
+        self.kind == COMMIT
+    }
+
+    /// Whether its sender begins to recover the instance.
+    pub fn is_prepare(&self) -> bool {
+        self.kind == PREPARE
     }
 
     /// Whether it tells of a seal that is under way.
@@ -46,7 +63,15 @@ impl Head {
 
     /// Whether it tells of a seal that is committed.
     pub fn is_seal_committed(&self) -> bool {
-        self.kind == COMMIT && self.op == SEAL
+        self.is_commit() && self.op == SEAL
+    }
+
+    /// The value of the seal that a frame with this header tells of. None where it tells of none, or its length isn't that of its bytes.
+    pub fn seal<'a>(&self, frame: &'a [u8]) -> Option<&'a [u8]> {
+        let mut fields = Fields::new(frame);
+        fields.run(LENGTH_AT)?;
+        let length = fields.u32()?;
+        fields.run(length as usize).filter(|_| self.op == SEAL)
     }
 }
 
@@ -61,13 +86,24 @@ mod tests {
         frame[..4].copy_from_slice(&[0x45, 0x50, 3, 5]);
         frame[8..12].copy_from_slice(&[0, 0, 1, 2]);
         frame[20..23].copy_from_slice(&[2, 1, 44]);
+        frame[23..25].copy_from_slice(&[7, 8]);
         frame[34] = 9;
         frame[38..40].copy_from_slice(&[3, 4]);
         frame[40..44].copy_from_slice(&[0, 0, 5, 6]);
         let head = Head::read(&frame).unwrap();
-        assert_eq!((head.entry, head.dependencies, head.generation), (258, 772, 1_286));
+        assert_eq!((head.entry, head.ballot, head.dependencies, head.generation), (258, 1_800, 772, 1_286));
         assert_eq!(head.instance, Instance { replica: 2, number: 300 });
-        assert!(head.is_seal_committed() && !head.is_seal_proposed());
+        assert!(head.is_seal_committed() && !head.is_seal_proposed() && head.is_commit() && !head.is_prepare());
+        frame[44..48].copy_from_slice(&[0, 0, 0, 2]);
+        let whole = [&frame[..], b"me", &[0; 6]].concat();
+        assert_eq!((head.seal(&whole), head.seal(&frame)), (Some(&b"me"[..]), None));
+        frame[34] = 3;
+        let head = Head::read(&frame).unwrap();
+        assert!(head.is_commit() && !head.is_seal_committed() && head.seal(&whole).is_none());
+        frame[3] = 6;
+        let head = Head::read(&frame).unwrap();
+        assert!(head.is_prepare() && !head.is_commit());
+        frame[34] = 9;
         frame[3] = 1;
         assert!(Head::read(&frame).unwrap().is_seal_proposed());
         frame[34] = 3;

@@ -1,5 +1,5 @@
 //! The generation that a replica is in: what of it is used up, and how far it is with its end.
-use crate::protocol::{INSTANCES, State};
+use epaxos::{MOST_COMMANDS, State};
 use std::time::{Duration, Instant};
 
 /// A seal that isn't committed for so long is proposed again, and commands aren't held for it any more.
@@ -7,7 +7,7 @@ const SEAL_PATIENCE: Duration = Duration::from_millis(500);
 /// A change of generation may take at most one part in so many of the time.
 const SHARE_OF_CHANGES: u32 = 10;
 /// From so many own numbers on it is sealed whatever a change takes,
-const URGENT: u16 = INSTANCES - 100;
+const URGENT: u16 = MOST_COMMANDS - 100;
 /// and from so many times the limit of dependencies on.
 const URGENT_TIMES: u16 = 3;
 
@@ -48,6 +48,8 @@ pub struct Generation {
     pub stage: Stage,
     /// Whether its end was asked for.
     pub is_asked: bool,
+    /// How many replicas go on, where a seal is committed that says so.
+    pub next_size: Option<usize>,
     /// When it may be sealed first, but where it is urgent.
     pub(crate) least: Instant,
 }
@@ -63,6 +65,7 @@ impl Generation {
             log: 0,
             stage: if state.is_sealed { Stage::Sealed(now) } else { Stage::Open },
             is_asked: false,
+            next_size: None,
             least: now + cost * SHARE_OF_CHANGES,
         }
     }
@@ -86,7 +89,7 @@ impl Generation {
 
     /// Whether so many more commands have numbers.
     pub fn has_room(&self, more: usize) -> bool {
-        usize::from(self.used) + more < usize::from(INSTANCES)
+        usize::from(self.used) + more < usize::from(MOST_COMMANDS)
     }
 
     pub fn is_sealed(&self) -> bool {
@@ -121,11 +124,13 @@ impl Generation {
         }
     }
 
-    /// A seal is committed.
-    pub fn commit_seal(&mut self) {
-        if !self.is_sealed() {
+    /// A seal is committed: whether that is new.
+    pub fn commit_seal(&mut self) -> bool {
+        let is_new = !matches!(self.stage, Stage::Committed | Stage::Sealed(_));
+        if is_new {
             self.stage = Stage::Committed;
         }
+        is_new
     }
 
     /// What the node tells of itself.
@@ -183,13 +188,12 @@ mod tests {
         assert!(it.is_holding(later));
         it.lose_seal();
         assert_eq!(it.stage, Stage::Open);
-        it.commit_seal();
+        assert!(it.commit_seal() && !it.commit_seal());
         it.lose_seal();
         assert!(it.is_holding(later) && !it.wants_seal(&LIMITS, later));
         it.learn(State { is_sealed: true, entries: 9, ..State::default() }, later);
         assert!(it.is_sealed() && it.entries == 9);
-        it.commit_seal();
-        assert!(it.is_sealed());
+        assert!(!it.commit_seal() && it.is_sealed());
     }
 
     #[test]

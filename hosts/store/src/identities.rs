@@ -2,10 +2,11 @@
 //!
 //! A replica keeps the identity that it first met under each number, and speaks to no other. So a replica that comes back
 //! with a new folder, or one of another cluster at the same address, is refused: it might have promised something else.
+use crate::identities_fault::IdentitiesFault;
 use std::fs::{self, File};
 use std::io::{self, Read, Write};
 use std::path::{Path, PathBuf};
-use std::sync::Mutex;
+use std::sync::{Mutex, MutexGuard, PoisonError};
 
 pub type Identity = [u8; 16];
 
@@ -21,15 +22,14 @@ pub struct Identities {
 
 impl Identities {
     /// Reads what the folder tells. At the first start this replica's identity is made.
-    pub fn open(folder: &Path, replicas: usize, replica: u8) -> Result<Identities, String> {
+    pub fn open(folder: &Path, replicas: usize, replica: u8) -> Result<Identities, IdentitiesFault> {
         let path = folder.join(NAME);
-        let told = |error: io::Error| format!("{}: {error}", path.display());
+        let told = |error: io::Error| IdentitiesFault::Unusable(path.clone(), error);
         let text = match fs::read_to_string(&path) {
             Err(error) if error.kind() == io::ErrorKind::NotFound => String::new(),
             text => text.map_err(told)?,
         };
-        let bad = || format!("{} isn't a list of identities of {replicas} replicas", path.display());
-        let mut known = read_lines(&text, replicas).ok_or_else(bad)?;
+        let mut known = read_lines(&text, replicas).ok_or_else(|| IdentitiesFault::NotAList(path.clone(), replicas))?;
         let own = match known[usize::from(replica)] {
             Some(own) => own,
             None if text.is_empty() => {
@@ -38,7 +38,7 @@ impl Identities {
                 write_lines(folder, &known).map_err(told)?;
                 own
             }
-            None => return Err(format!("{} is of another replica", path.display())),
+            None => return Err(IdentitiesFault::OfAnother(path)),
         };
         Ok(Identities { folder: folder.to_path_buf(), own, known: Mutex::new(known) })
     }
@@ -47,14 +47,18 @@ impl Identities {
         self.own
     }
 
+    fn known(&self) -> MutexGuard<'_, Vec<Option<Identity>>> {
+        self.known.lock().unwrap_or_else(PoisonError::into_inner)
+    }
+
     /// Who is known under the number.
     pub fn of(&self, replica: u8) -> Option<Identity> {
-        self.known.lock().ok()?.get(usize::from(replica)).copied().flatten()
+        self.known().get(usize::from(replica)).copied().flatten()
     }
 
     /// From now on this is who is known under the number, on the disk too. Whether that is new.
     pub fn set(&self, replica: u8, identity: Identity) -> io::Result<bool> {
-        let mut known = self.known.lock().map_err(|_| io::Error::other("the identities are lost"))?;
+        let mut known = self.known();
         let Some(place) = known.get_mut(usize::from(replica)) else { return Ok(false) };
         if place.replace(identity) == Some(identity) {
             return Ok(false);
@@ -64,7 +68,7 @@ impl Identities {
 
     /// Whether this is who was met under the number before. Whoever is met first is kept, on the disk.
     pub fn meet(&self, replica: u8, identity: Identity) -> io::Result<bool> {
-        let mut known = self.known.lock().map_err(|_| io::Error::other("the identities are lost"))?;
+        let mut known = self.known();
         let Some(place) = known.get_mut(usize::from(replica)) else { return Ok(false) };
         if place.is_none() {
             *place = Some(identity);
@@ -156,6 +160,8 @@ mod tests {
         let fresh = folder.join("fresh");
         fs::create_dir_all(&fresh).unwrap();
         assert_ne!(Identities::open(&fresh, 3, 1).unwrap().own(), first.own());
+        assert!(matches!(Identities::open(&fresh, 3, 2), Err(IdentitiesFault::OfAnother(_))));
+        assert!(matches!(Identities::open(&fresh, 1, 0), Err(IdentitiesFault::NotAList(_, 1))));
         fs::remove_dir_all(&folder).unwrap();
     }
 

@@ -1,13 +1,15 @@
 //! A machine that comes in the place of a lost one: it waits until a generation begins whose seal names it, and takes its opening.
+use crate::core::Begin;
 use crate::directory::Directory;
-use crate::driver::{Ask, Event, Stop, Told, What};
-use crate::identities::digits;
+use crate::driver::{Ask, Event, Told, What};
+use crate::identities::{Identity, digits};
+use crate::manage_fault::ManageFault;
 use crate::messages::Message;
-use crate::node::Begin;
 use crate::opening::Opening;
 use crate::openings::{Fetch, Step};
 use crate::peers::{Membership, Peers};
 use crate::say::say;
+use crate::stop_fault::StopFault;
 use std::path::Path;
 use std::sync::mpsc::{Receiver, RecvTimeoutError};
 use std::time::{Duration, Instant};
@@ -24,20 +26,23 @@ pub struct Joining<'a> {
 
 impl Joining<'_> {
     /// Waits until the opening of a generation that names this machine is here.
-    pub fn wait(&self) -> Result<Begin, Stop> {
-        let who = digits(&self.membership.identities.own());
+    pub fn wait(&self) -> Result<Begin, StopFault> {
+        let own = self.membership.identities.own();
         let replica = self.membership.place.replica;
-        say(&format!("it waits to be let in, by EPAXOS REPLACE {replica} {who} at another replica, or EPAXOS RESIZE"));
+        say(&format!(
+            "it waits to be let in, by EPAXOS REPLACE {replica} {} at another replica, or EPAXOS RESIZE",
+            digits(&own)
+        ));
         // The last generation that was looked at and doesn't name this machine.
         let mut looked = 0;
         let mut fetch: Option<Fetch> = None;
         let path = self.directory.taken();
-        let failed = |error| Stop::File(path.clone(), error);
+        let failed = |error| StopFault::File(path.clone(), error);
         loop {
             let event = match self.events.recv_timeout(PAUSE) {
                 Ok(event) => event,
                 Err(RecvTimeoutError::Timeout) => continue,
-                Err(RecvTimeoutError::Disconnected) => return Err(Stop::Alone),
+                Err(RecvTimeoutError::Disconnected) => return Err(StopFault::Alone),
             };
             let now = Instant::now();
             let (from, message) = match event {
@@ -48,10 +53,10 @@ impl Joining<'_> {
                     continue;
                 }
                 Event::Ask(ask) => {
-                    refuse(ask, &who);
+                    refuse(ask, own);
                     continue;
                 }
-                Event::End => return Err(Stop::Asked),
+                Event::End => return Err(StopFault::Asked),
                 Event::PeerCame(peer) => {
                     self.peers.hurry(peer);
                     continue;
@@ -96,10 +101,10 @@ impl Joining<'_> {
 }
 
 /// Nothing is done here yet.
-fn refuse(ask: Ask, who: &str) {
+fn refuse(ask: Ask, own: Identity) {
     let told = match ask.what {
-        What::Info => Told::Info(format!("state:joining\r\nidentity:{who}\r\n")),
-        What::Manage(_) => Told::Managed(Err(format!("this machine waits to be let in, as {who}"))),
+        What::Info => Told::Info(format!("state:joining\r\nidentity:{}\r\n", digits(&own))),
+        What::Manage(_) => Told::Managed(Err(ManageFault::Joining(own))),
         What::Propose { .. } | What::Read(_) => Told::Alone,
     };
     ask.reply.send(told);

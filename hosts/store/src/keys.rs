@@ -8,12 +8,13 @@ use crate::actions::Action;
 use crate::command_fault::CommandFault;
 use crate::driver::{Ask, Event, Told, What};
 use crate::numbers::Numbers;
-use crate::protocol::{self, Command};
+use crate::numbers_fault::NumbersFault;
 use crate::replies::ReplyTo;
 use crate::resp::Reply;
 use crate::say::say;
 use crate::stored::{self, Stored};
 use crate::teller::Teller;
+use epaxos::{OwnedAnswer, OwnedCommand};
 use std::collections::{HashMap, VecDeque};
 use std::io;
 use std::sync::atomic::{AtomicU64, Ordering};
@@ -101,7 +102,7 @@ struct Launch {
     flight: u64,
     client: Client,
     seen: u64,
-    command: Command,
+    command: OwnedCommand,
 }
 
 impl Keys {
@@ -219,16 +220,16 @@ impl State {
         let flight = flight.number;
         let client = match self.client() {
             Ok(client) => client,
-            Err(what) => {
-                say(&what);
-                return self.fail(key, CommandFault::Numbers(what));
+            Err(fault) => {
+                say(&fault.to_string());
+                return self.fail(key, CommandFault::Numbers(fault));
             }
         };
         Some(Launch { key, flight, client, seen: self.seen, command })
     }
 
     /// A client of the protocol with a new request. One whose requests are all made isn't used any more.
-    fn client(&mut self) -> Result<Client, String> {
+    fn client(&mut self) -> Result<Client, NumbersFault> {
         while let Some(client) = self.free.pop() {
             if let Some(requests) = client.requests.checked_add(1) {
                 return Ok(Client { requests, ..client });
@@ -242,10 +243,10 @@ impl State {
         let flight = self.keys.get_mut(&key)?.flight.as_mut().filter(|flight| flight.number == number)?;
         match told {
             Told::Done { reply, .. } => match reply {
-                protocol::Reply::Absent => self.done(key, None),
-                protocol::Reply::Present(value) => self.done(key, Some(value)),
-                protocol::Reply::Closed => self.propose_again(key),
-                protocol::Reply::Lost | protocol::Reply::Ordered => {
+                OwnedAnswer::Absent => self.done(key, None),
+                OwnedAnswer::Present(value) => self.done(key, Some(value)),
+                OwnedAnswer::Closed => self.propose_again(key),
+                OwnedAnswer::Lost | OwnedAnswer::Ordered => {
                     flight.lost += 1;
                     if flight.lost < MOST_LOST { self.propose_again(key) } else { self.fail(key, CommandFault::Lost) }
                 }
@@ -352,60 +353,39 @@ fn fold(asked: &[Asked], current: Option<Stored>, now: u64) -> (Option<Stored>, 
 }
 
 /// The command that does all of this. `current` is what may be there.
-fn command(asked: &[Asked], key: &[u8], current: Option<Option<Vec<u8>>>, now: u64) -> (Step, Command) {
+fn command(asked: &[Asked], key: &[u8], current: Option<Option<Vec<u8>>>, now: u64) -> (Step, OwnedCommand) {
     let key = key.to_vec();
     if let Some(first) = asked.iter().position(|asked| asked.action.is_blind()) {
         let (after, _) = fold(&asked[first..], None, now);
         let command = match after.map(Stored::into_bytes) {
-            Some(value) => Command::Put { key, value },
-            None => Command::Del { key },
+            Some(value) => OwnedCommand::Put { key, value },
+            None => OwnedCommand::Del { key },
         };
         return (Step::Write, command);
     }
-    let Some(before) = current else { return (Step::Read, Command::Get { key }) };
+    let Some(before) = current else { return (Step::Read, OwnedCommand::Get { key }) };
     let stored = before.clone().map(Stored::read);
     let (after, _) = fold(asked, stored.clone(), now);
     if after == stored {
-        return (Step::Read, Command::Get { key });
+        return (Step::Read, OwnedCommand::Get { key });
     }
     let new = after.map(Stored::into_bytes);
-    (Step::Compare(before.clone()), Command::Cas { key, expected: before, new })
+    (Step::Compare(before.clone()), OwnedCommand::Cas { key, expected: before, new })
 }
 
 #[cfg(test)]
 mod tests {
     use super::*;
     use crate::actions::{Keep, Only, Set, Tells};
-    use crate::protocol::Fault;
+    use crate::map::{Map, execute};
     use crate::random::Random;
     use crate::replies::Message;
+    use epaxos::Fault;
     use std::collections::BTreeSet;
     use std::path::PathBuf;
+    use std::sync::atomic::AtomicBool;
     use std::sync::mpsc::{Receiver, sync_channel};
     use std::time::Duration;
-
-    type Map = HashMap<Vec<u8>, Vec<u8>>;
-
-    /// What a command of the protocol does to a map, and its reply: by the table of docs/PROTOCOL.md.
-    fn execute(map: &mut Map, command: &Command) -> protocol::Reply {
-        let (Command::Get { key } | Command::Put { key, .. } | Command::Del { key } | Command::Cas { key, .. }) =
-            command
-        else {
-            panic!("{command:?}")
-        };
-        let before = map.get(key).cloned();
-        let after = match command {
-            Command::Put { value, .. } => Some(value.clone()),
-            Command::Del { .. } => None,
-            Command::Cas { expected, new, .. } if before == *expected => new.clone(),
-            _ => before.clone(),
-        };
-        match after {
-            Some(value) => _ = map.insert(key.clone(), value),
-            None => _ = map.remove(key),
-        }
-        before.map_or(protocol::Reply::Absent, protocol::Reply::Present)
-    }
 
     /// The keys of a store, whose driver is the test; its folder is removed in the end.
     struct Store {
@@ -436,7 +416,7 @@ mod tests {
         }
 
         /// The next command that is proposed: its client, request and seen stamp.
-        fn proposed(&self) -> (u32, u32, u64, Command, Teller) {
+        fn proposed(&self) -> (u32, u32, u64, OwnedCommand, Teller) {
             match self.events.lock().unwrap().recv_timeout(Duration::from_secs(60)).unwrap() {
                 Event::Ask(Ask { what: What::Propose { client, request, seen, command }, reply }) => {
                     (client, request, seen, command, reply)
@@ -451,10 +431,17 @@ mod tests {
 
         /// What was told, by the numbers.
         fn told(&self) -> Vec<(u64, Reply)> {
-            let part =
-                |message| if let Message::Part(command, 0, reply) = message { (command, reply) } else { panic!() };
             self.told.lock().unwrap().try_iter().map(part).collect()
         }
+
+        /// What is told next.
+        fn await_told(&self) -> (u64, Reply) {
+            part(self.told.lock().unwrap().recv_timeout(Duration::from_secs(60)).unwrap())
+        }
+    }
+
+    fn part(message: Message) -> (u64, Reply) {
+        if let Message::Part(command, 0, reply) = message { (command, reply) } else { panic!() }
     }
 
     impl Drop for Store {
@@ -463,24 +450,24 @@ mod tests {
         }
     }
 
-    fn done(stamp: u64, reply: protocol::Reply) -> Told {
+    fn done(stamp: u64, reply: OwnedAnswer) -> Told {
         Told::Done { stamp, reply }
     }
 
-    fn present(value: &str) -> protocol::Reply {
-        protocol::Reply::Present(value.into())
+    fn present(value: &str) -> OwnedAnswer {
+        OwnedAnswer::Present(value.into())
     }
 
     fn set(value: &str) -> Action {
         Action::Set(Set { value: value.into(), keep: Keep::None, only: Only::Always, tells: Tells::Ok })
     }
 
-    fn get(key: &str) -> Command {
-        Command::Get { key: key.into() }
+    fn get(key: &str) -> OwnedCommand {
+        OwnedCommand::Get { key: key.into() }
     }
 
-    fn cas(key: &str, expected: Option<&str>, new: Option<&str>) -> Command {
-        Command::Cas { key: key.into(), expected: expected.map(Into::into), new: new.map(Into::into) }
+    fn cas(key: &str, expected: Option<&str>, new: Option<&str>) -> OwnedCommand {
+        OwnedCommand::Cas { key: key.into(), expected: expected.map(Into::into), new: new.map(Into::into) }
     }
 
     #[test]
@@ -498,7 +485,7 @@ mod tests {
         assert_eq!(store.told(), [(0, Reply::text("1"))]);
         let (client, request, seen, command, teller) = store.proposed();
         assert_eq!((client, request, seen, command), (1, 2, 7, get("x")));
-        other.send(done(3, protocol::Reply::Absent));
+        other.send(done(3, OwnedAnswer::Absent));
         assert_eq!(store.told(), [(3, Reply::Nil)]);
         // What is written whatever was there is put, and what was asked before and after it is told by what was there.
         for (number, action) in [(4, Action::Add(1)), (5, set("5")), (6, Action::Add(2)), (7, Action::Get)] {
@@ -507,7 +494,7 @@ mod tests {
         teller.send(done(8, present("2")));
         assert_eq!(store.told(), [(1, Reply::text("2")), (2, Reply::text("2"))]);
         let (_, _, seen, command, teller) = store.proposed();
-        assert_eq!((seen, command), (8, Command::Put { key: b"x".to_vec(), value: b"7".to_vec() }));
+        assert_eq!((seen, command), (8, OwnedCommand::Put { key: b"x".to_vec(), value: b"7".to_vec() }));
         teller.send(done(9, present("3")));
         let expected =
             [(4, Reply::Integer(4)), (5, Reply::Simple("OK")), (6, Reply::Integer(7)), (7, Reply::text("7"))];
@@ -521,7 +508,7 @@ mod tests {
         store.ask(0, "x", Action::Add(1));
         let (.., command, teller) = store.proposed();
         assert_eq!(command, get("x"));
-        teller.send(done(1, protocol::Reply::Absent));
+        teller.send(done(1, OwnedAnswer::Absent));
         let (.., command, teller) = store.proposed();
         assert_eq!(command, cas("x", None, Some("1")));
         // Another one was first. What came meanwhile is done with it.
@@ -554,16 +541,16 @@ mod tests {
         let store = Store::new();
         store.ask(0, "x", Action::Get);
         let old = Stored::Value { content: b"v".to_vec(), deadline: Some(1) }.into_bytes();
-        store.proposed().4.send(done(1, protocol::Reply::Present(old.clone())));
+        store.proposed().4.send(done(1, OwnedAnswer::Present(old.clone())));
         assert!(store.told().is_empty());
         let (.., command, teller) = store.proposed();
-        assert_eq!(command, Command::Cas { key: b"x".to_vec(), expected: Some(old.clone()), new: None });
+        assert_eq!(command, OwnedCommand::Cas { key: b"x".to_vec(), expected: Some(old.clone()), new: None });
         // Another one has given it a value.
         teller.send(done(2, present("w")));
         assert_eq!(store.told(), [(0, Reply::text("w"))]);
         store.ask(1, "x", Action::Get);
-        store.proposed().4.send(done(3, protocol::Reply::Present(old.clone())));
-        store.proposed().4.send(done(4, protocol::Reply::Present(old)));
+        store.proposed().4.send(done(3, OwnedAnswer::Present(old.clone())));
+        store.proposed().4.send(done(4, OwnedAnswer::Present(old)));
         assert_eq!(store.told(), [(1, Reply::Nil)]);
         assert!(store.is_idle());
     }
@@ -572,18 +559,18 @@ mod tests {
     fn what_is_lost_is_proposed_again() {
         let store = Store::new();
         store.ask(0, "x", set("1"));
-        let put = Command::Put { key: b"x".to_vec(), value: b"1".to_vec() };
+        let put = OwnedCommand::Put { key: b"x".to_vec(), value: b"1".to_vec() };
         // (what found the generation closed isn't counted)
         for number in 0..20 {
             let (client, request, seen, command, teller) = store.proposed();
             assert_eq!((client, request, seen, &command), (1, number + 1, u64::from(number), &put));
-            teller.send(done(u64::from(number) + 1, protocol::Reply::Closed));
+            teller.send(done(u64::from(number) + 1, OwnedAnswer::Closed));
         }
         for number in 0..MOST_LOST {
             assert!(store.told().is_empty());
             let (.., command, teller) = store.proposed();
             assert_eq!(command, put);
-            teller.send(done(30 + number as u64, protocol::Reply::Lost));
+            teller.send(done(30 + number as u64, OwnedAnswer::Lost));
         }
         assert_eq!(store.told(), [(0, Reply::Error(CommandFault::Lost))]);
         // So is a comparison that others are before each time.
@@ -606,7 +593,7 @@ mod tests {
         // What is read is read again.
         store.proposed().4.send(Told::DoneUnseen { stamp: 5 });
         let (_, _, seen, command, teller) = store.proposed();
-        assert_eq!((seen, command), (5, Command::Put { key: b"x".to_vec(), value: b"2".to_vec() }));
+        assert_eq!((seen, command), (5, OwnedCommand::Put { key: b"x".to_vec(), value: b"2".to_vec() }));
         teller.send(Told::DoneUnseen { stamp: 6 });
         let unseen = Reply::Error(CommandFault::Unseen);
         assert_eq!(store.told(), [(1, Reply::Simple("OK")), (2, Reply::Integer(2)), (0, unseen.clone())]);
@@ -616,14 +603,14 @@ mod tests {
         store.proposed().4.send(Told::DoneUnseen { stamp: 7 });
         assert_eq!(store.told(), [(3, unseen)]);
         store.proposed().4.send(Told::Doubtful);
-        store.proposed().4.send(done(8, protocol::Reply::Absent));
+        store.proposed().4.send(done(8, OwnedAnswer::Absent));
         assert_eq!(store.told(), [(4, Reply::Nil)]);
         // Whether a comparison found what it expected nobody knows.
         for told in [Told::DoneUnseen { stamp: 9 }, Told::Doubtful] {
             store.ask(5, "x", Action::Add(1));
             let (.., command, teller) = store.proposed();
             if command == get("x") {
-                teller.send(done(9, protocol::Reply::Absent));
+                teller.send(done(9, OwnedAnswer::Absent));
                 store.proposed().4.send(told);
             } else {
                 teller.send(told);
@@ -639,7 +626,7 @@ mod tests {
     fn refusals_are_told_to_all() {
         let store = Store::new();
         let refused = [
-            (Some(Told::Refused(Fault::MEMORY)), CommandFault::Node(Fault::MEMORY)),
+            (Some(Told::Refused(Fault::Memory)), CommandFault::Node(Fault::Memory)),
             (Some(Told::Alone), CommandFault::NoMajority),
             (Some(Told::Late), CommandFault::Waiting),
             (Some(Told::Ended), CommandFault::StoreEnds),
@@ -655,7 +642,7 @@ mod tests {
                 None => drop(teller),
             }
             assert_eq!(store.told(), [(0, Reply::Error(fault))]);
-            store.proposed().4.send(done(1, protocol::Reply::Absent));
+            store.proposed().4.send(done(1, OwnedAnswer::Absent));
             assert_eq!(store.told(), [(1, Reply::Simple("OK"))]);
         }
     }
@@ -674,14 +661,14 @@ mod tests {
         let (client, .., command, look) = store.proposed();
         assert_eq!((client, command), (9, get("x")));
         // Its answer comes late, and is nobody's. Its client is free then.
-        teller.send(done(1, protocol::Reply::Absent));
+        teller.send(done(1, OwnedAnswer::Absent));
         assert!(store.told().is_empty());
         assert_eq!(store.keys.withdraw(third, b"x"), Some(CommandFault::NotInTime));
-        look.send(done(1, protocol::Reply::Absent));
+        look.send(done(1, OwnedAnswer::Absent));
         assert!(store.told().is_empty() && store.is_idle());
         // What is withdrawn isn't proposed again, but what was proposed counts.
         let ids = [3, 4].map(|number| store.ask(number, "y", Action::Add(1)));
-        store.proposed().4.send(done(2, protocol::Reply::Absent));
+        store.proposed().4.send(done(2, OwnedAnswer::Absent));
         let (.., command, teller) = store.proposed();
         assert_eq!(command, cas("y", None, Some("2")));
         assert_eq!(store.keys.withdraw(ids[0], b"y"), Some(CommandFault::Unanswered));
@@ -708,16 +695,20 @@ mod tests {
         let map = Arc::new(Mutex::new(Map::new()));
         let stores = [0, 1, 2].map(|_| Store::new());
         let (add, most) = (60, 10);
-        thread::scope(|scope| {
-            for (seed, store) in stores.iter().enumerate() {
+        let mut told: Vec<_> = thread::scope(|scope| {
+            let askers = stores.iter().enumerate().map(|(seed, store)| {
                 let map = map.clone();
+                let is_over = Arc::new(AtomicBool::new(false));
+                let ends = is_over.clone();
                 let drive = move || {
                     let (mut random, events) = (Random::from_seed(seed as u64 + 1), store.events.lock().unwrap());
-                    while let Ok(Event::Ask(Ask { what: What::Propose { command, .. }, reply })) =
-                        events.recv_timeout(Duration::from_millis(500))
-                    {
+                    while !is_over.load(Ordering::Relaxed) {
+                        let event = events.recv_timeout(Duration::from_millis(10));
+                        let Ok(Event::Ask(Ask { what: What::Propose { command, .. }, reply })) = event else {
+                            continue;
+                        };
                         let told = match random.below(8) {
-                            0 => protocol::Reply::Closed,
+                            0 => OwnedAnswer::Closed,
                             _ => execute(&mut map.lock().unwrap(), &command),
                         };
                         thread::sleep(Duration::from_micros(random.below(300)));
@@ -736,14 +727,17 @@ mod tests {
                         store.ask(2_000 + number, "lock", Action::Unlock { owner });
                         thread::sleep(Duration::from_micros(100));
                     }
-                });
-            }
+                    let told: Vec<_> = (0..add + 2 * most).map(|_| store.await_told()).collect();
+                    ends.store(true, Ordering::Relaxed);
+                    told
+                })
+            });
+            let askers: Vec<_> = askers.collect();
+            askers.into_iter().map(|asker| asker.join().unwrap()).collect()
         });
-        let mut told: Vec<_> = stores.iter().map(Store::told).collect();
         let mut counted = BTreeSet::new();
         let mut tokens = BTreeSet::new();
         for told in &mut told {
-            assert_eq!(told.len(), (add + 2 * most) as usize);
             // The replies of one store rise in the order in which it asked.
             let mut last = 0;
             for (number, reply) in told.iter() {

@@ -1,19 +1,22 @@
 //! How a driver goes from generation to generation: seals, openings, and who takes part.
-use crate::driver::{Driver, Held, Manage, Stop, Told, Waiting, Wish};
+use crate::core::{Begin, Core};
+use crate::driver::{Driver, Held, Manage, Told, Waiting, Wish};
 use crate::generation::{Generation, Stage};
 use crate::identities::{Identity, digits};
+use crate::manage_fault::ManageFault;
 use crate::members::{Member, Members};
 use crate::messages::Message;
-use crate::node::{Begin, Core, NodeFault};
+use crate::node_fault::NodeFault;
 use crate::opening::Opening;
 use crate::openings::{Fetch, Step, piece};
-use crate::options::Plant;
-use crate::protocol::{Answer, Reply, Request};
+use crate::plants::{Plant, lacking};
 use crate::random::Random;
 use crate::receipts::Receipts;
 use crate::say::say;
+use crate::stop_fault::StopFault;
 use crate::teller::Teller;
 use crate::timers::Timers;
+use epaxos::OwnedAnswer;
 use std::collections::{BTreeSet, HashMap};
 use std::fmt::Write;
 use std::sync::Mutex;
@@ -23,6 +26,8 @@ use std::time::{Duration, Instant};
 const TICK: Duration = Duration::from_secs(1);
 /// A generation whose seal was executed is served so long, for peers that are reached and haven't executed it.
 const MOST_WAIT_FOR_PEERS: Duration = Duration::from_millis(100);
+/// And so long by a replica that takes part in the next generation no more, for those that do: they may need its vote to end this one.
+const MOST_WAIT_AT_LEAVING: Duration = Duration::from_secs(10);
 /// A replica that lags closes by itself in this time, or takes the opening of another one.
 const BEHIND: Duration = Duration::from_millis(150);
 /// Who asked for something is told no once so many generations have begun without it.
@@ -32,7 +37,7 @@ const MOST_WAIT_FOR_END: Duration = Duration::from_secs(5);
 
 impl<C: Core> Driver<C> {
     /// Once a second: tells the peers how far it is, and looks after itself.
-    pub(crate) fn tick(&mut self) -> Result<(), Stop> {
+    pub(crate) fn tick(&mut self) -> Result<(), StopFault> {
         let now = Instant::now();
         if now < self.next_tick {
             return Ok(());
@@ -47,7 +52,7 @@ impl<C: Core> Driver<C> {
     /// When there is something to do next for all this.
     pub(crate) fn next_of_life(&self) -> Option<Instant> {
         let sealed = match self.generation.stage {
-            Stage::Sealed(since) => Some(since + MOST_WAIT_FOR_PEERS),
+            Stage::Sealed(since) => Some(since + self.most_wait_for_peers()),
             _ => None,
         };
         let behind = match (&self.fetch, self.behind_since) {
@@ -69,12 +74,24 @@ impl<C: Core> Driver<C> {
     /// Tells a peer how far this replica is, before anything else.
     pub(crate) fn greet(&mut self, peer: u8) {
         self.peers.send_first(peer, self.hello(peer));
-        self.timers.hurry(Instant::now());
+        let now = Instant::now();
+        self.commits.open(peer, now);
+        self.tell_commits(peer);
+        self.timers.hurry(now);
     }
 
     fn greet_all(&mut self) {
         for peer in self.peer_numbers() {
             self.peers.send(peer, self.hello(peer));
+            self.tell_commits(peer);
+        }
+    }
+
+    /// Tells a peer what is committed here, so that both get what they lack.
+    pub(crate) fn tell_commits(&self, peer: u8) {
+        if self.is_reached(peer) {
+            let (generation, committed) = (self.generation.number, self.commits.here.clone());
+            self.peers.send(peer, Message::Committed { generation, committed }.write());
         }
     }
 
@@ -86,7 +103,7 @@ impl<C: Core> Driver<C> {
     }
 
     /// Hears what a peer's host tells.
-    pub(crate) fn hear(&mut self, from: u8, bytes: &[u8]) -> Result<(), Stop> {
+    pub(crate) fn hear(&mut self, from: u8, bytes: &[u8]) -> Result<(), StopFault> {
         match Message::read(bytes) {
             Some(Message::Hello { generation, is_sealed, seen }) => {
                 self.hear_hello(from, generation, is_sealed, seen)?
@@ -109,16 +126,22 @@ impl<C: Core> Driver<C> {
                     teller.send(reply.map_or(Told::Doubtful, |reply| Told::Done { stamp, reply }));
                 }
             }
+            Some(Message::Committed { generation, committed }) => {
+                // (of another generation's instances nothing follows)
+                if generation == self.generation.number {
+                    self.hear_commits(from, &committed)?;
+                }
+            }
             None => self.refused_frames += 1,
         }
         Ok(())
     }
 
-    fn hear_hello(&mut self, peer: u8, generation: u32, is_sealed: bool, seen: u32) -> Result<(), Stop> {
+    fn hear_hello(&mut self, peer: u8, generation: u32, is_sealed: bool, seen: u32) -> Result<(), StopFault> {
         let (own, entries) = (self.generation.number, self.generation.entries);
         let is_forgotten = (generation == own && seen > entries) || (generation > own && seen > 0);
         if is_forgotten && self.plant != Some(Plant::Forgetful) {
-            return Err(Stop::Forgotten {
+            return Err(StopFault::Forgotten {
                 peer,
                 generation,
                 seen,
@@ -126,6 +149,7 @@ impl<C: Core> Driver<C> {
             });
         }
         if self.others.hear(peer, generation, is_sealed) {
+            self.tell_commits(peer);
             self.timers.hurry(Instant::now());
         }
         if generation < own {
@@ -134,15 +158,20 @@ impl<C: Core> Driver<C> {
         Ok(())
     }
 
-    fn take_piece(&mut self, from: u8, piece: Message) -> Result<(), Stop> {
+    fn take_piece(&mut self, from: u8, piece: Message) -> Result<(), StopFault> {
         let Some(fetch) = &mut self.fetch else { return Ok(()) };
         let path = fetch.path().to_path_buf();
-        match fetch.take(from, piece, Instant::now()).map_err(|error| Stop::File(path.clone(), error))? {
+        match fetch.take(from, piece, Instant::now()).map_err(|error| StopFault::File(path.clone(), error))? {
             Step::Ask(next) => self.peers.send(from, next.write()),
             Step::Done(generation) => {
                 self.fetch = None;
                 if generation > self.generation.number {
-                    let whole = self.directory.keep_taken().map_err(|error| Stop::File(path, error))?;
+                    if self.plant == Some(Plant::Lacking)
+                        && let Some(bytes) = std::fs::read(&path).ok().as_deref().and_then(lacking)
+                    {
+                        std::fs::write(&path, bytes).map_err(|error| StopFault::File(path.clone(), error))?;
+                    }
+                    let whole = self.directory.keep_taken().map_err(|error| StopFault::File(path, error))?;
                     self.taken = Some((generation, whole));
                 }
             }
@@ -172,7 +201,7 @@ impl<C: Core> Driver<C> {
     }
 
     /// Where a seal is committed: executes what is known, until the seal was executed too.
-    pub(crate) fn close(&mut self) -> Result<(), Stop> {
+    pub(crate) fn close(&mut self) -> Result<(), StopFault> {
         if self.generation.stage == Stage::Committed && self.is_unexecuted {
             self.execute_all()?;
             if self.generation.is_sealed() {
@@ -182,27 +211,42 @@ impl<C: Core> Driver<C> {
         Ok(())
     }
 
+    /// Whether this replica takes part in the next generation no more, as far as it knows.
+    fn leaves(&self) -> bool {
+        self.generation.next_size.is_some_and(|size| usize::from(self.place.replica) >= size)
+    }
+
+    /// For how long it serves a generation whose seal it has executed.
+    fn most_wait_for_peers(&self) -> Duration {
+        if self.leaves() { MOST_WAIT_AT_LEAVING } else { MOST_WAIT_FOR_PEERS }
+    }
+
+    /// Whether a peer is to execute the seal first: one that is reached, and where this replica leaves, one that stays.
+    fn is_waited_for(&self, peer: u8) -> bool {
+        let stays = self.generation.next_size.is_none_or(|size| usize::from(peer) < size);
+        let is_concerned = if self.leaves() { stays } else { self.is_reached(peer) };
+        is_concerned && !self.others.has_sealed(peer, self.generation.number)
+    }
+
     /// Goes on to a later generation, where that is due, or ends.
-    pub(crate) fn go_on(&mut self) -> Result<(), Stop> {
+    pub(crate) fn go_on(&mut self) -> Result<(), StopFault> {
         let now = Instant::now();
         let is_idle = self.waiting.is_empty() && self.handed.is_empty();
         if self.ends_at.is_some_and(|at| is_idle || now >= at) {
-            return Err(Stop::Asked);
+            return Err(StopFault::Asked);
         }
         if let Stage::Sealed(since) = self.generation.stage {
-            let number = self.generation.number;
-            let is_waited_for = |peer: u8| self.is_reached(peer) && !self.others.has_sealed(peer, number);
-            if now >= since + MOST_WAIT_FOR_PEERS || !self.peer_numbers().any(is_waited_for) {
+            if now >= since + self.most_wait_for_peers() || !self.peer_numbers().any(|peer| self.is_waited_for(peer)) {
                 self.change(&Begin::Again)?;
             }
             return Ok(());
         }
         match self.taken.take() {
             Some((generation, path)) if generation > self.generation.number => {
-                let opening = Opening::read(&path).map_err(|error| Stop::File(path.clone(), error))?;
+                let opening = Opening::read(&path).map_err(|error| StopFault::File(path.clone(), error))?;
                 if usize::from(opening.replicas) != self.place.replicas {
                     // (it is taken by the next start)
-                    return Err(Stop::Resized(generation, opening.replicas));
+                    return Err(StopFault::Resized(generation, opening.replicas));
                 }
                 self.change(&Begin::Take(path))
             }
@@ -211,7 +255,7 @@ impl<C: Core> Driver<C> {
     }
 
     /// Asks for an opening, where peers are in a later generation and this replica doesn't close its own.
-    fn catch_up(&mut self, now: Instant) -> Result<(), Stop> {
+    fn catch_up(&mut self, now: Instant) -> Result<(), StopFault> {
         let own = self.generation.number;
         let later = |peer: &u8| self.is_reached(*peer) && self.others.generation(*peer) > own;
         let later: Vec<u8> = self.peer_numbers().filter(later).collect();
@@ -225,38 +269,33 @@ impl<C: Core> Driver<C> {
         }
         let peer = later[Random::new().below(later.len() as u64) as usize];
         let path = self.directory.taken();
-        let (fetch, want) = Fetch::begin(&path, peer, now).map_err(|error| Stop::File(path, error))?;
+        let (fetch, want) = Fetch::begin(&path, peer, now).map_err(|error| StopFault::File(path, error))?;
         self.fetch = Some(fetch);
         self.peers.send(peer, want.write());
         Ok(())
     }
 
     /// Ends the core, and starts it in a later generation.
-    fn change(&mut self, begin: &Begin) -> Result<(), Stop> {
+    fn change(&mut self, begin: &Begin) -> Result<(), StopFault> {
         let start = Instant::now();
         let before = self.generation.number;
-        self.node.start_again(begin).map_err(Stop::Node)?;
-        let mut answers = self.node.ask(&[Request::Sync, Request::State]);
-        if let (Begin::Take(path), Err(fault)) = (begin, &answers)
+        let mut state = self.node.start_again(begin);
+        if let (Begin::Take(path), Err(fault)) = (begin, &state)
             && fault.is_lasting()
         {
             // It goes on without it: another one may come.
             say(&format!("a peer's opening isn't taken: {fault}"));
             let _ = std::fs::remove_file(path);
-            self.node.start_again(&Begin::Again).map_err(Stop::Node)?;
-            answers = self.node.ask(&[Request::Sync, Request::State]);
+            state = self.node.start_again(&Begin::Again);
         }
-        let answers = answers.map_err(Stop::Node)?;
+        let state = state.map_err(StopFault::Node)?;
         self.node.told().iter().for_each(|line| say(&format!("the node tells: {line}")));
-        let [Answer::Synced(_), Answer::State(state)] = answers[..] else {
-            return self.bad_answer(&answers[0]);
-        };
         if state.generation == before && matches!(begin, Begin::Take(_)) {
             (self.fetch, self.behind_since) = (None, None);
             return Ok(());
         }
         if state.generation <= before {
-            return Err(Stop::Node(NodeFault::BadAnswer(format!("it doesn't go on from generation {before}"))));
+            return Err(StopFault::Node(NodeFault::NotFurther(before)));
         }
         if let Begin::Take(path) = begin {
             say(&format!("generation {} is taken from a peer", state.generation));
@@ -269,14 +308,15 @@ impl<C: Core> Driver<C> {
         if opening.wanted() != opening.replicas {
             return Err(self.resize(&opening));
         }
-        let path = self.directory.receipts(state.generation);
-        self.receipts = Receipts::open(&path).map_err(|error| Stop::File(path, error))?;
+        self.receipts = Receipts::open(&self.directory.receipts(state.generation)).map_err(StopFault::Receipts)?;
         let now = Instant::now();
         self.timers = Timers::new(self.place.replica, now, Random::new());
         self.changes = (self.changes.0 + 1, now - start);
         self.generation = Generation::new(state, now - start, now);
         self.others.begin();
+        self.delayed = Default::default();
         (self.fetch, self.taken, self.behind_since, self.is_unexecuted) = (None, None, None, true);
+        self.recollect()?;
         self.meet(&opening)?;
         self.directory.drop_left(self.kept);
         self.greet_all();
@@ -285,38 +325,38 @@ impl<C: Core> Driver<C> {
     }
 
     /// The generation is to be for another number of replicas than it was opened for just now: nobody was told of it yet.
-    fn resize(&mut self, opening: &Opening) -> Stop {
+    fn resize(&mut self, opening: &Opening) -> StopFault {
         let (generation, size) = (opening.generation, opening.wanted());
         self.held.drain(..).for_each(|held| held.reply.send(Told::Late));
         for wish in std::mem::take(&mut self.wishes) {
             let told = if wish.size.is_none_or(|wanted| wanted == size) {
                 Ok(format!("generation {generation}, of {size} replicas"))
             } else {
-                Err("others asked for something else".into())
+                Err(ManageFault::Overruled)
             };
             wish.reply.send(Told::Managed(told));
         }
-        Stop::Resized(generation, size)
+        StopFault::Resized(generation, size)
     }
 
-    fn opening(&self, generation: u32) -> Result<Opening, Stop> {
+    fn opening(&self, generation: u32) -> Result<Opening, StopFault> {
         let path = self.directory.opening(generation);
-        Opening::read(&path).map_err(|error| Stop::File(path, error))
+        Opening::read(&path).map_err(|error| StopFault::File(path, error))
     }
 
     /// At a start: learns who takes part.
-    pub(crate) fn meet_members(&mut self) -> Result<(), Stop> {
+    pub(crate) fn meet_members(&mut self) -> Result<(), StopFault> {
         self.opening(self.generation.number).and_then(|opening| self.meet(&opening))
     }
 
     /// Takes those for members whom the seal that began the generation names.
-    fn meet(&mut self, opening: &Opening) -> Result<(), Stop> {
+    fn meet(&mut self, opening: &Opening) -> Result<(), StopFault> {
         let Some(members) = opening.members() else { return Ok(()) };
         for (replica, member) in members.0.iter().take(self.place.replicas).enumerate() {
             let replica = replica as u8;
             if replica == self.place.replica {
                 if member.identity.is_some_and(|identity| identity != self.membership.identities.own()) {
-                    return Err(Stop::Replaced(opening.generation));
+                    return Err(StopFault::Replaced(opening.generation));
                 }
                 continue;
             }
@@ -325,7 +365,7 @@ impl<C: Core> Driver<C> {
             }
             let Some(identity) = member.identity else { continue };
             let file = || self.directory.path().join(crate::identities::NAME);
-            if self.membership.identities.set(replica, identity).map_err(|error| Stop::File(file(), error))? {
+            if self.membership.identities.set(replica, identity).map_err(|error| StopFault::File(file(), error))? {
                 say(&format!("replica {replica} is {} from generation {} on", digits(&identity), opening.generation));
                 self.others.forget(replica);
                 self.peers.part(replica);
@@ -363,8 +403,7 @@ impl<C: Core> Driver<C> {
                 let numbers: BTreeSet<u8> = new.iter().map(|(replica, ..)| *replica).collect();
                 let is_fit = [3, 5, 7].contains(&wanted) && wanted != now && numbers == (now..wanted).collect();
                 if !is_fit {
-                    let what = "3, 5 or 7 replicas, and each new one by its number, identity and address";
-                    return reply.send(Told::Managed(Err(what.into())));
+                    return reply.send(Told::Managed(Err(ManageFault::NotASize)));
                 }
                 size = Some(wanted);
                 let member = |(replica, identity, address): (u8, Identity, String)| {
@@ -373,10 +412,10 @@ impl<C: Core> Driver<C> {
                 new.into_iter().map(member).collect()
             }
             Manage::Replace { replica, .. } if usize::from(replica) >= self.place.replicas => {
-                return reply.send(Told::Managed(Err(format!("there is no replica {replica}"))));
+                return reply.send(Told::Managed(Err(ManageFault::NoReplica(replica))));
             }
             Manage::Replace { replica, .. } if replica == self.place.replica => {
-                return reply.send(Told::Managed(Err("ask another replica: this one is here".into())));
+                return reply.send(Told::Managed(Err(ManageFault::ThisOne)));
             }
             Manage::Replace { replica, identity, address } => {
                 vec![(replica, Member { identity: Some(identity), address })]
@@ -395,7 +434,7 @@ impl<C: Core> Driver<C> {
             if is_so {
                 wish.reply.send(Told::Managed(Ok(format!("generation {now}"))));
             } else if now >= wish.generation + MOST_GENERATIONS {
-                wish.reply.send(Told::Managed(Err("others asked for something else".into())));
+                wish.reply.send(Told::Managed(Err(ManageFault::Overruled)));
             } else {
                 self.generation.is_asked = true;
                 self.wishes.push(wish);
@@ -431,7 +470,7 @@ impl<C: Core> Driver<C> {
 fn answer(answers: &Mutex<Vec<(u8, Message)>>, to: u8, (client, request): (u32, u32), told: Told) {
     let (stamp, reply) = match told {
         Told::Done { stamp, reply } => (stamp, Some(reply)),
-        Told::Alone | Told::Late | Told::Refused(_) => (0, Some(Reply::Lost)),
+        Told::Alone | Told::Late | Told::Refused(_) => (0, Some(OwnedAnswer::Lost)),
         _ => (0, None),
     };
     if let Ok(mut answers) = answers.lock() {
@@ -445,7 +484,7 @@ fn settle(waiting: HashMap<(u32, u32), Waiting>, opening: &Opening, before: u32)
         reply.send(match opening.executed.contains(&instance) {
             _ if opening.generation != before + 1 => Told::Doubtful,
             true => Told::DoneUnseen { stamp: opening.since },
-            false => Told::Done { stamp: opening.since, reply: Reply::Closed },
+            false => Told::Done { stamp: opening.since, reply: OwnedAnswer::Closed },
         });
     }
 }

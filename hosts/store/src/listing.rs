@@ -2,6 +2,7 @@
 use crate::command_fault::CommandFault;
 use crate::commands::List;
 use crate::glob::fits;
+use crate::listing_fault::ListingFault;
 use crate::resp::Reply;
 use crate::stored::{Stored, now};
 use std::path::PathBuf;
@@ -41,7 +42,7 @@ impl Listing {
         let kept = last.take().filter(|(start, _)| goes_on && start.elapsed() < FRESH);
         let kept = match kept {
             Some(kept) => kept,
-            None => (Instant::now(), Arc::new(self.list()?)),
+            None => (Instant::now(), Arc::new(self.list().map_err(CommandFault::Listing)?)),
         };
         let listed = kept.1.clone();
         // (a list is kept while a scan goes on)
@@ -50,19 +51,18 @@ impl Listing {
         Ok(answer(list, &listed))
     }
 
-    fn list(&self) -> Result<Vec<Listed>, CommandFault> {
-        let failed = |what: String| CommandFault::Listing(what);
+    fn list(&self) -> Result<Vec<Listed>, ListingFault> {
         let output = Command::new(&self.program)
             .arg("contents")
             .arg(&self.folder)
             .stdin(Stdio::null())
             .output()
-            .map_err(|error| failed(format!("{}: {error}", self.program.display())))?;
+            .map_err(|error| ListingFault::NotRun(self.program.clone(), error.kind()))?;
         if !output.status.success() {
             let told = String::from_utf8_lossy(&output.stderr);
-            return Err(failed(format!("{}: {}", output.status, told.lines().next().unwrap_or("it tells nothing"))));
+            return Err(ListingFault::Failed(output.status, told.lines().next().unwrap_or_default().into()));
         }
-        read(&output.stdout).ok_or_else(|| failed("the program tells something else".into()))
+        read(&output.stdout).ok_or(ListingFault::NotAList)
     }
 }
 

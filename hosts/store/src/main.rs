@@ -1,7 +1,7 @@
 //! One replica of the store.
+use epaxos::State;
 use signal_hook::consts::{SIGINT, SIGTERM};
 use signal_hook::iterator::Signals;
-use std::ffi::OsString;
 use std::fmt;
 use std::io::{self, Write};
 use std::net::TcpListener;
@@ -10,30 +10,39 @@ use std::path::PathBuf;
 use std::process::{Command, ExitCode};
 use std::sync::atomic::AtomicU64;
 use std::sync::mpsc::{SyncSender, sync_channel};
-use std::sync::{Arc, Mutex};
+use std::sync::{Arc, Mutex, PoisonError};
 use std::thread;
 use std::time::{Duration, Instant};
 use store::clients::{self, Shared};
+use store::core::{Begin, Core};
 use store::directory::{Directory, DirectoryFault};
-use store::driver::{Driver, Event, Parts, Stop};
+use store::driver::{Driver, Event, Parts};
+use store::hosted::{Hosted, Hosting};
 use store::identities::Identities;
+use store::identities_fault::IdentitiesFault;
 use store::joining::Joining;
 use store::keys::Keys;
 use store::listing::Listing;
 use store::members::Members;
 use store::memory::Memory;
 use store::metrics::{self, Metrics};
-use store::node::{Begin, Core, Node, NodeFault, Settings};
+use store::node::{Node, Settings};
+use store::node_fault::NodeFault;
 use store::numbers::Numbers;
+use store::numbers_fault::NumbersFault;
 use store::opening::Opening;
-use store::options::{self, Options, Plant, Words, help, read};
+use store::options::{self, Options, Words, help, read};
+use store::options_fault::OptionsFault;
 use store::password::Password;
 use store::peers::{self, MOST_REPLICAS, Membership, Peers, Place, Receiving};
-use store::protocol::{Answer, Request, State};
+use store::plants::Plant;
 use store::random::Random;
 use store::receipts::Receipts;
+use store::receipts_fault::ReceiptsFault;
+use store::replies::Due;
 use store::say::{name, say};
 use store::sealed::{Key, KeyFault};
+use store::stop_fault::StopFault;
 use store::timers::Timers;
 
 /// How many events may wait for the driver.
@@ -47,25 +56,25 @@ fn main() -> ExitCode {
             return ExitCode::SUCCESS;
         }
         Ok(Words::Run(options)) => *options,
-        Err(what) => {
-            say(&what);
+        Err(fault) => {
+            say(&fault.to_string());
             return ExitCode::from(2);
         }
     };
     name(options.replica);
     // Where it is killed the node's input closes, and so the node ends too, with all that it has taken on the disk.
-    let fault = match start(options) {
-        Ok(driver) => Fault::Stop(driver.run()),
+    let due = Arc::<Due>::default();
+    let fault = match start(options, due.clone()) {
+        Ok(driver) => StoreFault::Stop(driver.run()),
         Err(fault) => fault,
     };
     say(&fault.to_string());
-    if let Fault::Stop(Stop::Resized(..)) = fault {
-        thread::sleep(LAST_REPLIES);
-        say(&format!("it can't begin anew: {}", begin_anew()));
+    if let StoreFault::Stop(_) = fault {
+        // What clients are told is on its way to them.
+        due.end(LAST_REPLIES);
     }
-    if let Fault::Stop(Stop::Asked) = fault {
-        // What clients were told is on its way to them.
-        thread::sleep(LAST_REPLIES);
+    if let StoreFault::Stop(StopFault::Resized(..)) = fault {
+        say(&format!("it can't begin anew: {}", begin_anew()));
     }
     ExitCode::from(fault.status())
 }
@@ -80,14 +89,15 @@ fn begin_anew() -> io::Error {
 }
 
 /// How long the last replies may take on their way.
-const LAST_REPLIES: Duration = Duration::from_millis(100);
+const LAST_REPLIES: Duration = Duration::from_secs(3);
 
 /// Why the store ends.
-enum Fault {
+enum StoreFault {
     Directory(DirectoryFault),
-    Identities(String),
+    Identities(IdentitiesFault),
+    Numbers(NumbersFault),
     Node(NodeFault),
-    Stop(Stop),
+    Stop(StopFault),
     Key(KeyFault),
     /// Neither `--peers` nor a seal says where this replica is.
     NoAddress(usize),
@@ -95,7 +105,7 @@ enum Fault {
     Unguarded(String),
     /// It can't listen at this address.
     Listen(String, io::Error),
-    Receipts(PathBuf, io::Error),
+    Receipts(ReceiptsFault),
     Thread(io::Error),
 }
 
@@ -104,136 +114,142 @@ const PASSING: u8 = 1;
 /// It must not come back with this folder, or needs a hand.
 const LASTING: u8 = 3;
 
-impl Fault {
+impl StoreFault {
     fn status(&self) -> u8 {
         let is_lasting = match self {
-            Fault::Stop(Stop::Asked) => return 0,
-            Fault::Directory(fault) => fault.is_lasting(),
-            Fault::Identities(_) | Fault::Key(_) | Fault::Unguarded(_) | Fault::NoAddress(_) => true,
-            Fault::Node(fault) => fault.is_lasting(),
-            Fault::Stop(stop) => stop.is_lasting(),
-            Fault::Listen(..) | Fault::Receipts(..) | Fault::Thread(_) => false,
+            StoreFault::Stop(StopFault::Asked) => return 0,
+            StoreFault::Directory(fault) => fault.is_lasting(),
+            StoreFault::Identities(_)
+            | StoreFault::Numbers(_)
+            | StoreFault::Key(_)
+            | StoreFault::Unguarded(_)
+            | StoreFault::NoAddress(_) => true,
+            StoreFault::Node(fault) => fault.is_lasting(),
+            StoreFault::Stop(stop) => stop.is_lasting(),
+            StoreFault::Listen(..) | StoreFault::Receipts(_) | StoreFault::Thread(_) => false,
         };
         if is_lasting { LASTING } else { PASSING }
     }
 }
 
-impl fmt::Display for Fault {
+impl fmt::Display for StoreFault {
     fn fmt(&self, f: &mut fmt::Formatter) -> fmt::Result {
         match self {
-            Fault::Directory(fault) => fault.fmt(f),
-            Fault::Identities(what) => f.write_str(what),
-            Fault::Node(fault) => fault.fmt(f),
-            Fault::Stop(stop) => stop.fmt(f),
-            Fault::Key(fault) => fault.fmt(f),
-            Fault::NoAddress(replica) => write!(f, "neither --peers nor a seal says where replica {replica} is"),
-            Fault::Unguarded(address) => write!(
+            StoreFault::Directory(fault) => fault.fmt(f),
+            StoreFault::Identities(fault) => fault.fmt(f),
+            StoreFault::Numbers(fault) => fault.fmt(f),
+            StoreFault::Node(fault) => fault.fmt(f),
+            StoreFault::Stop(stop) => stop.fmt(f),
+            StoreFault::Key(fault) => fault.fmt(f),
+            StoreFault::NoAddress(replica) => write!(f, "neither --peers nor a seal says where replica {replica} is"),
+            StoreFault::Unguarded(address) => write!(
                 f,
                 "others could send to the peers' port at {address}: give all replicas one key by --peer-key, or say --insecure where the \
                  network keeps strangers out"
             ),
-            Fault::Listen(address, error) => write!(f, "can't listen at {address}: {error}"),
-            Fault::Receipts(path, error) => write!(f, "the receipts {} can't be used: {error}", path.display()),
-            Fault::Thread(error) => write!(f, "a thread can't be started: {error}"),
+            StoreFault::Listen(address, error) => write!(f, "can't listen at {address}: {error}"),
+            StoreFault::Receipts(fault) => fault.fmt(f),
+            StoreFault::Thread(error) => write!(f, "a thread can't be started: {error}"),
         }
     }
 }
 
 /// The words after the program's name.
-fn words() -> Result<Vec<String>, String> {
-    let told = |word: OsString| format!("the word {} isn't UTF-8", word.display());
-    std::env::args_os().skip(1).map(|word| word.into_string().map_err(told)).collect()
+fn words() -> Result<Vec<String>, OptionsFault> {
+    std::env::args_os().skip(1).map(|word| word.into_string().map_err(OptionsFault::NotText)).collect()
 }
 
-fn start(options: Options) -> Result<Driver<Node>, Fault> {
+fn start(options: Options, due: Arc<Due>) -> Result<Driver<AnyCore>, StoreFault> {
     let mut place = Place { replicas: options.peers.len(), replica: options.replica };
     let own = &options.peers[usize::from(place.replica)];
-    let key = options.peer_key.as_deref().map(Key::read).transpose().map_err(Fault::Key)?;
+    let key = options.peer_key.as_deref().map(Key::read).transpose().map_err(StoreFault::Key)?;
     let for_peers = bind(own)?;
     if key.is_none() && !options.is_insecure && !is_local(&for_peers) {
-        return Err(Fault::Unguarded(own.clone()));
+        return Err(StoreFault::Unguarded(own.clone()));
     }
     let for_clients = bind(&options.listen)?;
-    let directory = Directory::open(&options.directory).map_err(Fault::Directory)?;
+    let directory = Directory::open(&options.directory).map_err(StoreFault::Directory)?;
     let is_forgetful = options.plant == Some(Plant::Forgetful);
-    let joins = options.start == options::Start::Join && directory.begin_joining().map_err(Fault::Directory)?;
+    let joins = options.start == options::Start::Join && directory.begin_joining().map_err(StoreFault::Directory)?;
     if !is_forgetful && !joins {
-        directory.check_files().map_err(Fault::Directory)?;
-        directory.check_begin(options.start == options::Start::New).map_err(Fault::Directory)?;
+        directory.check_files().map_err(StoreFault::Directory)?;
+        directory.check_begin(options.start == options::Start::New).map_err(StoreFault::Directory)?;
     }
-    directory.prepare().map_err(Fault::Directory)?;
+    directory.prepare().map_err(StoreFault::Directory)?;
     let (sender, events) = sync_channel(WAITING_EVENTS);
     let numbers = Arc::new(Mutex::new(Numbers::new(&options.directory, place.replica)));
     let metrics = Arc::<Metrics>::default();
     let shared = Shared {
         events: sender.clone(),
-        keys: Keys::start(sender.clone(), numbers.clone()).map_err(Fault::Thread)?,
-        listing: Listing::new(options.node.clone(), directory.generations()),
+        keys: Keys::start(sender.clone(), numbers.clone()).map_err(StoreFault::Thread)?,
+        listing: Listing::new(program(&options), directory.generations()),
         patience: options.patience,
-        password: options.auth.as_deref().map(Password::read).transpose().map_err(Fault::Key)?,
+        password: options.auth.as_deref().map(Password::read).transpose().map_err(StoreFault::Key)?,
         memory: Memory::new(options.memory),
         metrics: metrics.clone(),
         connections: Arc::default(),
+        due,
         served: AtomicU64::new(0),
         started: Instant::now(),
     };
     if let Some(address) = &options.metrics {
         let (listener, metrics) = (bind(address)?, metrics.clone());
-        spawn("metrics", move || metrics::listen(listener, &metrics)).map_err(Fault::Thread)?;
+        spawn("metrics", move || metrics::listen(listener, &metrics)).map_err(StoreFault::Thread)?;
     }
     // Who joins is connected first, and begins then; who is here begins, and is connected then: from now on a folder without a log
     // has lost it.
-    end_by_signals(sender.clone()).map_err(Fault::Thread)?;
+    end_by_signals(sender.clone()).map_err(StoreFault::Thread)?;
     let key = key.unwrap_or_else(Key::none);
     let open = |place: Place, addresses: &[String], for_peers: TcpListener| {
         let identities = Identities::open(&options.directory, MOST_REPLICAS, place.replica);
-        let membership = Membership { place, identities: identities.map_err(Fault::Identities)?, key };
+        let membership = Membership { place, identities: identities.map_err(StoreFault::Identities)?, key };
         let membership = Arc::new(membership);
-        let peers = Peers::start(&membership, addresses, &sender).map_err(Fault::Thread)?;
+        let peers = Peers::start(&membership, addresses, &sender).map_err(StoreFault::Thread)?;
         let receiving = Arc::new(Receiving::new(membership.clone(), sender.clone()));
-        spawn("peers", move || peers::listen(for_peers, &receiving)).map_err(Fault::Thread)?;
+        spawn("peers", move || peers::listen(for_peers, &receiving)).map_err(StoreFault::Thread)?;
         Ok((membership, peers))
     };
     let serve = |for_clients: TcpListener, shared: Shared| {
         let shared = Arc::new(shared);
-        spawn("clients", move || clients::listen(for_clients, shared)).map_err(Fault::Thread)
+        spawn("clients", move || clients::listen(for_clients, shared)).map_err(StoreFault::Thread)
     };
-    let (node, state, receipts, membership, peers);
+    let (mut node, state, receipts, membership, peers);
     if joins {
         (membership, peers) = open(place, &options.peers, for_peers)?;
         serve(for_clients, shared)?;
         let joining = Joining { membership: &membership, directory: &directory, peers: &peers, events: &events };
-        let begin = joining.wait().map_err(Fault::Stop)?;
+        let begin = joining.wait().map_err(StoreFault::Stop)?;
         let opening = match &begin {
-            Begin::Take(path) => Opening::read(path).map_err(|error| Fault::Stop(Stop::File(path.clone(), error)))?,
+            Begin::Take(path) => {
+                Opening::read(path).map_err(|error| StoreFault::Stop(StopFault::File(path.clone(), error)))?
+            }
             _ => Opening::default(),
         };
         let of = Place { replicas: opening.replicas.into(), ..place };
         check_place(of, opening.generation)?;
         (node, state) = start_node(&options, of, &directory, (&begin, 0), &sender)?;
         receipts = open_receipts(&directory, state.generation)?;
-        directory.end_joining().map_err(Fault::Directory)?;
+        directory.end_joining().map_err(StoreFault::Directory)?;
         if of.replicas != place.replicas {
             // (it has met the others as one of another number of replicas)
             node.end();
-            return Err(Fault::Stop(Stop::Resized(opening.generation, opening.replicas)));
+            return Err(StoreFault::Stop(StopFault::Resized(opening.generation, opening.replicas)));
         }
     } else {
         let opening;
         (node, state, opening) = start_again(&options, &directory, &sender)?;
         place.replicas = opening.replicas.into();
         receipts = open_receipts(&directory, state.generation)?;
-        Numbers::new(&options.directory, place.replica).check(receipts.named.client).map_err(Fault::Identities)?;
+        Numbers::new(&options.directory, place.replica).check(receipts.named.client).map_err(StoreFault::Numbers)?;
         if !is_forgetful {
             let checked = directory.check_entries(state.generation, state.entries, receipts.named.entry);
-            checked.map_err(Fault::Directory)?;
+            checked.map_err(StoreFault::Directory)?;
         }
-        directory.end_joining().map_err(Fault::Directory)?;
+        directory.end_joining().map_err(StoreFault::Directory)?;
         (membership, peers) = open(place, &addresses(&options, &opening)?, for_peers)?;
         serve(for_clients, shared)?;
     }
-    let given = numbers.lock().map_err(|_| "the numbers are lost".to_string()).and_then(|mut numbers| numbers.give());
-    let sealer = given.map_err(Fault::Identities)?;
+    let sealer = numbers.lock().unwrap_or_else(PoisonError::into_inner).give().map_err(StoreFault::Numbers)?;
     let (replica, replicas, generation) = (place.replica, place.replicas, state.generation);
     let (listen, process) = (&options.listen, node.process());
     say(&format!(
@@ -257,13 +273,12 @@ fn start(options: Options) -> Result<Driver<Node>, Fault> {
     }))
 }
 
-fn open_receipts(directory: &Directory, generation: u32) -> Result<Receipts, Fault> {
-    let path = directory.receipts(generation);
-    Receipts::open(&path).map_err(|error| Fault::Receipts(path, error))
+fn open_receipts(directory: &Directory, generation: u32) -> Result<Receipts, StoreFault> {
+    Receipts::open(&directory.receipts(generation)).map_err(StoreFault::Receipts)
 }
 
-fn bind(address: &str) -> Result<TcpListener, Fault> {
-    TcpListener::bind(address).map_err(|error| Fault::Listen(address.into(), error))
+fn bind(address: &str) -> Result<TcpListener, StoreFault> {
+    TcpListener::bind(address).map_err(|error| StoreFault::Listen(address.into(), error))
 }
 
 /// SIGTERM and SIGINT have the store end once those who wait were told; a second one ends it at once.
@@ -288,11 +303,11 @@ fn spawn(name: &str, work: impl FnOnce() + Send + 'static) -> io::Result<()> {
 }
 
 /// Where each replica is, as a seal or `--peers` says.
-fn addresses(options: &Options, opening: &Opening) -> Result<Vec<String>, Fault> {
+fn addresses(options: &Options, opening: &Opening) -> Result<Vec<String>, StoreFault> {
     let members = opening.members().unwrap_or(Members(Vec::new()));
     let address = |replica: usize| {
         let named = members.0.get(replica).and_then(|member| member.address.clone());
-        named.or_else(|| options.peers.get(replica).cloned()).ok_or(Fault::NoAddress(replica))
+        named.or_else(|| options.peers.get(replica).cloned()).ok_or(StoreFault::NoAddress(replica))
     };
     (0..opening.replicas.into()).map(address).collect()
 }
@@ -304,75 +319,97 @@ fn start_again(
     options: &Options,
     directory: &Directory,
     events: &SyncSender<Event>,
-) -> Result<(Node, State, Opening), Fault> {
+) -> Result<(AnyCore, State, Opening), StoreFault> {
     let whole = directory.whole();
-    let mut place = Place { replicas: options.peers.len(), replica: options.replica };
+    let read = |path: PathBuf| Opening::read(&path).map_err(|error| StoreFault::Stop(StopFault::File(path, error)));
+    let mut begin = match options.start {
+        options::Start::New => Begin::New,
+        _ if whole.exists() => Begin::Take(whole.clone()),
+        _ => Begin::Again,
+    };
+    // Of a generation that was taken back: its number, and how many replicas it is to have.
+    let mut wanted = None;
     let mut run = 0;
-    let read = |path: PathBuf| Opening::read(&path).map_err(|error| Fault::Stop(Stop::File(path, error)));
-    if let Some(newest) = directory.newest() {
-        place.replicas = read(directory.opening(newest))?.replicas.into();
-    }
-    if options.start != options::Start::New && whole.exists() {
-        let opening = read(whole.clone())?;
-        let place = Place { replicas: opening.replicas.into(), ..place };
-        check_place(place, opening.generation)?;
-        let started = start_node(options, place, directory, (&Begin::Take(whole.clone()), run), events);
-        run += 1;
-        match started {
-            Ok((node, state)) => {
+    loop {
+        let file = match &begin {
+            Begin::Take(path) => Some(path.clone()),
+            _ => directory.newest().map(|newest| directory.opening(newest)),
+        };
+        let (generation, replicas) = match (wanted.take(), file.map(read).transpose()?) {
+            (Some(wanted), _) => wanted,
+            (None, Some(opening)) => (opening.generation, opening.replicas),
+            (None, None) => (1, options.peers.len() as u8),
+        };
+        let place = Place { replicas: replicas.into(), replica: options.replica };
+        check_place(place, generation)?;
+        match start_node(options, place, directory, (&begin, run), events) {
+            Ok((mut node, state)) => {
+                // (where it stays it is refused at the next start, or is the very one that is there)
                 let _ = std::fs::remove_file(&whole);
-                return Ok((node, state, opening));
+                let opening = read(directory.opening(state.generation))?;
+                if opening.wanted() == opening.replicas {
+                    return Ok((node, state, opening));
+                }
+                node.end();
+                wanted = Some((opening.generation, opening.wanted()));
+                check_place(Place { replicas: opening.wanted().into(), ..place }, opening.generation)?;
+                directory.take_back(opening.generation).map_err(StoreFault::Directory)?;
             }
             // (one that is refused is of no use; any other fault may pass)
-            Err(Fault::Node(fault)) if fault.is_lasting() => _ = std::fs::remove_file(&whole),
+            Err(StoreFault::Node(fault)) if fault.is_lasting() && matches!(begin, Begin::Take(_)) => {
+                let _ = std::fs::remove_file(&whole);
+            }
             Err(fault) => return Err(fault),
         }
-    }
-    let begin = if options.start == options::Start::New { Begin::New } else { Begin::Again };
-    loop {
-        let (node, state) = start_node(options, place, directory, (&begin, run), events)?;
-        let opening = read(directory.opening(state.generation))?;
-        let wanted = opening.wanted();
-        if wanted == opening.replicas {
-            return Ok((node, state, opening));
-        }
-        node.end();
-        place.replicas = wanted.into();
-        check_place(place, opening.generation)?;
-        directory.take_back(opening.generation).map_err(Fault::Directory)?;
-        run += 1;
+        (begin, run) = (Begin::Again, run + 1);
     }
 }
 
 /// Whether this replica is one of so many.
-fn check_place(place: Place, generation: u32) -> Result<(), Fault> {
+fn check_place(place: Place, generation: u32) -> Result<(), StoreFault> {
     let is_one = usize::from(place.replica) < place.replicas;
-    if is_one { Ok(()) } else { Err(Fault::Stop(Stop::Left(generation))) }
+    if is_one { Ok(()) } else { Err(StoreFault::Stop(StopFault::Left(generation))) }
 }
 
-/// Starts the node, and waits until it has read its log: what it is then.
+/// A core, wherever it runs.
+type AnyCore = Box<dyn Core + Send>;
+
+/// The program `epaxos`.
+fn program(options: &Options) -> PathBuf {
+    options.node.clone().unwrap_or_else(|| "epaxos".into())
+}
+
+/// Starts the core, and waits until it has read its log: what it is then. It runs in the program that is named; else in this process, where the store
+/// was built with the library; else in the program on the `PATH`.
 fn start_node(
     options: &Options,
     place: Place,
     directory: &Directory,
     (begin, run): (&Begin, u64),
     events: &SyncSender<Event>,
-) -> Result<(Node, State), Fault> {
+) -> Result<(AnyCore, State), StoreFault> {
+    let folder = directory.generations();
+    if options.node.is_none() && epaxos::Core::has_library() {
+        let hosting = Hosting { place, folder, core: epaxos::Core::Library };
+        let hosted = Hosted::start(hosting, begin, run).map_err(StoreFault::Node)?;
+        return tell_of(Box::new(hosted));
+    }
     let events = events.clone();
     let settings = Settings {
-        program: options.node.clone(),
+        program: program(options),
         replicas: place.replicas,
         replica: place.replica,
-        folder: directory.generations(),
-        errors: directory.errors().map_err(Fault::Thread)?,
+        folder,
+        errors: directory.errors().map_err(StoreFault::Thread)?,
         errors_path: directory.errors_path(),
         on_end: Arc::new(move |run| _ = events.send(Event::NodeEnded(run))),
     };
-    let mut node = Node::start(settings, begin, run).map_err(Fault::Node)?;
-    let answers = node.ask(&[Request::Sync, Request::State]).map_err(Fault::Node)?;
+    tell_of(Box::new(Node::start(settings, begin, run).map_err(StoreFault::Node)?))
+}
+
+/// Tells what a core tells at its start.
+fn tell_of(mut node: AnyCore) -> Result<(AnyCore, State), StoreFault> {
+    let state = node.state().map_err(StoreFault::Node)?;
     node.told().iter().for_each(|line| say(&format!("the node tells: {line}")));
-    match answers[..] {
-        [Answer::Synced(_), Answer::State(state)] => Ok((node, state)),
-        _ => Err(Fault::Node(NodeFault::BadAnswer("its first answers".into()))),
-    }
+    Ok((node, state))
 }

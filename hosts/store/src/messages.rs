@@ -1,6 +1,6 @@
-//! What hosts tell one another, on the connections of frames: how far each is, and openings, in pieces.
-use crate::bytes::Fields;
-use crate::protocol::{Command, Reply};
+//! What hosts tell one another, on the connections of frames: how far each is, what is committed there, and openings, in pieces.
+use crate::commits::Committed;
+use epaxos::{Answer, Command, Fields, OwnedAnswer, OwnedCommand};
 
 /// A frame begins with other bytes.
 const MAGIC: &[u8] = b"ES";
@@ -20,11 +20,13 @@ pub enum Message {
     /// It wants what is behind this place of the opening of this generation, or of the newest one, by 0.
     Want { generation: u32, offset: u64 },
     /// A client's command, which the receiver is to propose: the sender's own proposals would wait for a replica that is gone.
-    Ask { client: u32, request: u32, seen: u64, command: Command },
+    Ask { client: u32, request: u32, seen: u64, command: OwnedCommand },
     /// What became of such a command: its stamp and its reply. Without a reply nobody knows.
-    Answer { client: u32, request: u32, stamp: u64, reply: Option<Reply> },
+    Answer { client: u32, request: u32, stamp: u64, reply: Option<OwnedAnswer> },
     /// A piece of an opening, which has so many bytes in all.
     Piece { generation: u32, total: u64, offset: u64, bytes: Vec<u8> },
+    /// What is committed at the sender in this generation.
+    Committed { generation: u32, committed: Committed },
 }
 
 impl Message {
@@ -52,7 +54,7 @@ impl Message {
                 out.extend(client.to_be_bytes());
                 out.extend(request.to_be_bytes());
                 out.extend(seen.to_be_bytes());
-                command.write(&mut out);
+                command.lent().write(&mut out);
             }
             Message::Answer { client, request, stamp, reply } => {
                 out.push(5);
@@ -60,7 +62,7 @@ impl Message {
                 out.extend(request.to_be_bytes());
                 out.extend(stamp.to_be_bytes());
                 out.push(u8::from(reply.is_some()));
-                reply.iter().for_each(|reply| reply.write(&mut out));
+                reply.iter().for_each(|reply| reply.lent().write(&mut out));
             }
             Message::Piece { generation, total, offset, bytes } => {
                 out.push(3);
@@ -68,6 +70,11 @@ impl Message {
                 out.extend(total.to_be_bytes());
                 out.extend(offset.to_be_bytes());
                 out.extend(bytes);
+            }
+            Message::Committed { generation, committed } => {
+                out.push(6);
+                out.extend(generation.to_be_bytes());
+                committed.write(&mut out);
             }
         }
         out
@@ -84,25 +91,30 @@ impl Message {
             2 => Message::Want { generation: fields.u32()?, offset: fields.u64()? },
             3 => {
                 let (generation, total, offset) = (fields.u32()?, fields.u64()?, fields.u64()?);
-                let length = fields.left();
-                Message::Piece { generation, total, offset, bytes: fields.run(length)?.to_vec() }
+                Message::Piece { generation, total, offset, bytes: take_rest(&mut fields).to_vec() }
             }
             4 => Message::Ask {
                 client: fields.u32()?,
                 request: fields.u32()?,
                 seen: fields.u64()?,
-                command: Command::read(&mut fields)?,
+                command: Command::read(take_rest(&mut fields))?.to_owned(),
             },
             5 => Message::Answer {
                 client: fields.u32()?,
                 request: fields.u32()?,
                 stamp: fields.u64()?,
-                reply: if flag(fields.u8()?)? { Some(Reply::read(&mut fields)?) } else { None },
+                reply: if flag(fields.u8()?)? { Some(Answer::read(&mut fields)?.to_owned()) } else { None },
             },
+            6 => Message::Committed { generation: fields.u32()?, committed: Committed::read(&mut fields)? },
             _ => return None,
         };
-        (fields.left() == 0).then_some(message)
+        fields.is_over().then_some(message)
     }
+}
+
+/// All that is left.
+fn take_rest<'a>(fields: &mut Fields<'a>) -> &'a [u8] {
+    std::mem::replace(fields, Fields::new(&[])).rest()
 }
 
 fn flag(byte: u8) -> Option<bool> {
@@ -116,6 +128,7 @@ fn flag(byte: u8) -> Option<bool> {
 #[cfg(test)]
 mod tests {
     use super::*;
+    use epaxos::Instance;
 
     #[test]
     fn word_for_word() {
@@ -135,11 +148,11 @@ mod tests {
                 assert_eq!(Message::read(&bytes[..cut]), None);
             }
         }
-        let command = Command::Del { key: b"k".to_vec() };
+        let command = OwnedCommand::Del { key: b"k".to_vec() };
         let ask = Message::Ask { client: 1, request: 2, seen: 3, command };
         let spelled_ask = [b'E', b'S', 4, 0, 0, 0, 1, 0, 0, 0, 2, 0, 0, 0, 0, 0, 0, 0, 3, 4, 1, 0, 0, 0, 0, 0, b'k'];
         let answer = |reply| Message::Answer { client: 1, request: 2, stamp: 3, reply };
-        let told = answer(Some(Reply::Present(vec![7])));
+        let told = answer(Some(OwnedAnswer::Present(vec![7])));
         let spelled_told = [b'E', b'S', 5, 0, 0, 0, 1, 0, 0, 0, 2, 0, 0, 0, 0, 0, 0, 0, 3, 1, 1, 0, 0, 0, 1, 7];
         assert_eq!((ask.write(), told.write()), (spelled_ask.to_vec(), spelled_told.to_vec()));
         for message in [ask, told, answer(None)] {
@@ -148,7 +161,12 @@ mod tests {
             assert_eq!(Message::read(&bytes), Some(message));
         }
         assert_eq!(Message::read(&[&spelled[..], &[0]].concat()), None);
-        assert_eq!(Message::read(b"ES\x06"), None);
+        assert_eq!(Message::read(b"ES\x07"), None);
+        let mut committed = Committed::new(2);
+        committed.insert(Instance { replica: 1, number: 1 });
+        let committed = Message::Committed { generation: 258, committed };
+        assert_eq!(committed.write(), [b'E', b'S', 6, 0, 0, 1, 2, 2, 0, 0, 0, 0, 0, 1, 0, 0]);
+        assert_eq!(Message::read(&committed.write()), Some(committed));
         assert!(!Message::is_one(b"EP\x03"));
     }
 }

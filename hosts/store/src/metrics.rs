@@ -75,10 +75,13 @@ pub struct Metrics {
     pub generation: Number,
     pub entries: Number,
     pub log_bytes: Number,
+    /// How often the node was asked, each time all that was to be asked then.
+    pub asks: Number,
     pub syncs: Number,
     pub open_instances: Number,
     pub peers_reached: Number,
     pub frames_lost: Number,
+    pub commits_sent_again: Number,
     pub frames_refused: Number,
     /// 1 where this replica takes part: it serves a generation, and reaches a majority.
     pub takes_part: Number,
@@ -95,12 +98,19 @@ impl Metrics {
         for (name, what, kind, number) in [
             ("store_commands_answered_total", "Commands that were answered.", "counter", &self.answered),
             ("store_commands_refused_total", "Commands that ended by an error.", "counter", &self.refused),
+            ("store_asks_total", "Round trips to the node.", "counter", &self.asks),
             ("store_syncs_total", "Syncs of the log.", "counter", &self.syncs),
             (
                 "store_frames_lost_total",
                 "Frames to peers that were dropped for want of room.",
                 "counter",
                 &self.frames_lost,
+            ),
+            (
+                "store_commits_sent_again_total",
+                "Commits that were sent again to peers that lacked them.",
+                "counter",
+                &self.commits_sent_again,
             ),
             ("store_frames_refused_total", "Frames of peers that the node refused.", "counter", &self.frames_refused),
             ("store_takes_part", "1 where this replica serves and reaches a majority.", "gauge", &self.takes_part),
@@ -110,7 +120,7 @@ impl Metrics {
             ("store_log_bytes", "Bytes of this generation's log.", "gauge", &self.log_bytes),
             (
                 "store_open_instances",
-                "Commands of this replica that aren't committed yet.",
+                "Instances that are known of and aren't committed here.",
                 "gauge",
                 &self.open_instances,
             ),

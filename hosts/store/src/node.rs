@@ -1,46 +1,16 @@
-//! The core: the child process `epaxos node --dir`, one for each generation, and asking it.
-use crate::protocol::{Answer, Request};
-use std::fmt;
+//! The core as a child process, `epaxos node --dir`, one for each generation. It puts what it takes on the disk itself.
+use crate::core::{Begin, Core};
+use crate::node_fault::NodeFault;
+use crate::outcome::{Asked, Outcome, Outgoing, Report};
+use epaxos::wire::{self, Done, Question, Told};
+use epaxos::{Event, Fault, Frame, Instance, Proposed, State};
 use std::fs::File;
 use std::io::{self, BufReader, Read, Write};
 use std::path::PathBuf;
-use std::process::{Child, ChildStdin, ChildStdout, Command, ExitStatus, Stdio};
+use std::process::{Child, ChildStdin, ChildStdout, Command, Stdio};
 use std::sync::Arc;
 use std::sync::mpsc::{Receiver, Sender, channel};
 use std::thread;
-
-/// A replica's core, in one generation after the other.
-pub trait Core {
-    /// Asks all these, and waits for their answers. The last request has to be one that is answered: a sync, where
-    /// something is taken.
-    fn ask(&mut self, requests: &[Request]) -> Result<Vec<Answer>, NodeFault>;
-
-    /// Ends it, once it has answered all, and starts it again: so it goes on to the next generation, where it has executed a seal.
-    fn start_again(&mut self, begin: &Begin) -> Result<(), NodeFault>;
-
-    /// The number of what runs now: it rises with each start.
-    fn run(&self) -> u64;
-
-    /// The number of its process.
-    fn process(&self) -> u32;
-
-    /// Waits for the end of a core whose answers are over: with what it ended.
-    fn ended(&mut self) -> NodeFault;
-
-    /// The lines that it told people since this was asked last.
-    fn told(&mut self) -> Vec<String>;
-}
-
-/// How a start goes about the folder.
-#[derive(Clone, PartialEq, Eq, Debug)]
-pub enum Begin {
-    /// It goes on with what is there.
-    Again,
-    /// It begins the first generation.
-    New,
-    /// It goes on with the opening of a later generation, which a peer gave.
-    Take(PathBuf),
-}
 
 /// What the child is started with.
 pub struct Settings {
@@ -55,43 +25,6 @@ pub struct Settings {
     pub errors_path: PathBuf,
     /// Called with the number of a run, from another thread, when no more answers of it will come.
     pub on_end: Arc<dyn Fn(u64) + Send + Sync>,
-}
-
-/// Why there is no answer.
-#[derive(Debug)]
-pub enum NodeFault {
-    /// The child can't be started.
-    Start(PathBuf, io::Error),
-    /// It has ended: its status, and what it wrote on standard error.
-    Ended(Option<ExitStatus>, String),
-    /// Its answer isn't of the protocol.
-    BadAnswer(String),
-}
-
-/// The status of a node that refuses its words or its folder.
-const REFUSES: i32 = 2;
-
-impl NodeFault {
-    /// Whether another start with the same words would end in the same way.
-    pub fn is_lasting(&self) -> bool {
-        matches!(self, NodeFault::Ended(Some(status), _) if status.code() == Some(REFUSES))
-    }
-}
-
-impl fmt::Display for NodeFault {
-    fn fmt(&self, f: &mut fmt::Formatter) -> fmt::Result {
-        match self {
-            NodeFault::Start(program, error) => write!(f, "the node {} can't be started: {error}", program.display()),
-            NodeFault::Ended(status, errors) => {
-                let status = status.map_or("an unknown status".to_string(), |status| status.to_string());
-                write!(f, "the node has ended ({status})")?;
-                if errors.is_empty() { Ok(()) } else { write!(f, ": {errors}") }
-            }
-            NodeFault::BadAnswer(what) => {
-                write!(f, "the node's answer isn't of the protocol: {what}")
-            }
-        }
-    }
 }
 
 /// The child process. It ends by itself once its input is closed, also where this process is killed.
@@ -109,7 +42,8 @@ struct Running {
     input: Option<ChildStdin>,
     /// Whether it was told that it has ended by itself.
     is_over: bool,
-    answers: Receiver<Result<Answer, String>>,
+    /// Each without its length.
+    answers: Receiver<Vec<u8>>,
 }
 
 impl Node {
@@ -117,15 +51,6 @@ impl Node {
     pub fn start(settings: Settings, begin: &Begin, run: u64) -> Result<Node, NodeFault> {
         let running = settings.start(begin, run)?;
         Ok(Node { settings, running, run, heard: 0 })
-    }
-}
-
-impl Node {
-    /// Ends it, and waits for that.
-    pub fn end(mut self) {
-        self.running.input = None;
-        while self.running.answers.recv().is_ok() {}
-        let _ = self.running.child.wait();
     }
 }
 
@@ -144,7 +69,7 @@ impl Settings {
         }
         let mut child = command.stdin(Stdio::piped()).stdout(Stdio::piped()).stderr(errors).spawn().map_err(failed)?;
         let (Some(input), Some(output)) = (child.stdin.take(), child.stdout.take()) else {
-            return Err(failed(io::Error::other("its streams are missing")));
+            return Err(failed(io::ErrorKind::BrokenPipe.into()));
         };
         let (sender, answers) = channel();
         // A thread of its own reads the answers, so that neither side waits for the other with both pipes full.
@@ -159,31 +84,121 @@ impl Settings {
     }
 }
 
-impl Core for Node {
-    fn ask(&mut self, requests: &[Request]) -> Result<Vec<Answer>, NodeFault> {
-        let mut bytes = Vec::new();
-        for request in requests {
-            request.write(&mut bytes);
-        }
+impl Node {
+    fn write(&mut self, requests: &[u8]) -> Result<(), NodeFault> {
         let written = match &mut self.running.input {
-            Some(input) => input.write_all(&bytes).and_then(|()| input.flush()),
+            Some(input) => input.write_all(requests).and_then(|()| input.flush()),
             None => Err(io::ErrorKind::BrokenPipe.into()),
         };
-        if written.is_err() {
-            return Err(self.ended());
-        }
-        let mut answers = Vec::with_capacity(requests.len());
-        for _ in requests {
-            match self.running.answers.recv() {
-                Ok(Ok(answer)) => answers.push(answer),
-                Ok(Err(what)) => return Err(NodeFault::BadAnswer(what)),
-                Err(_) => return Err(self.ended()),
-            }
-        }
-        Ok(answers)
+        written.map_err(|_| self.ended())
     }
 
-    fn start_again(&mut self, begin: &Begin) -> Result<(), NodeFault> {
+    fn ask(&mut self, questions: &[Question]) -> Result<(), NodeFault> {
+        let mut requests = Vec::new();
+        questions.iter().for_each(|question| wire::push_question(&mut requests, *question));
+        self.write(&requests)
+    }
+
+    /// Waits for the next answer, and reads it.
+    fn read<T>(&mut self, read: impl Fn(&[u8]) -> Option<T>) -> Result<T, NodeFault> {
+        let answer = self.answer()?;
+        read(&answer).ok_or_else(|| NodeFault::bad_answer(&answer))
+    }
+
+    fn answer(&mut self) -> Result<Vec<u8>, NodeFault> {
+        self.running.answers.recv().map_err(|_| self.ended())
+    }
+
+    /// Waits for the answer to something that was to be done, and adds to an outcome what it tells; `of` is whose command it proposes.
+    fn add_done(&mut self, of: Option<(u32, u32)>, outcome: &mut Outcome) -> Result<Result<(), Fault>, NodeFault> {
+        let answer = self.answer()?;
+        let entries = match wire::done(&answer) {
+            Some(Done::Refused(fault)) => return Ok(Err(fault)),
+            Some(Done::Taken(taken)) => taken.entries(),
+            None => None,
+        };
+        for entry in entries.ok_or_else(|| NodeFault::bad_answer(&answer))? {
+            outcome.entries = Some(entry.number);
+            outcome.proposed.extend(of.zip(entry.took).map(|((client, request), instance)| Proposed {
+                client,
+                request,
+                instance,
+            }));
+            outcome.frames.extend(entry.frames.iter().map(outgoing));
+            entry.receipts.iter().for_each(|receipt| outcome.receipts.extend(receipt.bytes));
+        }
+        Ok(Ok(()))
+    }
+}
+
+fn outgoing(frame: &Frame) -> Outgoing {
+    Outgoing { to: frame.to, frame: frame.bytes.to_vec() }
+}
+
+impl Core for Node {
+    fn carry_out(&mut self, asked: &Asked) -> Result<Outcome, NodeFault> {
+        let mut requests = Vec::new();
+        // (what can't be spelled is refused here)
+        let spelled: Vec<_> = asked.events.iter().map(|event| wire::push_event(&mut requests, event)).collect();
+        if asked.takes() {
+            wire::push_question(
+                &mut requests,
+                if asked.executes_all { Question::ExecuteAll } else { Question::Advance },
+            );
+        }
+        asked.reads.iter().for_each(|key| wire::push_question(&mut requests, Question::Get(key)));
+        if asked.takes() {
+            wire::push_question(&mut requests, Question::Sync);
+        }
+        self.write(&requests)?;
+        let mut outcome = Outcome::default();
+        for (event, spelled) in asked.events.iter().zip(spelled) {
+            let of = match event {
+                Event::Propose { call, .. } => Some((call.client, call.request)),
+                _ => None,
+            };
+            let done = match spelled {
+                Ok(()) => self.add_done(of, &mut outcome)?,
+                refused => refused,
+            };
+            outcome.done.push(done);
+        }
+        if asked.takes() {
+            // (where memory is short, something stays to be executed)
+            let _ = self.add_done(None, &mut outcome)?;
+        }
+        for _ in &asked.reads {
+            let value = self.read(|answer| wire::value(answer).map(|value| value.map(<[u8]>::to_vec)))?;
+            outcome.values.push(value);
+        }
+        if asked.takes() {
+            self.read(wire::synced)?;
+        }
+        Ok(outcome)
+    }
+
+    fn report(&mut self, after: u32, most: u8) -> Result<Report, NodeFault> {
+        self.ask(&[Question::Ready { told: after, most }])?;
+        let report = |told: Told| Report {
+            frames: told.frames().map(|frame| outgoing(&frame)).collect(),
+            committed: told.committed().collect(),
+            open: told.open().map(|open| open.instance).collect(),
+        };
+        self.read(|answer| Told::read(answer).map(report))
+    }
+
+    fn next_open(&mut self, after: Instance) -> Result<Option<Instance>, NodeFault> {
+        self.ask(&[Question::NextOpen(Some(after))])?;
+        self.read(wire::next_open)
+    }
+
+    fn state(&mut self) -> Result<State, NodeFault> {
+        self.ask(&[Question::Sync, Question::State])?;
+        self.read(wire::synced)?;
+        self.read(wire::state)
+    }
+
+    fn start_again(&mut self, begin: &Begin) -> Result<State, NodeFault> {
         self.running.input = None;
         // (nothing is asked, so that nothing is answered; this waits for the end)
         while self.running.answers.recv().is_ok() {}
@@ -193,7 +208,7 @@ impl Core for Node {
         }
         self.run += 1;
         self.running = self.settings.start(begin, self.run)?;
-        Ok(())
+        self.state()
     }
 
     fn run(&self) -> u64 {
@@ -202,6 +217,12 @@ impl Core for Node {
 
     fn process(&self) -> u32 {
         self.running.child.id()
+    }
+
+    fn end(&mut self) {
+        self.running.input = None;
+        while self.running.answers.recv().is_ok() {}
+        let _ = self.running.child.wait();
     }
 
     fn ended(&mut self) -> NodeFault {
@@ -220,20 +241,13 @@ impl Core for Node {
     }
 }
 
-fn read_answers(output: ChildStdout, sender: &Sender<Result<Answer, String>>) {
+fn read_answers(output: ChildStdout, sender: &Sender<Vec<u8>>) {
     let mut reader = BufReader::with_capacity(1 << 16, output);
-    while let Ok(bytes) = read_answer(&mut reader) {
-        let answer = Answer::read(&bytes).ok_or_else(|| describe(&bytes));
-        let is_bad = answer.is_err();
-        if sender.send(answer).is_err() || is_bad {
+    while let Ok(answer) = read_answer(&mut reader) {
+        if sender.send(answer).is_err() {
             return;
         }
     }
-}
-
-fn describe(bytes: &[u8]) -> String {
-    let kind = bytes.first().map_or("none".to_string(), u8::to_string);
-    format!("{} bytes of kind {kind}", bytes.len())
 }
 
 /// An answer's kind and body.

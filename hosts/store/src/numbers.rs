@@ -1,5 +1,6 @@
 //! Client numbers, none of which is ever given twice, by any replica and over all its starts.
 use crate::identities::replace;
+use crate::numbers_fault::NumbersFault;
 use std::fs;
 use std::io;
 use std::path::{Path, PathBuf};
@@ -29,17 +30,16 @@ impl Numbers {
     }
 
     /// Whether the greatest number that a client was told under was set aside, 0 being none.
-    pub fn check(&self, greatest: u32) -> Result<(), String> {
+    pub fn check(&self, greatest: u32) -> Result<(), NumbersFault> {
         let given = u64::from(set_aside(&self.folder)?) * u64::from(BLOCK);
         if greatest > 0 && u64::from((greatest - 1) / SHARES) >= given {
-            let path = self.folder.join(NAME);
-            return Err(format!("{} has forgotten client {greatest}, which was answered", path.display()));
+            return Err(NumbersFault::Forgotten(self.folder.join(NAME), greatest));
         }
         Ok(())
     }
 
     /// The next number, from 1.
-    pub fn give(&mut self) -> Result<u32, String> {
+    pub fn give(&mut self) -> Result<u32, NumbersFault> {
         if self.given == BLOCK {
             self.block = set_next_aside(&self.folder)?;
             self.given = 0;
@@ -56,23 +56,23 @@ pub fn is_of(client: u32, replica: u8) -> bool {
 }
 
 /// How many blocks were set aside.
-fn set_aside(folder: &Path) -> Result<u32, String> {
+fn set_aside(folder: &Path) -> Result<u32, NumbersFault> {
     let path = folder.join(NAME);
     match fs::read_to_string(&path) {
-        Ok(text) => text.trim().parse().map_err(|_| format!("{} holds no number", path.display())),
+        Ok(text) => text.trim().parse().map_err(|_| NumbersFault::NotANumber(path)),
         Err(error) if error.kind() == io::ErrorKind::NotFound => Ok(0),
-        Err(error) => Err(format!("{}: {error}", path.display())),
+        Err(error) => Err(NumbersFault::Unusable(path, error.kind())),
     }
 }
 
 /// Sets the next block aside.
-fn set_next_aside(folder: &Path) -> Result<u32, String> {
-    let told = |error: io::Error| format!("{}: {error}", folder.join(NAME).display());
+fn set_next_aside(folder: &Path) -> Result<u32, NumbersFault> {
     let blocks = set_aside(folder)?;
     if blocks >= MOST_BLOCKS {
-        return Err("no client numbers are left".into());
+        return Err(NumbersFault::UsedUp);
     }
-    replace(folder, NAME, &format!("{}\n", blocks + 1)).map_err(told)?;
+    let written = replace(folder, NAME, &format!("{}\n", blocks + 1));
+    written.map_err(|error| NumbersFault::Unusable(folder.join(NAME), error.kind()))?;
     Ok(blocks)
 }
 
@@ -98,12 +98,14 @@ mod tests {
             assert_eq!(fs::read_to_string(folder.join(NAME)).unwrap(), "5\n");
             let numbers = Numbers::new(&folder, replica);
             assert!(numbers.check(0).is_ok() && numbers.check(5 * BLOCK * SHARES).is_ok());
-            assert!(numbers.check(5 * BLOCK * SHARES + 1).unwrap_err().contains("has forgotten client 10241"));
-            for (blocks, is_left) in [(MOST_BLOCKS - 1, true), (MOST_BLOCKS, false)] {
-                fs::write(folder.join(NAME), blocks.to_string()).unwrap();
-                let number = Numbers::new(&folder, replica).give();
-                assert_eq!(number.is_ok_and(|number| all.insert(number)), is_left);
-            }
+            let forgotten = numbers.check(5 * BLOCK * SHARES + 1);
+            assert_eq!(forgotten, Err(NumbersFault::Forgotten(folder.join(NAME), 10_241)));
+            fs::write(folder.join(NAME), (MOST_BLOCKS - 1).to_string()).unwrap();
+            assert!(all.insert(Numbers::new(&folder, replica).give().unwrap()));
+            fs::write(folder.join(NAME), MOST_BLOCKS.to_string()).unwrap();
+            assert_eq!(Numbers::new(&folder, replica).give(), Err(NumbersFault::UsedUp));
+            fs::write(folder.join(NAME), "many").unwrap();
+            assert_eq!(Numbers::new(&folder, replica).give(), Err(NumbersFault::NotANumber(folder.join(NAME))));
         }
         fs::remove_dir_all(&folder).unwrap();
     }

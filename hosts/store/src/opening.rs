@@ -1,6 +1,6 @@
 //! What a file tells that a generation opens with.
 use crate::members::Members;
-use crate::protocol::Instance;
+use epaxos::Instance;
 use std::collections::HashSet;
 use std::fs::File;
 use std::io::{self, BufReader, Read};

@@ -1,5 +1,7 @@
 //! The command line.
 use crate::generation::Limits;
+use crate::options_fault::OptionsFault;
+use crate::plants::Plant;
 use std::fmt::Display;
 use std::path::PathBuf;
 use std::str::FromStr;
@@ -22,7 +24,8 @@ store: one replica of a replicated store, for clients of the Redis protocol
     --auth FILE            the password that clients say first (AUTH), 16 to 4096 bytes in a file that only its owner reads
     --memory BYTES         so much may be under way for all clients together; default {MEMORY}
     --metrics HOST:PORT    where Prometheus reads /metrics; a port alone is one of 127.0.0.1; default: nowhere
-    --node PATH            the program `epaxos`; default: the one on the PATH
+    --node PATH            the program `epaxos`, in which the core then runs, with its log; default: the core runs in the store itself, where that
+                           was built with the library, else in the `epaxos` on the PATH
     --patience S           after so many seconds a client is told TRYAGAIN; default 10. Its command may still be done
     --join                 in the place of --new: for a machine that comes in the place of a lost one; it tells its identity and waits
                            until a generation begins that names it (EPAXOS REPLACE, at any other replica)
@@ -62,19 +65,6 @@ pub enum Start {
     Join,
 }
 
-/// A misbehaviour that the trial has to catch.
-#[derive(Clone, Copy, PartialEq, Eq, Debug)]
-pub enum Plant {
-    /// A SET is answered before its receipt has come.
-    Early,
-    /// A log that has forgotten what clients were told is taken.
-    Forgetful,
-    /// Some receipts have another reply than the node's.
-    Changed,
-    /// Of some commands that were done it says that they stood behind a seal, so that they are done twice.
-    Again,
-}
-
 /// What the store was told.
 #[derive(Clone, PartialEq, Eq, Debug)]
 pub struct Options {
@@ -89,7 +79,8 @@ pub struct Options {
     pub auth: Option<PathBuf>,
     pub memory: usize,
     pub metrics: Option<String>,
-    pub node: PathBuf,
+    /// The program in which the core runs, where one is named.
+    pub node: Option<PathBuf>,
     pub patience: Duration,
     pub limits: Limits,
     /// How many generations that were left stay in the folder.
@@ -105,11 +96,11 @@ pub enum Words {
 }
 
 /// Reads the words after the program's name.
-pub fn read(words: impl IntoIterator<Item = String>) -> Result<Words, String> {
+pub fn read(words: impl IntoIterator<Item = String>) -> Result<Words, OptionsFault> {
     let mut words = words.into_iter();
     let (mut replica, mut peers, mut directory) = (None, None, None);
     let mut listen = "127.0.0.1:7000".to_string();
-    let mut node = PathBuf::from("epaxos");
+    let mut node = None;
     let mut patience = Duration::from_secs(10);
     let mut plant = None;
     let (mut is_insecure, mut peer_key) = (false, None);
@@ -127,7 +118,7 @@ pub fn read(words: impl IntoIterator<Item = String>) -> Result<Words, String> {
         };
         if let Some(begins) = begins {
             if start != Start::Again {
-                return Err("--new and --join are two ways of one start".into());
+                return Err(OptionsFault::TwoStarts);
             }
             start = begins;
             continue;
@@ -136,7 +127,7 @@ pub fn read(words: impl IntoIterator<Item = String>) -> Result<Words, String> {
             is_insecure = true;
             continue;
         }
-        let mut value = || words.next().ok_or(format!("{word} wants a value"));
+        let mut value = || words.next().ok_or_else(|| OptionsFault::NoValue(word.clone()));
         match word.as_str() {
             "--replica" => replica = Some(value()?),
             "--peers" => peers = Some(value()?),
@@ -146,20 +137,22 @@ pub fn read(words: impl IntoIterator<Item = String>) -> Result<Words, String> {
             "--auth" => auth = Some(PathBuf::from(value()?)),
             "--memory" => memory = number(&word, &value()?, 1 << 20, usize::MAX)?,
             "--metrics" => metrics = Some(with_host(value()?)),
-            "--node" => node = PathBuf::from(value()?),
-            "--patience" => patience = seconds(&value()?)?,
+            "--node" => node = Some(PathBuf::from(value()?)),
+            "--patience" => patience = Duration::from_secs_f64(number(&word, &value()?, 0.1, 3600.0)?),
             "--seal-numbers" => limits.numbers = number(&word, &value()?, 10, 1_900)?,
             "--seal-dependencies" => limits.dependencies = number(&word, &value()?, 10, 14_000)?,
             "--seal-log" => limits.log = number(&word, &value()?, 1 << 10, u64::MAX)?,
             "--keep" => kept = number(&word, &value()?, 1, usize::MAX)?,
-            "--plant" if cfg!(feature = "plants") => plant = Some(read_plant(&value()?)?),
-            _ => return Err(format!("unknown word {word}; --help tells the words")),
+            "--plant" if cfg!(feature = "plants") => {
+                let name = value()?;
+                plant = Some(Plant::read(&name).ok_or(OptionsFault::Plant(name))?);
+            }
+            _ => return Err(OptionsFault::Unknown(word)),
         }
     }
-    let missing = |name: &str| format!("{name} is missing; --help tells the words");
-    let peers = read_peers(&peers.ok_or_else(|| missing("--peers"))?)?;
-    let replica = read_replica(&replica.ok_or_else(|| missing("--replica"))?, peers.len())?;
-    let directory = directory.ok_or_else(|| missing("--dir"))?;
+    let peers = read_peers(&peers.ok_or(OptionsFault::Missing("--peers"))?)?;
+    let replica = number("--replica", &replica.ok_or(OptionsFault::Missing("--replica"))?, 0, peers.len() as u8 - 1)?;
+    let directory = directory.ok_or(OptionsFault::Missing("--dir"))?;
     Ok(Words::Run(Box::new(Options {
         replica,
         peers,
@@ -184,55 +177,34 @@ fn with_host(address: String) -> String {
 }
 
 /// A number from `least` to `most`.
-fn number<T: FromStr + PartialOrd + Display>(flag: &str, word: &str, least: T, most: T) -> Result<T, String> {
+fn number<T: FromStr + PartialOrd + Display>(flag: &str, word: &str, least: T, most: T) -> Result<T, OptionsFault> {
     let number = word.parse().ok().filter(|number| (&least..=&most).contains(&number));
-    number.ok_or_else(|| format!("{flag} {word}: a number from {least} to {most} is wanted"))
+    number.ok_or_else(|| OptionsFault::out_of_range(flag, word, least, most))
 }
 
-fn seconds(word: &str) -> Result<Duration, String> {
-    let told = || format!("--patience {word}: a number of seconds from 0.1 to 3600 is wanted");
-    let seconds: f64 = word.parse().map_err(|_| told())?;
-    if (0.1..=3600.0).contains(&seconds) { Ok(Duration::from_secs_f64(seconds)) } else { Err(told()) }
-}
-
-fn read_plant(word: &str) -> Result<Plant, String> {
-    match word {
-        "early" => Ok(Plant::Early),
-        "forgetful" => Ok(Plant::Forgetful),
-        "changed" => Ok(Plant::Changed),
-        "again" => Ok(Plant::Again),
-        _ => Err(format!("--plant {word}: not known")),
-    }
-}
-
-fn read_peers(word: &str) -> Result<Vec<String>, String> {
+fn read_peers(word: &str) -> Result<Vec<String>, OptionsFault> {
     let peers: Vec<String> = word.split(',').map(str::to_string).collect();
     if ![3, 5, 7].contains(&peers.len()) {
-        return Err(format!("--peers names {} replicas; 3, 5 or 7 are possible", peers.len()));
+        return Err(OptionsFault::Replicas(peers.len()));
     }
     for (place, peer) in peers.iter().enumerate() {
         let has_port =
             peer.rsplit_once(':').is_some_and(|(host, port)| !host.is_empty() && port.parse::<u16>().is_ok());
         if !has_port {
-            return Err(format!("--peers: {peer} isn't HOST:PORT"));
+            return Err(OptionsFault::NotAnAddress(peer.clone()));
         }
         if peers[..place].contains(peer) {
-            return Err(format!("--peers names {peer} twice"));
+            return Err(OptionsFault::Twice(peer.clone()));
         }
     }
     Ok(peers)
-}
-
-fn read_replica(word: &str, replicas: usize) -> Result<u8, String> {
-    let replica = word.parse::<u8>().ok().filter(|replica| usize::from(*replica) < replicas);
-    replica.ok_or(format!("--replica {word}: a number from 0 to {} is wanted", replicas - 1))
 }
 
 #[cfg(test)]
 mod tests {
     use super::*;
 
-    fn words(line: &str) -> Result<Words, String> {
+    fn words(line: &str) -> Result<Words, OptionsFault> {
         read(line.split_whitespace().map(str::to_string))
     }
 
@@ -259,23 +231,25 @@ mod tests {
 
     #[test]
     fn what_is_refused() {
-        for line in [
-            "",
-            "--replica 0 --dir d",
-            "--peers a:1,b:2,c:3 --dir d",
-            "--replica 0 --peers a:1,b:2,c:3",
-            "--replica 3 --peers a:1,b:2,c:3 --dir d",
-            "--replica 0 --peers a:1,b:2 --dir d",
-            "--replica 0 --peers a:1,b:2,c --dir d",
-            "--replica 0 --peers a:1,b:2,b:2 --dir d",
-            "--replica 0 --peers a:1,b:2,c:3 --dir d --patience 0",
-            "--replica 0 --peers a:1,b:2,c:3 --dir d --other x",
-            "--replica 0 --peers a:1,b:2,c:3 --dir",
-            "--replica 0 --peers a:1,b:2,c:3 --dir d --new --join",
-            "--replica 0 --peers a:1,b:2,c:3 --dir d --seal-numbers 1901",
-            "--replica 0 --peers a:1,b:2,c:3 --dir d --keep 0",
+        let all = "--replica 0 --peers a:1,b:2,c:3 --dir d";
+        for (line, fault) in [
+            ("", OptionsFault::Missing("--peers")),
+            ("--replica 0 --dir d", OptionsFault::Missing("--peers")),
+            ("--peers a:1,b:2,c:3 --dir d", OptionsFault::Missing("--replica")),
+            ("--replica 0 --peers a:1,b:2,c:3", OptionsFault::Missing("--dir")),
+            ("--replica 3 --peers a:1,b:2,c:3 --dir d", OptionsFault::out_of_range("--replica", "3", 0, 2)),
+            ("--replica 0 --peers a:1,b:2 --dir d", OptionsFault::Replicas(2)),
+            ("--replica 0 --peers a:1,b:2,c --dir d", OptionsFault::NotAnAddress("c".into())),
+            ("--replica 0 --peers a:1,b:2,b:2 --dir d", OptionsFault::Twice("b:2".into())),
+            (&format!("{all} --patience 0"), OptionsFault::out_of_range("--patience", "0", 0.1, 3_600)),
+            (&format!("{all} --patience NaN"), OptionsFault::out_of_range("--patience", "NaN", 0.1, 3_600)),
+            (&format!("{all} --other x"), OptionsFault::Unknown("--other".into())),
+            ("--replica 0 --peers a:1,b:2,c:3 --dir", OptionsFault::NoValue("--dir".into())),
+            (&format!("{all} --new --join"), OptionsFault::TwoStarts),
+            (&format!("{all} --seal-numbers 1901"), OptionsFault::out_of_range("--seal-numbers", "1901", 10, 1_900)),
+            (&format!("{all} --keep 0"), OptionsFault::out_of_range("--keep", "0", 1, usize::MAX)),
         ] {
-            assert!(words(line).is_err(), "{line}");
+            assert_eq!(words(line), Err(fault), "{line}");
         }
     }
 }

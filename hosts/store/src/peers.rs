@@ -3,8 +3,11 @@
 //! A connection begins by a proof that both ends have the cluster's key ([`crate::sealed`]), and by a greeting and its answer,
 //! by which both ends know each other. Then come frames; the other way goes a message each second, so that a peer whose
 //! machine or network is gone is noticed. A frame that can't be sent is lost: the protocol allows for it.
+use crate::connect_fault::ConnectFault;
 use crate::driver::Event;
 use crate::identities::{Identities, Identity};
+use crate::link::Link;
+use crate::link_fault::LinkFault;
 use crate::say::say;
 use crate::sealed::{self, Channel, Direction, Hello, Key};
 use crate::timed::Timed;
@@ -58,74 +61,79 @@ pub struct Membership {
     pub key: Key,
 }
 
-/// All links out of this replica.
+/// The ways to all other replicas.
 pub struct Peers {
-    links: Vec<Option<Arc<Link>>>,
+    links: Vec<Option<Arc<dyn Link>>>,
 }
 
 impl Peers {
-    /// Starts a thread for each other replica.
+    /// Those by these ways; there is none to this replica itself.
+    pub fn over(links: Vec<Option<Arc<dyn Link>>>) -> Peers {
+        Peers { links }
+    }
+
+    /// Starts a thread for each other replica, which connects to it.
     pub fn start(membership: &Arc<Membership>, addresses: &[String], events: &SyncSender<Event>) -> io::Result<Peers> {
-        let mut links = Vec::new();
+        let mut links: Vec<Option<Arc<dyn Link>>> = Vec::new();
         for (to, address) in addresses.iter().enumerate() {
             if to == usize::from(membership.place.replica) {
                 links.push(None);
                 continue;
             }
-            let link = Arc::new(Link::new(to as u8, address.clone(), membership.clone()));
+            let link = Arc::new(TcpLink::new(to as u8, address.clone(), membership.clone()));
             let (runner, events) = (link.clone(), events.clone());
             thread::Builder::new().name(format!("to {to}")).spawn(move || runner.run(&events))?;
             links.push(Some(link));
         }
-        Ok(Peers { links })
+        Ok(Peers::over(links))
+    }
+
+    fn link(&self, to: u8) -> Option<&dyn Link> {
+        self.links.get(usize::from(to))?.as_deref()
     }
 
     /// Sends this before what waits.
     pub fn send_first(&self, to: u8, bytes: Vec<u8>) {
-        if let Some(Some(link)) = self.links.get(usize::from(to)) {
-            link.push_first(bytes);
+        if let Some(link) = self.link(to) {
+            link.send_first(bytes);
         }
     }
 
     /// A replica listens at this address from now on.
     pub fn set_address(&self, to: u8, address: &str) {
-        if let Some(Some(link)) = self.links.get(usize::from(to))
-            && std::mem::replace(&mut *link.address(), address.to_string()) != address
-        {
-            link.part("its address has changed");
+        if let Some(link) = self.link(to) {
+            link.set_address(address);
         }
     }
 
     /// Another machine has this replica's number: the connection to the one before is closed.
     pub fn part(&self, to: u8) {
-        if let Some(Some(link)) = self.links.get(usize::from(to)) {
-            link.part("another machine has its number");
+        if let Some(link) = self.link(to) {
+            link.part(LinkFault::Replaced);
         }
     }
 
     /// A peer has connected: the connection to it is tried at once, where it is lost.
     pub fn hurry(&self, to: u8) {
-        if let Some(Some(link)) = self.links.get(usize::from(to))
-            && !self.is_reached(to)
-        {
+        if let Some(link) = self.link(to).filter(|link| !link.is_reached()) {
             link.hurry();
         }
     }
 
     /// Sends a frame or a message of this host, or loses it.
-    pub fn send(&self, to: u8, frame: Vec<u8>) {
-        if let Some(Some(link)) = self.links.get(usize::from(to)) {
-            link.push(frame);
+    pub fn send(&self, to: u8, bytes: Vec<u8>) {
+        if let Some(link) = self.link(to) {
+            link.send(bytes);
         }
     }
 
     pub fn is_reached(&self, replica: u8) -> bool {
-        matches!(self.links.get(usize::from(replica)), Some(Some(link)) if link.is_reached.load(Ordering::Relaxed))
+        self.link(replica).is_some_and(|link| link.is_reached())
     }
 
     /// How many frames were lost for want of room.
     pub fn lost(&self) -> u64 {
-        self.links.iter().flatten().map(|link| link.lost.load(Ordering::Relaxed)).sum()
+        self.links.iter().flatten().map(|link| link.lost()).sum()
     }
 }
 
@@ -134,13 +142,14 @@ impl Peers {
 struct Queue {
     frames: VecDeque<Vec<u8>>,
     bytes: usize,
-    /// Why the connection is over, if the other end has told or is silent.
-    over: Option<&'static str>,
+    /// Why the connection is over, if it is.
+    over: Option<LinkFault>,
     /// Whether the peer was seen to be there since the last try to connect.
     has_come: bool,
 }
 
-struct Link {
+/// A way by TCP.
+struct TcpLink {
     to: u8,
     address: Mutex<String>,
     membership: Arc<Membership>,
@@ -151,9 +160,56 @@ struct Link {
     lost: AtomicU64,
 }
 
-impl Link {
-    fn new(to: u8, address: String, membership: Arc<Membership>) -> Link {
-        Link {
+impl Link for TcpLink {
+    fn send(&self, bytes: Vec<u8>) {
+        let mut queue = self.queue();
+        queue.bytes += bytes.len();
+        queue.frames.push_back(bytes);
+        while queue.bytes > MOST_WAITING {
+            let Some(oldest) = queue.frames.pop_front() else {
+                break;
+            };
+            queue.bytes -= oldest.len();
+            self.lost.fetch_add(1, Ordering::Relaxed);
+        }
+        self.changed.notify_one();
+    }
+
+    fn send_first(&self, bytes: Vec<u8>) {
+        let mut queue = self.queue();
+        queue.bytes += bytes.len();
+        queue.frames.push_front(bytes);
+        self.changed.notify_one();
+    }
+
+    fn is_reached(&self) -> bool {
+        self.is_reached.load(Ordering::Relaxed)
+    }
+
+    fn lost(&self) -> u64 {
+        self.lost.load(Ordering::Relaxed)
+    }
+
+    fn set_address(&self, address: &str) {
+        if std::mem::replace(&mut *self.address(), address.to_string()) != address {
+            self.part(LinkFault::OtherAddress);
+        }
+    }
+
+    fn part(&self, fault: LinkFault) {
+        self.queue().over = Some(fault);
+        self.changed.notify_one();
+    }
+
+    fn hurry(&self) {
+        self.queue().has_come = true;
+        self.came.notify_one();
+    }
+}
+
+impl TcpLink {
+    fn new(to: u8, address: String, membership: Arc<Membership>) -> TcpLink {
+        TcpLink {
             to,
             address: Mutex::new(address),
             membership,
@@ -173,43 +229,18 @@ impl Link {
         self.address.lock().unwrap_or_else(|poisoned| poisoned.into_inner())
     }
 
-    fn part(&self, cause: &'static str) {
-        self.queue().over = Some(cause);
-        self.changed.notify_one();
-    }
-
-    fn push_first(&self, bytes: Vec<u8>) {
-        let mut queue = self.queue();
-        queue.bytes += bytes.len();
-        queue.frames.push_front(bytes);
-        self.changed.notify_one();
-    }
-
-    fn push(&self, frame: Vec<u8>) {
-        let mut queue = self.queue();
-        queue.bytes += frame.len();
-        queue.frames.push_back(frame);
-        while queue.bytes > MOST_WAITING {
-            let Some(oldest) = queue.frames.pop_front() else {
-                break;
-            };
-            queue.bytes -= oldest.len();
-            self.lost.fetch_add(1, Ordering::Relaxed);
-        }
-        self.changed.notify_one();
-    }
-
     /// Connects, sends until the connection is lost, and again.
     fn run(&self, events: &SyncSender<Event>) {
         let mut pause = LEAST_PAUSE;
         let (mut was_lost, mut was_refused) = (false, false);
         loop {
             let connected = self.connect();
-            if let Err(Refused::For(why)) = &connected
+            if let Err(fault) = &connected
+                && fault.is_lasting()
                 && !was_refused
             {
                 was_refused = true;
-                say(&format!("peer {} at {} {why}", self.to, self.address()));
+                say(&format!("peer {} at {} {fault}", self.to, self.address()));
             }
             if let Ok((stream, channel)) = connected {
                 was_refused = false;
@@ -238,13 +269,7 @@ impl Link {
         queue.has_come = false;
     }
 
-    /// The peer is there: its connection is tried at once.
-    fn hurry(&self) {
-        self.queue().has_come = true;
-        self.came.notify_one();
-    }
-
-    fn connect(&self) -> Result<(TcpStream, Channel), Refused> {
+    fn connect(&self) -> Result<(TcpStream, Channel), ConnectFault> {
         let Membership { place, identities, key } = &*self.membership;
         let address = self.address().clone();
         let stream = connect_to(&address)?;
@@ -257,27 +282,27 @@ impl Link {
         let (kind, answer) = channel.receiving.read(&mut timed, LONGEST_GREETING)?;
         stream.set_read_timeout(Some(SILENCE))?;
         let (GREETING, [is_accepted, identity @ ..]) = (kind, answer.as_slice()) else {
-            return Err(Refused::Failed);
+            return Err(ConnectFault::Failed);
         };
         if *is_accepted == REFUSED {
-            return Err(Refused::For("knows another replica under this one's number: this one must not come back"));
+            return Err(ConnectFault::NotKnown);
         }
         let is_known = match identity.try_into() {
             Ok(identity) => identities.meet(self.to, identity)?,
-            Err(_) => return Err(Refused::Failed),
+            Err(_) => return Err(ConnectFault::Failed),
         };
         if !is_known {
-            return Err(Refused::For("isn't the replica that is known under its number: it must not come back"));
+            return Err(ConnectFault::OtherPeer);
         }
         Ok((stream, channel))
     }
 
     /// Sends what comes; ends with the cause.
-    fn send_all(&self, stream: TcpStream, channel: Channel) -> String {
+    fn send_all(&self, stream: TcpStream, channel: Channel) -> LinkFault {
         let Channel { sending, receiving } = channel;
         self.queue().over = None;
         let Ok(reading) = stream.try_clone() else {
-            return "no more handles".into();
+            return LinkFault::NoHandles;
         };
         thread::scope(|scope| {
             scope.spawn(|| {
@@ -291,7 +316,7 @@ impl Link {
         })
     }
 
-    fn send_while_open(&self, stream: &TcpStream, mut sending: Direction) -> String {
+    fn send_while_open(&self, stream: &TcpStream, mut sending: Direction) -> LinkFault {
         let mut writer = BufWriter::with_capacity(1 << 16, stream);
         loop {
             let mut queue = self.queue();
@@ -299,7 +324,7 @@ impl Link {
                 queue = self.changed.wait(queue).unwrap_or_else(|poisoned| poisoned.into_inner());
             }
             if let Some(over) = queue.over {
-                return over.into();
+                return over;
             }
             let frames = std::mem::take(&mut queue.frames);
             queue.bytes = 0;
@@ -309,41 +334,19 @@ impl Link {
             if let Err(error) = sent {
                 // What is left in the writer mustn't wait for the connection again.
                 let _ = stream.shutdown(Shutdown::Both);
-                return error.to_string();
+                return LinkFault::Unsent(error.kind());
             }
         }
     }
 }
 
-/// Why there is no connection.
-enum Refused {
-    /// Nobody is there, or the network is at fault.
-    Failed,
-    /// One of both is another one than the other end knows.
-    For(&'static str),
-}
-
-impl From<io::Error> for Refused {
-    fn from(error: io::Error) -> Refused {
-        match error.kind() {
-            io::ErrorKind::PermissionDenied => Refused::For("has another key than this one (--peer-key)"),
-            _ => Refused::Failed,
-        }
-    }
-}
-
 /// Hears the other end tell that it is there, until it doesn't: why.
-fn heard_out(stream: impl Read, mut receiving: Direction) -> &'static str {
+fn heard_out(stream: impl Read, mut receiving: Direction) -> LinkFault {
     let mut reader = BufReader::with_capacity(64, stream);
     loop {
         match receiving.read(&mut reader, 0) {
             Ok(_) => {}
-            Err(error) => match error.kind() {
-                io::ErrorKind::UnexpectedEof => return "it has closed the connection",
-                io::ErrorKind::InvalidData => return "what it tells isn't authentic",
-                io::ErrorKind::WouldBlock | io::ErrorKind::TimedOut => return "it is silent",
-                _ => return "the connection is broken",
-            },
+            Err(error) => return LinkFault::of_read(&error),
         }
     }
 }
@@ -561,27 +564,38 @@ mod tests {
         Arc::new(Membership { place: Place { replicas: 3, replica }, identities, key })
     }
 
+    /// Tries until it is connected, or refused for good: on a machine that is busy the first try may take too long.
+    fn connect(link: &TcpLink) -> Result<(TcpStream, Channel), ConnectFault> {
+        for _ in 0..20 {
+            match link.connect() {
+                Err(ConnectFault::Failed) => {}
+                told => return told,
+            }
+        }
+        Err(ConnectFault::Failed)
+    }
+
     /// A listening replica 1, what it takes, and a link of replica 0 to it.
-    fn pair(name: &str, near: Key, far: Key) -> (Link, Arc<Receiving>, std::sync::mpsc::Receiver<Event>, String) {
+    fn pair(name: &str, near: Key, far: Key) -> (TcpLink, Arc<Receiving>, std::sync::mpsc::Receiver<Event>, String) {
         let listener = TcpListener::bind("127.0.0.1:0").unwrap();
         let address = listener.local_addr().unwrap().to_string();
         let (sender, events) = std::sync::mpsc::sync_channel(16);
         let receiving = Arc::new(Receiving::new(membership(name, 1, far), sender));
         let served = receiving.clone();
         thread::spawn(move || listen(listener, &served));
-        (Link::new(1, address.clone(), membership(name, 0, near)), receiving, events, address)
+        (TcpLink::new(1, address.clone(), membership(name, 0, near)), receiving, events, address)
     }
 
     #[test]
     fn frames_go_to_a_peer() {
         let (link, _receiving, events, _) = pair("frames", Key::none(), Key::none());
-        let (stream, channel) = link.connect().ok().unwrap();
-        link.push(vec![7; SHORTEST_FRAME]);
-        link.push(vec![8; LONGEST_FRAME]);
+        let (stream, channel) = connect(&link).ok().unwrap();
+        link.send(vec![7; SHORTEST_FRAME]);
+        link.send(vec![8; LONGEST_FRAME]);
         thread::scope(|scope| {
             scope.spawn(|| link.send_all(stream.try_clone().unwrap(), channel));
-            assert!(matches!(events.recv().unwrap(), Event::PeerCame(0)));
-            let taken = [events.recv().unwrap(), events.recv().unwrap()];
+            let mut taken = events.iter().skip_while(|event| matches!(event, Event::PeerCame(0)));
+            let taken = [taken.next().unwrap(), taken.next().unwrap()];
             assert!(
                 matches!(&taken, [Event::Came { from: 0, bytes: a }, Event::Came { from: 0, bytes: b }] if *a == [7; SHORTEST_FRAME] && b.len() == LONGEST_FRAME)
             );
@@ -597,9 +611,9 @@ mod tests {
         std::fs::set_permissions(&path, std::os::unix::fs::PermissionsExt::from_mode(0o600)).unwrap();
         let key = Key::read(&path).unwrap();
         let (link, _receiving, _events, _) = pair("key", Key::none(), key.clone());
-        assert!(matches!(link.connect(), Err(Refused::For(why)) if why.contains("--peer-key")));
+        assert_eq!(connect(&link).err(), Some(ConnectFault::OtherKey));
         let (link, _receiving, _events, _) = pair("same-key", key.clone(), key);
-        assert!(link.connect().is_ok());
+        assert!(connect(&link).is_ok());
     }
 
     #[test]
@@ -610,7 +624,7 @@ mod tests {
         first.set_read_timeout(Some(SILENCE)).unwrap();
         // The oldest were closed, and told nothing.
         assert_eq!((&mut &*first).read(&mut [0; 64]).unwrap_or(0), 0);
-        assert!(link.connect().is_ok());
+        assert!(connect(&link).is_ok());
         assert!(receiving.strangers().waiting.len() <= MOST_STRANGERS);
     }
 
@@ -632,14 +646,14 @@ mod tests {
         calling.set_read_timeout(Some(Duration::from_millis(50))).unwrap();
         answered.sending.write(&mut answering, BEAT, &[]).unwrap();
         answered.sending.write(&mut answering, BEAT, &[]).unwrap();
-        assert_eq!(heard_out(&calling, called.receiving), "it is silent");
+        assert_eq!(heard_out(&calling, called.receiving), LinkFault::Silent);
     }
 
     #[test]
     fn a_full_queue_loses_the_oldest() {
-        let link = Link::new(1, "127.0.0.1:1".into(), membership("queue", 0, Key::none()));
+        let link = TcpLink::new(1, "127.0.0.1:1".into(), membership("queue", 0, Key::none()));
         for number in 0..200 {
-            link.push(vec![number; LONGEST_FRAME]);
+            link.send(vec![number; LONGEST_FRAME]);
         }
         let queue = link.queue();
         assert!(queue.bytes <= MOST_WAITING && queue.bytes == queue.frames.len() * LONGEST_FRAME);

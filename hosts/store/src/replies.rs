@@ -6,12 +6,52 @@ use crate::metrics::Metrics;
 use crate::resp::{Reply, Version};
 use std::collections::VecDeque;
 use std::io::{self, Write};
+use std::sync::atomic::{AtomicBool, AtomicUsize, Ordering};
 use std::sync::mpsc::{Receiver, RecvTimeoutError, Sender, TryRecvError};
 use std::sync::{Arc, Condvar, Mutex, PoisonError};
-use std::time::Instant;
+use std::thread;
+use std::time::{Duration, Instant};
 
 /// So much of a connection may be under way.
 const MOST_UNDER_WAY: usize = 1_024;
+
+/// The replies that clients of all connections are due, so that a store ends once they have them.
+#[derive(Default)]
+pub struct Due {
+    count: AtomicUsize,
+    is_over: AtomicBool,
+}
+
+impl Due {
+    /// Counts one more, until it is let go.
+    pub fn begin(self: &Arc<Due>) -> OneDue {
+        self.count.fetch_add(1, Ordering::Relaxed);
+        OneDue(self.clone())
+    }
+
+    /// Whether no connection takes commands any more.
+    pub fn is_over(&self) -> bool {
+        self.is_over.load(Ordering::Relaxed)
+    }
+
+    /// From now on no connection takes commands. Waits until all that are due were written, for so long at most.
+    pub fn end(&self, patience: Duration) {
+        self.is_over.store(true, Ordering::Relaxed);
+        let start = Instant::now();
+        while self.count.load(Ordering::Relaxed) > 0 && start.elapsed() < patience {
+            thread::sleep(Duration::from_millis(2));
+        }
+    }
+}
+
+/// A reply that is due.
+pub struct OneDue(Arc<Due>);
+
+impl Drop for OneDue {
+    fn drop(&mut self) {
+        self.0.count.fetch_sub(1, Ordering::Relaxed);
+    }
+}
 
 /// What the thread that writes replies is told.
 pub enum Message {
@@ -79,6 +119,7 @@ pub struct Slot {
     pub share: Option<Share>,
     /// Whether its wait is one: what is answered at once isn't.
     pub is_counted: bool,
+    pub due: OneDue,
 }
 
 pub enum Part {
@@ -94,10 +135,10 @@ impl Slot {
         self.parts.iter().all(|part| matches!(part, Part::Come(_)))
     }
 
-    /// The whole reply, and what it takes.
-    fn reply(self) -> (Reply, Option<Share>) {
+    /// The whole reply, what it takes, and that it is due.
+    fn reply(self) -> (Reply, Option<Share>, OneDue) {
         let come = |part| if let Part::Come(reply) = part { Some(reply) } else { None };
-        (self.combine.combine(self.parts.into_iter().filter_map(come).collect()), self.share)
+        (self.combine.combine(self.parts.into_iter().filter_map(come).collect()), self.share, self.due)
     }
 }
 
@@ -159,6 +200,8 @@ pub struct Replies<W> {
     slots: VecDeque<Slot>,
     /// The number of the first of these commands.
     first: u64,
+    /// Those that were written, and may be on their way to the connection.
+    written: Vec<OneDue>,
     /// Whether no more commands come.
     is_over: bool,
 }
@@ -171,7 +214,17 @@ impl<W: Write> Replies<W> {
         metrics: Arc<Metrics>,
         window: Arc<Window>,
     ) -> Replies<W> {
-        Replies { writer, messages, keys, metrics, window, slots: VecDeque::new(), first: 0, is_over: false }
+        Replies {
+            writer,
+            messages,
+            keys,
+            metrics,
+            window,
+            slots: VecDeque::new(),
+            first: 0,
+            written: Vec::new(),
+            is_over: false,
+        }
     }
 
     /// Writes until all commands have come and are answered.
@@ -182,6 +235,7 @@ impl<W: Write> Replies<W> {
                 Ok(message) => self.take(message),
                 Err(TryRecvError::Empty) => {
                     self.writer.flush()?;
+                    self.written.clear();
                     if self.is_over && self.slots.is_empty() {
                         return Ok(());
                     }
@@ -196,7 +250,8 @@ impl<W: Write> Replies<W> {
         while let Some(slot) = self.slots.pop_front_if(|slot| slot.is_ready()) {
             self.first += 1;
             let (weight, version, begun, is_counted) = (slot.parts.len(), slot.version, slot.begun, slot.is_counted);
-            let (reply, _share) = slot.reply();
+            let (reply, _share, due) = slot.reply();
+            self.written.push(due);
             if is_counted {
                 self.metrics.waits.note(begun.elapsed());
                 let is_fault = matches!(reply, Reply::Error(_));

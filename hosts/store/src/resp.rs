@@ -1,5 +1,6 @@
 //! The Redis protocol: commands of clients, and replies in its versions 2 and 3.
 use crate::command_fault::CommandFault;
+use crate::malformed_fault::MalformedFault;
 use std::io::{self, Write};
 
 const LONGEST_LINE: usize = 64 << 10;
@@ -16,7 +17,7 @@ pub enum Input {
     /// The beginning of a command.
     Partial,
     /// These bytes are no command; what follows can't be read either.
-    Fault(&'static str),
+    Fault(MalformedFault),
 }
 
 /// In which version of the protocol a client reads replies.
@@ -87,29 +88,29 @@ impl Reply {
 /// Reads the command that the bytes begin with: an array of bulk strings, or an inline one.
 pub fn read_command(bytes: &[u8]) -> Input {
     let mut rest = bytes;
-    let words = match read_line(&mut rest, "too big inline request") {
+    let words = match read_line(&mut rest, MalformedFault::LongLine) {
         Err(Stop::Partial) => return Input::Partial,
-        Err(Stop::Fault(what)) => return Input::Fault(what),
+        Err(Stop::Fault(fault)) => return Input::Fault(fault),
         Ok(line) => match line.strip_prefix(b"*") {
             Some(count) => read_array(&mut rest, count),
-            None => split_inline(line).ok_or(Stop::Fault("unbalanced quotes in request")),
+            None => split_inline(line).ok_or(Stop::Fault(MalformedFault::Quotes)),
         },
     };
     match words {
         Ok(words) => Input::Command(words, bytes.len() - rest.len()),
         Err(Stop::Partial) => Input::Partial,
-        Err(Stop::Fault(what)) => Input::Fault(what),
+        Err(Stop::Fault(fault)) => Input::Fault(fault),
     }
 }
 
 /// Why there is no command.
 enum Stop {
     Partial,
-    Fault(&'static str),
+    Fault(MalformedFault),
 }
 
 /// A line without its end.
-fn read_line<'a>(rest: &mut &'a [u8], too_long: &'static str) -> Result<&'a [u8], Stop> {
+fn read_line<'a>(rest: &mut &'a [u8], too_long: MalformedFault) -> Result<&'a [u8], Stop> {
     let within = &rest[..rest.len().min(LONGEST_LINE)];
     let Some(end) = within.iter().position(|byte| *byte == b'\n') else {
         return Err(if within.len() < LONGEST_LINE { Stop::Partial } else { Stop::Fault(too_long) });
@@ -125,25 +126,25 @@ fn number(digits: &[u8]) -> Option<i64> {
 
 fn read_array(rest: &mut &[u8], count: &[u8]) -> Result<Vec<Vec<u8>>, Stop> {
     let Some(count) = number(count).filter(|count| *count <= MOST_WORDS as i64) else {
-        return Err(Stop::Fault("invalid multibulk length"));
+        return Err(Stop::Fault(MalformedFault::Words));
     };
     let mut words = Vec::new();
     let mut left = LONGEST_COMMAND;
     for _ in 0..count {
-        let line = read_line(rest, "too big bulk count string")?;
+        let line = read_line(rest, MalformedFault::LongCount)?;
         let Some(length) = line.strip_prefix(b"$") else {
-            return Err(Stop::Fault("expected '$'"));
+            return Err(Stop::Fault(MalformedFault::NoLength));
         };
         let length = number(length).and_then(|length| usize::try_from(length).ok());
         let Some(length) = length.filter(|length| *length <= LONGEST_WORD.min(left)) else {
-            return Err(Stop::Fault("invalid bulk length"));
+            return Err(Stop::Fault(MalformedFault::Length));
         };
         left -= length;
         let Some((word, after)) = rest.split_at_checked(length + 2) else {
             return Err(Stop::Partial);
         };
         if &word[length..] != b"\r\n" {
-            return Err(Stop::Fault("a bulk string isn't followed by a line end"));
+            return Err(Stop::Fault(MalformedFault::NoLineEnd));
         }
         words.push(word[..length].to_vec());
         *rest = after;
@@ -268,25 +269,27 @@ mod tests {
 
     #[test]
     fn faults() {
-        let faults: [&[u8]; 10] = [
-            b"*x\r\n",
-            b"*70000\r\n",
-            b"*1\r\n:1\r\n",
-            b"*1\r\n$-1\r\n",
-            b"*1\r\n$2000000\r\n",
-            b"*1\r\n$99999999999999999999\r\n",
-            b"*1\r\n$1\r\nabc\r\n",
-            b"get \"a\r\n",
-            b"get 'a'b\r\n",
-            &[b'a'; 70_000],
+        let long_count = [b"*1\r\n$".to_vec(), vec![b'1'; 70_000]].concat();
+        let faults: [(&[u8], MalformedFault); 11] = [
+            (b"*x\r\n", MalformedFault::Words),
+            (b"*70000\r\n", MalformedFault::Words),
+            (b"*1\r\n:1\r\n", MalformedFault::NoLength),
+            (b"*1\r\n$-1\r\n", MalformedFault::Length),
+            (b"*1\r\n$2000000\r\n", MalformedFault::Length),
+            (b"*1\r\n$99999999999999999999\r\n", MalformedFault::Length),
+            (b"*1\r\n$1\r\nabc\r\n", MalformedFault::NoLineEnd),
+            (b"get \"a\r\n", MalformedFault::Quotes),
+            (b"get 'a'b\r\n", MalformedFault::Quotes),
+            (&[b'a'; 70_000], MalformedFault::LongLine),
+            (&long_count, MalformedFault::LongCount),
         ];
-        for bytes in faults {
-            assert!(matches!(read_command(bytes), Input::Fault(_)), "{}", String::from_utf8_lossy(bytes));
+        for (bytes, fault) in faults {
+            assert_eq!(read_command(bytes), Input::Fault(fault), "{}", String::from_utf8_lossy(bytes));
         }
         // Words that are too long together are refused before they have come.
         let word = [format!("${LONGEST_WORD}\r\n").into_bytes(), vec![b'a'; LONGEST_WORD], b"\r\n".to_vec()].concat();
         let bytes = [b"*5\r\n".to_vec(), word.repeat(4), b"$1\r\n".to_vec()].concat();
-        assert_eq!(read_command(&bytes), Input::Fault("invalid bulk length"));
+        assert_eq!(read_command(&bytes), Input::Fault(MalformedFault::Length));
         let bytes = [b"*5\r\n".to_vec(), word.repeat(4)].concat();
         assert_eq!(read_command(&bytes), Input::Partial);
     }

@@ -13,55 +13,51 @@ pub enum Script {
     Reacquire,
 }
 
-struct Known {
-    script: Script,
-    /// The SHA-1 of the text as redis-py sends it, where it does.
-    digest: Option<&'static str>,
-    text: &'static str,
+/// A script, the SHA-1 of the text as redis-py sends it, where it does, and the text.
+type Known = (Script, Option<&'static str>, &'static str);
+
+/// A text of redis-py's lock.py: all begin alike.
+macro_rules! owned {
+    ($rest:literal) => {
+        concat!(
+            "local token = redis.call('get', KEYS[1])
+            if not token or token ~= ARGV[1] then return 0 end ",
+            $rest
+        )
+    };
 }
 
 const KNOWN: [Known; 5] = [
-    // (redis-py's lock.py)
-    Known {
-        script: Script::Release,
-        digest: Some("c3f8721cbb97f72bc19e972846bd7aaf91901658"),
-        text: "local token = redis.call('get', KEYS[1])
-            if not token or token ~= ARGV[1] then return 0 end
-            redis.call('del', KEYS[1])
-            return 1",
-    },
-    Known {
-        script: Script::Extend,
-        digest: Some("a4e8783852e6b949f9ef3a97212805108459a890"),
-        text: "local token = redis.call('get', KEYS[1])
-            if not token or token ~= ARGV[1] then return 0 end
-            local expiration = redis.call('pttl', KEYS[1])
+    (Script::Release, Some("c3f8721cbb97f72bc19e972846bd7aaf91901658"), owned!("redis.call('del', KEYS[1]) return 1")),
+    (
+        Script::Extend,
+        Some("a4e8783852e6b949f9ef3a97212805108459a890"),
+        owned!(
+            "local expiration = redis.call('pttl', KEYS[1])
             if not expiration then expiration = 0 end
             if expiration < 0 then return 0 end
             local newttl = ARGV[2]
             if ARGV[3] == \"0\" then newttl = ARGV[2] + expiration end
             redis.call('pexpire', KEYS[1], newttl)
-            return 1",
-    },
-    Known {
-        script: Script::Reacquire,
-        digest: Some("1cac51482acf5858da00f6d685d68f886cd6b6b2"),
-        text: "local token = redis.call('get', KEYS[1])
-            if not token or token ~= ARGV[1] then return 0 end
-            redis.call('pexpire', KEYS[1], ARGV[2])
-            return 1",
-    },
+            return 1"
+        ),
+    ),
+    (
+        Script::Reacquire,
+        Some("1cac51482acf5858da00f6d685d68f886cd6b6b2"),
+        owned!("redis.call('pexpire', KEYS[1], ARGV[2]) return 1"),
+    ),
     // (Redis' page of distributed locks)
-    Known {
-        script: Script::Release,
-        digest: None,
-        text: "if redis.call(\"get\",KEYS[1]) == ARGV[1] then return redis.call(\"del\",KEYS[1]) else return 0 end",
-    },
-    Known {
-        script: Script::Reacquire,
-        digest: None,
-        text: "if redis.call(\"get\",KEYS[1]) == ARGV[1] then return redis.call(\"pexpire\",KEYS[1],ARGV[2]) else return 0 end",
-    },
+    (
+        Script::Release,
+        None,
+        "if redis.call(\"get\",KEYS[1]) == ARGV[1] then return redis.call(\"del\",KEYS[1]) else return 0 end",
+    ),
+    (
+        Script::Reacquire,
+        None,
+        "if redis.call(\"get\",KEYS[1]) == ARGV[1] then return redis.call(\"pexpire\",KEYS[1],ARGV[2]) else return 0 end",
+    ),
 ];
 
 /// A text without blanks, and with one kind of quotes.
@@ -71,22 +67,23 @@ fn bare(text: &[u8]) -> Vec<u8> {
 }
 
 pub fn by_text(text: &[u8]) -> Option<Script> {
-    known_by_text(text).map(|known| known.script)
+    known_by_text(text).map(|(script, ..)| *script)
 }
 
 fn known_by_text(text: &[u8]) -> Option<&'static Known> {
-    let text = bare(text);
-    KNOWN.iter().find(|known| bare(known.text.as_bytes()) == text)
+    let wanted = bare(text);
+    KNOWN.iter().find(|(.., text)| bare(text.as_bytes()) == wanted)
 }
 
 /// The digest of a known text, as SCRIPT LOAD tells it.
 pub fn digest(text: &[u8]) -> Option<&'static str> {
-    known_by_text(text)?.digest
+    known_by_text(text)?.1
 }
 
 pub fn by_digest(digest: &[u8]) -> Option<Script> {
     let digest = digest.to_ascii_lowercase();
-    KNOWN.iter().find(|known| known.digest.is_some_and(|known| known.as_bytes() == digest)).map(|known| known.script)
+    let is_it = |known: &Option<&str>| known.is_some_and(|known| known.as_bytes() == digest);
+    KNOWN.iter().find(|(_, known, _)| is_it(known)).map(|(script, ..)| *script)
 }
 
 impl Script {

@@ -7,8 +7,7 @@
 //!
 //! A deadline is in milliseconds since 1970, of the wall clock (UTC). Numbers have the highest byte first. Each thing has one spelling. Bytes
 //! that begin with ff and aren't one of these are taken for a value: another host's, which knows nothing of this.
-use crate::bytes::Fields;
-use crate::protocol::LONGEST_VALUE;
+use epaxos::{Fields, LONGEST_VALUE};
 use std::time::{SystemTime, UNIX_EPOCH};
 
 /// A client's value has at most so many bytes, so that a deadline can stand before it.

@@ -2,6 +2,7 @@
 
 /// A command: its name, how many words it has with its name (at least so many where it is negative), whether it writes, and which words are
 /// keys: the first, the last (from the end where it is negative), and every how many.
+#[derive(Clone, Copy, PartialEq, Eq, Debug)]
 pub struct Entry {
     pub name: &'static str,
     pub arity: i64,
@@ -9,83 +10,44 @@ pub struct Entry {
     pub keys: (i64, i64, i64),
 }
 
-const fn reading(name: &'static str, arity: i64, keys: (i64, i64, i64)) -> Entry {
-    Entry { name, arity, writes: false, keys }
-}
-
-const fn writing(name: &'static str, arity: i64, keys: (i64, i64, i64)) -> Entry {
-    Entry { name, arity, writes: true, keys }
-}
-
+const READS: bool = false;
+const WRITES: bool = true;
 const NONE: (i64, i64, i64) = (0, 0, 0);
 const ONE: (i64, i64, i64) = (1, 1, 1);
 const ALL: (i64, i64, i64) = (1, -1, 1);
+const PAIRS: (i64, i64, i64) = (1, -1, 2);
 
-/// In the order of their names.
-pub const TABLE: [Entry; 58] = [
-    writing("append", 3, ONE),
-    reading("auth", -2, NONE),
-    reading("client", -2, NONE),
-    reading("command", -1, NONE),
-    reading("config", -2, NONE),
-    reading("dbsize", 1, NONE),
-    writing("decr", 2, ONE),
-    writing("decrby", 3, ONE),
-    writing("del", -2, ALL),
-    reading("discard", -1, NONE),
-    reading("echo", 2, NONE),
-    writing("epaxos", -2, NONE),
-    writing("eval", -3, NONE),
-    writing("evalsha", -3, NONE),
-    reading("exec", -1, NONE),
-    reading("exists", -2, ALL),
-    writing("expire", -3, ONE),
-    writing("expireat", -3, ONE),
-    reading("expiretime", 2, ONE),
-    reading("get", 2, ONE),
-    writing("getdel", 2, ONE),
-    writing("getex", -2, ONE),
-    writing("getset", 3, ONE),
-    reading("hello", -1, NONE),
-    reading("host:", -1, NONE),
-    writing("incr", 2, ONE),
-    writing("incrby", 3, ONE),
-    reading("info", -1, NONE),
-    reading("keys", 2, NONE),
-    reading("mget", -2, ALL),
-    writing("mset", -3, (1, -1, 2)),
-    reading("multi", -1, NONE),
-    writing("persist", 2, ONE),
-    writing("pexpire", -3, ONE),
-    writing("pexpireat", -3, ONE),
-    reading("pexpiretime", 2, ONE),
-    reading("ping", -1, NONE),
-    reading("post", -1, NONE),
-    writing("psetex", 4, ONE),
-    reading("pttl", 2, ONE),
-    reading("quit", -1, NONE),
-    reading("readonly", 1, NONE),
-    reading("readwrite", 1, NONE),
-    reading("reset", 1, NONE),
-    reading("scan", -2, NONE),
-    reading("script", -2, NONE),
-    reading("select", 2, NONE),
-    writing("set", -3, ONE),
-    writing("setex", 4, ONE),
-    writing("setnx", 3, ONE),
-    reading("strlen", 2, ONE),
-    reading("time", 1, NONE),
-    reading("touch", -2, ALL),
-    reading("ttl", 2, ONE),
-    reading("type", 2, ONE),
-    writing("unlink", -2, ALL),
-    reading("unwatch", 1, NONE),
-    reading("watch", -2, ALL),
+/// Whether commands write, how many words they have, which are keys, and the names of all that are so.
+type Kind = (bool, i64, (i64, i64, i64), &'static [&'static str]);
+
+const KINDS: [Kind; 15] = [
+    (READS, 1, NONE, &["dbsize", "readonly", "readwrite", "reset", "time", "unwatch"]),
+    (READS, 2, NONE, &["echo", "keys", "select"]),
+    (READS, -1, NONE, &["command", "discard", "exec", "hello", "host:", "info", "multi", "ping", "post", "quit"]),
+    (READS, -2, NONE, &["auth", "client", "config", "scan", "script"]),
+    (READS, 2, ONE, &["expiretime", "get", "pexpiretime", "pttl", "strlen", "ttl", "type"]),
+    (READS, -2, ALL, &["exists", "mget", "touch", "watch"]),
+    (WRITES, -2, NONE, &["epaxos"]),
+    (WRITES, -3, NONE, &["eval", "evalsha"]),
+    (WRITES, 2, ONE, &["decr", "getdel", "incr", "persist"]),
+    (WRITES, 3, ONE, &["append", "decrby", "getset", "incrby", "setnx"]),
+    (WRITES, 4, ONE, &["psetex", "setex"]),
+    (WRITES, -2, ONE, &["getex"]),
+    (WRITES, -3, ONE, &["expire", "expireat", "pexpire", "pexpireat", "set"]),
+    (WRITES, -2, ALL, &["del", "unlink"]),
+    (WRITES, -3, PAIRS, &["mset"]),
 ];
 
+/// All of them.
+pub fn all() -> impl Iterator<Item = Entry> {
+    KINDS.iter().flat_map(|(writes, arity, keys, names)| {
+        names.iter().map(|name| Entry { name, arity: *arity, writes: *writes, keys: *keys })
+    })
+}
+
 /// The command of this name, in lower case.
-pub fn entry(name: &[u8]) -> Option<&'static Entry> {
-    TABLE.binary_search_by(|entry| entry.name.as_bytes().cmp(name)).ok().map(|place| &TABLE[place])
+pub fn entry(name: &[u8]) -> Option<Entry> {
+    all().find(|entry| entry.name.as_bytes() == name)
 }
 
 impl Entry {
@@ -99,14 +61,16 @@ impl Entry {
 #[cfg(test)]
 mod tests {
     use super::*;
+    use std::collections::HashSet;
 
     #[test]
-    fn names_rise() {
-        assert!(TABLE.is_sorted_by(|first, second| first.name < second.name));
-        assert_eq!(entry(b"get").unwrap().name, "get");
-        assert!(entry(b"gett").is_none());
-        assert!(
-            entry(b"set").unwrap().takes(5) && !entry(b"set").unwrap().takes(2) && !entry(b"get").unwrap().takes(3)
-        );
+    fn each_name_has_one_entry() {
+        let names: HashSet<&str> = all().map(|entry| entry.name).collect();
+        assert_eq!((names.len(), all().count()), (58, 58));
+        let get = Entry { name: "get", arity: 2, writes: false, keys: (1, 1, 1) };
+        assert_eq!((entry(b"get"), entry(b"gett")), (Some(get), None));
+        assert_eq!(entry(b"mset"), Some(Entry { name: "mset", arity: -3, writes: true, keys: (1, -1, 2) }));
+        let takes = |name: &[u8], words| entry(name).unwrap().takes(words);
+        assert!(takes(b"set", 5) && !takes(b"set", 2) && !takes(b"get", 3));
     }
 }

@@ -1,6 +1,6 @@
 //! When to give up, and when to recover: which instances are open, and since when.
-use crate::protocol::{Instance, Leading, Phase};
 use crate::random::Random;
+use epaxos::Instance;
 use std::collections::{BTreeMap, BTreeSet};
 use std::time::{Duration, Instant};
 
@@ -14,33 +14,32 @@ const OWN_WAIT: Duration = Duration::from_millis(100);
 const HOPELESS_WAIT: Duration = Duration::from_millis(10);
 /// For another one's: it may well be under way.
 const OTHERS_WAIT: Duration = Duration::from_millis(300);
-/// After the first try; it doubles with each further one.
+/// For one that a peer tells to be committed: mostly it comes by itself, or who has sent the Commit sends it again.
+const HEARD_WAIT: Duration = Duration::from_millis(1_500);
+/// After the first try; it doubles with each further one,
 const LEAST_WAIT: Duration = Duration::from_millis(150);
-/// So the longest wait is about 30 seconds: a recovery takes a ballot, and an instance has 60,000.
-const MOST_DOUBLINGS: u32 = 7;
+/// up to 5 seconds,
+const MOST_DOUBLINGS: u32 = 5;
+/// and after so many tries up to 77 seconds: each takes a ballot, and an instance has 60,000, which so last for weeks.
+const MANY_TRIES: u32 = 1_000;
+const MOST_DOUBLINGS_AFTER_MANY: u32 = 9;
 /// At most so many instances at once.
 const MOST_DUE: usize = 64;
 
-/// What to do for an instance that is late.
-#[derive(Clone, Copy, PartialEq, Eq, Debug)]
-pub enum Remedy {
-    GiveUp,
-    Recover,
-    Wait,
-}
-
-/// What to do for an own instance that is late for the first time, by what is led there. `least` is F.
-pub fn remedy(leading: Option<Leading>, least: u8) -> Remedy {
-    match leading {
-        Some(Leading { phase: Phase::Proposing, answers }) if answers >= least => Remedy::GiveUp,
-        Some(Leading { phase: Phase::Accepting, .. }) => Remedy::Wait,
-        _ => Remedy::Recover,
-    }
-}
+/// A recovery that has begun puts others off by as much as the first wait, and by as much more for each so many ballots before it,
+const BALLOTS_FOR_MORE: u32 = 8;
+/// up to so many times.
+const MOST_PUT_OFF: u32 = 16;
 
 struct Wait {
     due: Instant,
     tries: u32,
+}
+
+/// The least wait after so many tries.
+fn least_after(tries: u32) -> Duration {
+    let most = if tries < MANY_TRIES { MOST_DOUBLINGS } else { MOST_DOUBLINGS_AFTER_MANY };
+    LEAST_WAIT * 2_u32.pow(tries.saturating_sub(1).min(most))
 }
 
 /// An instance whose wait is over.
@@ -54,6 +53,8 @@ pub struct Due {
 pub struct Timers {
     replica: u8,
     open: BTreeMap<Instance, Wait>,
+    /// Those that a peer tells to be committed. The node may know nothing of them, so that no look finds them.
+    heard: BTreeSet<Instance>,
     /// What the look that is under way has found.
     found: BTreeSet<Instance>,
     is_looking: bool,
@@ -69,6 +70,7 @@ impl Timers {
         Timers {
             replica,
             open: BTreeMap::new(),
+            heard: BTreeSet::new(),
             found: BTreeSet::new(),
             is_looking: false,
             is_changed: true,
@@ -103,22 +105,24 @@ impl Timers {
         self.found.last().copied()
     }
 
-    /// What the look found; whether it goes on. `is_hopeless`: an own proposal won't get its answers.
-    pub fn find(&mut self, instance: Option<Instance>, is_hopeless: bool, now: Instant) -> bool {
-        let Some(instance) = instance else {
-            let found = std::mem::take(&mut self.found);
-            self.open.retain(|instance, _| found.contains(instance));
-            self.is_looking = false;
-            return false;
-        };
-        self.found.insert(instance);
-        let wait = match instance.replica == self.replica {
-            true if is_hopeless => HOPELESS_WAIT,
-            true => OWN_WAIT,
-            false => self.random.from_once_to_twice(OTHERS_WAIT),
-        };
-        self.open.entry(instance).or_insert(Wait { due: now + wait, tries: 0 });
-        true
+    /// The look found these next. `is_hopeless`: an own proposal won't get its answers.
+    pub fn find(&mut self, found: &[Instance], is_hopeless: bool, now: Instant) {
+        for instance in found {
+            let wait = match instance.replica == self.replica {
+                true if is_hopeless => HOPELESS_WAIT,
+                true => OWN_WAIT,
+                false => self.random.from_once_to_twice(OTHERS_WAIT),
+            };
+            self.open.entry(*instance).or_insert(Wait { due: now + wait, tries: 0 });
+        }
+        self.found.extend(found);
+    }
+
+    /// It found all that there are.
+    pub fn find_no_more(&mut self) {
+        let found = std::mem::take(&mut self.found);
+        self.open.retain(|instance, _| found.contains(instance) || self.heard.contains(instance));
+        self.is_looking = false;
     }
 
     /// The look took so long.
@@ -131,16 +135,47 @@ impl Timers {
         let mut all = Vec::new();
         for (instance, wait) in self.open.iter_mut().filter(|(_, wait)| wait.due <= now).take(MOST_DUE) {
             all.push(Due { instance: *instance, is_first: wait.tries == 0 });
-            let least = LEAST_WAIT * 2_u32.pow(wait.tries.min(MOST_DOUBLINGS));
-            wait.due = now + self.random.from_once_to_twice(least);
             wait.tries += 1;
+            wait.due = now + self.random.from_once_to_twice(least_after(wait.tries));
         }
         all
+    }
+
+    /// This replica or a peer has begun to recover it, at a ballot of this counter. Another recovery would only be in its way for a while: a short
+    /// one, as the one that has begun may be lost, and a longer one where many have come to nothing.
+    pub fn put_off(&mut self, instance: Instance, ballot: u16, now: Instant) {
+        let least = LEAST_WAIT * (1 + u32::from(ballot) / BALLOTS_FOR_MORE).min(MOST_PUT_OFF);
+        let due = now + self.random.from_once_to_twice(least);
+        let wait = self.open.entry(instance).or_insert(Wait { due, tries: 0 });
+        wait.due = wait.due.max(due);
+    }
+
+    /// A peer tells that these are committed, which they aren't here. Those that are known to be open wait no longer for that.
+    pub fn hear(&mut self, instances: impl IntoIterator<Item = Instance>, now: Instant) {
+        for instance in instances {
+            if self.heard.insert(instance) {
+                let due = now + self.random.from_once_to_twice(HEARD_WAIT);
+                self.open.entry(instance).or_insert(Wait { due, tries: 0 });
+            }
+        }
+    }
+
+    /// How many aren't committed here, where the node tells that these are open.
+    pub fn count_with(&self, open: &[Instance]) -> usize {
+        open.len() + self.heard.iter().filter(|instance| !open.contains(instance)).count()
+    }
+
+    /// What was tried first is of no use: its wait is over once more.
+    pub fn retry(&mut self, instance: Instance, now: Instant) {
+        if let Some(wait) = self.open.get_mut(&instance) {
+            wait.due = now;
+        }
     }
 
     /// It is committed.
     pub fn forget(&mut self, instance: Instance) {
         self.open.remove(&instance);
+        self.heard.remove(&instance);
     }
 
     /// A peer was reached again: what waits for long needn't any more.
@@ -164,12 +199,10 @@ mod tests {
     const OTHER: Instance = Instance { replica: 1, number: 1 };
 
     fn looked(timers: &mut Timers, open: &[Instance], now: Instant) {
-        timers.after();
-        for instance in open {
-            assert!(timers.find(Some(*instance), false, now));
-            assert_eq!(timers.after(), Some(*instance));
-        }
-        assert!(!timers.find(None, false, now));
+        assert_eq!(timers.after(), None);
+        timers.find(open, false, now);
+        assert_eq!(timers.after(), open.last().copied());
+        timers.find_no_more();
         timers.end_look(Duration::ZERO, now);
     }
 
@@ -193,11 +226,13 @@ mod tests {
         assert_eq!((timers.next(false), timers.next(true)), (Some(now + OWN_WAIT), None));
         now += OWN_WAIT;
         assert_eq!(timers.take_due(now), [Due { instance: OWN, is_first: true }]);
+        timers.retry(OWN, now);
+        timers.retry(Instance { number: 9, ..OWN }, now);
+        assert_eq!(timers.take_due(now), [Due { instance: OWN, is_first: false }]);
         now += OTHERS_WAIT * 2;
         let due = [Due { instance: OWN, is_first: false }, Due { instance: OTHER, is_first: true }];
         assert_eq!(timers.take_due(now), due);
-        for tries in 0..10_u32 {
-            let least = LEAST_WAIT * 2_u32.pow(tries.min(MOST_DOUBLINGS));
+        for least in [150, 300, 600, 1_200, 2_400, 4_800, 4_800, 4_800].map(Duration::from_millis) {
             let wait = timers.open[&OTHER].due - now;
             assert!(least <= wait && wait <= 2 * least);
             now += wait;
@@ -210,12 +245,44 @@ mod tests {
     }
 
     #[test]
-    fn remedies() {
-        let leading = |phase, answers| Some(Leading { phase, answers });
-        assert_eq!(remedy(leading(Phase::Proposing, 2), 2), Remedy::GiveUp);
-        assert_eq!(remedy(leading(Phase::Proposing, 1), 2), Remedy::Recover);
-        assert_eq!(remedy(leading(Phase::Accepting, 0), 2), Remedy::Wait);
-        assert_eq!(remedy(leading(Phase::Preparing, 2), 2), Remedy::Recover);
-        assert_eq!(remedy(None, 1), Remedy::Recover);
+    fn a_recovery_has_its_time() {
+        let now = Instant::now();
+        let mut timers = Timers::new(0, now, Random::from_seed(1));
+        looked(&mut timers, &[OTHER], now);
+        for (ballot, least) in [(1, 150), (7, 150), (8, 300), (16, 450), (119, 2_250), (120, 2_400), (60_000, 2_400)] {
+            // (as if all before had been long ago)
+            timers.open.get_mut(&OTHER).unwrap().due = now;
+            timers.put_off(OTHER, ballot, now);
+            let wait = timers.open[&OTHER].due - now;
+            let least = Duration::from_millis(least);
+            assert!(least <= wait && wait <= 2 * least, "{ballot}: {wait:?}");
+        }
+        // A longer wait stays, and this replica's own tries are what they were.
+        let due = timers.open[&OTHER].due;
+        timers.put_off(OTHER, 1, now);
+        assert_eq!(timers.open[&OTHER].due, due);
+        assert_eq!(timers.take_due(due), [Due { instance: OTHER, is_first: true }]);
+        // What isn't known to be open is, until a look finds that it isn't.
+        timers.put_off(OWN, 1, now);
+        assert_eq!(timers.count(), 2);
+        looked(&mut timers, &[OTHER], now);
+        assert_eq!(timers.count(), 1);
+    }
+
+    #[test]
+    fn what_a_peer_has_committed_is_waited_for() {
+        let now = Instant::now();
+        let mut timers = Timers::new(0, now, Random::from_seed(1));
+        timers.hear([OTHER], now);
+        assert_eq!(timers.take_due(now + HEARD_WAIT - Duration::from_millis(1)), []);
+        // (that it is told again puts nothing off)
+        timers.hear([OTHER], now + HEARD_WAIT);
+        looked(&mut timers, &[OWN], now);
+        assert_eq!((timers.count(), timers.count_with(&[OWN]), timers.count_with(&[OWN, OTHER])), (2, 2, 2));
+        let due = [Due { instance: OWN, is_first: true }, Due { instance: OTHER, is_first: true }];
+        assert_eq!(timers.take_due(now + 2 * HEARD_WAIT), due);
+        timers.forget(OTHER);
+        looked(&mut timers, &[], now);
+        assert_eq!((timers.count(), timers.count_with(&[])), (0, 0));
     }
 }

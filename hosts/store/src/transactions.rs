@@ -4,8 +4,8 @@ use crate::commands::Asked;
 use crate::resp::Reply;
 use std::time::{Duration, Instant};
 
-/// After so long nobody takes what comes for a part of what began with a refused `WATCH`. (redis-py sends no `UNWATCH` then, and goes on using
-/// the connection.)
+/// A connection that is silent for so long behind a refused `WATCH` ends: redis-py sends no `UNWATCH` then, and would go on using it. It goes
+/// on with another one.
 const WATCHED: Duration = Duration::from_secs(1);
 
 /// Of one connection: whether a `MULTI` or a `WATCH` was refused and what ends it hasn't come. Who sent it takes what follows for a part of
@@ -22,14 +22,17 @@ enum Refused {
 }
 
 impl Transaction {
+    /// When the connection ends, if nothing comes by then.
+    pub fn ends_at(&self) -> Option<Instant> {
+        match self.refused {
+            Some(Refused::Watch(at)) => Some(at + WATCHED),
+            _ => None,
+        }
+    }
+
     /// What is to be done of what is asked: it, or nothing but this reply.
     pub fn judge(&mut self, asked: Asked) -> Result<Asked, Reply> {
         let refused = |fault| Err(Reply::Error(fault));
-        if let Some(Refused::Watch(at)) = self.refused
-            && at.elapsed() >= WATCHED
-        {
-            self.refused = None;
-        }
         let was_refused = self.refused.is_some();
         match asked {
             Asked::Quit | Asked::Http => Ok(asked),
@@ -46,12 +49,11 @@ impl Transaction {
                     _ => Err(Reply::Simple("OK")),
                 }
             }
-            _ if was_refused => {
-                if asked == Asked::Multi {
-                    self.refused = Some(Refused::Multi);
-                }
+            Asked::Multi if was_refused => {
+                self.refused = Some(Refused::Multi);
                 refused(CommandFault::Behind)
             }
+            _ if was_refused => refused(CommandFault::Behind),
             Asked::Multi => {
                 self.refused = Some(Refused::Multi);
                 refused(CommandFault::Multi)
@@ -98,13 +100,15 @@ mod tests {
         assert_eq!(told(&lines), [WATCH, BEHIND, BEHIND, BEHIND, ABORTED, None]);
         assert_eq!(told(&["watch x", "get x", "unwatch", "get x"]), [WATCH, BEHIND, OK, None]);
         assert_eq!(told(&["unwatch", "watch x"]), [OK, WATCH]);
-        // A while later it is no more; behind a MULTI it stays so.
+        // It ends what is left alone; behind a MULTI nothing does.
         let words = |line: &str| understand(line.split(' ').map(|word| word.as_bytes().to_vec()).collect());
-        let mut transaction = Transaction { refused: Some(Refused::Watch(Instant::now() - WATCHED)) };
-        assert_eq!(transaction.judge(words("get x")).err(), None);
-        let mut transaction = Transaction { refused: Some(Refused::Watch(Instant::now())) };
-        assert_eq!(transaction.judge(words("multi")).err(), BEHIND);
-        assert!(matches!(transaction.refused, Some(Refused::Multi)));
+        let mut transaction = Transaction::default();
+        let mut ends = |line| {
+            let _ = transaction.judge(words(line));
+            transaction.ends_at().is_some()
+        };
+        let lines = ["get x", "watch x", "get x", "unwatch", "watch x", "multi", "exec", "watch x", "reset"];
+        assert_eq!(lines.map(&mut ends), [false, true, true, false, true, false, false, true, false]);
     }
 
     #[test]

@@ -7,12 +7,13 @@ use std::net::TcpStream;
 use std::sync::Arc;
 use std::time::{Duration, Instant};
 use store::client::{Client, Reply};
+use store::command_fault::CommandFault;
 use store::connections::Connections;
 use store::memory;
 use store::password::Password;
 
-fn error(reply: Reply) -> String {
-    if let Reply::Error(text) = reply { text } else { panic!("{reply:?}") }
+fn refused(fault: CommandFault) -> Reply {
+    Reply::Error(fault.to_string())
 }
 
 fn ok() -> Reply {
@@ -27,17 +28,17 @@ fn nothing_is_done_before_the_password() {
     for line in
         ["GET x", "SET x 1", "PING", "INFO", "KEYS *", "CLIENT ID", "MULTI", "EPAXOS SEAL", "NOTHING", "HELLO 3"]
     {
-        assert!(error(ask(&mut client, line)).starts_with("NOAUTH "), "{line}");
+        assert_eq!(ask(&mut client, line), refused(CommandFault::NotKnown), "{line}");
     }
     for line in ["AUTH wrong", "AUTH other a-long-secret-word", "HELLO 3 AUTH default wrong"] {
-        assert!(error(ask(&mut client, line)).starts_with("WRONGPASS "), "{line}");
+        assert_eq!(ask(&mut client, line), refused(CommandFault::WrongPassword), "{line}");
     }
-    assert!(error(ask(&mut client, "GET x")).starts_with("NOAUTH "));
+    assert_eq!(ask(&mut client, "GET x"), refused(CommandFault::NotKnown));
     assert_eq!(ask(&mut client, "AUTH a-long-secret-word"), ok());
     assert_eq!(ask(&mut client, "SET x 1"), ok());
     assert_eq!(ask(&mut client, "AUTH default a-long-secret-word"), ok());
     assert_eq!(ask(&mut client, "RESET"), Reply::Simple("RESET".into()));
-    assert!(error(ask(&mut client, "GET x")).starts_with("NOAUTH "));
+    assert_eq!(ask(&mut client, "GET x"), refused(CommandFault::NotKnown));
     let mut client = memory.client();
     assert!(matches!(ask(&mut client, "HELLO 3 AUTH default a-long-secret-word"), Reply::Map(_)));
     assert_eq!(ask(&mut client, "GET x"), Reply::Bulk(Some(b"1".to_vec())));
@@ -47,7 +48,7 @@ fn nothing_is_done_before_the_password() {
     let _ = stranger.write_all(&[b'a'; 100_000]);
     let mut told = String::new();
     let _ = stranger.read_to_string(&mut told);
-    assert!(told.is_empty() || told.starts_with("-OOM "), "{told}");
+    assert!(told.is_empty() || told == format!("-{}\r\n", CommandFault::NoMemory), "{told}");
 }
 
 #[test]
@@ -103,11 +104,11 @@ fn places_are_kept_for_who_asks_how_it_is() {
     let mut more = memory.client();
     assert_eq!(ask(&mut more, "PING"), Reply::Simple("PONG".into()));
     assert!(matches!(ask(&mut more, "INFO"), Reply::Bulk(Some(_))));
-    assert!(error(ask(&mut more, "GET x")).starts_with("ERR max number of clients reached"));
+    assert_eq!(ask(&mut more, "GET x"), refused(CommandFault::Full));
     let mut kept: Vec<_> = (0..15).map(|_| memory.client()).collect();
     kept.iter_mut().for_each(|client| assert_eq!(ask(client, "PING"), Reply::Simple("PONG".into())));
-    let refused = memory.client().read();
-    assert!(refused.is_err() || error(refused.unwrap()).starts_with("ERR max number of clients reached"));
+    let told = memory.client().read();
+    assert!(told.is_err() || told.unwrap() == refused(CommandFault::NoPlace));
     // One leaves, and another one is taken in its place.
     clients.pop();
     drop(kept);
@@ -130,7 +131,8 @@ fn how_it_is_where_the_core_is_slow_or_alone() {
     assert_eq!(ask(&mut client, "PING"), Reply::Simple("PONG".into()));
     let Reply::Bulk(Some(text)) = ask(&mut client, "INFO") else { panic!() };
     assert!(text.starts_with(b"core_is_slow:1\r\n"), "{}", String::from_utf8_lossy(&text));
-    assert!(start.elapsed() < Duration::from_secs(10));
+    // (sooner than the core, which takes 20 s)
+    assert!(start.elapsed() < Duration::from_secs(19));
     metrics.takes_part.set(0);
-    assert!(error(ask(&mut client, "PING")).starts_with("TRYAGAIN this replica takes no part"));
+    assert_eq!(ask(&mut client, "PING"), refused(CommandFault::Apart));
 }

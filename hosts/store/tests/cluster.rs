@@ -1,7 +1,8 @@
 //! Three stores around the proved program.
 mod common;
-use common::{Places, real_node, wait};
+use common::{Places, Store, real_node, wait};
 use store::client::Reply;
+use store::command_fault::CommandFault;
 
 #[test]
 fn after_a_restart_local_reads_tell_what_others_have_proposed() {
@@ -21,9 +22,59 @@ fn after_a_restart_local_reads_tell_what_others_have_proposed() {
     let stores = start();
     for (replica, store) in stores.iter().enumerate() {
         for number in 0..30 {
-            assert_eq!(store.local(&format!("key-{number}")), value(number), "key-{number} at replica {replica}");
+            // (a Commit that was on its way when the stores ended is sent again)
+            let key = format!("key-{number}");
+            wait(&format!("{key} at replica {replica}"), || store.local(&key) == value(number));
         }
     }
+}
+
+/// Sets so many keys at a store, while one of three is down whom its commands don't wait for.
+fn set_keys(store: &Store, count: usize) {
+    for number in 0..count {
+        let line = format!("SET key-{number} value-{number}");
+        wait("a majority", || store.ask(&line) == Reply::Simple("OK".into()));
+    }
+}
+
+/// Waits until local reads tell all of these keys.
+fn wait_for_keys(store: &Store, count: usize) {
+    for number in 0..count {
+        let value = Reply::Bulk(Some(format!("value-{number}").into_bytes()));
+        wait(&format!("key-{number}"), || store.local(&format!("key-{number}")) == value);
+    }
+}
+
+#[test]
+fn who_was_down_is_sent_what_was_committed_meanwhile() {
+    let Some(node) = real_node() else { return };
+    let places = Places::new("down");
+    let first = places.start(0, &node);
+    let _second = places.start(1, &node);
+    set_keys(&first, 20);
+    // No command is proposed from now on, so that nothing but this brings the third one what it lacks.
+    let third = places.start(2, &node);
+    wait_for_keys(&third, 20);
+    wait("the last one", || third.info("instances_open") == "0");
+}
+
+#[test]
+fn what_nobody_can_send_again_is_recovered() {
+    let Some(node) = real_node() else { return };
+    let places = Places::new("hearsay");
+    let first = places.start(0, &node);
+    let second = places.start(1, &node);
+    set_keys(&first, 20);
+    wait_for_keys(&second, 20);
+    // The one who has sent the Commits is gone, and the other one only knows of them.
+    drop(first);
+    let third = places.start(2, &node);
+    wait_for_keys(&third, 20);
+    wait("the last one", || third.info("instances_open") == "0");
+}
+
+fn no_majority() -> Reply {
+    Reply::Error(CommandFault::NoMajority.to_string())
 }
 
 #[test]
@@ -32,20 +83,17 @@ fn alone_a_replica_proposes_nothing() {
     let places = Places::new("alone");
     let store = places.start(0, &node);
     for _ in 0..3 {
-        let Reply::Error(told) = store.ask("SET x 1") else { panic!("it was done") };
-        assert!(told.starts_with("TRYAGAIN the command wasn't done: no majority"), "{told}");
+        assert_eq!(store.ask("SET x 1"), no_majority());
     }
     assert_eq!(store.info("instances_used"), "0");
     assert_eq!(store.local("x"), Reply::Bulk(None));
     // With a majority it is done.
     let others = [1, 2].map(|replica| places.start(replica, &node));
-    wait("a peer", || store.info("peer_1") == "reached" || store.info("peer_2") == "reached");
-    assert_eq!(store.ask("SET x 2"), Reply::Simple("OK".into()));
-    assert_eq!(store.info("instances_used"), "1");
+    wait("a majority", || store.ask("SET x 2") == Reply::Simple("OK".into()));
+    let used = store.info("instances_used");
     // It is cut off: again nothing is proposed.
     drop(others);
     wait("the loss", || ["peer_1", "peer_2"].iter().all(|peer| store.info(peer) == "lost"));
-    let Reply::Error(told) = store.ask("SET x 3") else { panic!("it was done") };
-    assert!(told.starts_with("TRYAGAIN the command wasn't done: no majority"), "{told}");
-    assert_eq!(store.info("instances_used"), "1");
+    assert_eq!(store.ask("SET x 3"), no_majority());
+    assert_eq!(store.info("instances_used"), used);
 }

@@ -2,11 +2,12 @@
 mod common;
 use common::memory::Memory;
 use common::wait;
-use std::net::TcpListener;
 use std::process::{Child, Command, Stdio};
 use std::thread;
 use std::time::{Duration, Instant};
 use store::client::{Client, Reply};
+use store::command_fault::CommandFault;
+use store::ports::Ports;
 
 /// The words of a line: `""` is an empty one, `_` in a word a space.
 fn words(line: &str) -> Vec<Vec<u8>> {
@@ -35,11 +36,12 @@ fn told(reply: &Reply) -> String {
 }
 
 /// A redis-server, where there is one. It is killed when it is let go.
-struct Redis(Child, u16);
+struct Redis(Child, Ports);
 
 impl Redis {
     fn start() -> Option<Redis> {
-        let port = TcpListener::bind("127.0.0.1:0").unwrap().local_addr().unwrap().port();
+        let ports = Ports::take().unwrap();
+        let port = ports.port(0);
         let mut command = Command::new("redis-server");
         command.args(["--port", &port.to_string(), "--save", "", "--appendonly", "no", "--bind", "127.0.0.1"]);
         let child = command.current_dir(std::env::temp_dir()).stdout(Stdio::null()).stderr(Stdio::null()).spawn();
@@ -48,7 +50,7 @@ impl Redis {
             return None;
         };
         wait("its start", || Client::connect(port, Duration::from_secs(1)).is_ok());
-        Some(Redis(child, port))
+        Some(Redis(child, ports))
     }
 }
 
@@ -289,6 +291,25 @@ const OWN: &[(&str, &str)] = &[
     ("EPAXOS LOCK l me 1", "(integer) 1"),
 ];
 
+/// Whether what was told is what was expected: of a time that is left as much less as has passed since it was set, at most so much.
+fn is_as_expected(line: &str, told: &str, expected: &str, passed: Duration) -> bool {
+    let seconds = |text: &str| text.strip_prefix("(integer) ")?.parse::<u64>().ok();
+    match (line.starts_with("TTL "), seconds(told), seconds(expected)) {
+        (true, Some(told), Some(expected)) => {
+            (expected.saturating_sub(passed.as_secs() + 1)..=expected).contains(&told)
+        }
+        _ => told == expected,
+    }
+}
+
+/// What has a deadline is there at the deadline, and isn't so long after it.
+const PAST: Duration = Duration::from_millis(20);
+
+/// Tries what has to be done within a time, in milliseconds: again with a longer one where it took longer, as on a machine that is busy.
+fn within_a_time(mut try_it: impl FnMut(u64) -> bool) {
+    assert!([300, 1_500, 8_000, 40_000].into_iter().any(&mut try_it), "it took longer than 40 s");
+}
+
 fn first_word(text: &str) -> &str {
     let text = text.strip_prefix("(error) ").unwrap_or(text);
     text.split(' ').next().unwrap_or(text)
@@ -298,17 +319,21 @@ fn first_word(text: &str) -> &str {
 fn replies_are_those_of_redis() {
     let memory = Memory::start("commands", Duration::ZERO);
     let mut client = memory.client();
+    let start = Instant::now();
     for (line, expected) in SAME.iter().chain(OWN) {
-        assert_eq!(told(&ask(&mut client, line)), *expected, "{line}");
+        let told = told(&ask(&mut client, line));
+        assert!(is_as_expected(line, &told, expected, start.elapsed()), "{line}: {told}, and not {expected}");
     }
     let Some(redis) = Redis::start() else { return };
-    let mut client = Client::connect(redis.1, Duration::from_secs(60)).unwrap();
+    let mut client = Client::connect(redis.1.port(0), Duration::from_secs(60)).unwrap();
+    let start = Instant::now();
     for (line, expected) in SAME {
         let told = told(&ask(&mut client, line));
         if expected.starts_with("(error)") {
             assert_eq!(first_word(&told), first_word(expected), "{line}: {told}");
         } else {
-            assert_eq!(told, *expected, "Redis' reply to {line}");
+            let is_expected = is_as_expected(line, &told, expected, start.elapsed());
+            assert!(is_expected, "Redis' reply to {line}: {told}, and not {expected}");
         }
     }
 }
@@ -316,44 +341,78 @@ fn replies_are_those_of_redis() {
 #[test]
 fn values_live_as_long_as_they_are_to() {
     let memory = Memory::start("expiry", Duration::ZERO);
-    let mut servers = vec![memory.client()];
     let redis = Redis::start();
-    servers.extend(redis.iter().map(|redis| Client::connect(redis.1, Duration::from_secs(60)).unwrap()));
-    for client in &mut servers {
-        let mut tell = |line: &str| told(&ask(client, line));
-        assert_eq!(tell("SET x 1 PX 300"), "OK");
-        assert_eq!(tell("SET y 1 PX 300"), "OK");
-        assert_eq!(tell("PEXPIRE y 100000"), "(integer) 1");
-        let Reply::Integer(left) = ask(client, "PTTL x") else { panic!() };
-        assert!((0..=300).contains(&left), "{left}");
-        thread::sleep(Duration::from_millis(350));
-        let mut tell = |line: &str| told(&ask(client, line));
-        assert_eq!(tell("GET x"), "(nil)");
-        assert_eq!(tell("EXISTS x y"), "(integer) 1");
-        assert_eq!(tell("TTL x"), "(integer) -2");
-        assert_eq!(tell("SET x 2 NX PX 200"), "OK");
-        assert_eq!(tell("SET x 3 NX PX 200"), "(nil)");
-        thread::sleep(Duration::from_millis(250));
-        assert_eq!(tell("INCR x"), "(integer) 1");
-        assert_eq!(tell("TTL x"), "(integer) -1");
+    within_a_time(|time| live_for(&mut memory.client(), time));
+    if let Some(redis) = &redis {
+        within_a_time(|time| live_for(&mut Client::connect(redis.1.port(0), Duration::from_secs(60)).unwrap(), time));
     }
     // A local read tells nil too.
-    let client = &mut servers[0];
-    assert_eq!(told(&ask(client, "SET x 1 PX 100")), "OK");
-    assert_eq!(told(&ask(client, "READONLY")), "OK");
-    assert_eq!(told(&ask(client, "GET x")), "\"1\"");
-    thread::sleep(Duration::from_millis(150));
-    assert_eq!(told(&ask(client, "GET x")), "(nil)");
+    let mut client = memory.client();
+    assert_eq!(told(&ask(&mut client, "READONLY")), "OK");
+    within_a_time(|time| {
+        let mut tell = |line: &str| told(&ask(&mut client, line));
+        let start = Instant::now();
+        assert_eq!(tell(&format!("SET x 1 PX {time}")), "OK");
+        let early = tell("GET x");
+        let is_in_time = start.elapsed() < Duration::from_millis(time);
+        assert!(early == "\"1\"" || !is_in_time, "{early}");
+        thread::sleep(Duration::from_millis(time) + PAST);
+        assert_eq!(tell("GET x"), "(nil)");
+        is_in_time
+    });
+}
+
+/// Values that live for so many milliseconds: whether all that has to be asked in this time was.
+fn live_for(client: &mut Client, time: u64) -> bool {
+    let over = Duration::from_millis(time);
+    let mut tell = |line: &str| told(&ask(client, line));
+    tell("DEL x y");
+    let start = Instant::now();
+    assert_eq!(tell(&format!("SET x 1 PX {time}")), "OK");
+    assert_eq!(tell(&format!("SET y 1 PX {time}")), "OK");
+    let longer = tell("PEXPIRE y 100000");
+    let Reply::Integer(left) = ask(client, "PTTL x") else { panic!() };
+    if start.elapsed() >= over {
+        return false;
+    }
+    assert_eq!(longer, "(integer) 1");
+    assert!((0..=time as i64).contains(&left), "{left}");
+    thread::sleep(over + PAST);
+    let mut tell = |line: &str| told(&ask(client, line));
+    assert_eq!(tell("GET x"), "(nil)");
+    assert_eq!(tell("EXISTS x y"), "(integer) 1");
+    assert_eq!(tell("TTL x"), "(integer) -2");
+    let start = Instant::now();
+    assert_eq!(tell(&format!("SET x 2 NX PX {time}")), "OK");
+    let other = tell(&format!("SET x 3 NX PX {time}"));
+    if start.elapsed() >= over {
+        return false;
+    }
+    assert_eq!(other, "(nil)");
+    thread::sleep(over + PAST);
+    assert_eq!(tell("INCR x"), "(integer) 1");
+    assert_eq!(tell("TTL x"), "(integer) -1");
+    true
 }
 
 #[test]
 fn locks_end_by_themselves() {
     let memory = Memory::start("locks", Duration::ZERO);
     let mut client = memory.client();
+    within_a_time(|time| {
+        let mut tell = |line: &str| told(&ask(&mut client, line));
+        tell("DEL l");
+        let start = Instant::now();
+        assert_eq!(tell(&format!("EPAXOS LOCK l me {time}")), "(integer) 1");
+        let other = tell("EPAXOS LOCK l you 1000");
+        if start.elapsed() >= Duration::from_millis(time) {
+            return false;
+        }
+        assert_eq!(other, "(nil)");
+        thread::sleep(Duration::from_millis(time) + PAST);
+        true
+    });
     let mut tell = |line: &str| told(&ask(&mut client, line));
-    assert_eq!(tell("EPAXOS LOCK l me 200"), "(integer) 1");
-    assert_eq!(tell("EPAXOS LOCK l you 1000"), "(nil)");
-    thread::sleep(Duration::from_millis(250));
     assert_eq!(tell("EPAXOS HOLDER l"), "(nil)");
     assert_eq!(tell("EPAXOS RENEW l me 1000"), "(nil)");
     assert_eq!(tell("EPAXOS UNLOCK l me"), "(integer) 0");
@@ -370,7 +429,7 @@ fn the_third_version_of_the_protocol() {
     let memory = Memory::start("resp3", Duration::ZERO);
     let mut clients = vec![memory.client()];
     let redis = Redis::start();
-    clients.extend(redis.iter().map(|redis| Client::connect(redis.1, Duration::from_secs(60)).unwrap()));
+    clients.extend(redis.iter().map(|redis| Client::connect(redis.1.port(0), Duration::from_secs(60)).unwrap()));
     for client in &mut clients {
         let Reply::Array(pairs) = ask(client, "HELLO 2") else { panic!() };
         assert!(pairs.chunks(2).any(|pair| pair == [Reply::Bulk(Some(b"proto".to_vec())), Reply::Integer(2)]));
@@ -397,8 +456,13 @@ fn scripts_of_locks() {
     assert_eq!(eval(&mut client, "b"), "(integer) 0");
     assert_eq!(eval(&mut client, "a"), "(integer) 1");
     assert_eq!(eval(&mut client, "a"), "(integer) 0");
+    let start = Instant::now();
     let odd = client.ask(&[b"EVAL", b"return 1", b"0"]).unwrap();
-    assert!(told(&odd).starts_with("(error) ERR scripts"), "{odd:?}");
+    assert_eq!(odd, Reply::Error(CommandFault::Script.to_string()));
+    let left = |client: &mut Client, expected: &str| {
+        let told = told(&ask(client, "TTL lock"));
+        assert!(is_as_expected("TTL lock", &told, expected, start.elapsed()), "{told}, and not {expected}");
+    };
     // (the digests are of redis-py's lock.py)
     let extend = "EVALSHA a4e8783852e6b949f9ef3a97212805108459a890 1 lock a";
     assert_eq!(told(&ask(&mut client, &format!("{extend} 1000 0"))), "(integer) 0");
@@ -408,9 +472,9 @@ fn scripts_of_locks() {
     assert_eq!(told(&ask(&mut client, &format!("{extend} 1000 1"))), "(integer) 0");
     assert_eq!(told(&ask(&mut client, "SET lock a PX 100000")), "OK");
     assert_eq!(told(&ask(&mut client, &format!("{extend} 100000 0"))), "(integer) 1");
-    assert_eq!(told(&ask(&mut client, "TTL lock")), "(integer) 200");
+    left(&mut client, "(integer) 200");
     assert_eq!(told(&ask(&mut client, &format!("{extend} 50000 1"))), "(integer) 1");
-    assert_eq!(told(&ask(&mut client, "TTL lock")), "(integer) 50");
+    left(&mut client, "(integer) 50");
     assert_eq!(
         told(&ask(&mut client, "EVALSHA 1cac51482acf5858da00f6d685d68f886cd6b6b2 1 lock b 70000")),
         "(integer) 0"
@@ -419,7 +483,7 @@ fn scripts_of_locks() {
         told(&ask(&mut client, "EVALSHA 1CAC51482acf5858da00f6d685d68f886cd6b6b2 1 lock a 70000")),
         "(integer) 1"
     );
-    assert_eq!(told(&ask(&mut client, "TTL lock")), "(integer) 70");
+    left(&mut client, "(integer) 70");
     assert_eq!(told(&ask(&mut client, "EVALSHA c3f8721cbb97f72bc19e972846bd7aaf91901658 1 lock b")), "(integer) 0");
     assert_eq!(told(&ask(&mut client, "EVALSHA c3f8721cbb97f72bc19e972846bd7aaf91901658 1 lock a")), "(integer) 1");
     assert_eq!(told(&ask(&mut client, "GET lock")), "(nil)");
@@ -468,9 +532,8 @@ fn set_all(memory: &Memory, clients: usize, keys: usize) -> Duration {
 fn a_pipeline_is_one() {
     // What has come takes 20 ms, however much it is.
     let memory = Memory::start("pipeline", Duration::from_millis(20));
-    let one = set_all(&memory, 1, 500);
-    // (one after the other they would take 10 s)
-    assert!(one < Duration::from_secs(3), "{one:?}");
+    // (one after the other they would take 10 s; where the machine is busy it is tried again)
+    wait("a pipeline in 3 s", || set_all(&memory, 1, 500) < Duration::from_secs(3));
     // Replies come in order, whatever finishes first; of one key commands are done in the order in which they were sent.
     let mut client = memory.client();
     let lines = [
@@ -524,16 +587,19 @@ fn a_pipeline_is_one() {
 fn many_clients_of_one_key_share_commands() {
     let memory = Memory::start("shared", Duration::from_millis(5));
     let (clients, each) = (20, 50);
-    let start = Instant::now();
-    thread::scope(|scope| {
-        for _ in 0..clients {
-            scope.spawn(|| {
-                let mut client = memory.client();
-                (0..each).for_each(|_| assert!(matches!(ask(&mut client, "INCR hot"), Reply::Integer(_))));
-            });
-        }
+    // (one after the other they would take 5 s; where the machine is busy it is tried again)
+    wait("1,000 commands in 4 s", || {
+        assert!(matches!(ask(&mut memory.client(), "DEL hot"), Reply::Integer(0 | 1)));
+        let start = Instant::now();
+        thread::scope(|scope| {
+            for _ in 0..clients {
+                scope.spawn(|| {
+                    let mut client = memory.client();
+                    (0..each).for_each(|_| assert!(matches!(ask(&mut client, "INCR hot"), Reply::Integer(_))));
+                });
+            }
+        });
+        assert_eq!(told(&ask(&mut memory.client(), "GET hot")), format!("\"{}\"", clients * each));
+        start.elapsed() < Duration::from_secs(4)
     });
-    assert_eq!(told(&ask(&mut memory.client(), "GET hot")), format!("\"{}\"", clients * each));
-    // (one after the other they would take 5 s)
-    assert!(start.elapsed() < Duration::from_secs(4), "{:?}", start.elapsed());
 }

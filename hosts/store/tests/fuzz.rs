@@ -1,9 +1,19 @@
-//! Bytes by chance, and true ones that were changed, at what reads clients' commands: it never panics, tells the same however the bytes come,
-//! and takes no more than it should. `FUZZ_SECONDS` has it go on for longer than its second.
+//! Bytes by chance, and true ones that were changed, at what reads clients' commands and at what reads what comes to the peers' port: it never
+//! panics, tells the same however the bytes come, takes no more than it should, and nothing that isn't authentic. `FUZZ_SECONDS` has each go on
+//! for longer than its second.
+use epaxos::{Fields, Instance, OwnedAnswer, OwnedCommand, Receipt, wire};
+use std::io::{self, Read, Write};
+use std::os::unix::fs::PermissionsExt;
 use std::time::{Duration, Instant};
 use store::commands::understand;
+use store::commits::Committed;
+use store::frames::Head;
+use store::malformed_fault::MalformedFault;
+use store::members::Members;
+use store::messages::Message;
 use store::random::Random;
 use store::resp::{Input, read_command};
+use store::sealed::{self, Direction, Hello, Key};
 
 /// What it begins with: commands, whole and not.
 const SEEDS: [&[u8]; 10] = [
@@ -19,17 +29,18 @@ const SEEDS: [&[u8]; 10] = [
     b"EVAL \"return 1\" 1 k v\r\nSCRIPT LOAD x\r\nEPAXOS REPLACE 1 00000000000000000000000000000000 a:1\r\n",
 ];
 
-fn change(bytes: &mut Vec<u8>, random: &mut Random) {
+fn change(bytes: &mut Vec<u8>, seeds: &[impl AsRef<[u8]>], random: &mut Random) {
+    let any = |random: &mut Random| seeds[random.below(seeds.len() as u64) as usize].as_ref();
     let place = random.below(bytes.len() as u64 + 1) as usize;
     match random.below(7) {
         0 if place < bytes.len() => bytes[place] ^= 1 << random.below(8),
         1 if place < bytes.len() => bytes[place] = random.below(256) as u8,
         2 => bytes.truncate(place),
         3 => bytes.insert(place, b"\r\n$*-0\"'\\9"[random.below(10) as usize]),
-        4 => bytes.extend(SEEDS[random.below(SEEDS.len() as u64) as usize]),
+        4 => bytes.extend(any(random)),
         5 if place < bytes.len() => _ = bytes.remove(place),
         _ => {
-            let other = SEEDS[random.below(SEEDS.len() as u64) as usize];
+            let other = any(random);
             let start = random.below(other.len() as u64) as usize;
             bytes.splice(place..place, other[start..].iter().copied());
         }
@@ -38,7 +49,7 @@ fn change(bytes: &mut Vec<u8>, random: &mut Random) {
 }
 
 /// The commands that bytes spell, and the fault behind them.
-fn read(bytes: &[u8]) -> (Vec<Vec<Vec<u8>>>, Option<&'static str>) {
+fn read(bytes: &[u8]) -> (Vec<Vec<Vec<u8>>>, Option<MalformedFault>) {
     let mut rest = bytes;
     let mut commands = Vec::new();
     loop {
@@ -49,22 +60,29 @@ fn read(bytes: &[u8]) -> (Vec<Vec<Vec<u8>>>, Option<&'static str>) {
                 commands.push(words);
             }
             Input::Partial => return (commands, None),
-            Input::Fault(what) => return (commands, Some(what)),
+            Input::Fault(fault) => return (commands, Some(fault)),
         }
     }
 }
 
+/// So many rounds there are at least, however slow the machine is.
+const LEAST: u64 = 1_000;
+
+/// How long each goes on.
+fn time() -> Duration {
+    Duration::from_secs(std::env::var("FUZZ_SECONDS").ok().and_then(|text| text.parse().ok()).unwrap_or(1))
+}
+
 #[test]
-fn bytes_by_chance() {
-    let seconds = std::env::var("FUZZ_SECONDS").ok().and_then(|text| text.parse().ok()).unwrap_or(1);
+fn commands_by_chance() {
     let (start, mut random) = (Instant::now(), Random::from_seed(0x5eed));
     let (mut rounds, mut commands) = (0_u64, 0_u64);
     let mut bytes = Vec::new();
-    while start.elapsed() < Duration::from_secs(seconds) {
+    while start.elapsed() < time() || rounds < LEAST {
         if random.below(4) == 0 || bytes.is_empty() {
             bytes = SEEDS[random.below(SEEDS.len() as u64) as usize].to_vec();
         }
-        change(&mut bytes, &mut random);
+        change(&mut bytes, &SEEDS, &mut random);
         let (whole, fault) = read(&bytes);
         // What came first tells the same as a beginning of all, and no fault is mended by what follows.
         let cut = random.below(bytes.len() as u64 + 1) as usize;
@@ -76,5 +94,118 @@ fn bytes_by_chance() {
         whole.into_iter().filter(|words| !words.is_empty()).for_each(|words| _ = understand(words));
     }
     println!("{rounds} texts, {commands} commands");
-    assert!(rounds > 1_000 && commands > 1_000);
+    assert!(commands > 1_000);
+}
+
+/// A connection whose other end has written all that it writes.
+struct Written<'a> {
+    input: &'a [u8],
+    output: Vec<u8>,
+}
+
+impl Read for Written<'_> {
+    fn read(&mut self, bytes: &mut [u8]) -> io::Result<usize> {
+        self.input.read(bytes)
+    }
+}
+
+impl Write for Written<'_> {
+    fn write(&mut self, bytes: &[u8]) -> io::Result<usize> {
+        self.output.write(bytes)
+    }
+
+    fn flush(&mut self) -> io::Result<()> {
+        Ok(())
+    }
+}
+
+/// What hosts and nodes tell one another.
+fn messages() -> Vec<Vec<u8>> {
+    let command = OwnedCommand::Cas { key: b"k".to_vec(), expected: None, new: Some(b"v".to_vec()) };
+    let reply = Some(OwnedAnswer::Present(b"v".to_vec()));
+    // (client 1's request 2 in 1.2, by entry 4 of replica 1 with stamp 5: absent)
+    let mut receipt = vec![0, 0, 0, 1, 0, 0, 0, 2, 1, 0, 2, 0, 0, 0, 0, 0, 0, 0, 3, 1, 0, 0, 0, 4];
+    receipt.extend([0, 0, 0, 0, 0, 0, 0, 5, 0]);
+    let mut committed = Committed::new(3);
+    committed.insert(Instance { replica: 1, number: 2 });
+    let mut frame = b"EP\x03\x01".to_vec();
+    frame.extend([0; 60]);
+    let mut all = vec![frame, receipt, Members(vec![Default::default(); 3]).write().into_bytes()];
+    all.extend([
+        Message::Hello { generation: 1, is_sealed: true, seen: 2 }.write(),
+        Message::Want { generation: 1, offset: 2 }.write(),
+        Message::Ask { client: 1, request: 2, seen: 3, command }.write(),
+        Message::Answer { client: 1, request: 2, stamp: 3, reply }.write(),
+        Message::Piece { generation: 1, total: 9, offset: 2, bytes: vec![7, 8] }.write(),
+        Message::Committed { generation: 1, committed }.write(),
+    ]);
+    all
+}
+
+/// A key, out of a file that only its owner reads.
+fn key() -> Key {
+    let path = std::env::temp_dir().join(format!("store-fuzz-{}", std::process::id()));
+    std::fs::write(&path, "0123456789abcdef").unwrap();
+    std::fs::set_permissions(&path, std::fs::Permissions::from_mode(0o600)).unwrap();
+    let key = Key::read(&path).unwrap();
+    std::fs::remove_file(&path).unwrap();
+    key
+}
+
+/// All that one end reads, until it refuses something.
+fn read_all(receiving: &mut Direction, mut bytes: &[u8]) -> Vec<(u8, Vec<u8>)> {
+    std::iter::from_fn(|| receiving.read(&mut bytes, 4_096).ok()).collect()
+}
+
+#[test]
+fn messages_of_peers_by_chance() {
+    let (start, mut random, seeds) = (Instant::now(), Random::from_seed(0x9ee5), messages());
+    let key = key();
+    let (mut rounds, mut taken) = (0_u64, 0_u64);
+    let mut bytes = Vec::new();
+    while start.elapsed() < time() || rounds < LEAST {
+        if random.below(4) == 0 || bytes.is_empty() {
+            bytes = seeds[random.below(seeds.len() as u64) as usize].clone();
+        }
+        change(&mut bytes, &seeds, &mut random);
+        rounds += 1;
+        // What a peer's host and a node may tell, once it is authentic.
+        if let Some(message) = Message::read(&bytes) {
+            assert_eq!(message.write(), bytes);
+        }
+        let _ = (Head::read(&bytes), Members::read(&bytes), Receipt::read(&mut Fields::new(&bytes)));
+        let _ = (wire::value(&bytes), wire::next_open(&bytes), wire::state(&bytes), wire::Told::read(&bytes));
+        if let Some(wire::Done::Taken(taken)) = wire::done(&bytes) {
+            let _ = taken.entries();
+        }
+        // A stranger, who hasn't the key: it is told the same few bytes whatever it says, and nothing of it is taken.
+        let hello = Hello::new(3, 0, 1).unwrap();
+        let mut stranger = Vec::new();
+        let mut channel = sealed::answer(&mut stranger, &key, &hello).unwrap();
+        assert_eq!((stranger.len(), read_all(&mut channel.receiving, &bytes)), (48, Vec::new()));
+        let mut rest = &bytes[..];
+        if let Ok(hello) = sealed::heard(&mut rest) {
+            let _ = hello.ends();
+            let mut channel = sealed::answer(&mut Vec::new(), &key, &hello).unwrap();
+            assert_eq!(read_all(&mut channel.receiving, rest), Vec::new());
+        }
+        // A peer, some of whose bytes are changed on the way: what is taken is what it has sent first.
+        let mut written = Vec::new();
+        let mut listening = sealed::answer(&mut written, &key, &hello).unwrap();
+        let mut stream = Written { input: &written, output: Vec::new() };
+        let mut calling = sealed::call(&mut stream, &key, &hello).unwrap();
+        let (mut sent, mut on_the_way) = (Vec::new(), Vec::new());
+        for kind in 0..3 {
+            let message = seeds[random.below(seeds.len() as u64) as usize].clone();
+            calling.sending.write(&mut on_the_way, kind, &message).unwrap();
+            sent.push((kind, message));
+        }
+        let whole = on_the_way.clone();
+        change(&mut on_the_way, &seeds, &mut random);
+        let read = read_all(&mut listening.receiving, &on_the_way);
+        assert!(sent.starts_with(&read) && (read.len() < 3 || on_the_way.starts_with(&whole)));
+        taken += read.len() as u64;
+    }
+    println!("{rounds} rounds, {taken} messages taken");
+    assert!(taken > 50);
 }

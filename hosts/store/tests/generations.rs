@@ -99,9 +99,7 @@ fn join(places: &Places, words: Command, replica: usize) -> (Store, String) {
     (store, identity)
 }
 
-// (Once in some ten runs a port that it has set aside for a later store is taken meanwhile. `cargo test -- --ignored` runs it.)
 #[test]
-#[ignore = "a port of a later store may be taken"]
 fn three_become_five_and_three_again() {
     let Some(node) = real_node() else { return };
     let places = Places::new("resized");

@@ -1,7 +1,8 @@
 //! What stands behind a refused MULTI isn't done.
 mod common;
 use common::{Places, SYNCED, ask, script};
-use store::client::Reply;
+use std::time::{Duration, Instant};
+use store::client::{Client, Reply};
 
 #[test]
 fn nothing_of_a_transaction_is_done() {
@@ -10,35 +11,56 @@ fn nothing_of_a_transaction_is_done() {
     let node = script(&places.folder, &format!("{SYNCED}exec cat >/dev/null\n"));
     let store = places.start(0, &node);
     let mut client = store.client();
-    for (line, wanted) in [
-        ("MULTI", "ERR MULTI isn't supported"),
-        ("SET x 1", "ERR it wasn't done"),
-        ("READONLY", "ERR it wasn't done"),
-        ("EXEC", "EXECABORT nothing was done"),
-        ("SELECT 0", "OK"),
-        ("multi", "ERR MULTI isn't supported"),
-        ("DEL x", "ERR it wasn't done"),
-        ("DISCARD", "OK"),
-        ("SELECT 0", "OK"),
-        ("EXEC", "ERR EXEC without MULTI"),
-        ("WATCH x", "ERR WATCH isn't supported"),
-        ("GET x", "ERR it wasn't done"),
-        ("MULTI", "ERR it wasn't done"),
-        ("SET x 1", "ERR it wasn't done"),
-        ("EXEC", "EXECABORT nothing was done"),
-        ("SELECT 0", "OK"),
-        ("WATCH x", "ERR WATCH isn't supported"),
-        ("PING", "ERR it wasn't done"),
-        ("UNWATCH", "OK"),
-        ("SELECT 0", "OK"),
-    ] {
-        let told = match ask(&mut client, line) {
+    expect(
+        &mut client,
+        &[
+            ("MULTI", "ERR MULTI isn't supported"),
+            ("SET x 1", "ERR it wasn't done"),
+            ("READONLY", "ERR it wasn't done"),
+            ("EXEC", "EXECABORT nothing was done"),
+            ("SELECT 0", "OK"),
+            ("multi", "ERR MULTI isn't supported"),
+            ("DEL x", "ERR it wasn't done"),
+            ("DISCARD", "OK"),
+            ("SELECT 0", "OK"),
+            ("EXEC", "ERR EXEC without MULTI"),
+        ],
+    );
+    // (sent together: one that is silent for a second behind a WATCH ends)
+    expect(
+        &mut client,
+        &[
+            ("WATCH x", "ERR WATCH isn't supported"),
+            ("GET x", "ERR it wasn't done"),
+            ("MULTI", "ERR it wasn't done"),
+            ("SET x 1", "ERR it wasn't done"),
+            ("EXEC", "EXECABORT nothing was done"),
+            ("SELECT 0", "OK"),
+            ("WATCH x", "ERR WATCH isn't supported"),
+            ("PING", "ERR it wasn't done"),
+            ("UNWATCH", "OK"),
+            ("SELECT 0", "OK"),
+        ],
+    );
+    // One that is left alone behind a refused WATCH ends.
+    let mut left = store.client();
+    ask(&mut left, "WATCH x");
+    let start = Instant::now();
+    assert!(left.read().is_err() && start.elapsed() < Duration::from_secs(120));
+    // Another connection isn't behind it.
+    ask(&mut client, "MULTI");
+    assert_eq!(store.ask("SELECT 0"), Reply::Simple("OK".into()));
+}
+
+/// Sends these lines, and reads the beginnings of their replies.
+fn expect(client: &mut Client, lines: &[(&str, &str)]) {
+    let words: Vec<Vec<&[u8]>> = lines.iter().map(|(line, _)| line.split(' ').map(str::as_bytes).collect()).collect();
+    client.send(&words.iter().map(Vec::as_slice).collect::<Vec<_>>()).unwrap();
+    for (line, wanted) in lines {
+        let told = match client.read().unwrap() {
             Reply::Simple(text) | Reply::Error(text) => text,
             other => format!("{other:?}"),
         };
         assert!(told.starts_with(wanted), "{line}: {told}");
     }
-    // Another connection isn't behind it.
-    ask(&mut client, "MULTI");
-    assert_eq!(store.ask("SELECT 0"), Reply::Simple("OK".into()));
 }

@@ -7,6 +7,7 @@ back from an older copy. Nothing that clients are told may be wrong: strangers m
 Needs redis-py. Status 1 where something was told wrong.
 """
 
+import contextlib
 import os
 import random
 import resource
@@ -21,6 +22,8 @@ import time
 
 import redis
 
+from ports import Ports
+
 PATIENCE = 300
 FAULTS = []
 
@@ -28,16 +31,6 @@ FAULTS = []
 def fault(what):
     FAULTS.append(what)
     print("fault: " + what, flush=True)
-
-
-def free_ports(count):
-    them = [socket.socket() for _ in range(count)]
-    for it in them:
-        it.bind(("127.0.0.1", 0))
-    ports = [it.getsockname()[1] for it in them]
-    for it in them:
-        it.close()
-    return ports
 
 
 class Link:
@@ -80,17 +73,15 @@ class Link:
         if opening:
             Link.recorded.append(opening)
         for it in (near, far):
-            try:
+            with contextlib.suppress(OSError):
                 it.shutdown(socket.SHUT_RDWR)
-            except OSError:
-                pass
 
 
 class Cluster:
     def __init__(self, store, epaxos):
         self.words, self.folder = (store, epaxos), tempfile.mkdtemp(prefix="store-strangers-")
-        ports = free_ports(6)
-        self.peers, self.clients = ports[:3], ports[3:]
+        self.ports = Ports()
+        self.peers, self.clients = self.ports[:3], self.ports[3:6]
         self.links = [[Link(self.peers[to]) if to != at else None for to in range(3)] for at in range(3)]
         self.running = {}
         with open(f"{self.folder}/key", "w", encoding="utf-8", opener=lambda path, flags: os.open(path, flags, 0o600)) as file:
@@ -144,7 +135,7 @@ class Clients:
 
     def work(self, number):
         client = redis.Redis(port=self.cluster.clients[number % 3], socket_timeout=60)
-        key, turn = f"count-{number % 2}", 0
+        key, turn, own = f"count-{number % 2}", 0, f"own-{number}"
         while not self.is_over:
             turn += 1
             start = time.monotonic()
@@ -157,9 +148,9 @@ class Clients:
                             fault(f"{key} was told {value} twice")
                         told.add(value)
                 else:
-                    client.set(f"own-{number}", turn)
-                    if client.get(f"own-{number}") != str(turn).encode():
-                        fault(f"own-{number} isn't what was written")
+                    client.set(own, turn)
+                    if client.get(own) != str(turn).encode():
+                        fault(f"{own} isn't what was written")
                 with self.mutex:
                     self.waits.append(time.monotonic() - start)
             except redis.RedisError as error:
@@ -167,6 +158,8 @@ class Clients:
                     self.refused += 1
                     if turn % 2 and "wasn't done" not in str(error):
                         self.open[key] = self.open.get(key, 0) + 1
+                # (what may still be done may come behind what is written next)
+                own = f"own-{number}-{turn}"
                 time.sleep(0.02)
 
     def taken(self):
@@ -188,10 +181,8 @@ def show(what, waits, refused):
 
 
 def closed(it):
-    try:
+    with contextlib.suppress(OSError):
         it.close()
-    except OSError:
-        pass
 
 
 def at_peers(cluster, until):
@@ -225,14 +216,16 @@ def at_peers(cluster, until):
         if len(dripping) > 100:
             closed(dripping.pop(0))
         for it in dripping[-20:]:
-            try:
+            with contextlib.suppress(OSError):
                 it.send(b"P")
-            except OSError:
-                pass
         time.sleep(0.005)
     for it in dripping:
         closed(it)
     print(f"a stranger at the peers' port was told at most {learned} bytes", flush=True)
+
+
+# what who comes to the clients' port begins with: half a command, noise (None), reads, floods, silence
+FIRST = (b"*3\r\n$3\r\nSET\r\n$1\r\nx\r\n$200000\r\n" + bytes(50_000), None, b"READONLY\r\n" + b"GET x\r\n" * 50, b"INFO\r\n" * 5, b"")
 
 
 def at_clients(cluster, until):
@@ -244,31 +237,43 @@ def at_clients(cluster, until):
         for number in range(5000 // 3):
             if time.monotonic() > until:
                 break
-            try:
-                it = socket.create_connection(("127.0.0.1", cluster.clients[number % 2]), timeout=2)
-                it.setblocking(False)
-                kind = number % 5
-                if kind == 0:
-                    it.send(b"*3\r\n$3\r\nSET\r\n$1\r\nx\r\n$200000\r\n" + bytes(50_000))
-                elif kind == 1:
-                    it.send(os.urandom(500))
-                elif kind == 2:
-                    it.send(b"READONLY\r\n" + b"GET x\r\n" * 50)
-                elif kind == 3:
-                    it.send(b"INFO\r\n" * 5)
-                them.append(it)
-            except OSError:
-                pass
+            first = FIRST[number % len(FIRST)]
+            with contextlib.suppress(OSError):
+                them.append(socket.create_connection(("127.0.0.1", cluster.clients[number % 2]), timeout=2))
+                them[-1].setblocking(False)
+                them[-1].send(os.urandom(500) if first is None else first)
         time.sleep(0.5)
         for it in them:
             closed(it)
     print(f"{waves} waves of connections at two clients' ports", flush=True)
 
 
+def whole_info(cluster, at):
+    """What a store tells of itself and of its core, once the core is quick enough."""
+    start = time.monotonic()
+    while time.monotonic() - start < PATIENCE:
+        with contextlib.suppress(redis.RedisError):
+            told = redis.Redis(port=cluster.clients[at], socket_timeout=60).info()
+            if "replica" in told:
+                return told
+        time.sleep(0.1)
+    raise SystemExit(f"store {at} tells nothing of itself: {cluster.told(at)[-1500:]}")
+
+
+def read(cluster, key):
+    """A key's value, once it is told."""
+    start = time.monotonic()
+    while time.monotonic() - start < PATIENCE:
+        with contextlib.suppress(redis.RedisError):
+            return redis.Redis(port=cluster.clients[0], socket_timeout=60).get(key)
+        time.sleep(0.1)
+    raise SystemExit(f"nothing is told of {key}: {cluster.told(0)[-1500:]}")
+
+
 def judge_older(cluster, last):
     """The folder of store 2 was put back from before generation `last`, in which it was: it ends, or comes in with a later one."""
     start, generation = time.monotonic(), 0
-    while time.monotonic() - start < 90:
+    while time.monotonic() - start < PATIENCE:
         status = cluster.running[2].poll()
         if status is not None:
             print(f"the older copy ends with status {status}: {cluster.told(2).splitlines()[-1]}", flush=True)
@@ -287,7 +292,8 @@ def judge_older(cluster, last):
 
 
 def main():
-    resource.setrlimit(resource.RLIMIT_NOFILE, (16_384, max(16_384, resource.getrlimit(resource.RLIMIT_NOFILE)[1])))
+    most = resource.getrlimit(resource.RLIMIT_NOFILE)[1]
+    resource.setrlimit(resource.RLIMIT_NOFILE, (most if most < 16_384 else 16_384, most))
     store, epaxos = map(os.path.abspath, sys.argv[1:3])
     seconds = float(sys.argv[3]) if len(sys.argv) > 3 else 20
     cluster = Cluster(store, epaxos)
@@ -316,7 +322,7 @@ def main():
             if cluster.running[at].poll() is not None:
                 fault(f"store {at} has ended: {cluster.told(at)[-500:]}")
         # The older copy speaks in no generation in which it has told more than it knows.
-        last = redis.Redis(port=cluster.clients[2], socket_timeout=60).info()["generation"]
+        last = whole_info(cluster, 2)["generation"]
         cluster.running[2].kill()
         cluster.running[2].wait()
         shutil.rmtree(f"{cluster.folder}/2")
@@ -325,7 +331,7 @@ def main():
         judge_older(cluster, last)
         clients.end()
         for key, told in clients.told.items():
-            value = int(redis.Redis(port=cluster.clients[0], socket_timeout=60).get(key))
+            value = int(read(cluster, key))
             most = len(told) + clients.open.get(key, 0)
             print(f"{key} has {value}: {len(told)} told, {clients.open.get(key, 0)} that may be done", flush=True)
             if not max(told) <= value or not len(told) <= value <= most:

@@ -1,5 +1,5 @@
 //! A store's clients' side over a map in memory, in the place of a driver and its node.
-use std::collections::HashMap;
+use super::map::{Map, execute};
 use std::net::TcpListener;
 use std::path::PathBuf;
 use std::sync::atomic::{AtomicU64, Ordering};
@@ -15,7 +15,6 @@ use store::listing::Listing;
 use store::memory::Memory as Bytes;
 use store::metrics::Metrics;
 use store::numbers::Numbers;
-use store::protocol::{Command, Reply};
 
 const PATIENCE: Duration = Duration::from_secs(60);
 
@@ -51,6 +50,7 @@ impl Memory {
             memory: Bytes::new(64 << 20),
             metrics,
             connections: Arc::default(),
+            due: Arc::default(),
             served: AtomicU64::new(0),
             started: Instant::now(),
         };
@@ -76,7 +76,7 @@ pub static EXECUTED: AtomicU64 = AtomicU64::new(0);
 
 /// Takes what has come, waits, and answers all of it.
 fn drive(asked: &Receiver<Event>, takes: Duration) {
-    let mut map = HashMap::new();
+    let mut map = Map::new();
     while let Ok(first) = asked.recv() {
         let mut events = vec![first];
         events.extend(asked.try_iter());
@@ -84,31 +84,13 @@ fn drive(asked: &Receiver<Event>, takes: Duration) {
         for event in events {
             let Event::Ask(Ask { what, reply }) = event else { continue };
             reply.send(match what {
-                What::Propose { command, .. } => Told::Done { stamp: 1, reply: execute(&mut map, &command) },
+                What::Propose { command, .. } => {
+                    EXECUTED.fetch_add(1, Ordering::Relaxed);
+                    Told::Done { stamp: 1, reply: execute(&mut map, &command) }
+                }
                 What::Read(key) => Told::Value(map.get(&key).cloned()),
                 _ => Told::Info("replica:0\r\n".into()),
             });
         }
     }
-}
-
-/// What a command of the protocol does, and its reply.
-fn execute(map: &mut HashMap<Vec<u8>, Vec<u8>>, command: &Command) -> Reply {
-    EXECUTED.fetch_add(1, Ordering::Relaxed);
-    let (Command::Get { key } | Command::Put { key, .. } | Command::Del { key } | Command::Cas { key, .. }) = command
-    else {
-        panic!("{command:?}")
-    };
-    let before = map.get(key).cloned();
-    let after = match command {
-        Command::Put { value, .. } => Some(value.clone()),
-        Command::Del { .. } => None,
-        Command::Cas { expected, new, .. } if before == *expected => new.clone(),
-        _ => before.clone(),
-    };
-    match after {
-        Some(value) => _ = map.insert(key.clone(), value),
-        None => _ = map.remove(key),
-    }
-    before.map_or(Reply::Absent, Reply::Present)
 }

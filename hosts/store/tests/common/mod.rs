@@ -1,15 +1,17 @@
 //! Stores that a test starts, and their nodes.
 #![allow(dead_code)] // (each test uses a part)
+pub mod map;
 pub mod memory;
+pub mod plain;
 
 use std::fs;
-use std::net::TcpListener;
 use std::os::unix::fs::PermissionsExt;
 use std::path::{Path, PathBuf};
 use std::process::{Child, Command, Stdio};
 use std::thread;
 use std::time::{Duration, Instant};
 use store::client::{Client, Reply};
+use store::ports::Ports;
 
 /// A node of generation 1 that has no entry on the disk, and tells so: the answers to the first requests, a sync and a state.
 pub const SYNCED: &str = "#!/bin/sh\nhead -c 10 >/dev/null; mkdir -p \"$7/1\"; printf 'EPLG\\003\\003\\000' > \"$7/1/log\"; \
@@ -36,27 +38,26 @@ pub fn real_node() -> Option<PathBuf> {
     node
 }
 
-/// Three replicas, and two that may come later: a folder, and where they listen for each other and for clients. The folder is removed
-/// when the test is over.
+/// Three replicas, and two that may come later: a folder, and the ports at which they listen for each other and for clients. The folder is
+/// removed when the test is over.
 pub struct Places {
     pub folder: PathBuf,
-    peers: Vec<String>,
-    clients: Vec<String>,
+    ports: Ports,
 }
+
+/// So many replicas there may be.
+const MOST: usize = 5;
 
 impl Places {
     pub fn new(name: &str) -> Places {
         let folder = std::env::temp_dir().join(format!("store-{name}-{}", std::process::id()));
         fs::create_dir_all(&folder).unwrap();
-        let listeners: Vec<_> = (0..10).map(|_| TcpListener::bind("127.0.0.1:0").unwrap()).collect();
-        let mut peers: Vec<_> = listeners.iter().map(|it| it.local_addr().unwrap().to_string()).collect();
-        let clients = peers.split_off(5);
-        Places { folder, peers, clients }
+        Places { folder, ports: Ports::take().unwrap() }
     }
 
     /// Where a replica listens for the others.
-    pub fn peer(&self, replica: usize) -> &str {
-        &self.peers[replica]
+    pub fn peer(&self, replica: usize) -> String {
+        format!("127.0.0.1:{}", self.ports.port(MOST + replica))
     }
 
     /// The words that start a replica of three with this node.
@@ -67,8 +68,9 @@ impl Places {
     /// Those that start a replica of so many.
     pub fn command_of(&self, replica: usize, count: usize, node: &Path) -> Command {
         let mut command = Command::new(env!("CARGO_BIN_EXE_store"));
-        command.args(["--replica", &replica.to_string(), "--peers", &self.peers[..count].join(",")]);
-        command.args(["--listen", &self.clients[replica], "--patience", STORE_PATIENCE]);
+        let peers: Vec<_> = (0..count).map(|replica| self.peer(replica)).collect();
+        command.args(["--replica", &replica.to_string(), "--peers", &peers.join(",")]);
+        command.args(["--listen", &self.port(replica).to_string(), "--patience", STORE_PATIENCE]);
         let directory = self.folder.join(replica.to_string());
         if !directory.join("generations").exists() {
             command.arg("--new");
@@ -79,7 +81,7 @@ impl Places {
 
     /// Where a replica takes clients.
     pub fn port(&self, replica: usize) -> u16 {
-        self.clients[replica].rsplit_once(':').unwrap().1.parse().unwrap()
+        self.ports.port(replica)
     }
 
     /// Starts a replica, and waits until it takes clients.
@@ -126,12 +128,19 @@ impl Store {
     pub fn end(&mut self, signal: &str) -> Option<i32> {
         let process = self.child.id().to_string();
         assert!(Command::new("kill").args(["-s", signal, &process]).status().unwrap().success());
-        self.child.wait().unwrap().code()
+        self.status()
     }
 
     /// Its status, once it has ended by itself.
     pub fn status(&mut self) -> Option<i32> {
-        self.child.wait().unwrap().code()
+        let start = Instant::now();
+        loop {
+            if let Some(status) = self.child.try_wait().unwrap() {
+                return status.code();
+            }
+            assert!(start.elapsed() < PATIENCE, "its end is waited for too long; it has told: {}", self.told());
+            thread::sleep(Duration::from_millis(10));
+        }
     }
 
     /// What it has told on standard error.

@@ -1,32 +1,31 @@
 //! Three members of etcd, and a client of its own protocol: gRPC, which is HTTP/2 with a message in each request's body.
 use crate::options::Options;
-use crate::stores::{end, free_ports, spawn};
+use crate::stores::{end, spawn};
 use crate::{Cluster, Connection, MEMBERS};
 use std::io::{self, BufReader, Read, Write};
 use std::net::TcpStream;
 use std::path::Path;
 use std::process::{Child, Command};
 use std::time::Duration;
+use store::ports::Ports;
 
 const PATIENCE: Duration = Duration::from_secs(15);
 
 /// A running cluster. It ends when this is dropped.
 pub struct Etcd {
-    ports: Vec<u16>,
+    ports: Ports,
     children: Vec<Child>,
 }
 
 impl Etcd {
     pub fn start(options: &Options, directory: &Path) -> Result<Etcd, String> {
-        let ports = free_ports(2 * MEMBERS)?;
-        let (ports, peers) = ports.split_at(MEMBERS);
-        let url = |port: u16| format!("http://127.0.0.1:{port}");
-        let names = peers.iter().enumerate().map(|(member, port)| format!("member-{member}={}", url(*port)));
+        let ports = Ports::take().map_err(|error| error.to_string())?;
+        let mut etcd = Etcd { ports, children: Vec::new() };
+        let names = (0..MEMBERS).map(|member| format!("member-{member}={}", etcd.url(MEMBERS + member)));
         let cluster = names.collect::<Vec<_>>().join(",");
-        let mut etcd = Etcd { ports: ports.to_vec(), children: Vec::new() };
         for member in 0..MEMBERS {
             let folder = directory.join(member.to_string());
-            let (client, peer) = (url(ports[member]), url(peers[member]));
+            let (client, peer) = (etcd.url(member), etcd.url(MEMBERS + member));
             let mut command = Command::new(&options.etcd);
             command.args(["--name", &format!("member-{member}"), "--initial-cluster", &cluster]);
             command.args(["--listen-client-urls", &client, "--advertise-client-urls", &client]);
@@ -35,6 +34,10 @@ impl Etcd {
             etcd.children.push(spawn(&mut command, &folder)?);
         }
         Ok(etcd)
+    }
+
+    fn url(&self, place: usize) -> String {
+        format!("http://127.0.0.1:{}", self.ports.port(place))
     }
 }
 
@@ -45,11 +48,19 @@ impl Drop for Etcd {
 }
 
 impl Cluster for Etcd {
+    fn name(&self) -> &'static str {
+        "etcd"
+    }
+
     fn connect(&self, member: usize) -> Result<Box<dyn Connection>, String> {
-        match Caller::connect(self.ports[member]) {
+        match Caller::connect(self.ports.port(member)) {
             Ok(caller) => Ok(Box::new(caller)),
             Err(error) => Err(format!("etcd {member} can't be reached: {error}")),
         }
+    }
+
+    fn processes(&self) -> Vec<u32> {
+        self.children.iter().map(Child::id).collect()
     }
 }
 

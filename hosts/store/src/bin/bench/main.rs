@@ -1,15 +1,18 @@
-//! The bench: three stores and three members of etcd on this machine, asked in turns by the same number of clients.
+//! The bench: three stores, three members of etcd and one Redis on this machine, asked in turns by the same number of clients.
 mod etcd;
 mod measure;
 mod options;
+mod redis;
 mod stores;
 
 use etcd::Etcd;
-use measure::{Figures, Measured, Work, median};
+use measure::{Measured, Work};
 use options::{HELP, Options, read};
+use redis::Redis;
 use std::process::ExitCode;
 use std::thread;
 use std::time::{Duration, Instant};
+use store::processes::processor_time;
 use stores::Stores;
 
 /// How many members each cluster has.
@@ -17,8 +20,11 @@ const MEMBERS: usize = 3;
 
 /// A cluster that can be asked.
 pub trait Cluster: Sync {
+    fn name(&self) -> &'static str;
     /// A connection to one of its members.
     fn connect(&self, member: usize) -> Result<Box<dyn Connection>, String>;
+    /// Its processes.
+    fn processes(&self) -> Vec<u32>;
 }
 
 /// A connection of one client.
@@ -48,44 +54,64 @@ fn main() -> ExitCode {
 
 fn run(options: &Options) -> Result<(), String> {
     println!(
-        "{MEMBERS} members each, {} commands of each kind and round, {} rounds, values of {} bytes, in {}",
+        "{} commands of each kind, in {} turns, values of {} bytes, in {}",
         options.commands,
-        options.rounds,
+        options.turns,
         measure::VALUE,
         options.directory.display()
     );
-    println!("| clients | command | cluster | median | 99 of 100 | commands a second |");
-    println!("|---|---|---|---|---|---|");
+    println!(
+        "| clients | command | cluster | median | 99 of 100 | commands a second | of the first | processor time a command |"
+    );
+    println!("|---|---|---|---|---|---|---|---|");
     for clients in &options.clients {
-        let rounds: Vec<[Measured; 2]> =
-            (0..options.rounds).map(|round| play(options, *clients, round)).collect::<Result<_, _>>()?;
-        Work::ALL.iter().enumerate().for_each(|(place, work)| tell(*clients, *work, place, &rounds));
+        play(options, *clients)?;
     }
     Ok(())
 }
 
-/// A round: both clusters, one after the other; which one goes first changes. The store's figures, and etcd's.
-fn play(options: &Options, clients: usize, round: usize) -> Result<[Measured; 2], String> {
-    let directory = options.directory.join(format!("{clients}-{round}"));
-    let stores = || {
-        let cluster = Stores::start(options, &directory.join("store"))?;
-        ready(&cluster)?;
-        measure::measure(&cluster, clients, options.commands)
-    };
-    let etcd = || {
-        let cluster = Etcd::start(options, &directory.join("etcd"))?;
-        ready(&cluster)?;
-        measure::measure(&cluster, clients, options.commands)
-    };
-    let measured = if round.is_multiple_of(2) {
-        let first = stores()?;
-        [first, etcd()?]
-    } else {
-        let first = etcd()?;
-        [stores()?, first]
-    };
-    std::fs::remove_dir_all(&directory).map_err(|error| error.to_string())?;
-    Ok(measured)
+/// All commands of so many clients, at each cluster in its turn; which one goes first changes.
+fn play(options: &Options, clients: usize) -> Result<(), String> {
+    let directory = options.directory.join(clients.to_string());
+    let clusters = start(options, &directory)?;
+    for work in Work::ALL {
+        let mut measured: Vec<Measured> = clusters.iter().map(|_| Measured::default()).collect();
+        for turn in 0..options.turns {
+            let numbers = options.commands * turn / options.turns..options.commands * (turn + 1) / options.turns;
+            for place in 0..clusters.len() {
+                let place = (turn + place) % clusters.len();
+                let cluster = &*clusters[place];
+                let before = processor_times(cluster);
+                measured[place].add(measure::measure(cluster, work, clients, numbers.clone())?);
+                measured[place].processor += processor_times(cluster) - before;
+            }
+        }
+        let first = measured[0].rate();
+        for (cluster, it) in clusters.iter().zip(&mut measured) {
+            println!("| {clients} | {work} | {} | {} |", cluster.name(), it.told(first));
+        }
+    }
+    drop(clusters);
+    std::fs::remove_dir_all(&directory).map_err(|error| error.to_string())
+}
+
+/// Fresh clusters, each of which takes commands.
+fn start(options: &Options, directory: &std::path::Path) -> Result<Vec<Box<dyn Cluster>>, String> {
+    let mut clusters: Vec<Box<dyn Cluster>> = Vec::new();
+    for name in &options.clusters {
+        let directory = directory.join(name);
+        clusters.push(match name.as_str() {
+            "store" => Box::new(Stores::start(options, &directory)?),
+            "etcd" => Box::new(Etcd::start(options, &directory)?),
+            _ => Box::new(Redis::start(options, &directory)?),
+        });
+    }
+    clusters.iter().try_for_each(|cluster| ready(&**cluster))?;
+    Ok(clusters)
+}
+
+fn processor_times(cluster: &dyn Cluster) -> Duration {
+    cluster.processes().into_iter().map(processor_time).sum()
 }
 
 /// Waits until each member has taken a command.
@@ -101,20 +127,4 @@ fn ready(cluster: &dyn Cluster) -> Result<(), String> {
         }
     }
     Ok(())
-}
-
-/// The medians of all rounds, and the median of their ratios.
-fn tell(clients: usize, work: Work, place: usize, rounds: &[[Measured; 2]]) {
-    let of = |cluster: usize, figure: fn(&Figures) -> f64| {
-        median(rounds.iter().map(|round| figure(&round[cluster][place])).collect())
-    };
-    let ratio = |figure: fn(&Figures) -> f64| {
-        median(rounds.iter().map(|round| figure(&round[0][place]) / figure(&round[1][place])).collect())
-    };
-    let (middle, late, rate) = (|it: &Figures| it.median, |it: &Figures| it.late, |it: &Figures| it.rate);
-    for (cluster, name) in ["store", "etcd"].iter().enumerate() {
-        let (middle, late, rate) = (of(cluster, middle), of(cluster, late), of(cluster, rate));
-        println!("| {clients} | {work} | {name} | {middle:.2} ms | {late:.2} ms | {rate:.0} |");
-    }
-    println!("| {clients} | {work} | ratio | {:.2} | {:.2} | {:.2} |", ratio(middle), ratio(late), ratio(rate));
 }

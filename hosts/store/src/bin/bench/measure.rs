@@ -1,6 +1,7 @@
 //! What a cluster is asked, and how long it takes.
 use crate::{Cluster, MEMBERS};
 use std::fmt;
+use std::ops::Range;
 use std::sync::Barrier;
 use std::thread;
 use std::time::{Duration, Instant};
@@ -13,7 +14,7 @@ pub const VALUE: usize = 100;
 pub enum Work {
     /// Each sets keys of its own.
     Set,
-    /// Each gets the keys that it has set.
+    /// Each gets the keys that were set.
     Get,
     /// All set one key.
     SetOne,
@@ -34,38 +35,46 @@ impl fmt::Display for Work {
     }
 }
 
-/// Of one work: waits in milliseconds, and commands a second.
-#[derive(Clone, Copy, Debug)]
-pub struct Figures {
-    pub median: f64,
-    /// 99 of 100 waits are no longer.
-    pub late: f64,
-    pub rate: f64,
+/// What one work took, at one cluster.
+#[derive(Default)]
+pub struct Measured {
+    /// How long each command waited.
+    waits: Vec<Duration>,
+    /// From the first question to the last answer.
+    time: Duration,
+    /// Of all its processes.
+    pub processor: Duration,
 }
 
-/// The figures of each work.
-pub type Measured = [Figures; 3];
+impl Measured {
+    pub fn add(&mut self, more: Measured) {
+        self.waits.extend(more.waits);
+        self.time += more.time;
+    }
 
-/// The middle one of some numbers.
-pub fn median(mut numbers: Vec<f64>) -> f64 {
-    numbers.sort_by(f64::total_cmp);
-    numbers[numbers.len() / 2]
+    /// Commands a second.
+    pub fn rate(&self) -> f64 {
+        self.waits.len() as f64 / self.time.as_secs_f64()
+    }
+
+    /// A row's figures: waits, the rate, this in ratio to the first cluster's, and the processor time a command.
+    pub fn told(&mut self, first: f64) -> String {
+        self.waits.sort_unstable();
+        let part = |share: usize| self.waits[(self.waits.len() - 1) * share / 100].as_secs_f64() * 1e3;
+        let processor = self.processor.as_secs_f64() * 1e6 / self.waits.len() as f64;
+        let (rate, ratio) = (self.rate(), self.rate() / first);
+        format!("{:.2} ms | {:.2} ms | {rate:.0} | {ratio:.2} | {processor:.0} µs", part(50), part(99))
+    }
 }
 
-/// Has a cluster do so many commands of each work, by so many clients.
-pub fn measure(cluster: &dyn Cluster, clients: usize, commands: usize) -> Result<Measured, String> {
-    let [set, get, one] = Work::ALL.map(|work| measure_one(cluster, work, clients, commands));
-    Ok([set?, get?, one?])
-}
-
-fn measure_one(cluster: &dyn Cluster, work: Work, clients: usize, commands: usize) -> Result<Figures, String> {
+/// Has a cluster do the commands of these numbers, by so many clients.
+pub fn measure(cluster: &dyn Cluster, work: Work, clients: usize, numbers: Range<usize>) -> Result<Measured, String> {
     let barrier = Barrier::new(clients);
     let done: Vec<(Instant, Instant, Vec<Duration>)> = thread::scope(|scope| {
         let clients: Vec<_> = (0..clients)
             .map(|client| {
-                let count = commands / clients + usize::from(client < commands % clients);
-                let barrier = &barrier;
-                scope.spawn(move || ask(cluster, work, client, count, barrier))
+                let (barrier, numbers) = (&barrier, numbers.clone().skip(client).step_by(clients));
+                scope.spawn(move || ask(cluster, work, (client, numbers), barrier))
             })
             .collect();
         clients
@@ -75,33 +84,27 @@ fn measure_one(cluster: &dyn Cluster, work: Work, clients: usize, commands: usiz
     })?;
     let start = done.iter().map(|(start, ..)| *start).min();
     let end = done.iter().map(|(_, end, _)| *end).max();
-    let mut waits: Vec<f64> = done.iter().flat_map(|(.., waits)| waits).map(|wait| wait.as_secs_f64() * 1e3).collect();
-    waits.sort_by(f64::total_cmp);
-    let (Some(start), Some(end), false) = (start, end, waits.is_empty()) else {
-        return Err("nothing was asked".into());
-    };
-    let part = |share: usize| waits[(waits.len() - 1) * share / 100];
-    Ok(Figures { median: part(50), late: part(99), rate: waits.len() as f64 / (end - start).as_secs_f64() })
+    let (Some(start), Some(end)) = (start, end) else { return Err("nothing was asked".into()) };
+    let waits = done.into_iter().flat_map(|(.., waits)| waits).collect();
+    Ok(Measured { waits, time: end - start, processor: Duration::ZERO })
 }
 
 /// One client's commands: when it began, when it ended, and each one's wait.
 fn ask(
     cluster: &dyn Cluster,
     work: Work,
-    client: usize,
-    count: usize,
+    (client, numbers): (usize, impl Iterator<Item = usize>),
     barrier: &Barrier,
 ) -> Result<(Instant, Instant, Vec<Duration>), String> {
-    // (each work begins at another member, so that few clients don't use up the instances of one)
-    let connected = cluster.connect((client + work as usize) % MEMBERS);
+    let connected = cluster.connect(client % MEMBERS);
     // (whoever has no connection mustn't keep the others waiting)
     barrier.wait();
     let mut connection = connected?;
     let value = [b'v'; VALUE];
-    let mut waits = Vec::with_capacity(count);
+    let mut waits = Vec::new();
     let begin = Instant::now();
-    for number in 0..count {
-        let key = if work == Work::SetOne { "one".to_string() } else { format!("key-{client}-{number}") };
+    for number in numbers {
+        let key = if work == Work::SetOne { "one".to_string() } else { format!("key-{number}") };
         let start = Instant::now();
         match work {
             Work::Set | Work::SetOne => connection.set(key.as_bytes(), &value)?,

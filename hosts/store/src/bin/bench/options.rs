@@ -2,19 +2,21 @@
 use std::path::PathBuf;
 
 pub const HELP: &str = "\
-bench: three stores beside three members of etcd, on this machine, asked in turns by the same number of clients
+bench: three stores, three members of etcd and one Redis, on this machine, asked in turns by the same number of clients
 
-    bench --node PATH [--store PATH] [--etcd PATH] [--clients A,B,..] [--commands N] [--rounds R] [--dir DIR]
+    bench --node PATH [--store PATH] [--etcd PATH] [--redis PATH] [--clusters A,B,..] [--clients A,B,..] [--commands N] [--turns T] [--dir DIR]
 
     --node PATH      the program `epaxos`
     --store PATH     the program `store`; default: beside this one
     --etcd PATH      the program `etcd`; default: the one on the PATH
-    --clients A,B    how many clients ask at the same time, one line of the table for each; default 1,8,32
-    --commands N     of each kind and round; default 1200
-    --rounds R       default 5; each round has fresh clusters, and the table has the rounds' medians
+    --redis PATH     the program `redis-server`; likewise
+    --clusters A,B   which are asked, the first one being what the others are compared with; default etcd,store,redis
+    --clients A,B    how many clients ask at the same time, fresh clusters for each; default 1,8,32
+    --commands N     of each kind; default 10000
+    --turns T        in so many turns, between which the others have theirs; default 10
     --dir DIR        a folder for logs, on the disk that is measured; default: one under the system's for temporary files
 
-Both write what they answer to the disk first. Status 0: the table is printed. 2: the command line, or a program can't be run.
+All write what they answer to the disk first. Status 0: the table is printed. 2: the command line, or a program can't be run.
 ";
 
 #[derive(Clone, Debug)]
@@ -22,9 +24,11 @@ pub struct Options {
     pub node: PathBuf,
     pub store: PathBuf,
     pub etcd: PathBuf,
+    pub redis: PathBuf,
+    pub clusters: Vec<String>,
     pub clients: Vec<usize>,
     pub commands: usize,
-    pub rounds: usize,
+    pub turns: usize,
     pub directory: PathBuf,
 }
 
@@ -35,9 +39,11 @@ pub fn read(words: impl IntoIterator<Item = String>) -> Result<Option<Options>, 
         node: PathBuf::new(),
         store: program.with_file_name("store"),
         etcd: PathBuf::from("etcd"),
+        redis: PathBuf::from("redis-server"),
+        clusters: ["etcd", "store", "redis"].map(str::to_string).into(),
         clients: vec![1, 8, 32],
-        commands: 1_200,
-        rounds: 5,
+        commands: 10_000,
+        turns: 10,
         directory: std::env::temp_dir().join(format!("bench-{}", std::process::id())),
     };
     let mut words = words.into_iter();
@@ -48,9 +54,11 @@ pub fn read(words: impl IntoIterator<Item = String>) -> Result<Option<Options>, 
             "--node" => options.node = PathBuf::from(value()?),
             "--store" => options.store = PathBuf::from(value()?),
             "--etcd" => options.etcd = PathBuf::from(value()?),
+            "--redis" => options.redis = PathBuf::from(value()?),
+            "--clusters" => options.clusters = value()?.split(',').map(str::to_string).collect(),
             "--clients" => options.clients = value()?.split(',').map(number).collect::<Result<_, _>>()?,
             "--commands" => options.commands = number(&value()?)?,
-            "--rounds" => options.rounds = number(&value()?)?,
+            "--turns" => options.turns = number(&value()?)?,
             "--dir" => options.directory = PathBuf::from(value()?),
             _ => return Err(format!("unknown word {word}; --help tells the words")),
         }
@@ -58,8 +66,11 @@ pub fn read(words: impl IntoIterator<Item = String>) -> Result<Option<Options>, 
     if options.node.as_os_str().is_empty() {
         return Err("--node is missing".into());
     }
-    if options.clients.iter().any(|clients| *clients > options.commands) {
-        return Err("--commands: at least as many as clients".into());
+    if let Some(odd) = options.clusters.iter().find(|name| !["store", "etcd", "redis"].contains(&name.as_str())) {
+        return Err(format!("--clusters: {odd} is none of store, etcd, redis"));
+    }
+    if options.clients.iter().any(|clients| *clients > options.commands / options.turns) {
+        return Err("--commands: in each turn at least as many as clients".into());
     }
     Ok(Some(options))
 }

@@ -2,25 +2,18 @@
 use crate::options::Options;
 use crate::{Cluster, Connection, MEMBERS};
 use std::fs::File;
-use std::net::TcpListener;
 use std::path::Path;
 use std::process::{Child, Command, Stdio};
 use std::time::Duration;
 use store::client::{Client, Reply};
+use store::ports::Ports;
 
 const PATIENCE: Duration = Duration::from_secs(15);
 
 /// A running cluster. It ends when this is dropped.
 pub struct Stores {
-    ports: Vec<u16>,
+    ports: Ports,
     children: Vec<Child>,
-}
-
-/// Ports that nobody listens at.
-pub fn free_ports(count: usize) -> Result<Vec<u16>, String> {
-    let listeners: Result<Vec<TcpListener>, _> = (0..count).map(|_| TcpListener::bind("127.0.0.1:0")).collect();
-    let told = |error: std::io::Error| format!("no free port: {error}");
-    listeners.map_err(told)?.iter().map(|it| Ok(it.local_addr().map_err(told)?.port())).collect()
 }
 
 /// Starts a program; what it tells goes to a file beside its folder.
@@ -46,12 +39,12 @@ pub fn end(children: &mut [Child]) {
 
 impl Stores {
     pub fn start(options: &Options, directory: &Path) -> Result<Stores, String> {
-        let ports = free_ports(2 * MEMBERS)?;
-        let (ports, peers) = ports.split_at(MEMBERS);
-        let peers: Vec<String> = peers.iter().map(|port| format!("127.0.0.1:{port}")).collect();
-        let mut stores = Stores { ports: ports.to_vec(), children: Vec::new() };
-        for (replica, port) in ports.iter().enumerate() {
-            let folder = directory.join(replica.to_string());
+        let ports = Ports::take().map_err(|error| error.to_string())?;
+        let peer = |replica: usize| format!("127.0.0.1:{}", ports.port(MEMBERS + replica));
+        let peers: Vec<String> = (0..MEMBERS).map(peer).collect();
+        let mut stores = Stores { ports, children: Vec::new() };
+        for replica in 0..MEMBERS {
+            let (folder, port) = (directory.join(replica.to_string()), stores.ports.port(replica));
             let mut command = Command::new(&options.store);
             command.args(["--replica", &replica.to_string(), "--peers", &peers.join(",")]);
             command.args(["--listen", &port.to_string()]).arg("--node").arg(&options.node);
@@ -69,11 +62,19 @@ impl Drop for Stores {
 }
 
 impl Cluster for Stores {
+    fn name(&self) -> &'static str {
+        "store"
+    }
+
     fn connect(&self, member: usize) -> Result<Box<dyn Connection>, String> {
-        match Client::connect(self.ports[member], PATIENCE) {
+        match Client::connect(self.ports.port(member), PATIENCE) {
             Ok(client) => Ok(Box::new(client)),
             Err(error) => Err(format!("store {member} can't be reached: {error}")),
         }
+    }
+
+    fn processes(&self) -> Vec<u32> {
+        self.children.iter().map(Child::id).collect()
     }
 }
 
@@ -81,14 +82,14 @@ impl Connection for Client {
     fn set(&mut self, key: &[u8], value: &[u8]) -> Result<(), String> {
         match self.ask(&[b"SET", key, value]) {
             Ok(Reply::Simple(_)) => Ok(()),
-            other => Err(format!("a store answers SET by {other:?}")),
+            other => Err(format!("SET is answered by {other:?}")),
         }
     }
 
     fn get(&mut self, key: &[u8]) -> Result<Vec<u8>, String> {
         match self.ask(&[b"GET", key]) {
             Ok(Reply::Bulk(Some(value))) => Ok(value),
-            other => Err(format!("a store answers GET by {other:?}")),
+            other => Err(format!("GET is answered by {other:?}")),
         }
     }
 }

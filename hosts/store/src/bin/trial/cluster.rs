@@ -3,7 +3,6 @@ use crate::links::Link;
 use crate::options::{Options, Plant};
 use std::fs::{File, OpenOptions};
 use std::io;
-use std::net::TcpListener;
 use std::os::unix::process::CommandExt;
 use std::path::{Path, PathBuf};
 use std::process::{Child, Command, ExitStatus, Stdio};
@@ -12,6 +11,8 @@ use std::sync::{Arc, Mutex};
 use std::thread;
 use std::time::{Duration, Instant};
 use store::client::{Client, Reply};
+use store::ports::Ports;
+use store::processes;
 
 /// A log's header, and what stands around the bytes of an entry: two lengths, what was on the disk, and a checksum.
 const LOG_HEADER: usize = 43;
@@ -19,12 +20,20 @@ const RECORD_FRAME: usize = 24;
 /// So many are cut off, where records are.
 const LAST_RECORDS: usize = 4;
 
+/// What stands in each seal, and in nothing else.
+const SEAL: &[u8] = b"members 1\n";
+/// How many generations that were left a store keeps where it isn't told otherwise.
+const KEPT: u32 = 2;
 /// What a store tells that comes in the place of a lost machine.
 const COMES_IN: &str = "names this machine";
 /// So many machines may come for a while.
 const MORE: usize = 2;
-/// How often others are asked to let it in.
-const MOST_TRIES: usize = 60;
+/// For so long others are asked to let it in, or for another size, or for more generations.
+const ASKING: Duration = Duration::from_secs(300);
+/// A process that was told to end, or killed, has ended by then: the machine may be busy.
+const ENDING: Duration = Duration::from_secs(60);
+/// And whatever else is waited for has come.
+const PATIENCE: Duration = Duration::from_secs(120);
 
 /// What is killed.
 #[derive(Clone, Copy, Debug)]
@@ -32,6 +41,15 @@ pub enum Target {
     Both,
     Store,
     Node,
+}
+
+/// What a replica takes at a moment, in bytes.
+#[derive(Clone, Copy, Default)]
+pub struct Sample {
+    pub generation: u32,
+    pub store: u64,
+    pub node: u64,
+    pub disk: u64,
 }
 
 /// The replicas of one round, and the links between them.
@@ -42,6 +60,7 @@ pub struct Cluster {
     pub replicas: usize,
     pub client_ports: Vec<u16>,
     peer_ports: Vec<u16>,
+    _ports: Ports,
     /// From each replica to each other one.
     pub links: Vec<Vec<Option<Arc<Link>>>>,
     running: Vec<Mutex<Option<Child>>>,
@@ -51,45 +70,25 @@ pub struct Cluster {
     lost: Mutex<Vec<(usize, PathBuf)>>,
 }
 
-/// Ports below those that the system gives to connections by itself.
-fn free_listeners(count: usize) -> io::Result<Vec<TcpListener>> {
-    let mut listeners = Vec::new();
-    let start = 15_000 + (std::process::id() % 100) as u16 * 100;
-    for port in (start..32_000).chain(10_000..start) {
-        if let Ok(listener) = TcpListener::bind(("127.0.0.1", port)) {
-            listeners.push(listener);
-            if listeners.len() == count {
-                return Ok(listeners);
-            }
-        }
-    }
-    Err(io::Error::other("no free ports"))
-}
-
-fn port_of(listener: &TcpListener) -> io::Result<u16> {
-    Ok(listener.local_addr()?.port())
-}
-
 impl Cluster {
     /// Starts a cluster with empty logs in a folder of the round.
     pub fn start(options: &Options, round: usize) -> io::Result<Cluster> {
         let replicas = options.replicas;
         // (two more may come for a while)
         let all = replicas + MORE;
-        let mut listeners = free_listeners(2 * all + replicas * (replicas - 1))?;
-        let for_links = listeners.split_off(2 * all);
-        let ports: Vec<u16> = listeners.iter().map(port_of).collect::<io::Result<_>>()?;
-        drop(listeners);
-        let (client_ports, peer_ports) = ports.split_at(all);
-        let links = make_links(&peer_ports[..replicas], for_links)?;
+        let ports = Ports::take()?;
+        let client_ports: Vec<u16> = (0..all).map(|replica| ports.port(replica)).collect();
+        let peer_ports: Vec<u16> = (all..2 * all).map(|place| ports.port(place)).collect();
+        let links = make_links(&peer_ports[..replicas], &ports, 2 * all)?;
         let directory = options.directory.join(format!("round-{round}"));
         std::fs::create_dir_all(&directory)?;
         let cluster = Cluster {
             options: options.clone(),
             directory,
             replicas,
-            client_ports: client_ports.to_vec(),
-            peer_ports: peer_ports.to_vec(),
+            client_ports,
+            peer_ports,
+            _ports: ports,
             links,
             running: (0..all).map(|_| Mutex::new(None)).collect(),
             joined: (0..all).map(|_| AtomicBool::new(false)).collect(),
@@ -152,7 +151,7 @@ impl Cluster {
         let told = OpenOptions::new().append(true).create(true).open(self.told(replica))?;
         let mut command = Command::new(&self.options.store);
         command.args(["--replica", &replica.to_string(), "--peers", &self.peers(replica)]);
-        command.args(["--listen", &self.client_ports[replica].to_string(), "--patience", "3"]);
+        command.args(["--listen", &self.client_ports[replica].to_string(), "--patience", "10"]);
         command.arg("--dir").arg(self.folder(replica)).arg("--node").arg(&self.options.node);
         for (flag, number) in
             [("--seal-numbers", self.options.numbers), ("--seal-dependencies", self.options.dependencies)]
@@ -171,7 +170,10 @@ impl Cluster {
             Some(Plant::Changed) => _ = command.args(["--plant", "changed"]),
             // A store that isn't told to wouldn't start over a log that lacks what clients were told.
             Some(Plant::Again) => _ = command.args(["--plant", "again"]),
-            Some(Plant::Emptied | Plant::Unsynced | Plant::Older) => _ = command.args(["--plant", "forgetful"]),
+            Some(Plant::Lacking) => _ = command.args(["--plant", "lacking"]),
+            Some(Plant::Emptied | Plant::Unsynced | Plant::Unsealed | Plant::Older) => {
+                _ = command.args(["--plant", "forgetful"]);
+            }
             None => {}
         }
         let child = command.stdin(Stdio::null()).stderr(told).process_group(0).spawn()?;
@@ -191,11 +193,11 @@ impl Cluster {
             _ => signal("KILL", &group),
         }
         signal("CONT", &group);
-        let mut status = end_within(&mut child, Duration::from_secs(10));
+        let mut status = end_within(&mut child, ENDING);
         if status.is_none() && node_process(child.id()).is_some() {
             // (it was just between two generations, and has another node by now)
             signal("KILL", &group);
-            status = end_within(&mut child, Duration::from_secs(10));
+            status = end_within(&mut child, ENDING);
         }
         let Some(status) = status else {
             signal("KILL", &group);
@@ -225,6 +227,7 @@ impl Cluster {
         let others: Vec<usize> = (0..self.replicas).filter(|other| *other != replica).collect();
         let words = ["EPAXOS".to_string(), "REPLACE".to_string(), replica.to_string(), identity];
         let words: Vec<&[u8]> = words.iter().map(|word| word.as_bytes()).collect();
+        let start = Instant::now();
         for count in 0.. {
             let port = self.client_ports[others[count % others.len()]];
             let answer = Client::connect(port, Duration::from_secs(5)).and_then(|mut client| client.ask(&words));
@@ -233,7 +236,7 @@ impl Cluster {
             {
                 break;
             }
-            if count == MOST_TRIES {
+            if start.elapsed() > ASKING {
                 return Err(format!("no generation names the new machine of replica {replica}: {answer:?}"));
             }
             thread::sleep(Duration::from_millis(200));
@@ -294,7 +297,11 @@ impl Cluster {
     fn ask_until(&self, line: &str, is_so: impl Fn() -> bool) -> Result<(), String> {
         let words: Vec<&[u8]> = line.split(' ').map(str::as_bytes).collect();
         let mut answer = String::new();
-        for count in 0..MOST_TRIES {
+        let begun = Instant::now();
+        for count in 0.. {
+            if begun.elapsed() > ASKING {
+                break;
+            }
             let port = self.client_ports[count % self.replicas];
             let asked = Client::connect(port, Duration::from_secs(5)).and_then(|mut client| client.ask(&words));
             answer = format!("{asked:?}");
@@ -311,6 +318,20 @@ impl Cluster {
         Err(format!("{line} isn't done: {answer}"))
     }
 
+    /// Has the stores go on to later generations, until there were so many changes. (Where the machine is busy clients may not have got so far.)
+    pub fn reach(&self, changes: u32) {
+        let start = Instant::now();
+        for count in 0.. {
+            if self.newest() > changes || start.elapsed() > ASKING {
+                return;
+            }
+            let port = self.client_ports[count % self.replicas];
+            let asked = Client::connect(port, Duration::from_secs(5));
+            let _ = asked.and_then(|mut client| client.ask(&[b"EPAXOS", b"SEAL"]));
+            thread::sleep(Duration::from_millis(100));
+        }
+    }
+
     /// Asks a replica to end its generation, without waiting.
     pub fn seal(&self, replica: usize) {
         let port = self.client_ports[replica];
@@ -324,16 +345,61 @@ impl Cluster {
     pub fn forget_last(&self, replica: usize) -> io::Result<()> {
         let log = self.log(replica);
         let bytes = std::fs::read(&log)?;
-        let mut starts = Vec::new();
-        let mut rest = bytes.get(LOG_HEADER..).unwrap_or_default();
-        while let Some(length) = rest.first_chunk::<4>() {
-            starts.push(bytes.len() - rest.len());
-            rest = rest.get(RECORD_FRAME + u32::from_be_bytes(*length) as usize..).unwrap_or_default();
-        }
-        match starts.iter().rev().nth(LAST_RECORDS - 1) {
-            Some(start) => OpenOptions::new().write(true).open(&log)?.set_len(*start as u64),
+        match records(&bytes).iter().rev().nth(LAST_RECORDS - 1) {
+            Some(start) => cut(&log, *start),
             None => Ok(()),
         }
+    }
+
+    /// Has all replicas, none of which runs, lose the newest generation that all have begun, and the seal before it.
+    pub fn forget_seal(&self) -> io::Result<()> {
+        let folders: Vec<_> = (0..self.replicas).map(|replica| self.folder(replica)).collect();
+        let all_begun = folders.iter().filter_map(|folder| newest_with_log(folder)).min().unwrap_or(1);
+        for folder in folders.iter().filter(|_| all_begun > 1) {
+            let _ = wait_for(|| is_free(folder).then_some(()));
+            let of = |generation: u32| folder.join(format!("generations/{generation}"));
+            let newest = newest(folder).unwrap_or(all_begun);
+            let mut begun = (all_begun..=newest).map(of).filter(|path| path.exists());
+            begun.try_for_each(|path| std::fs::remove_dir_all(path))?;
+            (1..all_begun).for_each(|generation| _ = std::fs::remove_file(of(generation).join("left")));
+            let log = of(all_begun - 1).join("log");
+            // (one that lagged has none)
+            let Ok(bytes) = std::fs::read(&log) else { continue };
+            let starts = records(&bytes);
+            let ends = starts.iter().skip(1).copied().chain([bytes.len()]);
+            let has_seal = |record: &[u8]| record.windows(SEAL.len()).any(|part| part == SEAL);
+            let first = starts.iter().copied().zip(ends).find(|(start, end)| has_seal(&bytes[*start..*end]));
+            first.map_or(Ok(()), |(start, _)| cut(&log, start))?;
+        }
+        Ok(())
+    }
+
+    /// What a replica takes now: its generation, the bytes of memory of its store and of its node, and those of its folder's last files.
+    pub fn sample(&self, replica: usize) -> Sample {
+        let folder = self.folder(replica);
+        let store = self.running[replica].lock().unwrap().as_ref().map(Child::id);
+        let node = store.map_or(0, |store| processes::children(store).into_iter().map(processes::memory).sum());
+        let generation = newest(&folder).unwrap_or(0);
+        // (a store that doesn't keep all for the audit has these)
+        let kept = (generation.saturating_sub(KEPT)..=generation)
+            .flat_map(|it| [folder.join(format!("generations/{it}")), folder.join(format!("receipts/{it}"))]);
+        let disk = [folder.clone()].into_iter().chain(kept).map(|path| bytes_of(&path)).sum();
+        Sample { generation, store: store.map_or(0, processes::memory), node, disk }
+    }
+
+    /// How long a replica takes from its start to its first answer.
+    pub fn time_to_start(&self, replica: usize) -> Result<Duration, String> {
+        self.kill(replica, Target::Both)?;
+        let folder = self.folder(replica);
+        wait_for(|| is_free(&folder).then_some(())).ok_or(format!("the node of replica {replica} doesn't end"))?;
+        let start = Instant::now();
+        self.launch(replica).map_err(|error| error.to_string())?;
+        let port = self.client_ports[replica];
+        let is_pong = || {
+            let mut client = Client::connect(port, Duration::from_secs(5)).ok()?;
+            matches!(client.ask(&[b"PING"]), Ok(Reply::Simple(_))).then_some(())
+        };
+        wait_for(is_pong).map(|()| start.elapsed()).ok_or(format!("replica {replica} doesn't come back"))
     }
 
     /// Stops or continues both processes of a replica.
@@ -357,21 +423,21 @@ impl Cluster {
         }
     }
 
-    /// Ends all by SIGTERM, and waits until the nodes have let go of their logs.
-    pub fn stop(&self) -> Result<(), String> {
-        for replica in 0..self.replicas {
-            let Some(mut child) = self.running[replica].lock().unwrap().take() else { continue };
-            signal("TERM", &child.id().to_string());
-            let status = end_within(&mut child, Duration::from_secs(10));
-            match status.ok_or(format!("replica {replica} doesn't end"))?.code() {
-                Some(0) => {}
-                code => return Err(format!("replica {replica} ended with {code:?} where it was told to")),
-            }
+    /// Ends all by SIGTERM, and waits until the nodes have let go of their logs: what went wrong with that.
+    pub fn stop(&self) -> Vec<String> {
+        (0..self.replicas).filter_map(|replica| self.stop_one(replica).err()).collect()
+    }
+
+    fn stop_one(&self, replica: usize) -> Result<(), String> {
+        let Some(mut child) = self.running[replica].lock().unwrap().take() else { return Ok(()) };
+        signal("TERM", &child.id().to_string());
+        let status = end_within(&mut child, ENDING);
+        let folder = self.folder(replica);
+        wait_for(|| is_free(&folder).then_some(())).ok_or(format!("the node of replica {replica} doesn't end"))?;
+        match status.ok_or(format!("replica {replica} doesn't end"))?.code() {
+            Some(0) => Ok(()),
+            code => Err(format!("replica {replica} ended with {code:?} where it was told to")),
         }
-        (0..self.replicas).try_for_each(|replica| {
-            let folder = self.folder(replica);
-            wait_for(|| is_free(&folder).then_some(())).ok_or(format!("the node of replica {replica} doesn't end"))
-        })
     }
 }
 
@@ -386,9 +452,30 @@ impl Drop for Cluster {
 
 /// The node's process, which is the store's only child.
 fn node_process(store: u32) -> Option<String> {
-    let tasks = std::fs::read_dir(format!("/proc/{store}/task")).ok()?.flatten();
-    let children = tasks.filter_map(|task| std::fs::read_to_string(task.path().join("children")).ok());
-    children.flat_map(|all| all.split_whitespace().map(str::to_string).collect::<Vec<_>>()).next()
+    processes::children(store).first().map(u32::to_string)
+}
+
+/// Where each record of a log begins.
+fn records(log: &[u8]) -> Vec<usize> {
+    let mut starts = Vec::new();
+    let mut rest = log.get(LOG_HEADER..).unwrap_or_default();
+    while let Some(length) = rest.first_chunk::<4>() {
+        starts.push(log.len() - rest.len());
+        rest = rest.get(RECORD_FRAME + u32::from_be_bytes(*length) as usize..).unwrap_or_default();
+    }
+    starts
+}
+
+/// Has a file lose what stands from this place on.
+fn cut(path: &Path, length: usize) -> io::Result<()> {
+    OpenOptions::new().write(true).open(path)?.set_len(length as u64)
+}
+
+/// How many bytes a file has, or the files of a folder.
+fn bytes_of(path: &Path) -> u64 {
+    let files = std::fs::read_dir(path).into_iter().flatten().flatten().filter_map(|entry| entry.metadata().ok());
+    let own = std::fs::metadata(path).ok();
+    files.chain(own).filter(|found| found.is_file()).map(|found| found.len()).sum()
 }
 
 /// The newest generation that a store's folder has.
@@ -416,7 +503,7 @@ fn is_free(folder: &Path) -> bool {
 /// What this tells, once it tells something.
 fn wait_for<T>(tell: impl Fn() -> Option<T>) -> Option<T> {
     let start = Instant::now();
-    while start.elapsed() < Duration::from_secs(30) {
+    while start.elapsed() < PATIENCE {
         if let Some(told) = tell() {
             return Some(told);
         }
@@ -425,14 +512,15 @@ fn wait_for<T>(tell: impl Fn() -> Option<T>) -> Option<T> {
     None
 }
 
-fn make_links(peer_ports: &[u16], listeners: Vec<TcpListener>) -> io::Result<Vec<Vec<Option<Arc<Link>>>>> {
-    let mut listeners = listeners.into_iter();
+/// The links listen at the ports from this place on.
+fn make_links(peer_ports: &[u16], ports: &Ports, first: usize) -> io::Result<Vec<Vec<Option<Arc<Link>>>>> {
+    let mut places = first..;
     let mut links = Vec::new();
     for from in 0..peer_ports.len() {
         let mut row = Vec::new();
         for (to, port) in peer_ports.iter().enumerate() {
-            let listener = if from == to { None } else { listeners.next() };
-            row.push(listener.map(|listener| Link::start(listener, *port)).transpose()?);
+            let place = if from == to { None } else { places.next() };
+            row.push(place.map(|place| Link::start(ports.listen(place)?, *port)).transpose()?);
         }
         links.push(row);
     }

@@ -1,9 +1,9 @@
 //! The trial: clients of a cluster of stores note what they were told while replicas are killed, stopped and cut off;
 //! then it is checked.
 mod cluster;
-mod linearizable;
 mod links;
 mod options;
+mod samples;
 mod smoke;
 mod troubles;
 mod verdict;
@@ -12,7 +12,7 @@ mod workers;
 use cluster::Cluster;
 use options::{HELP, Options, read};
 use std::process::ExitCode;
-use std::sync::atomic::{AtomicBool, AtomicU32, Ordering};
+use std::sync::atomic::{AtomicBool, AtomicU32, AtomicU64, Ordering};
 use std::thread;
 use std::time::Instant;
 use troubles::Count;
@@ -59,8 +59,9 @@ fn play(options: &Options, round: usize) -> Result<usize, String> {
     if options.smoke {
         return smoke(options, &cluster);
     }
-    let (Notes { all: notes, mut faults }, count) = work(options, round, &cluster)?;
-    cluster.stop()?;
+    let (Notes { all: notes, mut faults }, count) = work(options, round, &cluster);
+    cluster.reach(options.least_changes);
+    faults.extend(cluster.stop());
     let told = notes.iter().filter(|note| note.operation.end.is_some()).count();
     println!(
         "round {round}: {told} commands told, {} not, {} proposed again; {} generations; {} kills, {} machines replaced, {} cuts, {} pauses; {}",
@@ -79,7 +80,7 @@ fn play(options: &Options, round: usize) -> Result<usize, String> {
 
 fn smoke(options: &Options, cluster: &Cluster) -> Result<usize, String> {
     let mut faults = smoke::run(cluster);
-    cluster.stop()?;
+    faults.extend(cluster.stop());
     faults.extend(verdict::judge(options, cluster, &[]));
     Ok(report(&faults))
 }
@@ -93,11 +94,17 @@ fn report(faults: &[String]) -> usize {
 }
 
 /// Clients and troubles, then the last reads: the notes, and how much went wrong.
-fn work(options: &Options, round: usize, cluster: &Cluster) -> Result<(Notes, Count), String> {
+fn work(options: &Options, round: usize, cluster: &Cluster) -> (Notes, Count) {
     let seed = options.seed.wrapping_mul(1_000).wrapping_add(round as u64);
     let start = Instant::now();
-    let work =
-        Work { cluster, start, is_over: AtomicBool::new(false), values: AtomicU32::new(0), is_life: options.life };
+    let work = Work {
+        cluster,
+        start,
+        is_over: AtomicBool::new(false),
+        values: AtomicU32::new(0),
+        told: AtomicU64::new(0),
+        is_life: options.life,
+    };
     let mut notes = Notes::default();
     let count = thread::scope(|scope| {
         let clients: Vec<_> = (0..options.clients)
@@ -106,7 +113,12 @@ fn work(options: &Options, round: usize, cluster: &Cluster) -> Result<(Notes, Co
                 scope.spawn(move || work.run(client % options.replicas, seed.wrapping_mul(0x9e37_79b9_7f4a_7c15)))
             })
             .collect();
+        let sampled = scope.spawn(|| samples::write(&work, options.life));
         let count = troubles::run(options, cluster, seed.wrapping_mul(0x2545_f491_4f6c_dd1d));
+        // (the clients go on alone for half as long at most)
+        if count.is_ok() && !work.await_commands(options.commands as u64, options.time / 2) {
+            notes.faults.push(format!("fewer than {} commands were told", options.commands));
+        }
         work.is_over.store(true, Ordering::Relaxed);
         for client in clients {
             match client.join() {
@@ -114,14 +126,29 @@ fn work(options: &Options, round: usize, cluster: &Cluster) -> Result<(Notes, Co
                 Err(_) => notes.faults.push("a client of the trial has failed".into()),
             }
         }
+        if !matches!(sampled.join(), Ok(Ok(()))) {
+            notes.faults.push("the samples can't be written".into());
+        }
         count
     });
-    let count = count?;
-    for replica in (0..options.replicas).filter(|replica| !cluster.is_running(*replica)) {
-        notes.faults.push(format!("the store of replica {replica} has ended by itself"));
+    let count = count.unwrap_or_else(|what| {
+        notes.faults.push(what);
+        Count::default()
+    });
+    if options.life {
+        match cluster.time_to_start(0) {
+            Ok(time) => println!("a start at the end took {:.2} s", time.as_secs_f64()),
+            Err(what) => notes.faults.push(what),
+        }
     }
-    (0..options.replicas).for_each(|replica| notes.extend(work.read_all(replica)));
-    Ok((notes, count))
+    for replica in 0..options.replicas {
+        if cluster.is_running(replica) {
+            notes.extend(work.read_all(replica));
+        } else {
+            notes.faults.push(format!("the store of replica {replica} has ended by itself"));
+        }
+    }
+    (notes, count)
 }
 
 /// How long clients waited for what they were told.

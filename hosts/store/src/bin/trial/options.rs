@@ -6,21 +6,24 @@ pub const HELP: &str = "\
 trial: a cluster of stores on this machine, clients, kills and cuts; then what the clients were told is checked
 
     trial --node PATH [--short | --long | --smoke] [--replicas N] [--seconds S] [--kills K] [--rounds R] [--audit]
-          [--plant early|emptied|unsynced|older|again|changed] [--store PATH] [--dir DIR] [--seed S]
+          [--plant early|emptied|unsynced|unsealed|older|lacking|again|changed] [--store PATH] [--dir DIR] [--seed S]
 
     --node PATH      the program `epaxos`
     --short          60 seconds, 6 kills, one machine replaced, two changes of generation or more: the default
     --long           10 rounds of 60 seconds with 10 kills each and two machines replaced, every round with fresh folders
-    --life           20 minutes, 32 clients without pauses, 100 kills, two machines replaced, two more for a third of the time
+    --life           20 minutes and 1,000,000 commands or more, 32 clients without pauses, 100 kills, two machines replaced, two more for a
+                     third of the time; samples.csv has what the stores take, second by second
     --resize         two more machines take part for a third of the time
     --smoke          no kills: `redis-cli` and `redis-benchmark`, where they are, are told what they should be
     --replicas N     3, the default, or 5 or 7
-    --seconds S, --kills K, --replaced M, --rounds R, --clients C    other numbers
+    --seconds S, --kills K, --replaced M, --rounds R, --clients C, --commands N    other numbers
     --seal-numbers N, --seal-dependencies N    when stores end a generation; default 300 and 200
     --audit          also has `epaxos collect` and `epaxos audit` judge the logs and receipts of each round: its generations as one chain
     --plant early    the stores answer a SET before its receipt has come
     --plant emptied  a replica is started with an emptied log
     --plant unsynced a replica that was killed has lost its last entries, as by a node that answers before its sync
+    --plant unsealed all replicas have lost the newest seal, and what came behind it, as if it had been told before it was on the disk
+    --plant lacking  an opening that a store takes from a peer lacks a key
     --plant older    a replica comes back with an older copy of its folder, and isn't kept from speaking
     --plant again    stores take some commands that were done for ones behind a seal, so that they are done twice
     --plant changed  some receipts, and what clients are told by them, have another reply than the node's
@@ -37,7 +40,9 @@ pub enum Plant {
     Early,
     Emptied,
     Unsynced,
+    Unsealed,
     Older,
+    Lacking,
     Again,
     Changed,
 }
@@ -59,6 +64,8 @@ pub struct Options {
     pub least_changes: u32,
     pub rounds: usize,
     pub clients: usize,
+    /// So many commands have to be told at least; where they aren't, clients go on for half as long.
+    pub commands: usize,
     /// Whether clients don't pause, and go on to other keys.
     pub life: bool,
     /// Whether two more machines take part for a while.
@@ -87,11 +94,12 @@ pub fn read(words: impl IntoIterator<Item = String>) -> Result<Option<Options>, 
             "--short" => options.play(60, 6, 1, 1),
             "--life" => {
                 options.play(1_200, 100, 2, 1);
-                (options.life, options.resize, options.clients) = (true, true, 32);
+                (options.life, options.resize, options.clients, options.commands) = (true, true, 32, 1_000_000);
                 (options.numbers, options.dependencies) = (1_500, 600);
             }
             "--resize" => options.resize = true,
             "--clients" => options.clients = number(&value()?)?,
+            "--commands" => options.commands = number(&value()?)?,
             "--long" => options.play(60, 10, 2, 10),
             "--node" => options.node = PathBuf::from(value()?),
             "--store" => options.store = PathBuf::from(value()?),
@@ -146,6 +154,7 @@ fn defaults() -> Result<Options, String> {
         least_changes: 2,
         rounds: 1,
         clients: 0,
+        commands: 0,
         life: false,
         resize: false,
         smoke: false,
@@ -164,9 +173,11 @@ fn read_plant(word: &str) -> Result<Plant, String> {
         "early" => Ok(Plant::Early),
         "emptied" => Ok(Plant::Emptied),
         "unsynced" => Ok(Plant::Unsynced),
+        "unsealed" => Ok(Plant::Unsealed),
         "older" => Ok(Plant::Older),
+        "lacking" => Ok(Plant::Lacking),
         "again" => Ok(Plant::Again),
         "changed" => Ok(Plant::Changed),
-        _ => Err(format!("--plant {word}: early, emptied, unsynced, older, again or changed")),
+        _ => Err(format!("--plant {word}: early, emptied, unsynced, unsealed, older, lacking, again or changed")),
     }
 }

@@ -6,6 +6,14 @@ use std::time::Duration;
 
 /// The faults that were found.
 pub fn run(cluster: &Cluster) -> Vec<String> {
+    let mut faults = by_cli(cluster);
+    for (number, words) in BENCHMARKS.iter().enumerate() {
+        faults.extend(by_benchmark(cluster.client_ports[number % cluster.replicas], words).err());
+    }
+    faults
+}
+
+fn by_cli(cluster: &Cluster) -> Vec<String> {
     if Command::new("redis-cli").arg("--version").output().is_err() {
         println!("no redis-cli is here: nothing was tried by it");
         return Vec::new();
@@ -20,10 +28,10 @@ pub fn run(cluster: &Cluster) -> Vec<String> {
         (1, &["del", "x", "y", "z"], "2"),
         (2, &["get", "x"], ""),
         (2, &["info"], "generation:"),
-        (0, &["set", "x", "1", "nx"], "ERR options"),
+        (0, &["set", "x", "1", "nx"], "OK"),
         (0, &["set", "x", &long], "ERR a value"),
         (0, &["get", ""], "ERR a key"),
-        (0, &["keys", "*"], "ERR unknown command"),
+        (0, &["keys", "*"], "x"),
         (0, &["readonly"], "OK"),
         (0, &["command", "docs"], ""),
     ];
@@ -35,18 +43,32 @@ pub fn run(cluster: &Cluster) -> Vec<String> {
             faults.push(format!("redis-cli {words:?} at replica {replica}: {told}"));
         }
     }
-    let port = cluster.client_ports[1].to_string();
-    let words = ["-p", &port, "-t", "set,get", "-n", "200", "-c", "10", "-P", "2", "-r", "50", "-q"];
-    match Command::new("redis-benchmark").args(words).output() {
-        Ok(output) if output.status.success() => {
-            let told = String::from_utf8_lossy(&output.stdout).replace('\r', "\n");
-            told.lines().filter(|line| line.contains("requests per second")).for_each(|line| println!("{line}"));
-        }
-        Ok(output) => faults.push(format!("redis-benchmark ends with {}", output.status)),
-        Err(_) => println!("no redis-benchmark is here"),
-    }
-    println!("redis-cli was told what it should be in {} of 14 cases", 14 - faults.len().min(14));
+    println!("redis-cli was told what it should be in {} of {} cases", asked.len() - faults.len(), asked.len());
     faults
+}
+
+/// What `redis-benchmark` asks for, each at the next replica: of one key, of one by pipelines, of many.
+const BENCHMARKS: [&[&str]; 3] = [
+    &["-t", "set,get,incr", "-n", "500", "-c", "10"],
+    &["-t", "set,get,incr", "-n", "1000", "-c", "50", "-P", "16"],
+    &["-t", "set,get", "-n", "1000", "-c", "50", "-P", "16", "-r", "1000"],
+];
+
+/// Prints its rates.
+fn by_benchmark(port: u16, words: &[&str]) -> Result<(), String> {
+    let Ok(output) = Command::new("redis-benchmark").args(["-p", &port.to_string(), "-q"]).args(words).output() else {
+        println!("no redis-benchmark is here");
+        return Ok(());
+    };
+    let told = String::from_utf8_lossy(&output.stdout).replace('\r', "\n");
+    let rates: Vec<_> = told.lines().filter(|line| line.contains("requests per second")).collect();
+    rates.iter().for_each(|line| println!("redis-benchmark {}: {line}", words.join(" ")));
+    let errors = String::from_utf8_lossy(&output.stderr);
+    let wanted = words[1].split(',').count();
+    if output.status.success() && rates.len() == wanted && errors.is_empty() && !told.contains("rror") {
+        return Ok(());
+    }
+    Err(format!("redis-benchmark {} ends with {}: {told} {errors}", words.join(" "), output.status))
 }
 
 /// What `redis-cli` prints. The store may still be starting.

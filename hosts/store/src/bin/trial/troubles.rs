@@ -83,7 +83,21 @@ impl Troubles<'_> {
         Ok(count)
     }
 
+    /// All have lost a seal when they start again, behind which clients were told of commands.
+    fn unseal(&mut self) -> Result<(), String> {
+        self.cluster.seal(0);
+        self.wait(1_000, 2_000);
+        let told = |error: std::io::Error| format!("a seal can't be forgotten: {error}");
+        let all = 0..self.cluster.replicas;
+        all.clone().try_for_each(|replica| self.cluster.kill(replica, Target::Both))?;
+        self.cluster.forget_seal().map_err(told)?;
+        all.into_iter().try_for_each(|replica| self.cluster.launch(replica)).map_err(told)
+    }
+
     fn kill(&mut self, empties: bool) -> Result<(), String> {
+        if self.plant == Some(Plant::Unsealed) {
+            return self.unseal();
+        }
         let target = match self.random.below(5) {
             0 if !empties => Target::Store,
             1 if !empties => Target::Node,

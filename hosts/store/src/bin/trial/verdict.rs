@@ -1,6 +1,5 @@
 //! Judging a round: by what the clients noted, by the receipts, and by the audit of the logs.
 use crate::cluster::Cluster;
-use crate::linearizable::{self, Action, Operation, Verdict};
 use crate::options::Options;
 use crate::workers::Note;
 use std::collections::BTreeMap;
@@ -8,9 +7,9 @@ use std::fs::File;
 use std::ops::RangeInclusive;
 use std::path::PathBuf;
 use std::process::{Command, Stdio};
-use store::bytes::Fields;
+use store::linearizable::{self, Action, Operation, Verdict};
 use store::opening::Opening;
-use store::protocol::Receipt;
+use store::outcome;
 
 /// The faults of a round.
 pub fn judge(options: &Options, cluster: &Cluster, notes: &[Note]) -> Vec<String> {
@@ -61,11 +60,12 @@ fn count_receipts(cluster: &Cluster, replica: usize) -> Result<(usize, usize), S
     let (mut done, mut not) = (0, 0);
     for path in receipts(cluster, replica, 1..=cluster.newest()) {
         let bytes = std::fs::read(&path).map_err(|error| format!("no receipts: {error}"))?;
-        let mut fields = Fields::new(&bytes);
-        while let Some(receipt) = Receipt::read(&mut fields) {
-            *if receipt.reply.is_done() { &mut done } else { &mut not } += 1;
+        let mut whole = 0;
+        for receipt in outcome::receipts(&bytes) {
+            whole += receipt.bytes.len();
+            *if receipt.answer.is_done() { &mut done } else { &mut not } += 1;
         }
-        if fields.left() > 0 {
+        if whole < bytes.len() {
             return Err(format!("the receipts {} end within one", path.display()));
         }
     }

@@ -1,23 +1,25 @@
 //! The clients of a round, and the notes that they take.
 use crate::cluster::Cluster;
-use crate::linearizable::{Action, Operation};
-use std::sync::atomic::{AtomicBool, AtomicU32, Ordering};
+use std::sync::atomic::{AtomicBool, AtomicU32, AtomicU64, Ordering};
 use std::thread;
 use std::time::{Duration, Instant};
-use store::client::{Client, Reply};
+use store::client::{Client, Refusal, Reply};
+use store::linearizable::{Action, Operation};
 use store::random::Random;
 
 /// Longer than a store's patience.
-const PATIENCE: Duration = Duration::from_secs(5);
+const PATIENCE: Duration = Duration::from_secs(15);
+/// In the end a replica that tells nothing for so long is at fault: then nothing is cut, but the machine may be busy.
+const AT_THE_END: Duration = Duration::from_secs(180);
 /// A connection is used for at most so many commands.
 const MOST_COMMANDS: u32 = 200;
 const HOT_KEYS: u64 = 3;
 const COLD_KEYS: u64 = 40;
 /// The mean pause of a client between two commands.
 const PAUSE: Duration = Duration::from_millis(45);
-/// In a life keys are used for so long, and then others, so that each has as many commands as can be judged: one that a fifth of all
-/// commands are of, and these.
-const AGE: Duration = Duration::from_secs(10);
+/// In a life keys are used for so many commands, and then others, so that each has as many commands as can be judged: one that a fifth of
+/// all commands are of, and these.
+const AGE: u64 = 8_000;
 const LIFE_KEYS: u64 = 100;
 
 /// What a client asked of a key and was told.
@@ -49,6 +51,8 @@ pub struct Work<'a> {
     pub is_over: AtomicBool,
     /// The last value that was made.
     pub values: AtomicU32,
+    /// How many commands were told.
+    pub told: AtomicU64,
     /// Whether clients don't pause, and go on to other keys.
     pub is_life: bool,
 }
@@ -86,6 +90,15 @@ enum Told {
 impl Work<'_> {
     fn now(&self) -> u64 {
         self.start.elapsed().as_nanos() as u64
+    }
+
+    /// Waits until so many commands were told, for so long at most; whether they were.
+    pub fn await_commands(&self, count: u64, patience: Duration) -> bool {
+        let start = Instant::now();
+        while self.told.load(Ordering::Relaxed) < count && start.elapsed() < patience {
+            thread::sleep(Duration::from_millis(100));
+        }
+        self.told.load(Ordering::Relaxed) >= count
     }
 
     /// A client's work until the round is over: what it noted.
@@ -131,7 +144,7 @@ impl Work<'_> {
 
     fn choose_key(&self, random: &mut Random) -> u64 {
         if self.is_life {
-            let age = (self.start.elapsed().as_millis() / AGE.as_millis()) as u64;
+            let age = self.told.load(Ordering::Relaxed) / AGE;
             let place = if random.below(5) == 0 { 0 } else { 1 + random.below(LIFE_KEYS) };
             return age * (LIFE_KEYS + 1) + place;
         }
@@ -140,8 +153,8 @@ impl Work<'_> {
 
     /// All keys that may have been used. Some are long, and none is text alone.
     fn keys(&self) -> impl Iterator<Item = u64> + use<> {
-        let ages = self.start.elapsed().as_millis() / AGE.as_millis() + 1;
-        0..if self.is_life { ages as u64 * (LIFE_KEYS + 1) } else { HOT_KEYS + COLD_KEYS }
+        let ages = self.told.load(Ordering::Relaxed) / AGE + 1;
+        0..if self.is_life { ages * (LIFE_KEYS + 1) } else { HOT_KEYS + COLD_KEYS }
     }
 
     fn choose_action(&self, random: &mut Random, key: u64) -> Action {
@@ -171,7 +184,10 @@ impl Work<'_> {
             Told::Nothing
         });
         let (action, end) = match told {
-            Told::Answer(action) => (action, Some(self.now())),
+            Told::Answer(action) => {
+                self.told.fetch_add(1, Ordering::Relaxed);
+                (action, Some(self.now()))
+            }
             Told::Nothing => (action, None),
             Told::Refused => return told,
         };
@@ -186,7 +202,7 @@ impl Work<'_> {
         let mut connection = None;
         let mut left: Vec<u64> = self.keys().collect();
         while let Some(key) = left.pop() {
-            if told_at.elapsed() > Duration::from_secs(60) {
+            if told_at.elapsed() > AT_THE_END {
                 notes.faults.push(format!("replica {replica} doesn't answer in the end"));
                 return notes;
             }
@@ -231,10 +247,11 @@ fn ask(client: &mut Client, key: u64, action: Action) -> Result<Told, String> {
         (Action::New(value, _), Reply::Bulk(None)) => Ok(Told::Answer(Action::New(value, Some(false)))),
         (Action::Set(_), Reply::Simple(text)) if text == "OK" => Ok(Told::Answer(action)),
         (Action::Del(_), Reply::Integer(count @ 0..2)) => Ok(Told::Answer(Action::Del(Some(count == 1)))),
-        (_, Reply::Error(text)) if text.starts_with("FULL") || text.contains("the command wasn't done") => {
-            Ok(Told::Refused)
-        }
-        (_, Reply::Error(text)) if text.starts_with("TRYAGAIN") || text.starts_with("OOM") => Ok(Told::Nothing),
+        (_, Reply::Error(text)) => match Refusal::of(&text) {
+            Some(Refusal::Undone) => Ok(Told::Refused),
+            Some(Refusal::Doubtful) => Ok(Told::Nothing),
+            None => Err(format!("an error that doesn't fit: {text}")),
+        },
         (_, reply) => Err(format!("an answer that doesn't fit: {reply:?}")),
     }
 }

@@ -290,7 +290,7 @@ mod tests {
     /// Against all orders of a few operations.
     #[test]
     fn as_all_orders_say() {
-        let mut random = store::random::Random::from_seed(7);
+        let mut random = crate::random::Random::from_seed(7);
         let mut counts = [0, 0];
         for _ in 0..4_000 {
             let operations: Vec<Operation> = (0..5)

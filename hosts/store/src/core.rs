@@ -1,0 +1,92 @@
+//! The core of a replica, as a driver sees it: wherever it runs.
+use crate::node_fault::NodeFault;
+use crate::outcome::{Asked, Outcome, Report};
+use epaxos::{Instance, State};
+use std::path::PathBuf;
+
+/// A replica's core, in one generation after the other.
+pub trait Core {
+    /// Takes all that is asked, executes what is ready, and puts it on the disk: what came of it, of which nothing is told before.
+    fn carry_out(&mut self, asked: &Asked) -> Result<Outcome, NodeFault>;
+
+    /// What there is to report of the entries after so many, and the least open instances, at most so many. Of the entries after `u32::MAX`
+    /// there is nothing.
+    fn report(&mut self, after: u32, most: u8) -> Result<Report, NodeFault>;
+
+    /// The least open instance above this one.
+    fn next_open(&mut self, after: Instance) -> Result<Option<Instance>, NodeFault>;
+
+    /// How far it is in its generation, once all that it has taken is on the disk.
+    fn state(&mut self) -> Result<State, NodeFault>;
+
+    /// Ends it, once it has answered all, and starts it again: so it goes on to the next generation, where it has executed a seal. How far it is then.
+    fn start_again(&mut self, begin: &Begin) -> Result<State, NodeFault>;
+
+    /// The number of what runs now: it rises with each start.
+    fn run(&self) -> u64;
+
+    /// The number of its process.
+    fn process(&self) -> u32;
+
+    /// Ends it, once it has answered all. It is of no use any more.
+    fn end(&mut self);
+
+    /// Waits for the end of a core whose answers are over: with what it ended.
+    fn ended(&mut self) -> NodeFault;
+
+    /// The lines that it told people since this was asked last.
+    fn told(&mut self) -> Vec<String>;
+}
+
+/// How a start goes about the folder.
+#[derive(Clone, PartialEq, Eq, Debug)]
+pub enum Begin {
+    /// It goes on with what is there.
+    Again,
+    /// It begins the first generation.
+    New,
+    /// It goes on with the opening of a later generation, which a peer gave.
+    Take(PathBuf),
+}
+
+impl<C: Core + ?Sized> Core for Box<C> {
+    fn carry_out(&mut self, asked: &Asked) -> Result<Outcome, NodeFault> {
+        (**self).carry_out(asked)
+    }
+
+    fn report(&mut self, after: u32, most: u8) -> Result<Report, NodeFault> {
+        (**self).report(after, most)
+    }
+
+    fn next_open(&mut self, after: Instance) -> Result<Option<Instance>, NodeFault> {
+        (**self).next_open(after)
+    }
+
+    fn state(&mut self) -> Result<State, NodeFault> {
+        (**self).state()
+    }
+
+    fn start_again(&mut self, begin: &Begin) -> Result<State, NodeFault> {
+        (**self).start_again(begin)
+    }
+
+    fn run(&self) -> u64 {
+        (**self).run()
+    }
+
+    fn process(&self) -> u32 {
+        (**self).process()
+    }
+
+    fn end(&mut self) {
+        (**self).end();
+    }
+
+    fn ended(&mut self) -> NodeFault {
+        (**self).ended()
+    }
+
+    fn told(&mut self) -> Vec<String> {
+        (**self).told()
+    }
+}

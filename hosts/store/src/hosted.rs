@@ -1,0 +1,224 @@
+//! The core without a disk of its own: in this process, or in one beside it. Its logs are the store's to keep, in the folder that a node would have.
+use crate::core::{Begin, Core};
+use crate::generations::{Generations, Opened, opened};
+use crate::generations_fault::GenerationsFault;
+use crate::node_fault::NodeFault;
+use crate::outcome::{Asked, Outcome, Outgoing, Report};
+use crate::peers::Place;
+use epaxos::{Cluster, Fault, Instance, LogFile, OpenFault, Output, Replica, Setup, State};
+use std::path::PathBuf;
+
+/// Which replica it is, and where it runs.
+pub struct Hosting {
+    pub place: Place,
+    /// The folder of its generations.
+    pub folder: PathBuf,
+    pub core: epaxos::Core,
+}
+
+/// A core that is hosted here.
+pub struct Hosted {
+    hosting: Hosting,
+    generations: Generations,
+    /// None where it could not be started again.
+    acting: Option<Acting>,
+    run: u64,
+    /// What there is to tell people.
+    lines: Vec<String>,
+}
+
+/// The replica of a generation, with its log.
+struct Acting {
+    replica: Replica,
+    file: LogFile,
+    /// The log's path.
+    path: PathBuf,
+    /// How far it was when it was last looked at.
+    state: State,
+}
+
+impl Hosted {
+    /// Starts it, as the run of this number: no other one may have it.
+    pub fn start(hosting: Hosting, begin: &Begin, run: u64) -> Result<Hosted, NodeFault> {
+        let generations = Generations::open(&hosting.folder).map_err(NodeFault::Generations)?;
+        let mut lines = Vec::new();
+        let opening = hosting.open(&generations, begin)?;
+        let acting = Some(hosting.act(&generations, opening, &mut lines)?);
+        Ok(Hosted { hosting, generations, acting, run, lines })
+    }
+
+    fn acting(&mut self) -> Result<&mut Acting, NodeFault> {
+        self.acting.as_mut().ok_or(NodeFault::NotStarted)
+    }
+}
+
+impl Acting {
+    /// Puts on the disk what was taken, and adds to an outcome what there is to tell then.
+    fn sync(&mut self, outcome: &mut Outcome) -> Result<(), NodeFault> {
+        let ready = self.replica.ready().map_err(NodeFault::Core)?;
+        self.file.keep(&ready).map_err(|error| NodeFault::Log(self.path.clone(), error))?;
+        let output = ready.synced().map_err(NodeFault::Core)?;
+        outcome.entries = Some(output.entries()).filter(|entries| *entries > self.state.entries);
+        self.state.entries = output.entries();
+        outcome.proposed.extend(output.proposed());
+        outcome.frames.extend(outgoing(&output));
+        output.receipts().for_each(|receipt| outcome.receipts.extend(receipt.bytes));
+        Ok(())
+    }
+}
+
+impl Hosting {
+    /// How many replicas there are to be.
+    fn cluster(&self) -> Result<Cluster, NodeFault> {
+        cluster(self.place.replicas as u8)
+    }
+
+    fn check_size(&self, opening: &Opened) -> Result<(), NodeFault> {
+        let fault = GenerationsFault::OtherSize(opening.generation, opening.replicas);
+        if usize::from(opening.replicas) == self.place.replicas { Ok(()) } else { Err(NodeFault::Generations(fault)) }
+    }
+
+    /// The generation with which the folder is gone on with.
+    fn open(&self, generations: &Generations, begin: &Begin) -> Result<Opened, NodeFault> {
+        let opening = generations.start(begin, self.cluster()?.replicas()).map_err(NodeFault::Generations)?;
+        if opening.is_new {
+            self.check_size(&opening)?;
+        }
+        Ok(opening)
+    }
+
+    /// Closes the generation of a replica that has executed a seal: the next one.
+    fn close(&self, generations: &Generations, replica: Replica) -> Result<Opened, NodeFault> {
+        let bytes = replica.close(self.cluster()?).map_err(|(_, fault)| NodeFault::Close(fault))?;
+        let closed = opened(bytes).ok_or(NodeFault::Generations(GenerationsFault::NotAnOpening(None)))?;
+        generations.begin(closed).map_err(NodeFault::Generations)
+    }
+
+    /// Goes on with this generation, and with the next ones while one has executed a seal.
+    fn act(
+        &self,
+        generations: &Generations,
+        mut opening: Opened,
+        lines: &mut Vec<String>,
+    ) -> Result<Acting, NodeFault> {
+        let me = self.place.replica;
+        loop {
+            let setup = Setup {
+                opening: Some(&opening.bytes),
+                core: self.core.clone(),
+                ..Setup::new(cluster(opening.replicas)?, me)
+            };
+            let path = generations.log(opening.generation);
+            let failed = |error| NodeFault::Log(path.clone(), error);
+            let (mut file, mut replica) = if opening.is_new {
+                (LogFile::begin(&path).map_err(failed)?, setup.begin().map_err(NodeFault::Open)?)
+            } else {
+                let (file, log) = LogFile::open(&path).map_err(failed)?;
+                (file, setup.open(&log).map_err(NodeFault::Open)?)
+            };
+            let ready = replica.ready().map_err(NodeFault::Core)?;
+            file.keep(&ready).map_err(failed)?;
+            // (what was handed out before this start may be lost: it is sent again as anything that is lost is)
+            ready.synced().map_err(NodeFault::Core)?;
+            generations.leave_before(opening.generation).map_err(NodeFault::Generations)?;
+            lines.extend(replica.said().lines().map(str::to_string));
+            if replica.cut() > 0 {
+                lines.push(format!("log cut: {} bytes behind its last record were no whole one", replica.cut()));
+            }
+            let state = replica.state().map_err(NodeFault::Core)?;
+            if !state.is_sealed {
+                self.check_size(&opening)?;
+                return Ok(Acting { replica, file, path, state });
+            }
+            drop(file);
+            opening = self.close(generations, replica)?;
+        }
+    }
+}
+
+fn cluster(replicas: u8) -> Result<Cluster, NodeFault> {
+    Cluster::try_from(replicas).map_err(|_| NodeFault::Open(OpenFault::OutOfRange))
+}
+
+fn outgoing<'a>(output: &Output<'a>) -> impl Iterator<Item = Outgoing> + use<'a> {
+    output.frames().map(|frame| Outgoing { to: frame.to, frame: frame.bytes.to_vec() })
+}
+
+impl Core for Hosted {
+    fn carry_out(&mut self, asked: &Asked) -> Result<Outcome, NodeFault> {
+        let acting = self.acting()?;
+        let mut outcome = Outcome { done: acting.replica.take_all(&asked.events), ..Outcome::default() };
+        if let Some(Err(fault @ Fault::Ended(_))) = outcome.done.last() {
+            return Err(NodeFault::Core(fault.clone()));
+        }
+        if asked.takes() {
+            let replica = &mut acting.replica;
+            match if asked.executes_all { replica.execute_all() } else { replica.advance() } {
+                // (where there is no memory, something stays to be executed)
+                Ok(()) | Err(Fault::Memory | Fault::StampFull) => {}
+                Err(fault) => return Err(NodeFault::Core(fault)),
+            }
+            acting.sync(&mut outcome)?;
+        }
+        for key in &asked.reads {
+            let value = acting.replica.get(key).map_err(NodeFault::Core)?;
+            outcome.values.push(value.map(<[u8]>::to_vec));
+        }
+        Ok(outcome)
+    }
+
+    fn report(&mut self, after: u32, most: u8) -> Result<Report, NodeFault> {
+        let output = self.acting()?.replica.report(after, most).map_err(NodeFault::Core)?;
+        let open = output.open().map(|open| open.instance).collect();
+        Ok(Report { frames: outgoing(&output).collect(), committed: output.committed().collect(), open })
+    }
+
+    /// Of more than 255 that are open, those behind the first ones are found once these are closed.
+    fn next_open(&mut self, after: Instance) -> Result<Option<Instance>, NodeFault> {
+        let open = self.report(u32::MAX, u8::MAX)?.open;
+        Ok(open.into_iter().find(|instance| *instance > after))
+    }
+
+    fn state(&mut self) -> Result<State, NodeFault> {
+        self.acting()?.replica.state().map_err(NodeFault::Core)
+    }
+
+    fn start_again(&mut self, begin: &Begin) -> Result<State, NodeFault> {
+        let mut acting = self.acting.take();
+        let has_sealed = |it: &mut Acting| it.replica.state().is_ok_and(|state| state.is_sealed);
+        let is_sealed = acting.as_mut().is_some_and(has_sealed);
+        let opening = match acting {
+            Some(acting) if is_sealed && *begin == Begin::Again => {
+                self.hosting.close(&self.generations, acting.replica)?
+            }
+            acting => {
+                // (the log's lock goes with it)
+                drop(acting);
+                self.hosting.open(&self.generations, begin)?
+            }
+        };
+        let acting = self.hosting.act(&self.generations, opening, &mut self.lines)?;
+        self.run += 1;
+        Ok(self.acting.insert(acting).state)
+    }
+
+    fn run(&self) -> u64 {
+        self.run
+    }
+
+    fn process(&self) -> u32 {
+        std::process::id()
+    }
+
+    fn end(&mut self) {
+        self.acting = None;
+    }
+
+    fn ended(&mut self) -> NodeFault {
+        NodeFault::NotStarted
+    }
+
+    fn told(&mut self) -> Vec<String> {
+        std::mem::take(&mut self.lines)
+    }
+}

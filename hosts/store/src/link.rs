@@ -1,0 +1,28 @@
+//! A way to one peer.
+use crate::link_fault::LinkFault;
+
+/// A way to one peer, by which frames of the protocol and messages of hosts go. Any of them may be lost.
+pub trait Link: Send + Sync {
+    /// Sends these bytes behind what waits, or loses them. It doesn't wait.
+    fn send(&self, bytes: Vec<u8>);
+
+    /// Sends these bytes before what waits.
+    fn send_first(&self, bytes: Vec<u8>);
+
+    /// Whether the peer is reached just now.
+    fn is_reached(&self) -> bool;
+
+    /// How many frames were lost for want of room.
+    fn lost(&self) -> u64 {
+        0
+    }
+
+    /// The peer listens at this address from now on.
+    fn set_address(&self, _address: &str) {}
+
+    /// The way is over, and begins anew.
+    fn part(&self, _fault: LinkFault) {}
+
+    /// The peer was seen to be there: it is tried at once.
+    fn hurry(&self) {}
+}

@@ -1,0 +1,58 @@
+//! What a core is asked at once, and what comes of it.
+use epaxos::{Event, Fault, Fields, Instance, Proposed, Receipt};
+
+/// What a core is asked at once.
+#[derive(Default)]
+pub struct Asked<'a> {
+    /// What it is to take, in this order.
+    pub events: Vec<Event<'a>>,
+    /// Whether it executes all instances that are ready. Own ones it executes behind events in any case.
+    pub executes_all: bool,
+    /// The keys of local reads, which tell of all that was executed before them.
+    pub reads: Vec<&'a [u8]>,
+}
+
+impl Asked<'_> {
+    /// Whether something may be taken, which is then to be put on the disk.
+    pub fn takes(&self) -> bool {
+        self.executes_all || !self.events.is_empty()
+    }
+}
+
+/// A frame, and the replica that it is for.
+#[derive(Clone, PartialEq, Eq, Debug)]
+pub struct Outgoing {
+    pub to: u8,
+    pub frame: Vec<u8>,
+}
+
+/// What came of what a core was asked.
+#[derive(Default, Debug)]
+pub struct Outcome {
+    /// Of each event.
+    pub done: Vec<Result<(), Fault>>,
+    /// What each local read has found.
+    pub values: Vec<Option<Vec<u8>>>,
+    /// The number of the last entry, if there are new ones.
+    pub entries: Option<u32>,
+    /// The commands that were proposed, in their order.
+    pub proposed: Vec<Proposed>,
+    pub frames: Vec<Outgoing>,
+    /// The bytes of receipts, one behind the other.
+    pub receipts: Vec<u8>,
+}
+
+/// What there is to report of entries, and of open instances.
+#[derive(Clone, Default, PartialEq, Eq, Debug)]
+pub struct Report {
+    pub frames: Vec<Outgoing>,
+    /// The instances that got committed, own and others'.
+    pub committed: Vec<Instance>,
+    pub open: Vec<Instance>,
+}
+
+/// The receipts of these bytes.
+pub fn receipts(bytes: &[u8]) -> impl Iterator<Item = Receipt<'_>> {
+    let mut fields = Fields::new(bytes);
+    std::iter::from_fn(move || Receipt::read(&mut fields))
+}

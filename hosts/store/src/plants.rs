@@ -1,0 +1,111 @@
+//! Misbehaviours of a store, so that the trial can be seen to catch them. Never for use.
+use crate::outcome::receipts;
+use crate::random::Random;
+use epaxos::{Answer, Fields};
+use sha2::{Digest, Sha256};
+
+/// The misbehaviours.
+#[derive(Clone, Copy, PartialEq, Eq, Debug)]
+pub enum Plant {
+    /// A SET is answered before its receipt has come.
+    Early,
+    /// A log that has forgotten what clients were told is taken.
+    Forgetful,
+    /// Some receipts have another reply than the node's.
+    Changed,
+    /// Of some commands that were done it says that they stood behind a seal, so that they are done twice.
+    Again,
+    /// An opening that a peer hands lacks a key.
+    Lacking,
+}
+
+impl Plant {
+    /// That of this name.
+    pub fn read(word: &str) -> Option<Plant> {
+        match word {
+            "early" => Some(Plant::Early),
+            "forgetful" => Some(Plant::Forgetful),
+            "changed" => Some(Plant::Changed),
+            "again" => Some(Plant::Again),
+            "lacking" => Some(Plant::Lacking),
+            _ => None,
+        }
+    }
+}
+
+/// Of these receipts those of each sixteenth entry get another answer.
+pub fn changed(bytes: &[u8]) -> Vec<u8> {
+    let mut out = Vec::new();
+    for receipt in receipts(bytes) {
+        let mut answer = Vec::new();
+        receipt.answer.write(&mut answer);
+        let head = &receipt.bytes[..receipt.bytes.len() - answer.len()];
+        let other = match receipt.answer {
+            _ if receipt.entry % 16 > 0 => receipt.answer,
+            Answer::Present(_) => Answer::Absent,
+            _ => Answer::Present(&[0; 4]),
+        };
+        out.extend(head);
+        other.write(&mut out);
+    }
+    out
+}
+
+/// The bytes of an opening without one of its keys. None where it has none.
+pub fn lacking(opening: &[u8]) -> Option<Vec<u8>> {
+    let (body, digest) = opening.split_last_chunk::<32>()?;
+    let mut fields = Fields::new(body);
+    fields.run(18)?;
+    if fields.u8()? == 1 {
+        let length = fields.u32()?;
+        fields.run(length as usize)?;
+    }
+    let at = |fields: &Fields| body.len() - fields.rest().len();
+    let before = at(&fields);
+    let count = fields.u32()?;
+    let rest = count.checked_sub(1)?;
+    let lost = Random::new().below(count.into()) as u32;
+    for _ in 0..lost {
+        skip_key(&mut fields)?;
+    }
+    let start = at(&fields);
+    skip_key(&mut fields)?;
+    let mut out = [&body[..before], &rest.to_be_bytes(), &body[before + 4..start], fields.rest()].concat();
+    debug_assert_eq!(Sha256::digest(body)[..], digest[..]);
+    out.extend(Sha256::digest(&out));
+    Some(out)
+}
+
+/// Reads over a key and its value.
+fn skip_key(fields: &mut Fields) -> Option<()> {
+    let (key, value) = (fields.u8()?, fields.u32()?);
+    fields.run(usize::from(key) + value as usize).map(|_| ())
+}
+
+#[cfg(test)]
+mod tests {
+    use super::*;
+    use crate::opening::Opening;
+
+    #[test]
+    fn an_opening_lacks_a_key() {
+        let mut body = b"EPOP\x03\x03\0\0\0\x02\0\0\0\0\0\0\0\x05\x01\0\0\0\x01x\0\0\0\x02".to_vec();
+        for key in [b'a', b'b'] {
+            body.extend([1, 0, 0, 0, 1, key, b'1']);
+        }
+        body.extend([0, 0, 0, 1, 2, 0, 7]);
+        let opening = [&body[..], &Sha256::digest(&body)].concat();
+        let less = lacking(&opening).unwrap();
+        assert_eq!(less.len(), opening.len() - 7);
+        let path = std::env::temp_dir().join(format!("store-lacking-{}", std::process::id()));
+        let read = |bytes: &[u8]| {
+            std::fs::write(&path, bytes).unwrap();
+            Opening::read(&path).unwrap()
+        };
+        assert_eq!(read(&less), Opening { keys: 1, ..read(&opening) });
+        let none = lacking(&less).unwrap();
+        assert_eq!((read(&none).keys, lacking(&none)), (0, None));
+        assert_eq!(Sha256::digest(&none[..none.len() - 32])[..], none[none.len() - 32..]);
+        std::fs::remove_file(path).unwrap();
+    }
+}

@@ -1,0 +1,372 @@
+//! Three drivers that are joined in memory, by ways that lose messages, and lose, repeat and turn round frames: whether what their clients are told is
+//! linearizable, over generations. Once over a core in memory, which finds faults of drivers alone, and once over the proved program.
+mod common;
+use common::plain::{Plain, World};
+use common::real_node;
+use epaxos::{OwnedAnswer, OwnedCommand, State};
+use std::fs;
+use std::path::{Path, PathBuf};
+use std::sync::atomic::{AtomicBool, AtomicU32, Ordering};
+use std::sync::mpsc::{SyncSender, channel, sync_channel};
+use std::sync::{Arc, Mutex, PoisonError};
+use std::thread;
+use std::time::{Duration, Instant};
+use store::core::{Begin, Core};
+use store::directory::Directory;
+use store::driver::{Ask, Driver, Event, Parts, Told, What};
+use store::generation::Limits;
+use store::hosted::{Hosted, Hosting};
+use store::identities::Identities;
+use store::linearizable::{Action, Operation, Verdict, check};
+use store::link::Link;
+use store::messages::Message;
+use store::metrics::Metrics;
+use store::node::{Node, Settings};
+use store::peers::{MOST_REPLICAS, Membership, Peers, Place};
+use store::plants::Plant;
+use store::random::Random;
+use store::receipts::Receipts;
+use store::sealed::Key;
+use store::stop_fault::StopFault;
+use store::teller::Teller;
+use store::timers::Timers;
+
+const REPLICAS: u8 = 3;
+const KEYS: u8 = 3;
+const CLIENTS_OF_EACH: u32 = 3;
+/// How many events may wait for a driver. What comes to a full one is lost.
+const WAITING: usize = 4_096;
+/// A play takes so long at most.
+const LONGEST: Duration = Duration::from_secs(240);
+/// A client waits so long for what it is told.
+const PATIENCE: Duration = Duration::from_secs(20);
+
+/// A way in memory, to one driver.
+struct Way {
+    from: u8,
+    events: SyncSender<Event>,
+    /// Whether one of its ends is cut off.
+    cuts: [Arc<AtomicBool>; 2],
+    /// Chance, and what is held up until something else has gone.
+    held: Mutex<(Random, Option<Vec<u8>>)>,
+}
+
+impl Way {
+    fn pass(&self, bytes: Vec<u8>) {
+        let _ = self.events.try_send(Event::Came { from: self.from, bytes });
+    }
+}
+
+impl Link for Way {
+    fn send(&self, bytes: Vec<u8>) {
+        if !self.is_reached() {
+            return;
+        }
+        // (messages of hosts go once, as by TCP, and in their order; a frame may be repeated, and come late)
+        let is_frame = !Message::is_one(&bytes);
+        let mut held = self.held.lock().unwrap_or_else(PoisonError::into_inner);
+        match held.0.below(40) {
+            0 => {}
+            1 if is_frame => {
+                self.pass(bytes.clone());
+                self.pass(bytes);
+            }
+            2 if is_frame => held.1.replace(bytes).into_iter().for_each(|late| self.pass(late)),
+            _ => {
+                self.pass(bytes);
+                held.1.take().into_iter().for_each(|late| self.pass(late));
+            }
+        }
+    }
+
+    fn send_first(&self, bytes: Vec<u8>) {
+        if self.is_reached() {
+            self.pass(bytes);
+        }
+    }
+
+    fn is_reached(&self) -> bool {
+        !self.cuts.iter().any(|cut| cut.load(Ordering::Relaxed))
+    }
+}
+
+/// What is played.
+struct Play<'a> {
+    folder: &'a Path,
+    plant: Option<Plant>,
+    /// It goes on until so many commands were told, in so many generations.
+    commands: u32,
+    generations: u64,
+}
+
+/// What clients noted, each of a key.
+type Notes = Vec<(u8, Operation)>;
+
+fn are_linearizable(notes: &Notes) -> bool {
+    (0..KEYS).all(|key| {
+        let of_key: Vec<Operation> = notes.iter().filter(|(of, _)| *of == key).map(|(_, it)| *it).collect();
+        check(&of_key) == Verdict::Linearizable
+    })
+}
+
+/// A client: asks its replica again and again, and notes what it was told. Values are numbers, none of which is set twice.
+struct Client<'a> {
+    number: u32,
+    request: u32,
+    events: &'a SyncSender<Event>,
+    start: Instant,
+    values: &'a AtomicU32,
+    /// How many commands were told, of all clients.
+    told: &'a AtomicU32,
+    notes: Notes,
+}
+
+impl Client<'_> {
+    fn run(mut self, is_over: &AtomicBool) -> Notes {
+        let mut random = Random::from_seed(self.number.into());
+        while !is_over.load(Ordering::Relaxed) {
+            let value = self.values.fetch_add(1, Ordering::Relaxed);
+            let action = match random.below(8) {
+                0..4 => Action::Exchange(value, None),
+                4..6 => Action::Get(None),
+                6 => Action::New(value, None),
+                _ => Action::Del(None),
+            };
+            self.ask(random.below(KEYS.into()) as u8, action);
+        }
+        self.notes
+    }
+
+    /// Asks, and notes what it was told; whether it was done.
+    fn ask(&mut self, key: u8, action: Action) -> bool {
+        let bytes = |value: u32| value.to_be_bytes().to_vec();
+        let at = vec![b'k', key];
+        let command = match action {
+            Action::Exchange(value, _) | Action::Set(value) => OwnedCommand::Put { key: at, value: bytes(value) },
+            Action::Get(_) => OwnedCommand::Get { key: at },
+            Action::New(value, _) => OwnedCommand::Cas { key: at, expected: None, new: Some(bytes(value)) },
+            Action::Del(_) => OwnedCommand::Del { key: at },
+        };
+        self.request += 1;
+        let (client, request) = (self.number, self.request);
+        let (teller, told) = channel();
+        let reply = Teller::new(move |it| _ = teller.send(it));
+        let start = self.start.elapsed().as_nanos() as u64;
+        let what = What::Propose { client, request, seen: 0, command };
+        self.events.send(Event::Ask(Ask { what, reply })).ok();
+        let told = match told.recv_timeout(PATIENCE) {
+            Ok(Told::Done { reply: OwnedAnswer::Absent, .. }) => Some(None),
+            Ok(Told::Done { reply: OwnedAnswer::Present(value), .. }) => {
+                Some(Some(u32::from_be_bytes(value.try_into().expect("a value that was set"))))
+            }
+            Ok(Told::Done { .. } | Told::Refused(_) | Told::Alone | Told::Late) => return false,
+            _ => None,
+        };
+        let end = told.map(|_| self.start.elapsed().as_nanos() as u64);
+        let action = match (action, told) {
+            (action, None) => action,
+            (Action::Exchange(value, _), told) => Action::Exchange(value, told),
+            (Action::Get(_), Some(told)) => Action::Get(told),
+            (Action::New(value, _), Some(told)) => Action::New(value, Some(told.is_none())),
+            (Action::Del(_), Some(told)) => Action::Del(Some(told.is_some())),
+            (action, _) => action,
+        };
+        self.notes.push((key, Operation { action, start, end }));
+        self.told.fetch_add(u32::from(end.is_some()), Ordering::Relaxed);
+        end.is_some()
+    }
+}
+
+/// Plays clients at three drivers over cores that `begin` begins, while one of them is cut off now and then.
+fn play<C: Core + Send>(it: &Play, begin: impl Fn(Place, &Directory, &SyncSender<Event>) -> (C, State)) -> Notes {
+    let mut all_metrics = Vec::new();
+    let (senders, receivers): (Vec<_>, Vec<_>) = (0..REPLICAS).map(|_| sync_channel(WAITING)).unzip();
+    let cuts: Vec<Arc<AtomicBool>> = (0..REPLICAS).map(|_| Arc::default()).collect();
+    let mut drivers = Vec::new();
+    for (replica, events) in (0..REPLICAS).zip(receivers) {
+        let sender: &SyncSender<Event> = &senders[usize::from(replica)];
+        let way = |to: u8| -> Option<Arc<dyn Link>> {
+            let random = Random::from_seed(u64::from(replica * REPLICAS + to) + 1);
+            let cuts = [replica, to].map(|end| cuts[usize::from(end)].clone());
+            let events = senders[usize::from(to)].clone();
+            let way = Way { from: replica, events, cuts, held: Mutex::new((random, None)) };
+            (to != replica).then(|| Arc::new(way) as Arc<dyn Link>)
+        };
+        let folder = it.folder.join(replica.to_string());
+        let directory = Directory::open(&folder).unwrap();
+        directory.prepare().unwrap();
+        let place = Place { replicas: REPLICAS.into(), replica };
+        let identities = Identities::open(&folder, MOST_REPLICAS, replica).unwrap();
+        let (node, state) = begin(place, &directory, sender);
+        let metrics = Arc::<Metrics>::default();
+        all_metrics.push(metrics.clone());
+        drivers.push(Driver::new(Parts {
+            node,
+            state,
+            peers: Peers::over((0..REPLICAS).map(way).collect()),
+            receipts: Receipts::open(&directory.receipts(state.generation)).unwrap(),
+            directory,
+            membership: Arc::new(Membership { place, identities, key: Key::none() }),
+            timers: Timers::new(replica, Instant::now(), Random::from_seed(u64::from(replica) + 77)),
+            events,
+            plant: it.plant,
+            limits: Limits { numbers: 60, dependencies: 10_000, log: u64::MAX },
+            kept: 1,
+            patience: Duration::from_secs(5),
+            sealer: 9_000 * 8 + u32::from(replica) + 1,
+            metrics,
+        }));
+        for peer in (0..REPLICAS).filter(|peer| *peer != replica) {
+            sender.send(Event::PeerReached(peer)).ok();
+        }
+    }
+    let (start, is_over) = (Instant::now(), AtomicBool::new(false));
+    let (values, told) = (AtomicU32::new(1), AtomicU32::new(0));
+    let client = |number: u32, replica: u8| {
+        let number = 8 * number + u32::from(replica) + 1;
+        Client {
+            number,
+            request: 0,
+            events: &senders[usize::from(replica)],
+            start,
+            values: &values,
+            told: &told,
+            notes: Vec::new(),
+        }
+    };
+    let newest = || all_metrics.iter().map(|metrics| metrics.generation.get()).max().unwrap_or_default();
+    // (what goes wrong is told once all threads have ended)
+    let mut faults = Vec::new();
+    let notes = thread::scope(|scope| {
+        let driven: Vec<_> = drivers.into_iter().map(|driver| scope.spawn(|| driver.run())).collect();
+        let is_over = &is_over;
+        let clients: Vec<_> = (0..REPLICAS)
+            .flat_map(|replica| (0..CLIENTS_OF_EACH).map(move |number| (number, replica)))
+            .map(|(number, replica)| {
+                let client = client(number, replica);
+                scope.spawn(move || client.run(is_over))
+            })
+            .collect();
+        let mut random = Random::from_seed(5);
+        let has_ended = |replica: u8| driven[usize::from(replica)].is_finished();
+        while told.load(Ordering::Relaxed) < it.commands || newest() < it.generations {
+            if start.elapsed() > LONGEST || (0..REPLICAS).any(has_ended) {
+                faults.push(format!("{told:?} told, {} generations", newest()));
+                break;
+            }
+            thread::sleep(Duration::from_millis(300));
+            let replica = random.below(REPLICAS.into()) as u8;
+            cut_for(&cuts[usize::from(replica)], replica, &senders, Duration::from_millis(200));
+        }
+        is_over.store(true, Ordering::Relaxed);
+        let mut notes: Vec<_> = clients.into_iter().flat_map(|client| client.join().unwrap()).collect();
+        // In the end each replica tells of each key.
+        for replica in 0..REPLICAS {
+            let mut client = client(CLIENTS_OF_EACH, replica);
+            for key in 0..KEYS {
+                while !client.ask(key, Action::Get(None)) {
+                    if start.elapsed() > 2 * LONGEST || (0..REPLICAS).any(has_ended) {
+                        faults.push(format!("replica {replica} doesn't answer in the end"));
+                        break;
+                    }
+                }
+            }
+            notes.extend(client.notes);
+        }
+        senders.iter().for_each(|sender| _ = sender.send(Event::End));
+        for driver in driven {
+            let stop = driver.join().unwrap();
+            if !matches!(stop, StopFault::Asked) {
+                faults.push(format!("{stop}: {stop:?}"));
+            }
+        }
+        notes
+    });
+    assert!(faults.is_empty(), "{faults:?}");
+    notes
+}
+
+/// Cuts a replica off for so long.
+fn cut_for(cut: &AtomicBool, replica: u8, senders: &[SyncSender<Event>], time: Duration) {
+    cut.store(true, Ordering::Relaxed);
+    thread::sleep(time);
+    cut.store(false, Ordering::Relaxed);
+    for peer in (0..REPLICAS).filter(|peer| *peer != replica) {
+        senders[usize::from(replica)].send(Event::PeerReached(peer)).ok();
+        senders[usize::from(peer)].send(Event::PeerReached(replica)).ok();
+    }
+}
+
+fn folder(name: &str) -> PathBuf {
+    let folder = std::env::temp_dir().join(format!("store-joined-{name}-{}", std::process::id()));
+    let _ = fs::remove_dir_all(&folder);
+    folder
+}
+
+fn play_plain(name: &str, plant: Option<Plant>) -> Notes {
+    let (folder, world) = (folder(name), World::default());
+    let it = Play { folder: &folder, plant, commands: 300, generations: 4 };
+    let notes = play(&it, |place, directory, _| {
+        let core = Plain::new(place, world.clone(), directory.generations());
+        let state = core.state;
+        (core, state)
+    });
+    fs::remove_dir_all(&folder).unwrap();
+    notes
+}
+
+#[test]
+fn what_clients_are_told_is_linearizable() {
+    let notes = play_plain("plain", None);
+    assert!(are_linearizable(&notes));
+}
+
+/// A reply that isn't the core's is found.
+#[test]
+fn what_drivers_do_wrong_is_found() {
+    for (name, plant) in [("changed", Plant::Changed), ("again", Plant::Again), ("early", Plant::Early)] {
+        let notes = play_plain(name, Some(plant));
+        assert!(!are_linearizable(&notes), "{name}: {} notes", notes.len());
+    }
+}
+
+/// Its logs are the store's to keep, as with the library.
+#[test]
+fn over_a_hosted_core_too() {
+    let Some(program) = real_node() else { return };
+    let folder = folder("hosted");
+    let core = if epaxos::Core::has_library() { epaxos::Core::Library } else { epaxos::Core::Process(program) };
+    let it = Play { folder: &folder, plant: None, commands: 150, generations: 3 };
+    let notes = play(&it, |place, directory, _| {
+        let hosting = Hosting { place, folder: directory.generations(), core: core.clone() };
+        let mut hosted = Hosted::start(hosting, &Begin::New, 0).unwrap();
+        let state = hosted.state().unwrap();
+        (hosted, state)
+    });
+    assert!(are_linearizable(&notes));
+    fs::remove_dir_all(&folder).unwrap();
+}
+
+#[test]
+fn over_the_proved_program_too() {
+    let Some(program) = real_node() else { return };
+    let folder = folder("real");
+    let it = Play { folder: &folder, plant: None, commands: 150, generations: 3 };
+    let notes = play(&it, |place, directory, events| {
+        let events = events.clone();
+        let settings = Settings {
+            program: program.clone(),
+            replicas: place.replicas,
+            replica: place.replica,
+            folder: directory.generations(),
+            errors: directory.errors().unwrap(),
+            errors_path: directory.errors_path(),
+            on_end: Arc::new(move |run| _ = events.try_send(Event::NodeEnded(run))),
+        };
+        let mut node = Node::start(settings, &Begin::New, 0).unwrap();
+        let state = node.state().unwrap();
+        (node, state)
+    });
+    assert!(are_linearizable(&notes));
+    fs::remove_dir_all(&folder).unwrap();
+}
