@@ -20,11 +20,13 @@ sys.dont_write_bytecode = True
 TOP = os.path.dirname(os.path.dirname(os.path.abspath(__file__)))
 sys.path.insert(0, f"{TOP}/.ci")
 
+import bindings
 import clock
 import disks
 import generations
 import lanes
 import launcher
+import library
 import moved
 import page
 import rows
@@ -57,7 +59,7 @@ PUT = b"replicas 3\npropose 0 1 put x 1\n"
 # a script whose bundle has over 16 KiB, so that it takes several reads, and is audited and upgraded, shown and drawn on devices that fail
 LONG = b"replicas 3\n" + b"propose 0 1 put x 1\nflush\nflush\n" * 40
 # what looks whether something that is written is up to date
-LOOKS = (["tools/make-rows", "check"], ["tools/wrong-bodies", "--look"], ["tools/pages"], ["tools/make-page", "--check"])
+LOOKS = (["tools/make-rows", "check"], ["tools/wrong-bodies", "--look"], ["tools/pages"], ["tools/make-page", "--check"], ["tools/c-header", "--check"])
 # how ep_viewer looks at a bundle
 VIEWS = (["show"], ["show", "--columns"], ["explain"], ["draw"], ["draw", "--graph"])
 TRACE = ["replay", "--emit", "trace"]
@@ -276,6 +278,8 @@ PARTS = (
     Part("turned bundles", lambda: sweeps(lambda: [swept("turned-bundles", [])])),
     Part("lives", lives),
     Part("hosts/store", store.tried),
+    Part("library", library.tried),
+    Part("bindings", bindings.tried),
 )
 
 

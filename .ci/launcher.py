@@ -137,7 +137,7 @@ def fixed(room):
         ("-build", refused("unexpected argument '-build' found", "a similar argument exists: '--build'")),
         ("build --unproved", refused("unrecognized subcommand 'build'", "a similar argument exists: '--build'")),
         ("--build now", (2, "", "epaxos: --build takes at most --unproved and --jobs N, with N from 1 to 99\n")),
-        ("--build --unproved now", (2, "", "epaxos: --build --unproved takes at most --jobs N, with N from 1 to 99\n")),
+        ("--build --unproved now", (2, "", "epaxos: --build --unproved takes at most --library and --jobs N, with N from 1 to 99\n")),
         ("put.script", refused("unrecognized subcommand 'put.script'", "epaxos reads standard input: epaxos replay < put.script")),
         ("no.run", refused("unrecognized subcommand 'no.run'", "epaxos reads standard input: epaxos run < no.run")),
         ("cut.bundle", refused("unrecognized subcommand 'cut.bundle'", "epaxos reads standard input: epaxos audit < cut.bundle")),

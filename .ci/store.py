@@ -1,5 +1,6 @@
-"""The host in hosts/store, where cargo is there: builds it and runs its tests, some of them over the programs that `rt ci` built, and then plays a
-trial of 60 seconds over several generations, with 6 kills and a machine replaced, whose chain the audit judges. Runs alone too: python3 .ci/store.py [NODE PROGRAM], of other builds.
+"""The host in hosts/store, where cargo is there: builds it and runs its tests, some of them over the programs that `rt ci` built, then clients that
+others have written and strangers at its ports, where redis-py is there, and then plays a trial of 60 seconds over several generations, with 6 kills
+and a machine replaced, whose chain the audit judges. Runs alone too: python3 .ci/store.py [NODE PROGRAM], of other builds.
 
 It is built without optimisation and without what debuggers need: with its tests that takes half of the processor time of a release build alone.
 """
@@ -20,6 +21,8 @@ PACKAGES = ("librust-hmac-dev", "librust-sha2-dev", "librust-signal-hook-dev", "
 REGISTRY = "/usr/share/cargo/registry"
 # clients that others have written, and Redis to compare with
 CLIENTS = ("redis-server", "redis-tools", "python3-redis", "stunnel4")
+# for so many seconds strangers come, and half as long before and after it is looked how clients do without them
+STRANGERS = "6"
 CHEAP = {"CARGO_INCREMENTAL": "0", "CARGO_PROFILE_DEV_DEBUG": "0"}
 # as ./epaxos goes about it
 EPAXOS = """#!/bin/sh
@@ -47,12 +50,16 @@ def source():
     return ["--config", "debian.toml", "--offline"] if has_packages() else []
 
 
+def has_redis(it):
+    return os.path.exists(it) and not subprocess.run([it, "-c", "import redis"], stderr=subprocess.DEVNULL).returncode
+
+
 def python():
     """A Python that has redis-py, or this one."""
     if not shutil.which("redis-cli") and shutil.which("apt-get") and not os.geteuid():
         subprocess.run(["apt-get", "install", "-y", "-qq", "--no-install-recommends", *CLIENTS], stdin=subprocess.DEVNULL, stdout=subprocess.DEVNULL)
     for it in (sys.executable, "/usr/bin/python3"):
-        if os.path.exists(it) and not subprocess.run([it, "-c", "import redis"], stderr=subprocess.DEVNULL).returncode:
+        if has_redis(it):
             return it
     return sys.executable
 
@@ -84,6 +91,8 @@ def tried(node=BUILT[0], program=BUILT[1]):
         well = [is_well(["cargo", "test", *packages, "--quiet"], cwd=STORE, env=environment)]
         if epaxos and all(well):
             well.append(is_well([it, f"{STORE}/tests/libraries.py", f"{scratch}/target/debug/store", epaxos]))
+        if epaxos and all(well) and has_redis(it):
+            well.append(is_well([it, f"{STORE}/tests/strangers.py", f"{scratch}/target/debug/store", epaxos, STRANGERS]))
         if epaxos and all(well):
             trial = f"{scratch}/target/debug/trial"
             well.append(is_well([trial, "--short", "--audit", "--node", epaxos, "--dir", f"{scratch}/trial"]))

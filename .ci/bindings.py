@@ -1,0 +1,196 @@
+"""The bindings for Rust and Python in bindings/, over the programs that `rt ci` built, and over the library where there is one: the crate's tests and pages where
+cargo is there, and the example of each, begun and gone on with. Runs alone too: python3 .ci/bindings.py [NODE PROGRAM [FOLDER]], of other builds, with
+the folder that libepaxos.a and libepaxos.so are in.
+"""
+
+import filecmp
+import os
+import re
+import shutil
+import struct
+import sys
+import tempfile
+
+sys.dont_write_bytecode = True
+
+from store import BUILT, CHEAP, TOP, is_well, joined
+
+CRATE, PYTHON, HEADER = f"{TOP}/bindings/rust/epaxos", f"{TOP}/bindings/python", f"{TOP}/bindings/c/epaxos.h"
+# where builds put the library: first the proved one
+LIBRARIES = (f"{TOP}/out", f"{TOP}/out/unproved")
+# how a page that lacks something, or links to nothing, isn't made
+STRICT = {"RUSTDOCFLAGS": "-D warnings"}
+# (a launcher of what isn't proved says so, on each start of a process)
+QUIET = {"EPAXOS_QUIET": "1"}
+
+
+def rust(scratch, environment, library):
+    """Whether each command went well: the tests, the pages, and the examples, of which each runs over each core."""
+    environment = {**environment, **CHEAP, **STRICT, "CARGO_TARGET_DIR": f"{scratch}/target", "EPAXOS_LIBRARY": library or ""}
+    yield is_well(["cargo", "test", "--offline", "--quiet"], cwd=CRATE, env=environment)
+    yield is_well(["cargo", "doc", "--offline", "--quiet", "--no-deps"], cwd=CRATE, env=environment)
+    cores = [environment]
+    if library:
+        # (the tests are over both cores; what is on the pages is over the one that is found)
+        cores.append(without(environment, "EPAXOS"))
+        yield is_well(["cargo", "test", "--offline", "--quiet", "--doc"], cwd=CRATE, env=cores[1])
+    for number, core in enumerate(cores):
+        for words in (["three", f"{scratch}/rust{number}"], ["three", f"{scratch}/rust{number}"], ["lock"], ["machine"]):
+            yield is_well([f"{scratch}/target/debug/examples/{words[0]}", *words[1:]], env=core)
+
+
+def without(environment, name):
+    return {key: value for key, value in environment.items() if key != name}
+
+
+def line(begin):
+    """The bytes of the one line of examples/requests.txt that is indented and begins so, with the frame that it names."""
+    with open(f"{TOP}/examples/requests.txt", encoding="utf-8") as file:
+        (found,) = (it.strip() for it in file if it.startswith(f"    {begin}"))
+    with open(f"{TOP}/examples/frames.txt", encoding="utf-8") as file:
+        frame = next(it.strip() for it in file if it.startswith("    4550 01 01"))
+    return bytes.fromhex(found.replace("FRAME", frame)), bytes.fromhex(frame)
+
+
+def wire():
+    """The bytes behind each name in examples/wire.txt. A line that is indented further goes on with the one before."""
+    found, name = {}, None
+    with open(f"{TOP}/examples/wire.txt", encoding="utf-8") as file:
+        for indented in (it for it in file if it.startswith("    ")):
+            if indented[4] != " ":
+                name, indented = indented.split(None, 1)
+            found[name] = found.get(name, b"") + bytes.fromhex(indented)
+    return found
+
+
+def vectors():
+    """Whether bindings/python spells and reads the worked bytes."""
+    sys.path.insert(0, PYTHON)
+    import epaxos
+
+    known = wire()
+    commands = {
+        "get": epaxos.get(b"ab"),
+        "put": epaxos.put(b"c", b"v"),
+        "del": epaxos.delete(b"c"),
+        "swap": epaxos.swap(b"c", b"de"),
+        "cas": epaxos.cas(b"c", None, b"v"),
+        "ask": epaxos.opaque(b"c", b"\x09", is_reading=True),
+        "act": epaxos.opaque(b"c", b"\x09", b"d"),
+        "seal": epaxos.seal(b"me"),
+    }
+    yield commands == {name: known[name] for name in commands}
+    yield epaxos._request(1, struct.pack(">IIQ", 1, 2, 3) + epaxos.put(b"x", b"12")) == known["propose"]
+    output, one, seven = epaxos.Output(known["report"][4:]), epaxos.Instance(1, 258), epaxos.Instance(0, 7)
+    receipts = [epaxos.Receipt(9, 2, one, 3, 1, 4, 5, None)]
+    told = (output.entries, output.is_sealed, output.frames, output.receipts, output.committed, output.executed)
+    yield told == (4, True, [(2, b"\x06\x07")], receipts, [seven], [seven, one]) and output.open == [epaxos.Open(epaxos.Instance(2, 3), 0, 2, 1)]
+
+    put = epaxos._request(1, struct.pack(">IIQ", 1, 2, 3) + epaxos.put(b"x", b"1"))
+    yield put == line("0000001a 01")[0]
+    answer, frame = line("0000004f 09")
+    output, first = epaxos.Output(answer[4:]), epaxos.Instance(0, 1)
+    told = (output.entries, output.is_sealed, output.frames, output.receipts, output.committed, output.executed)
+    yield told == (1, False, [(1, frame)], [], [], []) and output.open == [epaxos.Open(first, 1, 1, 0)]
+
+
+def shortened(text):
+    """A header's text in one line, without its comments."""
+    return " ".join(re.sub(r"/\*.*?\*/", "", text, flags=re.DOTALL).split())
+
+
+# The types of the crate's src/ffi.rs in C.
+IN_C = {"u8": "uint8_t", "u16": "uint16_t", "u32": "uint32_t", "u64": "uint64_t", "usize": "size_t", "void": "uint8_t"}
+
+
+def in_c(words, names):
+    """A type of src/ffi.rs, or of the header, with its pointer: `const uint8_t *` and `*const u8` are one."""
+    is_pointer, is_const = "*" in words, "const" in words
+    name = re.sub(r"\*|\bconst\b|\bmut\b|\bstruct\b", " ", words).split()[0]
+    return ("const " * is_const) + names.get(name, IN_C.get(name, name)) + " *" * is_pointer
+
+
+def declared_in_rust():
+    """What the crate declares of the library: each call with its types and its parameters' names, each struct with its fields, each status with its number."""
+    with open(f"{CRATE}/src/ffi.rs", encoding="utf-8") as file:
+        text = file.read()
+    found = re.findall(r"/// `struct (\w+)`[^\n]*\n(?:#\[[^\n]*\n)*(?:pub\(crate\) )?struct (\w+) \{(.*?)\n\}", text, re.DOTALL)
+    names = {name: in_header for in_header, name, _ in found}
+    declared = {it: [(name, in_c(words, names)) for name, words in re.findall(r"(\w+): ([^,]+),", body)] for it, _, body in found}
+    declared["EP_VERSION"] = re.search(r"VERSION: u32 = (\d+)", text)[1]
+    with open(f"{CRATE}/src/status.rs", encoding="utf-8") as file:
+        declared |= {f"EP_{name}": number for name, number in re.findall(r"const (\w+): u8 = (\d+);", file.read())}
+    for name, words, result in re.findall(r"fn (ep_\w+)\((.*?)\) -> (\w+);", text):
+        declared[name] = [("", in_c(result, names)), *((it, in_c(kind, names)) for it, kind in re.findall(r"(\w+): ([^,]+)", words))]
+    return declared
+
+
+def declared_in_header(text):
+    """The same of the header."""
+    declared = dict(re.findall(r"(EP_\w+) = (\d+)", text)) | dict(re.findall(r"#define (EP_\w+) (\d+)", text))
+    for name, body in re.findall(r"struct (\w+) \{ (.*?) \};", text):
+        fields = declared.setdefault(name, [])
+        for field in body.rstrip(";").split("; "):
+            kind, _, it = field.rpartition(" ")
+            fields.append((it.lstrip("*"), in_c(f"{kind} {'*' * it.startswith('*')}", {})))
+    for result, name, words in re.findall(r"(\w+) (ep_\w+)\((.*?)\);", text):
+        words = [] if words == "void" else [it.rpartition(" ") for it in words.split(", ")]
+        declared[name] = [("", in_c(result, {})), *((it.lstrip("*"), in_c(f"{kind} {'*' * it.startswith('*')}", {})) for kind, _, it in words)]
+    return declared
+
+
+def headers():
+    """Whether the crate and the Python file declare what they use of the library as its header does."""
+    if not os.path.isfile(HEADER):
+        print("the library's declarations are not compared: there is no header", flush=True)
+        return
+    with open(HEADER, encoding="utf-8") as file:
+        text = shortened(file.read())
+    known, used = declared_in_header(text), declared_in_rust()
+    wrong = [it for it in used if used[it] != known.get(it)]
+    print(*(f"the crate differs from the header: {it}: {used[it]}, and not {known.get(it)}" for it in wrong), sep="\n", end="\n" * bool(wrong), flush=True)
+    yield len(used) > 20 and not wrong
+    import epaxos
+
+    lines = [it for it in epaxos._DECLARED.splitlines() if it]
+    wrong = [it for it in lines if not re.search(re.escape(it) + r"(?!\w)", text)]
+    print(*(f"epaxos.py differs from the header: {it}" for it in wrong), sep="\n", end="\n" * bool(wrong), flush=True)
+    yield len(lines) > 20 and not wrong
+
+
+def python(scratch, environment, library):
+    """Whether each command went well: the example, begun and gone on with, over each core; and whether both have written the same logs."""
+    environment = {**environment, "PYTHONDONTWRITEBYTECODE": "1"}
+    cores = [environment]
+    if library:
+        cores.append({**without(environment, "EPAXOS"), "EPAXOS_LIBRARY": library})
+    for number, core in enumerate(cores):
+        for _ in range(2):
+            yield is_well([sys.executable, f"{PYTHON}/three.py", f"{scratch}/python{number}"], env=core)
+    if library:
+        for name in ("0.log", "1.log", "2.log"):
+            yield filecmp.cmp(f"{scratch}/python0/{name}", f"{scratch}/python1/{name}", shallow=False)
+
+
+def tried(node=BUILT[0], program=BUILT[1], library=None):
+    """How many of these passed, and how many failed."""
+    if not os.path.isfile(node) or not os.path.isfile(program):
+        print("the bindings are not tried: `rt ci` has not built both programs", flush=True)
+        return 0, 0
+    library = library or next((it for it in LIBRARIES if os.path.isfile(f"{it}/libepaxos.a") and os.path.isfile(f"{it}/libepaxos.so")), None)
+    if not library:
+        print("the bindings are not tried over the library: there is none", flush=True)
+    with tempfile.TemporaryDirectory(prefix="epaxos-bindings-") as scratch:
+        environment = {**os.environ, **QUIET, "EPAXOS": joined(scratch, node, program)}
+        well = [*vectors(), *headers(), *python(scratch, environment, library)]
+        if shutil.which("cargo"):
+            well += rust(scratch, environment, library)
+        else:
+            print("bindings/rust is not tried: there is no cargo", flush=True)
+    return well.count(True), well.count(False)
+
+
+if __name__ == "__main__":
+    counts = tried(*map(os.path.abspath, sys.argv[1:4]))
+    print("{} passed, {} failed".format(*counts))
+    sys.exit(1 if counts[1] else 0)

@@ -1,0 +1,109 @@
+"""The C library, whose crate `rt ci` proved: makes an archive without its proofs, since `rt lib` would prove all below it once more, and builds and runs the
+programs of bindings/c with it, by each compiler that is there. The logs that the example leaves are audited by the programs that `rt ci` built. Runs alone
+too: python3 .ci/library.py [ARCHIVE [NODE PROGRAM]], of other builds.
+"""
+
+import hashlib
+import os
+import re
+import shutil
+import subprocess
+import sys
+import tempfile
+
+sys.dont_write_bytecode = True
+
+from store import BUILT, TOP, is_well
+
+FOLDER = f"{TOP}/bindings/c"
+ARCHIVE = f"{TOP}/out/unproved/libepaxos.a"
+COMPILERS = ("gcc", "clang")
+STRICT = ["-std=c11", "-O2", "-Wall", "-Wextra", "-Wpedantic", "-Werror", "-D_POSIX_C_SOURCE=200809L"]
+# the allocations of the program go by what oom.c has in their place
+WRAPPED = "-Wl,--wrap=malloc,--wrap=realloc,--wrap=free"
+VALGRIND = ["valgrind", "--quiet", "--leak-check=full", "--errors-for-leak-kinds=all", "--error-exitcode=9"]
+REPLICAS = 3
+
+
+def first_opening():
+    """The file that generation 1 opens with, by docs/FORMATS.md, section 12."""
+    body = b"EPOP" + bytes([3, REPLICAS]) + (1).to_bytes(4, "big") + (0).to_bytes(8, "big") + bytes([0]) + (0).to_bytes(4, "big") + (0).to_bytes(4, "big")
+    return body + hashlib.sha256(body).digest()
+
+
+def lines(words):
+    """What a program writes, where it ends well."""
+    print(" ".join(os.path.relpath(it, TOP) if it.startswith(TOP) else it for it in words), flush=True)
+    ran = subprocess.run(words, stdin=subprocess.DEVNULL, stdout=subprocess.PIPE, text=True)
+    return None if ran.returncode else ran.stdout
+
+
+def agrees(said, client):
+    """Whether the example says that three replicas agree, and that each key has the last value of one of the clients from this one on."""
+    *told, last = (said or "").splitlines() or [""]
+    values = [re.fullmatch(r"key (\d) (\d+)\.(\d+)", it) for it in told]
+    found = [(it[1], it[3]) for it in values if it and client <= int(it[2]) < client + REPLICAS]
+    return found == [("0", "18"), ("1", "19"), ("2", "20")] and last == "three replicas agree"
+
+
+def is_audited(logs, scratch, node, program):
+    """Whether an audit accepts what these logs say."""
+    for me in range(REPLICAS):
+        os.makedirs(f"{scratch}/{me}/1")
+        shutil.copy(f"{logs}/{me}.log", f"{scratch}/{me}/1/log")
+        with open(f"{scratch}/{me}/1/opening", "wb") as file:
+            file.write(first_opening())
+    words = [node, "collect", "--generation", "1", *(f"{scratch}/{me}" for me in range(REPLICAS))]
+    bundle = subprocess.run(words, stdin=subprocess.DEVNULL, stdout=subprocess.PIPE)
+    report = subprocess.run([program, "audit"], input=bundle.stdout, stdout=subprocess.PIPE)
+    return not bundle.returncode and not report.returncode and report.stdout.startswith(b"verdict accepted\n")
+
+
+def built(compiler, scratch, archive):
+    """Whether each program is built and runs by the compiler, and the logs of the example are audited."""
+    for name, flags in (("example", []), ("misuse", []), ("oom", [WRAPPED])):
+        yield is_well([compiler, *STRICT, *flags, f"{FOLDER}/{name}.c", archive, "-o", f"{scratch}/{compiler}-{name}"])
+    yield lines([f"{scratch}/{compiler}-misuse"]) == "each mistake is a status\n"
+    yield is_well([f"{scratch}/{compiler}-oom"])
+
+
+def example(compiler, scratch, node, program):
+    """Whether the example runs, goes on with what it left, and is audited."""
+    logs = f"{scratch}/{compiler}-logs"
+    os.mkdir(logs)
+    for client in (1, 4):
+        yield agrees(lines([f"{scratch}/{compiler}-example", logs]), client)
+    if os.path.isfile(node) and os.path.isfile(program):
+        yield is_audited(logs, f"{scratch}/{compiler}-nodes", node, program)
+
+
+def tried(archive=None, node=BUILT[0], program=BUILT[1]):
+    """How many of these passed, and how many failed."""
+    compilers = [it for it in COMPILERS if shutil.which(it)]
+    if not compilers:
+        print("the C library is not tried: there is no C compiler", flush=True)
+        return 0, 0
+    well = []
+    if archive is None:
+        archive = ARCHIVE
+        well.append(is_well(["tools/unproved", "--library"], cwd=TOP))
+    well.append(is_well(["tools/c-header", "--check"], cwd=TOP))
+    if os.path.isfile(archive):
+        with tempfile.TemporaryDirectory(prefix="epaxos-library-") as scratch:
+            for compiler in compilers:
+                well += [*built(compiler, scratch, archive), *example(compiler, scratch, node, program)]
+            if shutil.which("g++"):
+                with open(f"{scratch}/header.cc", "w", encoding="ascii") as file:
+                    file.write('#include "epaxos.h"\nint main() { return ep_version() != EP_VERSION; }\n')
+                well.append(is_well(["g++", "-Wall", "-Wextra", "-Wpedantic", "-Werror", f"-I{FOLDER}", f"{scratch}/header.cc", archive, "-o", f"{scratch}/header"]) and is_well([f"{scratch}/header"]))
+            if shutil.which("valgrind"):
+                os.mkdir(f"{scratch}/looked")
+                well += [is_well([*VALGRIND, f"{scratch}/{compilers[0]}-{it}"]) for it in ("misuse",)]
+                well.append(is_well([*VALGRIND, f"{scratch}/{compilers[0]}-example", f"{scratch}/looked"]))
+    return well.count(True), well.count(False)
+
+
+if __name__ == "__main__":
+    counts = tried(*map(os.path.abspath, sys.argv[1:4]))
+    print("{} passed, {} failed".format(*counts))
+    sys.exit(1 if counts[1] else 0)
