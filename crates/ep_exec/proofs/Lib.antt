@@ -1,5 +1,4 @@
 pub mod Entries
-pub mod Members
 pub mod Counts
 pub mod Least
 pub mod Blocks

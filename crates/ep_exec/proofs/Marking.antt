@@ -1,7 +1,7 @@
 -- What a mark more makes of marks.
 use Rattle.std.proofs.Common.{◌≡◌, ℕ, ◌<◌, Bool, true, false, List, [], ◌∷◌, ◌++◌, length, inl, inr, sym, subst, ◌∙◌, arith}
 use Rattle.std.specs.Prelude.{slice_index_or, slice_set}
-use Rattle.std.proofs.lemmas.Bool.{cases_eq}
+use Rattle.std.proofs.lemmas.Bool.{cases_eq, false≢true}
 use Rattle.std.proofs.lemmas.List.{get_or-set_same, get_or-set_other}
 use Rattle.ep_base.specs.Instances.{IsInstance}
 use Rattle.ep_base.specs.Places.{Has}
@@ -26,3 +26,6 @@ marks_more is ms j s own within i known = elim (cases_eq i j) [
         λ h. has_left is (j ∷ []) i ((s i known).1 (sym other ∙ h)),
       )
 ]
+
+pub marks_none : AreMarks [] []
+marks_none i known = (λ has. absurd (omega arith), λ h. absurd (false≢true h))

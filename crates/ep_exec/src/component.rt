@@ -8,7 +8,6 @@ ghost use Rattle.ep_exec.specs.Walk.{deps_at, lists};
 use crate::executed::Executed;
 use crate::graph::deps_at;
 use crate::level::append;
-use crate::listed::Listed;
 use crate::marked::Marked;
 use ep_base::InstanceId;
 use ep_space::Space;
@@ -92,7 +91,7 @@ fn append_waits(
     list: &mut Vec<InstanceId>,
     space: &Space,
     skipped: &Executed,
-    own: &Listed,
+    own: &Marked,
     instance: InstanceId,
 ) -> Result<(), AllocError>
     ensures { OnOk result (list.new.items ≡ list.old.items ++ filter (is_out own.now) (deps_at (left_in space.now.records skipped.now.list instance))) }
@@ -114,7 +113,7 @@ fn waits_of(
 ) -> Result<Vec<InstanceId>, AllocError>
     ensures { IfOk result (λ v. v.items ≡ waits_for (left_in space.now.records skipped.now.list) component.now component.now) }
 {
-    let mut own = Listed::new(alloc);
+    let mut own = Marked::new(alloc);
     own.append(component)?;
     let mut waits = Vec::new(alloc);
     for instance in component {

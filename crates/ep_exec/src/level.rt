@@ -4,14 +4,14 @@ ghost use Rattle.std.specs.Prelude.{◌≡◌, ◌++◌, ◌↔◌, IsTrue, IfOk
 ghost use Rattle.ep_base.specs.Places.{place, Has};
 ghost use Rattle.ep_exec.specs.Walk.{flat, pooled, joined, merged, stack};
 
-use crate::listed::Listed;
+use crate::marked::Marked;
 use ep_base::InstanceId;
 use std::alloc::AllocError;
 
 /// Instances on the path that reach each other, and the dependencies still to follow.
 #[derive(Drop)]
 pub struct Level {
-    pub members: Listed,
+    pub members: Marked,
     pub edges: Vec<InstanceId>,
 }
 
@@ -63,7 +63,7 @@ fn extended(list: Vec<InstanceId>, more: Vec<InstanceId>) -> Result<Vec<Instance
 }
 
 /// The same with their tests.
-fn pool_listed(first: Listed, second: Listed) -> Result<Listed, AllocError>
+fn pool_listed(first: Marked, second: Marked) -> Result<Marked, AllocError>
     ensures { IfOk result (λ l. l ≡ pooled first second) }
 {
     if first.as_slice().len() < second.as_slice().len() {
@@ -74,7 +74,7 @@ fn pool_listed(first: Listed, second: Listed) -> Result<Listed, AllocError>
 }
 
 /// A list with another one at its end, with its test.
-fn extended_listed(list: Listed, more: Listed) -> Result<Listed, AllocError>
+fn extended_listed(list: Marked, more: Marked) -> Result<Marked, AllocError>
     ensures { IfOk result (λ l. l ≡ list ++ more) }
 {
     let mut list = list;

@@ -16,7 +16,6 @@ mod contents_fault;
 mod executed;
 mod graph;
 mod level;
-mod listed;
 mod marked;
 mod marks;
 mod plan_fault;

@@ -12,7 +12,6 @@ ghost use Rattle.ep_exec.specs.Walk.{flat, stack, members_of, fresh, Follows, Se
 use crate::executed::Executed;
 use crate::graph::append_left;
 use crate::level::{Level, merge};
-use crate::listed::Listed;
 use crate::marked::Marked;
 use ep_base::InstanceId;
 use ep_space::Space;
@@ -28,7 +27,7 @@ fn enter(
 ) -> Result<(), AllocError>
     ensures { OnOk result (stack path.new.items ≡ fresh (left_in space.now.records skipped.now.list) instance ∷ stack path.old.items) }
 {
-    let mut members = Listed::new(alloc);
+    let mut members = Marked::new(alloc);
     members.push(instance)?;
     let mut edges = Vec::new(alloc);
     append_left(&mut edges, space, skipped, instance)?;
@@ -69,7 +68,7 @@ fn follow(
 fn close(
     closed: &mut Marked,
     found: &mut Vec<Vec<InstanceId>>,
-    members: Listed,
+    members: Marked,
 ) -> Result<(), AllocError>
     ensures closed { OnOk result (closed.new ≡ closed.old ++ members) }
     ensures found { OnOk result (lists found.new.items ≡ lists found.old.items ++ members ∷ []) }
