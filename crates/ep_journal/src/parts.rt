@@ -195,6 +195,7 @@ impl Parts {
     }
 
     /// Does what is asked of the instance, where there is a mark.
+    #[inline(always)]
     fn ask(
         &mut self,
         alloc: Global,

@@ -24,6 +24,7 @@ pub(crate) fn screen_request(client: u32, request: u32, command: &Command) -> Re
 
 /// Why no state takes the frame: `OutOfRange` where its sender, its receiver or a replica that its message names is not of the cluster, then
 /// `NotMine` where it is for another replica.
+#[inline(always)]
 pub(crate) fn screen_frame(
     cluster: Size,
     me: ReplicaId,
@@ -42,6 +43,7 @@ pub(crate) fn screen_frame(
 }
 
 /// `OutOfRange` unless the instance is of a replica of the cluster.
+#[inline(always)]
 pub(crate) fn screen_instance(cluster: Size, instance: InstanceId) -> Result<(), StepFault>
     ensures ok { OnOk result ((me : ℕ) → screened cluster me (GiveUp instance) ≡ None) }
     ensures refused { IfErr result (λ e. (me : ℕ) → IsScreened (screened cluster me (GiveUp instance)) e) }

@@ -10,6 +10,7 @@ use ep_base::{InstanceId, Version};
 
 /// Whether a replica of this version has what the event speaks of: `OtherVersion` for a frame of another version, `OtherGeneration` for one of
 /// its version and another generation, `OutOfRange` for a command or an instance's number that the version lacks.
+#[inline(always)]
 pub(crate) fn check_version(version: Version, event: &Event) -> Result<(), StepFault>
     ensures ok { OnOk result (lacking version event.now ≡ None) }
     ensures err { IfErr result (λ fault. lacking version event.now ≡ Some fault) }
@@ -35,6 +36,7 @@ pub(crate) fn check_version(version: Version, event: &Event) -> Result<(), StepF
     }
 }
 
+#[inline(always)]
 fn check_spelled(spelled: Version, version: Version) -> Result<(), StepFault>
     ensures ok { OnOk result (spelled_in spelled version ≡ None) }
     ensures err { IfErr result (λ fault. spelled_in spelled version ≡ Some fault) }
@@ -48,6 +50,7 @@ fn check_spelled(spelled: Version, version: Version) -> Result<(), StepFault>
     Ok(())
 }
 
+#[inline(always)]
 fn check_numbered(version: Version, instance: InstanceId) -> Result<(), StepFault>
     ensures ok { OnOk result (numbered_in version instance ≡ None) }
     ensures err { IfErr result (λ fault. numbered_in version instance ≡ Some fault) }

@@ -62,6 +62,7 @@ impl Change {
     }
 
     /// This is recorded, led and sent; the counter told stays.
+    #[inline(always)]
     pub fn of(entry: Recorded, led: Leading, out: Option<Sending>) -> Change
         ensures { result ≡ record { entry = entry; led = led; told = None; out = out } }
     {
@@ -255,6 +256,7 @@ fn write(
     }
 }
 
+#[inline(always)]
 fn write_record(space: &mut Space, id: InstanceId, entry: Recorded)
     requires { HasRecordPlace entry space.old id }
     ensures { space.new ≡ record space.old { records = with_entry space.old.records id (entry_of id (record_at space.old id) entry); room = space.new.room } }

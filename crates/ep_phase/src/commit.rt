@@ -68,6 +68,7 @@ pub fn on_commit(
 }
 
 /// Whether the replica's last vote is for the frame's decree.
+#[inline(always)]
 fn has_voted_for(cell: &Cell<'_>, frame: &FrameView<'_>) -> bool
     requires kind { kind_at frame.now ≡ kind.Commit }
     ensures { IsTrue result → settled cell.now.instance (record_of cell.now) (record_of cell.now).vote ≡ Some (with_commit cell.now.instance (record_of cell.now) (decree_at frame.now)) }

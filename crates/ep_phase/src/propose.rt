@@ -116,6 +116,7 @@ pub fn on_pre_accept(
 }
 
 /// Pre-accepts the frame's command at its ballot.
+#[inline(always)]
 fn pre_accept(
     alloc: Global,
     cell: &Cell<'_>,
@@ -192,6 +193,7 @@ pub fn is_usable(cell: &Cell<'_>, ballot: Ballot, led: Ballot) -> bool
 }
 
 /// The attributes that the command's interference set gives it; a refusal is that of every rule that they limit.
+#[inline(always)]
 fn own_attrs(alloc: Global, cell: &Cell<'_>, command: &Command) -> Result<Attrs, DecisionFault>
     ensures ok { IfOk result (λ a. (a ≡ interference cell.now.records cell.now.instance command.now) × ((ch : cells.Change) → rules.limited a ch ≡ Ok ch)) }
     ensures refused { IfErr result (λ e. (ch : cells.Change) → IsRefused (rules.limited (interference cell.now.records cell.now.instance command.now) ch) e) }
@@ -202,6 +204,7 @@ fn own_attrs(alloc: Global, cell: &Cell<'_>, command: &Command) -> Result<Attrs,
     }
 }
 
+#[inline(always)]
 fn count_pre_accept_ok(
     alloc: Global,
     cell: &Cell<'_>,
@@ -231,6 +234,7 @@ fn count_pre_accept_ok(
 }
 
 /// The answer is kept, and no more.
+#[inline(always)]
 fn one_more(
     alloc: Global,
     cell: &Cell<'_>,
@@ -251,6 +255,7 @@ fn one_more(
 }
 
 /// Commits the leader's own command with the frame's attributes, which are those of all answers.
+#[inline(always)]
 fn fast_path(alloc: Global, cell: &Cell<'_>, frame: &FrameView<'_>) -> Result<Change, DecisionFault>
     requires kind { kind_at frame.now ≡ kind.PreAcceptOk }
     ensures ok { IfOk result (λ ch. change_of cell.now ch ≡ rules.fast_path cell.now.faults cell.now.instance cell.now.me (attrs_at frame.now) (record_of cell.now) (record_of cell.now).vote) }

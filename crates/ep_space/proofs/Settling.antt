@@ -1,4 +1,4 @@
--- A record that is taken out, committed and put back.
+-- A record whose vote is committed.
 use Rattle.std.proofs.Common.{◌≡◌, ◌∙◌, ℕ, Bool, true, false, cond, Option, Some, None, is_none, sym, ap, refl}
 use Rattle.std.specs.Cmp.{nat_cmp_total, unsigned_tied}
 use Rattle.std.proofs.lemmas.Bool.{eqb-true}
@@ -17,7 +17,7 @@ use Rattle.ep_space.specs.Keys.{voted_keys, recorded_keys}
 use Rattle.ep_base.specs.declared.version.Version.{Version}
 use Rattle.ep_space.specs.Records.{Records, record_at}
 use Rattle.ep_space.specs.Settled.{committed_vote, as_settled, settled}
-use Rattle.ep_space.proofs.Twice.{remove_none, with_held-after_remove}
+use Rattle.ep_space.proofs.Twice.{remove_none}
 
 own_or : {X : Type 0} (b : Bool) (v o : Option X) → (b ≡ true → v ≡ o) → cond b v o ≡ o
 own_or true v o h = h refl
@@ -31,10 +31,6 @@ with_held-again m i (Some x) h =
     (λ q.
     map.get-insert nat_cmp_total m i x q
     ∙ own_or (eq_by_cmp nat_cmp q i) (Some x) (map.get m q) (λ tied. sym (ap (map.get m) (eqb-true q i (sym (unsigned_tied q i) ∙ tied)) ∙ h)))
-
--- what is written after it was emptied is as written at once
-pub held_after_remove : {X : Type 0} (m : Map X) (i : ℕ) (o : Option X) → with_held (remove m i) i o ≡ with_held m i o
-held_after_remove m i o = with_held-after_remove m i o
 
 keys_committed : (v : Option Vote) → voted_keys (committed_vote v) ≡ voted_keys v
 keys_committed None = refl

@@ -1,13 +1,12 @@
 -- Where the entries of a table stand.
 use Rattle.std.proofs.Common.{◌≡◌, ◌≢◌, ℕ, zero, suc, ◌-◌, ◌<◌, ◌≤◌, Bool, true, false, cond, Option, Some, None, List, [], ◌∷◌, ◌++◌, length, is_some, refl, sym, ap, subst, ◌∙◌, true≢false, arith, not}
 use Rattle.std.specs.Prelude.{slice_get, slice_index_or, slice_set, take, ◌+◌, ◌||◌, ◌==◌, if◌then◌else◌}
-use Rattle.std.specs.List.{AllByRecursion, IsDistinct, list_any}
+use Rattle.std.specs.List.{IsDistinct, list_any}
 use Rattle.std.specs.Map.{keys_of, lookup, set_value, values_of}
-use Rattle.indexmap.specs.IndexMap.{insert_entry, set_value_at}
+use Rattle.indexmap.specs.IndexMap.{set_value_at}
 use Rattle.std.proofs.lemmas.Bool.{eq-eqb, eqb-true}
 use Rattle.std.proofs.lemmas.List.{get_or-set_same, get_or-set_other, take_more}
-use Rattle.std.proofs.lemmas.Map.Keys.{IsDistinct-head, IsDistinct-tail, IsDistinct-push}
-use Rattle.std.proofs.lemmas.Option.{none-some, slice_get-get_or, same_Some}
+use Rattle.std.proofs.lemmas.Map.Keys.{IsDistinct-push}
 use Rattle.ep_base.specs.Instances.{IsInstance}
 use Rattle.ep_space.specs.Entries.{same, slot, spot, spot_after, value_at, with_place, AreSpots}
 use Rattle.ep_space.proofs.Order.{same_equiv, same_number}
@@ -65,11 +64,6 @@ module _ {X : Type 0} where
   keys-push [] e = refl
   keys-push (f ∷ es) e = ap (λ (ks : List ℕ). f.0 ∷ ks) (keys-push es e)
 
-pub get-keys : {X : Type 0} (es : List (ℕ × X)) (n : ℕ) (e : ℕ × X) → slice_get es n ≡ Some e → slice_get (keys_of es) n ≡ Some e.0
-get-keys [] n e at = absurd (none-some e at)
-get-keys {X} (f ∷ es) zero e at = ap (λ (x : ℕ × X). Some x.0) (same_Some f e at)
-get-keys (f ∷ es) (suc n) e at = get-keys es n e at
-
 -- An entry more.
 
 after_none : (n : ℕ) → spot_after n ≡ 0 → n ≡ 0
@@ -96,30 +90,6 @@ absent i (k ∷ ks) e = go (same i k) e (absent i ks)
     go : (b : Bool) → cond b 1 (spot_after (spot i ks)) ≡ 0 → (spot i ks ≡ 0 → list_any (same i) ks ≡ false) → (b || list_any (same i) ks) ≡ false
     go true t rest = absurd (omega (arith, t))
     go false t rest = rest (after_none (spot i ks) t)
-
--- A spot, by the key that stands there.
-
-apart_at : (x : ℕ) (xs : List ℕ) (n k : ℕ) → AllByRecursion (λ y. same x y ≡ false) xs → slice_get xs n ≡ Some k → same x k ≡ false
-apart_at x [] n k h e = absurd (none-some k e)
-apart_at x (y ∷ ys) zero k h e = subst (λ z. same x z ≡ false) (same_Some y k e) h.0
-apart_at x (y ∷ ys) (suc n) k h e = apart_at x ys n k h.1 e
-
-apart_other : (i x k : ℕ) → same i k ≡ true → same x k ≡ false → same i x ≡ false
-apart_other i x k is apart = go (same i x) refl
-  where
-    go : (b : Bool) → same i x ≡ b → b ≡ false
-    go false e = refl
-    go true e = sym is ∙ same_equiv.congr i x k e ∙ apart
-
-pub spot-first : (i : ℕ) (ks : List ℕ) (n k : ℕ) → IsDistinct same ks → slice_get ks n ≡ Some k → same i k ≡ true → spot i ks ≡ suc n
-spot-first i [] n k d at is = absurd (none-some k at)
-spot-first i (x ∷ xs) zero k d at is = ap (λ b. cond b 1 (spot_after (spot i xs))) (subst (λ z. same i z ≡ true) (sym (same_Some x k at)) is)
-spot-first i (x ∷ xs) (suc n) k d at is =
-    let apart : same x k ≡ false = apart_at x xs n k (IsDistinct-head same x xs d) at in
-    ap (λ b. cond b 1 (spot_after (spot i xs))) (apart_other i x k is apart) ∙ ap spot_after (spot-first i xs n k (IsDistinct-tail same x xs d) at is)
-
-pub spot-key : {X : Type 0} (es : List (ℕ × X)) (i n : ℕ) (e : ℕ × X) → IsDistinct same (keys_of es) → slice_get es n ≡ Some e → same i e.0 ≡ true → spot i (keys_of es) ≡ suc n
-spot-key es i n e d at is = spot-first i (keys_of es) n e.0 d (get-keys es n e at) is
 
 -- Slots.
 
@@ -214,36 +184,39 @@ module _ {X : Type 0} where
       let one_more : suc (n - 1) ≡ n = omega (arith, some) in
       set-spot i w es (n - 1) (one_more ∙ is)
 
-  -- An entry more is the one that an insertion makes.
+  -- What stands at an index, and another value in its place.
 
-  pub insert-new : (es : List (ℕ × X)) (i : ℕ) (w : X) → spot i (keys_of es) ≡ 0 → insert_entry same es i w ≡ es ++ (i, w) ∷ []
-  insert-new [] i w h = refl
-  insert-new (e ∷ es) i w h = go (same i e.0) h (insert-new es i w)
-    where
-      go : (b : Bool) → cond b 1 (spot_after (spot i (keys_of es))) ≡ 0 → (spot i (keys_of es) ≡ 0 → insert_entry same es i w ≡ es ++ (i, w) ∷ [])
-          → cond b ((e.0, w) ∷ es) (e ∷ insert_entry same es i w) ≡ e ∷ (es ++ (i, w) ∷ [])
-      go true t rest = absurd (omega (arith, t))
-      go false t rest = ap (λ (xs : List (ℕ × X)). e ∷ xs) (rest (after_none (spot i (keys_of es)) t))
+  pub value-or : (es : List (ℕ × X)) (n : ℕ) (d : ℕ × X) → n < length es → slice_get (values_of es) n ≡ Some (slice_index_or es n d).1
+  value-or [] n d h = absurd (omega (arith, h))
+  value-or (e ∷ es) zero d h = refl
+  value-or (e ∷ es) (suc n) d h = value-or es n d (omega (arith, h))
+
+  pub set-or : (es : List (ℕ × X)) (n : ℕ) (d : ℕ × X) (w : X) → n < length es → slice_set es n ((slice_index_or es n d).0, w) ≡ set_value_at es n w
+  set-or [] n d w h = absurd (omega (arith, h))
+  set-or (e ∷ es) zero d w h = refl
+  set-or (e ∷ es) (suc n) d w h = ap (λ (xs : List (ℕ × X)). e ∷ xs) (set-or es n d w (omega (arith, h)))
+
+  -- The same of a spot.
+
+  pub spot-inside : (es : List (ℕ × X)) (i n : ℕ) → n ≡ spot i (keys_of es) → 0 < n → n - 1 < length es
+  spot-inside es i n is some =
+      let ks : List ℕ = keys_of es in
+      let most = spot-within i ks in
+      let as_many = length-keys es in
+      omega (arith, is, some, most, as_many)
+
+  pub spot-value : (es : List (ℕ × X)) (i n : ℕ) (e : ℕ × X) → n ≡ spot i (keys_of es) → 0 < n → e ≡ slice_index_or es (n - 1) e → Some e.1 ≡ lookup (same i) es
+  spot-value es i n e is some at = spot-read es i n e.1 is some (value-or es (n - 1) e (spot-inside es i n is some) ∙ ap (λ (f : ℕ × X). Some f.1) (sym at))
+
+  pub spot-set : (es : List (ℕ × X)) (i n : ℕ) (e : ℕ × X) (w : X) → n ≡ spot i (keys_of es) → 0 < n → e ≡ slice_index_or es (n - 1) e → slice_set es (n - 1) (e.0, w) ≡ set_value (same i) es w
+  spot-set es i n e w is some at =
+      ap (λ (f : ℕ × X). slice_set es (n - 1) (f.0, w)) at ∙ set-or es (n - 1) e w (spot-inside es i n is some) ∙ spot-written es i n w is some
 
 pub spots-none : (ns ks : List ℕ) → ns ≡ [] → ks ≡ [] → AreSpots ns ks
 unfolding IsDistinct
 spots-none ns ks e f = subst (λ qs. AreSpots ns qs) (sym f) (subst (λ ms. AreSpots ms []) (sym e) (record { distinct = tt; told = λ i h. refl }))
 
--- The entries in front of one.
+-- The items in front of one, and this one.
 
-pub take-next : {X : Type 0} (xs : List X) (k : ℕ) (x : X) → k < length xs → slice_get xs k ≡ Some x → take (k + 1) xs ≡ take k xs ++ x ∷ []
-take-next xs k x inside at = take_more xs k x inside ∙ ap (λ y. take k xs ++ y ∷ []) (same_Some (slice_index_or xs k x) x (sym (slice_get-get_or xs k x inside) ∙ at))
-
-spot-before : {X : Type 0} (i : ℕ) (es : List (ℕ × X)) (n : ℕ) → spot i (keys_of es) ≡ suc n → spot i (keys_of (take n es)) ≡ 0
-spot-before i [] n h = absurd (omega (arith, h))
-spot-before i (e ∷ es) zero h = refl
-spot-before i (e ∷ es) (suc n) h = go (same i e.0) h (spot-before i es n)
-  where
-    go : (b : Bool) → cond b 1 (spot_after (spot i (keys_of es))) ≡ suc (suc n) → (spot i (keys_of es) ≡ suc n → spot i (keys_of (take n es)) ≡ 0)
-        → cond b 1 (spot_after (spot i (keys_of (take n es)))) ≡ 0
-    go true t rest = absurd (omega (arith, t))
-    go false t rest = ap spot_after (rest (sym (after_suc n (spot i (keys_of es)) (sym t))))
-
--- an instance stands nowhere in front of its entry
-pub spot-fresh : {X : Type 0} (es : List (ℕ × X)) (n : ℕ) (e : ℕ × X) → IsDistinct same (keys_of es) → slice_get es n ≡ Some e → spot e.0 (keys_of (take n es)) ≡ 0
-spot-fresh es n e d at = spot-before e.0 es n (spot-key es e.0 n e d at (same_equiv.refl e.0))
+pub take-item : {X : Type 0} (xs : List X) (k : ℕ) (x : X) → k < length xs → x ≡ slice_index_or xs k x → take (k + 1) xs ≡ take k xs ++ x ∷ []
+take-item xs k x inside at = take_more xs k x inside ∙ ap (λ y. take k xs ++ y ∷ []) (sym at)

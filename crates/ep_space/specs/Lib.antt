@@ -1,6 +1,5 @@
 pub mod Held
 pub mod Entries
-pub mod PlaceHash
 pub mod Keys
 pub mod Index
 pub mod Indexed

@@ -199,7 +199,7 @@ fn widen_run(run: &mut Vec<InstanceId>) -> Result<(), AllocError>
     run.reserve(1)
 }
 
-// An empty run with a free place.
+// An empty run with free places.
 fn add_run(runs: &mut Runs, key: &[u8]) -> Result<(), AllocError>
     requires { lookup (is_at key.now) runs.old.entries ≡ None }
     ensures room { OnOk result (room_in runs.new.entries key.now ≡ true) }
@@ -208,8 +208,7 @@ fn add_run(runs: &mut Runs, key: &[u8]) -> Result<(), AllocError>
 {
     let alloc = *runs.allocator();
     let key = Vec::from_slice(alloc, key)?;
-    let mut run = Vec::new(alloc);
-    widen_run(&mut run)?;
+    let run = Vec::with_capacity(alloc, 8)?;
     match runs.insert(key, run) {
         Ok(_) => Ok(()),
         Err(_) => Err(AllocError),

@@ -11,15 +11,14 @@ ghost use Rattle.ep_space.specs.Index.{run, HasRuns, IsKept};
 ghost use Rattle.ep_space.specs.Keys.{index_keys, recorded_keys, keys_at, holders, HasRoom};
 ghost use Rattle.ep_space.specs.Open.{AreRecords};
 ghost use Rattle.ep_space.specs.Seqs.{recorded_seq};
-ghost use Rattle.ep_space.specs.Settled.{as_settled, committed_vote};
+ghost use Rattle.ep_space.specs.Settled.{as_settled};
 
 use crate::index::{self, Index, enter, leave, make_room, new_index, run_of, seals_of};
 use crate::seqs::{Seqs, note_seq, seq_at, seq_of, widen};
 use crate::table::Table;
 use crate::taken::note;
-use ep_base::{Ballot, Command, InstanceId, ReplicaId, Vote, VoteStatus};
+use ep_base::{Ballot, Command, InstanceId, ReplicaId, Vote};
 use ep_rules::Record;
-use indexmap::map::Slice;
 use std::alloc::{AllocError, Global};
 use std::marker::Model;
 
@@ -84,8 +83,8 @@ impl Keyed {
     }
 
     /// The instances that have a place, each with its record, if it has one.
-    pub fn entries(&self) -> Slice<'_, InstanceId, Option<Record>>
-        ensures { AreRecords self.now.held result }
+    pub fn entries(&self) -> &[(InstanceId, Option<Record>)]
+        ensures { AreRecords self.now.held result.now }
     {
         self.table.entries()
     }
@@ -101,6 +100,7 @@ impl Keyed {
     }
 
     /// Makes room for each key that the command brings to the instance. There may be more room at want of memory too; nothing else changes.
+    #[inline(always)]
     pub fn make_room(&mut self, id: InstanceId, command: &Command) -> Result<(), AllocError>
         ensures room { OnOk result (HasRoom self.new.room (keys_at self.old.held id) (index_keys command.now)) }
         ensures same { self.new ≡ record { held = self.old.held; places = self.old.places; room = self.new.room } }
@@ -147,7 +147,7 @@ impl Keyed {
         requires { HasPlace self.old.places id }
         ensures { self.new ≡ record { held = with_held self.old.held id (as_settled (get self.old.held id)); places = self.old.places; room = self.old.room } }
     {
-        write_settled(&mut self.table, id);
+        self.table.settle(id);
     }
 
     /// The instances whose recorded command has the key, in rising order.
@@ -181,6 +181,7 @@ impl Keyed {
 }
 
 /// Makes room in the index for each key that the command brings to the instance.
+#[inline(always)]
 fn room_at(
     table: &Table<Record>,
     index: &mut Index,
@@ -194,6 +195,7 @@ fn room_at(
 }
 
 /// Writes this record, or none, at the instance's place, and gives what was there; the index follows.
+#[inline(always)]
 fn exchange(
     table: &mut Table<Record>,
     index: &mut Index,
@@ -227,35 +229,6 @@ fn write_promise(table: &mut Table<Record>, id: InstanceId, ballot: Ballot)
             vote,
         }),
     );
-}
-
-// The record is taken out, and put back with its vote committed.
-#[tactic(auto, using(crate::proofs::Settling::held_after_remove))]
-fn write_settled(table: &mut Table<Record>, id: InstanceId)
-    requires { HasPlace table.old.places id }
-    ensures { table.new ≡ record { held = with_held table.old.held id (as_settled (get table.old.held id)); places = table.old.places } }
-{
-    let mut written = table.put_back(id, None);
-    settle(&mut written);
-    table.write(id, written);
-}
-
-fn settle(written: &mut Option<Record>)
-    ensures { written.new ≡ as_settled written.old }
-{
-    match written {
-        Some(record) => settle_vote(&mut record.vote),
-        None => (),
-    }
-}
-
-fn settle_vote(vote: &mut Option<Vote>)
-    ensures { vote.new ≡ committed_vote vote.old }
-{
-    match vote {
-        Some(vote) => vote.status = VoteStatus::Committed,
-        None => (),
-    }
 }
 
 /// The vote of a record, if there is one.

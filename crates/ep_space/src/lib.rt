@@ -16,7 +16,6 @@ mod index;
 mod interference_fault;
 mod keyed;
 mod open;
-mod place_hasher;
 mod seqs;
 mod space;
 mod space_full;

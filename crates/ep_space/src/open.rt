@@ -123,8 +123,7 @@ impl Space {
     {
         let entries = self.entries();
         let mut found = None;
-        for index in 0..entries.len() {
-            let (id, record) = entries.get_index(index).unwrap();
+        for (id, record) in entries.iter() {
             found = least_with(self, &after, found, *id, record);
         }
         found

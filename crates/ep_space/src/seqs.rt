@@ -52,7 +52,7 @@ pub(crate) fn widen(seqs: &mut Seqs, id: InstanceId) -> Result<(), AllocError>
     if slot < seqs.len() {
         return Ok(());
     }
-    seqs.resize(slot + 1, 0)
+    seqs.resize(slot + 64, 0)
 }
 
 /// Writes this at the instance's slot.

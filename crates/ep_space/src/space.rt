@@ -26,7 +26,6 @@ use ep_base::{
     Attrs, Ballot, Command, Decree, InstanceId, ReplicaId, Seq, Size, Version, Vote, VoteStatus,
 };
 use ep_rules::Record;
-use indexmap::map::Slice;
 use std::alloc::{AllocError, Global};
 use std::marker::Model;
 
@@ -91,8 +90,8 @@ impl Space {
     }
 
     /// The instances that have a place, each with its record, if it has one.
-    pub(crate) fn entries(&self) -> Slice<'_, InstanceId, Option<Record>>
-        ensures { AreRecords self.now.records result }
+    pub(crate) fn entries(&self) -> &[(InstanceId, Option<Record>)]
+        ensures { AreRecords self.now.records result.now }
     {
         self.table.entries()
     }
@@ -130,6 +129,7 @@ impl Space {
 
     /// Makes a place for the instance's record, if it has none, and room in the index for what a vote for this command brings there. Nothing
     /// else changes; at want of memory there may be more room, and no place more.
+    #[inline(always)]
     pub fn reserve_for(&mut self, id: InstanceId, command: &Command) -> Result<(), AllocError>
         ensures ok { OnOk result (self.new ≡ record self.old { places = set.insert self.old.places id; room = self.new.room }) }
         ensures ready { OnOk result (IsReady self.new id command.now) }
@@ -240,6 +240,7 @@ impl Space {
     }
 
     /// Pre-accepts the decree at the ballot.
+    #[inline(always)]
     pub fn vote_pre(&mut self, id: InstanceId, ballot: Ballot, decree: Decree)
         requires { IsReady self.old id decree.command }
         ensures { self.new ≡ record (with_record self.old id (voted ballot VoteStatus.PreAccepted decree)) { room = self.new.room } }
@@ -284,6 +285,7 @@ impl Space {
         self.table.settle(id);
     }
 
+    #[inline(always)]
     fn write_vote(&mut self, id: InstanceId, ballot: Ballot, status: VoteStatus, decree: Decree)
         requires { IsReady self.old id decree.command }
         ensures { self.new ≡ record (with_record self.old id (voted ballot status decree)) { room = self.new.room } }
@@ -361,6 +363,7 @@ impl Space {
         })
     }
 
+    #[inline(always)]
     fn gather(
         &self,
         alloc: Global,

@@ -10,19 +10,16 @@ ghost use Rattle.ep_rules.specs.States.{with_held};
 ghost use Rattle.ep_rules.specs.Worlds.{In};
 ghost use Rattle.ep_space.specs.Held.{HasPlace};
 ghost use Rattle.ep_space.specs.Entries.{flat, same, with_place, held, slot, spot, value_at, AreSpots};
+ghost use Rattle.ep_space.specs.Settled.{as_settled, committed_vote};
 
-use crate::place_hasher::PlaceHasher;
-use ep_base::InstanceId;
-use ep_rules::Duplicate;
-use indexmap::IndexMap;
-use indexmap::map::Slice;
+use ep_base::{InstanceId, Vote, VoteStatus};
+use ep_rules::{Duplicate, Record};
 use std::alloc::{AllocError, Global};
-use std::hash::BuildHasherDefault;
 use std::marker::Model;
 use std::mem;
 
-/// From an instance that has a place to its value, if it has one, in the order in which the places were made.
-type Entries<V> = IndexMap<InstanceId, Option<V>, BuildHasherDefault<PlaceHasher>>;
+/// The instances that have a place, each with its value, if it has one, in the order in which the places were made.
+type Entries<V> = Vec<(InstanceId, Option<V>)>;
 
 /// Values of instances. An instance first gets a place, which takes memory; a value is then written there without.
 ///
@@ -44,9 +41,9 @@ impl<V> Model for Table<V> {
 
     ghost use Rattle.ep_space.specs.Entries.{held, AreSpots};
 
-    ghost view = { λ t. held t.entries.entries };
+    ghost view = { λ t. held t.entries.items };
 
-    ghost invariant = { λ t. AreSpots t.spots.items (keys_of t.entries.entries) };
+    ghost invariant = { λ t. AreSpots t.spots.items (keys_of t.entries.items) };
 }
 
 impl<V: Drop> Table<V> {
@@ -55,7 +52,7 @@ impl<V: Drop> Table<V> {
         ensures { result ≡ record { held = none; places = set.empty } }
     {
         Table {
-            entries: IndexMap::with_hasher(alloc, BuildHasherDefault::new()),
+            entries: Vec::new(alloc),
             spots: Vec::new(alloc),
         }
     }
@@ -68,8 +65,8 @@ impl<V: Drop> Table<V> {
     }
 
     /// The instances that have a place, in the order in which these were made, each with its value, if it has one.
-    pub(crate) fn entries(&self) -> Slice<'_, InstanceId, Option<V>>
-        ensures { (i : ℕ) (x : V) → (get self.now.held i ≡ Some x → In (i, Some x) result) × (In (i, Some x) result → get self.now.held i ≡ Some x) }
+    pub(crate) fn entries(&self) -> &[(InstanceId, Option<V>)]
+        ensures { (i : ℕ) (x : V) → (get self.now.held i ≡ Some x → In (i, Some x) result.now) × (In (i, Some x) result.now → get self.now.held i ≡ Some x) }
     {
         self.entries.as_slice()
     }
@@ -119,6 +116,17 @@ impl<V: Drop> Table<V> {
     }
 }
 
+impl Table<Record> {
+    /// Commits what the instance's record voted for, if it voted, at its place. It takes no memory.
+    pub(crate) fn settle(&mut self, id: InstanceId)
+        requires { HasPlace self.old.places id }
+        ensures { self.new ≡ record { held = with_held self.old.held id (as_settled (get self.old.held id)); places = self.old.places } }
+    {
+        let spot = spot_of(&self.spots, id);
+        settle_at(&mut self.entries, spot, id)
+    }
+}
+
 impl<V: Duplicate> Table<V> {
     /// The same table again.
     pub fn duplicate(&self, alloc: Global) -> Result<Table<V>, AllocError>
@@ -132,28 +140,26 @@ impl<V: Duplicate> Table<V> {
 
 /// The same entries again.
 fn duplicates<V: Duplicate>(entries: &Entries<V>, alloc: Global) -> Result<Entries<V>, AllocError>
-    ensures { IfOk result (λ same. same.entries ≡ entries.now.entries) }
+    ensures { IfOk result (λ same. same.items ≡ entries.now.items) }
 {
-    let mut same = IndexMap::with_hasher(alloc, BuildHasherDefault::new());
-    for index in 0..entries.len() {
-        let (id, value) = entries.get_index(index).unwrap();
+    let mut same = Vec::with_capacity(alloc, entries.len())?;
+    for (id, value) in entries.iter() {
         let value = duplicate_of(value, alloc)?;
         add_entry(&mut same, *id, value)?;
     }
     Ok(same)
 }
 
-/// An entry more, of an instance that has none.
+/// An entry more.
 fn add_entry<V: Drop>(
     entries: &mut Entries<V>,
     id: InstanceId,
     value: Option<V>,
 ) -> Result<(), AllocError>
-    requires { spot id (keys_of entries.old.entries) ≡ 0 }
-    ensures ok { OnOk result (entries.new.entries ≡ entries.old.entries ++ (id, value) ∷ []) }
-    ensures err { OnErr result (entries.new.entries ≡ entries.old.entries) }
+    ensures ok { OnOk result (entries.new.items ≡ entries.old.items ++ (id, value) ∷ []) }
+    ensures err { OnErr result (entries.new.items ≡ entries.old.items) }
 {
-    let _ = entries.insert(id, value)?;
+    entries.push((id, value))?;
     Ok(())
 }
 
@@ -186,13 +192,13 @@ fn spot_of(spots: &[usize], id: InstanceId) -> usize
 }
 
 fn value_at<V>(entries: &Entries<V>, at: usize) -> Option<&V>
-    requires { at ≤ length entries.now.entries }
-    ensures { option_copied result ≡ flat (value_at entries.now.entries at) }
+    requires { at ≤ length entries.now.items }
+    ensures { option_copied result ≡ flat (value_at entries.now.items at) }
 {
     if at == 0 {
         return None;
     }
-    entries[at - 1].as_ref()
+    entries[at - 1].1.as_ref()
 }
 
 fn add_place<V: Drop>(
@@ -200,10 +206,10 @@ fn add_place<V: Drop>(
     spots: &mut Vec<usize>,
     id: InstanceId,
 ) -> Result<(), AllocError>
-    requires { AreSpots spots.old.items (keys_of entries.old.entries) }
-    ensures ok { OnOk result (entries.new.entries ≡ with_place entries.old.entries id) }
-    ensures err { OnErr result (entries.new.entries ≡ entries.old.entries) }
-    ensures spots { AreSpots spots.new.items (keys_of entries.new.entries) }
+    requires { AreSpots spots.old.items (keys_of entries.old.items) }
+    ensures ok { OnOk result (entries.new.items ≡ with_place entries.old.items id) }
+    ensures err { OnErr result (entries.new.items ≡ entries.old.items) }
+    ensures spots { AreSpots spots.new.items (keys_of entries.new.items) }
 {
     if spot_of(spots, id) != 0 {
         return Ok(());
@@ -223,7 +229,7 @@ fn widen(spots: &mut Vec<usize>, slot: usize) -> Result<(), AllocError>
     if slot < spots.len() {
         return Ok(());
     }
-    spots.resize(slot + 1, 0)
+    spots.resize(slot + 64, 0)
 }
 
 fn replace<V: Drop>(
@@ -232,10 +238,36 @@ fn replace<V: Drop>(
     id: InstanceId,
     value: Option<V>,
 ) -> Option<V>
-    requires spot { at ≡ spot id (keys_of entries.old.entries) }
+    requires spot { at ≡ spot id (keys_of entries.old.items) }
     requires there { 0 < at }
-    ensures old { Some result ≡ lookup (same id) entries.old.entries }
-    ensures new { entries.new.entries ≡ set_value (same id) entries.old.entries value }
+    ensures old { Some result ≡ lookup (same id) entries.old.items }
+    ensures new { entries.new.items ≡ set_value (same id) entries.old.items value }
 {
-    mem::replace(&mut entries[at - 1], value)
+    mem::replace(&mut entries[at - 1].1, value)
+}
+
+fn settle_at(entries: &mut Entries<Record>, at: usize, id: InstanceId)
+    requires spot { at ≡ spot id (keys_of entries.old.items) }
+    requires there { 0 < at }
+    ensures { entries.new.items ≡ set_value (same id) entries.old.items (as_settled (flat (lookup (same id) entries.old.items))) }
+{
+    settle(&mut entries[at - 1].1)
+}
+
+fn settle(written: &mut Option<Record>)
+    ensures { written.new ≡ as_settled written.old }
+{
+    match written {
+        Some(record) => settle_vote(&mut record.vote),
+        None => (),
+    }
+}
+
+fn settle_vote(vote: &mut Option<Vote>)
+    ensures { vote.new ≡ committed_vote vote.old }
+{
+    match vote {
+        Some(vote) => vote.status = VoteStatus::Committed,
+        None => (),
+    }
 }

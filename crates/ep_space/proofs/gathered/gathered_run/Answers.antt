@@ -16,17 +16,17 @@ gather-requires-clause-rising c =
 pub gather-requires-clause-plain : goal.gather-requires-clause-plain
 gather-requires-clause-plain c = λ is.
     let left = left_at c.args.run.now c.loop-id.id-index c.id-item.result c.loop-id-test.true c.id-item.is in
-    (subst (ArePlain c.args.command.now c.args.records.now.held) left (c.loop-id.invariant.plain is)).0
+    (subst (ArePlain c.args.sought.now.command.now c.args.records.now.held) left (c.loop-id.invariant.plain is)).0
 
 pub loop-id-preserved : goal.loop-id-preserved
 loop-id-preserved c =
-    let t = touches c.args.command.now c.args.except in
+    let t = touches c.args.sought.now.command.now c.args.except in
     let m = c.args.records.now.held in
     let i = c.id-item.result in
     let rest = drop (c.loop-id.id-index + 1) c.args.run.now in
     let left = left_at c.args.run.now c.loop-id.id-index i c.loop-id-test.true c.id-item.is in
     record {
       rest = ap (λ g. gather_all t m g rest) c.in_ok-gather.ensures ∙ ap (gather_all t m c.loop-id.gathered) (sym left) ∙ c.loop-id.invariant.rest;
-      plain = λ is. (subst (ArePlain c.args.command.now m) left (c.loop-id.invariant.plain is)).1;
+      plain = λ is. (subst (ArePlain c.args.sought.now.command.now m) left (c.loop-id.invariant.plain is)).1;
       rising = subst (λ g. IsRising (g.deps ++ rest)) (sym c.in_ok-gather.ensures) (rising_gathered t c.loop-id.gathered i (get m i) rest (subst (λ is. IsRising (c.loop-id.gathered.deps ++ is)) left c.loop-id.invariant.rising));
     }

@@ -7,7 +7,7 @@ use Rattle.ep_space.proofs.gathered.gathered_run.Given as goal
 
 abbrev pub invariant-loop-id : goal.invariant-loop-id
 invariant-loop-id l = record {
-  rest : gather_all (touches l.command l.except) l.records.held l.gathered (drop l.id-index l.run) ≡ gather_all (touches l.command l.except) l.records.held (record { seq = 0; deps = [] }) l.run;
-  plain : l.is_plain ≡ true → ArePlain l.command l.records.held (drop l.id-index l.run);
+  rest : gather_all (touches l.sought.command.now l.except) l.records.held l.gathered (drop l.id-index l.run) ≡ gather_all (touches l.sought.command.now l.except) l.records.held (record { seq = 0; deps = [] }) l.run;
+  plain : l.sought.is_plain ≡ true → ArePlain l.sought.command.now l.records.held (drop l.id-index l.run);
   rising : IsRising (l.gathered.deps ++ drop l.id-index l.run);
 }

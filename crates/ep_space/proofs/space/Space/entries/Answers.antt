@@ -4,4 +4,4 @@ use Rattle.ep_space.specs.Records.{Records}
 use Rattle.ep_space.proofs.space.Space.entries.Goals as goal
 
 pub returns : goal.returns
-returns c = subst (λ (s : Records). AreRecords s.records c.entries.result) c.self.view_is c.entries.ensures
+returns c = subst (λ (s : Records). AreRecords s.records c.entries.result.now) c.self.view_is c.entries.ensures

@@ -8,7 +8,7 @@ use Rattle.ep_space.proofs.table.Table.get.Goals as goal
 
 pub value_at-requires : goal.value_at-requires
 value_at-requires g c =
-    let es = c.self.inside.entries.entries in
+    let es = c.self.inside.entries.items in
     let ks : List ℕ = keys_of es in
     let is : c.spot_of.result ≡ spot c.args.id ks =
     spot-told c.self.inside.spots.items c.deref.result.now ks c.args.id c.spot_of.result c.self.invariant c.deref.ensures.value c.spot_of.ensures.in_range c.spot_of.ensures.value in
@@ -18,7 +18,7 @@ value_at-requires g c =
 
 pub returns : goal.returns
 returns g c =
-    let es = c.self.inside.entries.entries in
+    let es = c.self.inside.entries.items in
     let ks : List ℕ = keys_of es in
     let is : c.spot_of.result ≡ spot c.args.id ks =
     spot-told c.self.inside.spots.items c.deref.result.now ks c.args.id c.spot_of.result c.self.invariant c.deref.ensures.value c.spot_of.ensures.in_range c.spot_of.ensures.value in

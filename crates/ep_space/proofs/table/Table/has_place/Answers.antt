@@ -9,14 +9,14 @@ use Rattle.ep_space.proofs.table.Table.has_place.Goals as goal
 
 pub returns-clause-value : goal.returns-clause-value
 returns-clause-value g c =
-    let es = c.self.inside.entries.entries in
+    let es = c.self.inside.entries.items in
     has-spot es c.args.id c.spot_of.result
     (spot-told c.self.inside.spots.items c.deref.result.now (keys_of es) c.args.id c.spot_of.result c.self.invariant c.deref.ensures.value c.spot_of.ensures.in_range c.spot_of.ensures.value)
     ∙ sym (contains-held c.args.id es) ∙ ap (λ h. set.contains h.places c.args.id) c.self.view_is
 
 pub returns-clause-none : goal.returns-clause-none
 returns-clause-none g c =
-    let es = c.self.inside.entries.entries in
+    let es = c.self.inside.entries.items in
     λ f.
     ap (λ h. get h.held c.args.id) (sym c.self.view_is)
     ∙ get-held c.args.id es c.self.invariant.distinct
