@@ -1,7 +1,6 @@
 use Rattle.std.proofs.Common.{refl, ◌∙◌}
 use Rattle.ep_base.specs.Quorums.{size}
 use Rattle.ep_bundle.specs.Stages.{receipt}
-use Rattle.ep_bundle.proofs.Readings.{fails, goes_on}
 use Rattle.ep_bundle.proofs.Journeys.{mapped}
 use Rattle.ep_bundle.proofs.Loops.{begins, steps, fails_in, finishes}
 use Rattle.ep_bundle.proofs.receipts.read_receipts.Goals as goal
