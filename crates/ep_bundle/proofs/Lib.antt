@@ -4,6 +4,7 @@ pub mod Loops
 pub mod Next
 pub mod Comparing
 pub mod Compared
+pub mod SameAnswers
 pub mod Following
 pub mod Journeys
 pub mod Stepped

@@ -1,6 +1,6 @@
 //! Commands: an op, the lengths of its parts, and these, one after the other. The versions tell the lengths differently, and nothing else.
 
-ghost use Rattle.std.specs.Prelude.{◌≡◌, ◌≤◌, not, ℕ, List, Some, IfOk, true, false, length};
+ghost use Rattle.std.specs.Prelude.{◌≡◌, ◌≤◌, not, ℕ, List, Some, IfOk, OnOk, true, false, length};
 ghost use Rattle.ep_base.specs.Devices.{FailsAsTold};
 ghost use Rattle.ep_base.specs.Ops.{first_fits, second_fits, body_fits};
 ghost use Rattle.ep_base.specs.Parts.{command_of, is_twice};
@@ -9,8 +9,9 @@ ghost use Rattle.ep_bundle.specs.Reading.{field, is_read_failed, map_ok, Reads};
 ghost use Rattle.ep_bundle.specs.Stages.{AreLengths, allowed, allowed_run, body_in, command, early_fits, early_lengths, lengths, op as op_of_command, other_lengths, parts, second_in};
 
 use crate::bundle_fault::BundleFault;
-use crate::fields::{field_u8, read_run, read_u8, read_u16, read_u32};
+use crate::fields::{field_u8, read_over, read_u8, read_u16, read_u32};
 use crate::lengths::Lengths;
+use crate::part_room::PartRoom;
 use ep_base::{Command, CommandFault, Op, Source, Version, VersionKind};
 use std::alloc::{AllocError, Global};
 
@@ -234,25 +235,25 @@ fn is_twice(first: &[u8], second: &[u8]) -> bool
     !second.is_empty() && second == first
 }
 
-/// The second key of a command, of this many bytes; at fault where it is the first one.
+/// The second key of a command, of this many bytes, in place of what the list had; at fault where it is the first one.
 fn read_second<S: Source>(
-    alloc: Global,
     source: &mut S,
     place: &mut u64,
     first: &[u8],
     len: u8,
-) -> Result<Vec<u8>, BundleFault>
-    ensures bytes { (zs : List ℕ) → S.left source.old ≡ Some zs → Reads (allowed_run len (λ m. not (is_twice first.now m)) (record { at = place.old; bytes = zs })) (map_ok (λ v. v.items) result) place.new (S.left source.new) }
+    second: &mut Vec<u8>,
+) -> Result<(), BundleFault>
+    ensures bytes { (zs : List ℕ) → S.left source.old ≡ Some zs → Reads (allowed_run len (λ m. not (is_twice first.now m)) (record { at = place.old; bytes = zs })) (map_ok (λ _. second.new.items) result) place.new (S.left source.new) }
     ensures told { FailsAsTold is_read_failed result (S.has_failed source.old) (S.has_failed source.new) }
-    ensures other { IfOk result (λ v. (length v.items ≡ len) × (is_twice first.now v.items ≡ false)) }
+    ensures other { OnOk result ((length second.new.items ≡ len) × (is_twice first.now second.new.items ≡ false)) }
 {
     let at = *place;
-    let second = read_run(alloc, source, place, len as usize)?;
-    let twice = is_twice(first, &second);
+    read_over(source, place, len as usize, second)?;
+    let twice = is_twice(first, second);
     if twice {
         return Err(BundleFault::BadBundle(at));
     }
-    Ok(second)
+    Ok(())
 }
 
 /// The command of these parts, if they are one's.
@@ -272,29 +273,45 @@ fn command_made(
     }
 }
 
-/// The parts of a command, of these lengths.
+/// The parts of a command, of these lengths. They are read over what the room had.
 fn read_parts<S: Source>(
     alloc: Global,
     source: &mut S,
     place: &mut u64,
     lengths: Lengths,
+    room: &mut PartRoom,
 ) -> Result<Command, BundleFault>
     requires { AreLengths lengths }
     ensures bytes { (zs : List ℕ) → S.left source.old ≡ Some zs → Reads (parts lengths (record { at = place.old; bytes = zs })) result place.new (S.left source.new) }
     ensures told { FailsAsTold is_read_failed result (S.has_failed source.old) (S.has_failed source.new) }
 {
-    let first = read_run(alloc, source, place, lengths.first as usize)?;
-    let first_key = first.as_slice();
-    let second = read_second(alloc, source, place, first_key, lengths.second)?;
-    let second_key = second.as_slice();
+    read_over(source, place, lengths.first as usize, &mut room.first)?;
+    let first_key = room.first.as_slice();
+    read_second(source, place, first_key, lengths.second, &mut room.second)?;
+    let second_key = room.second.as_slice();
     let at = *place;
-    let body = read_run(alloc, source, place, lengths.body as usize)?;
-    let bytes = body.as_slice();
+    read_over(source, place, lengths.body as usize, &mut room.body)?;
+    let bytes = room.body.as_slice();
     let made = command_made(alloc, lengths.op, first_key, second_key, bytes)?;
     match made {
         Some(command) => Ok(command),
         None => Err(BundleFault::BadBundle(at)),
     }
+}
+
+/// A command of the version, by way of this room.
+pub(crate) fn read_command_in<S: Source>(
+    alloc: Global,
+    source: &mut S,
+    place: &mut u64,
+    version: Version,
+    room: &mut PartRoom,
+) -> Result<Command, BundleFault>
+    ensures bytes { (zs : List ℕ) → S.left source.old ≡ Some zs → Reads (command version (record { at = place.old; bytes = zs })) result place.new (S.left source.new) }
+    ensures told { FailsAsTold is_read_failed result (S.has_failed source.old) (S.has_failed source.new) }
+{
+    let lengths = read_lengths(source, place, version)?;
+    read_parts(alloc, source, place, lengths, room)
 }
 
 /// A command of the version.
@@ -307,6 +324,6 @@ pub fn read_command<S: Source>(
     ensures bytes { (zs : List ℕ) → S.left source.old ≡ Some zs → Reads (command version (record { at = place.old; bytes = zs })) result place.new (S.left source.new) }
     ensures told { FailsAsTold is_read_failed result (S.has_failed source.old) (S.has_failed source.new) }
 {
-    let lengths = read_lengths(source, place, version)?;
-    read_parts(alloc, source, place, lengths)
+    let mut room = PartRoom::new(alloc);
+    read_command_in(alloc, source, place, version, &mut room)
 }

@@ -1,6 +1,6 @@
 //! The fields that all else is read by: numbers, the highest byte first, and runs of bytes.
 
-ghost use Rattle.std.specs.Prelude.{◌≡◌, ◌≤◌, ℕ, List, Some, length, take, IfOk, true};
+ghost use Rattle.std.specs.Prelude.{◌≡◌, ◌≤◌, ℕ, List, Some, length, take, IfOk, OnOk, true};
 ghost use Rattle.ep_base.specs.Devices.{FailsAsTold};
 ghost use Rattle.ep_bundle.specs.Reading.{map_ok, field, number, run, is_read_failed, Reads};
 ghost use Rattle.ep_bundle.specs.Filling.{Begun, Fills};
@@ -86,6 +86,7 @@ pub fn read_run<S: Source>(
 }
 
 /// Takes a run of this many bytes in place of what the list had.
+#[inline(always)]
 pub(crate) fn read_over<S: Source>(
     source: &mut S,
     place: &mut u64,
@@ -93,6 +94,7 @@ pub(crate) fn read_over<S: Source>(
     bytes: &mut Vec<u8>,
 ) -> Result<(), BundleFault>
     ensures bytes { (zs : List ℕ) → S.left source.old ≡ Some zs → Reads (run len (record { at = place.old; bytes = zs })) (map_ok (λ _. bytes.new.items) result) place.new (S.left source.new) }
+    ensures long { OnOk result (length bytes.new.items ≡ len) }
     ensures told { FailsAsTold is_read_failed result (S.has_failed source.old) (S.has_failed source.new) }
 {
     bytes.resize(len, 0)?;
@@ -203,6 +205,7 @@ pub(crate) fn field_u16<S: Source>(
 }
 
 /// A number of four bytes, from `low` to `high`.
+#[inline(always)]
 pub fn field_u32<S: Source>(
     source: &mut S,
     place: &mut u64,

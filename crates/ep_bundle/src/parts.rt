@@ -1,16 +1,18 @@
 //! Instances and answers.
 
-ghost use Rattle.std.specs.Prelude.{◌≡◌, ℕ, List, Some};
+ghost use Rattle.std.specs.Prelude.{◌≡◌, ℕ, List, Some, Ok, true};
 ghost use Rattle.ep_base.specs.Devices.{FailsAsTold};
 ghost use Rattle.ep_base.specs.Quorums.{size};
 ghost use Rattle.ep_base.specs.Versions.{highest_in};
-ghost use Rattle.ep_bundle.specs.Reading.{field, is_read_failed, Reads};
+ghost use Rattle.ep_base.specs.declared.reply.Answer.TheVariants.{Told};
+ghost use Rattle.ep_base.specs.declared.reply.Reply.TheVariants.{Present};
+ghost use Rattle.ep_bundle.specs.Reading.{and_then, field, is_read_failed, Compares, Reads};
 ghost use Rattle.ep_bundle.specs.Stages.{answer, highest_code, instance, plain_answer, replica, reply_by, value, value_length};
 
 use crate::bundle_fault::BundleFault;
-use crate::fields::{field_u8, field_u16, field_u32, read_run};
+use crate::fields::{field_u8, field_u16, field_u32, read_over};
+use crate::room::Room;
 use ep_base::{Answer, InstanceId, ReplicaId, Reply, Size, Source, Value, Version, VersionKind};
-use std::alloc::Global;
 
 /// A replica of the cluster.
 pub(crate) fn read_replica<S: Source>(
@@ -80,20 +82,20 @@ fn read_short_len<S: Source>(source: &mut S, place: &mut u64) -> Result<u32, Bun
     }
 }
 
-/// A value, with its length before it.
+/// A value, with its length before it; by way of what the room has to spare.
 fn read_value<S: Source>(
-    alloc: Global,
     source: &mut S,
     place: &mut u64,
     version: Version,
+    room: &mut Room,
 ) -> Result<Value, BundleFault>
     ensures bytes { (zs : List ℕ) → S.left source.old ≡ Some zs → Reads (value version (record { at = place.old; bytes = zs })) result place.new (S.left source.new) }
     ensures told { FailsAsTold is_read_failed result (S.has_failed source.old) (S.has_failed source.new) }
 {
     let len = read_value_len(source, place, version)?;
-    let bytes = read_run(alloc, source, place, len as usize)?;
+    read_over(source, place, len as usize, &mut room.spare)?;
     // The length is in range, so only memory can be refused.
-    Value::new(alloc, &bytes).map_err(|_| BundleFault::Memory)
+    Value::new(room.alloc, &room.spare).map_err(|_| BundleFault::Memory)
 }
 
 /// The answer of a code that no value follows.
@@ -110,17 +112,17 @@ fn plain_answer(code: u8) -> Answer
 
 /// What stands after an answer's code.
 fn read_reply<S: Source>(
-    alloc: Global,
     source: &mut S,
     place: &mut u64,
     version: Version,
     code: u8,
+    room: &mut Room,
 ) -> Result<Answer, BundleFault>
     ensures bytes { (zs : List ℕ) → S.left source.old ≡ Some zs → Reads (reply_by version code (record { at = place.old; bytes = zs })) result place.new (S.left source.new) }
     ensures told { FailsAsTold is_read_failed result (S.has_failed source.old) (S.has_failed source.new) }
 {
     if code == 1 {
-        let value = read_value(alloc, source, place, version)?;
+        let value = read_value(source, place, version, room)?;
         return Ok(Answer::Told(Reply::Present(value)));
     }
     Ok(plain_answer(code))
@@ -148,16 +150,63 @@ fn read_code<S: Source>(
     field_u8(source, place, 0, highest_code(version))
 }
 
-/// An answer.
+/// An answer; by way of what the room has to spare.
 pub(crate) fn read_answer<S: Source>(
-    alloc: Global,
     source: &mut S,
     place: &mut u64,
     version: Version,
+    room: &mut Room,
 ) -> Result<Answer, BundleFault>
     ensures bytes { (zs : List ℕ) → S.left source.old ≡ Some zs → Reads (answer version (record { at = place.old; bytes = zs })) result place.new (S.left source.new) }
     ensures told { FailsAsTold is_read_failed result (S.has_failed source.old) (S.has_failed source.new) }
 {
     let code = read_code(source, place, version)?;
-    read_reply(alloc, source, place, version, code)
+    read_reply(source, place, version, code, room)
+}
+
+/// Whether the answer is the reply of this value.
+fn tells(answer: &Answer, value: &[u8]) -> bool
+    ensures yes { result ≡ true → answer.now ≡ Told (Present value.now) }
+    ensures other { answer.now ≡ Told (Present value.now) → result ≡ true }
+{
+    match answer {
+        Answer::Told(Reply::Present(told)) => told.as_slice() == value,
+        _ => false,
+    }
+}
+
+/// Whether a value, which is read with its length before it, is the one that the answer tells. It is read over what `spare` had.
+fn read_same_value<S: Source>(
+    source: &mut S,
+    place: &mut u64,
+    version: Version,
+    answer: &Answer,
+    spare: &mut Vec<u8>,
+) -> Result<bool, BundleFault>
+    ensures bytes { (zs : List ℕ) → S.left source.old ≡ Some zs → Compares answer.now (and_then (value version (record { at = place.old; bytes = zs })) (λ x l. Ok (Told (Present x), l))) result place.new (S.left source.new) }
+    ensures told { FailsAsTold is_read_failed result (S.has_failed source.old) (S.has_failed source.new) }
+{
+    let len = read_value_len(source, place, version)?;
+    read_over(source, place, len as usize, spare)?;
+    let same = tells(answer, spare);
+    Ok(same)
+}
+
+/// Whether an answer, which is read, is this one; `spare` is as for `read_same_value`.
+pub(crate) fn read_same_answer<S: Source>(
+    source: &mut S,
+    place: &mut u64,
+    version: Version,
+    told: &Answer,
+    spare: &mut Vec<u8>,
+) -> Result<bool, BundleFault>
+    ensures bytes { (zs : List ℕ) → S.left source.old ≡ Some zs → Compares told.now (answer version (record { at = place.old; bytes = zs })) result place.new (S.left source.new) }
+    ensures told { FailsAsTold is_read_failed result (S.has_failed source.old) (S.has_failed source.new) }
+{
+    let code = read_code(source, place, version)?;
+    if code == 1 {
+        return read_same_value(source, place, version, told, spare);
+    }
+    let same = plain_answer(code).is_same(told);
+    Ok(same)
 }

@@ -7,9 +7,11 @@ ghost use Rattle.ep_bundle.specs.Reading.{map_ok, many, is_read_failed, Reads};
 ghost use Rattle.ep_bundle.specs.Stages.{receipt};
 
 use crate::bundle_fault::BundleFault;
+use crate::dialect::Dialect;
 use crate::events::read_counted;
 use crate::fields::{read_u32, read_u64};
 use crate::parts::{read_answer, read_instance, read_replica};
+use crate::room::Room;
 use ep_base::{Size, Source, Version};
 use ep_rules::Receipt;
 use std::alloc::Global;
@@ -25,14 +27,32 @@ pub fn read_receipt<S: Source>(
     ensures bytes { (zs : List ℕ) → S.left source.old ≡ Some zs → Reads (receipt version (size cluster) (record { at = place.old; bytes = zs })) result place.new (S.left source.new) }
     ensures told { FailsAsTold is_read_failed result (S.has_failed source.old) (S.has_failed source.new) }
 {
+    let mut room = Room::new(alloc);
+    let dialect = Dialect {
+        version,
+        size: cluster,
+    };
+    read_receipt_in(source, place, &dialect, &mut room)
+}
+
+/// As `read_receipt`, by way of what the room has to spare.
+fn read_receipt_in<S: Source>(
+    source: &mut S,
+    place: &mut u64,
+    dialect: &Dialect,
+    room: &mut Room,
+) -> Result<Receipt, BundleFault>
+    ensures bytes { (zs : List ℕ) → S.left source.old ≡ Some zs → Reads (receipt dialect.now.version (size dialect.now.size) (record { at = place.old; bytes = zs })) result place.new (S.left source.new) }
+    ensures told { FailsAsTold is_read_failed result (S.has_failed source.old) (S.has_failed source.new) }
+{
     let client = read_counted(source, place)?;
     let request = read_counted(source, place)?;
-    let instance = read_instance(source, place, version, cluster)?;
+    let instance = read_instance(source, place, dialect.version, dialect.size)?;
     let seen = read_u64(source, place)?;
-    let replica = read_replica(source, place, cluster)?;
+    let replica = read_replica(source, place, dialect.size)?;
     let entry = read_u32(source, place)?;
     let stamp = read_u64(source, place)?;
-    let answer = read_answer(alloc, source, place, version)?;
+    let answer = read_answer(source, place, dialect.version, room)?;
     Ok(Receipt {
         client,
         request,
@@ -50,16 +70,16 @@ pub(crate) fn read_receipts<S: Source>(
     alloc: Global,
     source: &mut S,
     place: &mut u64,
-    version: Version,
-    cluster: Size,
+    dialect: &Dialect,
     count: u32,
 ) -> Result<Vec<Receipt>, BundleFault>
-    ensures bytes { (zs : List ℕ) → S.left source.old ≡ Some zs → Reads (many (receipt version (size cluster)) count [] (record { at = place.old; bytes = zs })) (map_ok (λ v. v.items) result) place.new (S.left source.new) }
+    ensures bytes { (zs : List ℕ) → S.left source.old ≡ Some zs → Reads (many (receipt dialect.now.version (size dialect.now.size)) count [] (record { at = place.old; bytes = zs })) (map_ok (λ v. v.items) result) place.new (S.left source.new) }
     ensures told { FailsAsTold is_read_failed result (S.has_failed source.old) (S.has_failed source.new) }
 {
+    let mut room = Room::new(alloc);
     let mut receipts = Vec::new(alloc);
     for _ in 0..count {
-        let receipt = read_receipt(alloc, source, place, version, cluster)?;
+        let receipt = read_receipt_in(source, place, dialect, &mut room)?;
         receipts.push(receipt)?;
     }
     Ok(receipts)

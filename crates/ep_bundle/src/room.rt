@@ -2,6 +2,7 @@
 
 ghost use Rattle.std.specs.Prelude.{◌≡◌, ◌≤◌, [], IfOk, OnOk, length};
 
+use crate::part_room::PartRoom;
 use bytes::BytesMut;
 use std::alloc::{AllocError, Global};
 
@@ -9,7 +10,7 @@ use std::alloc::{AllocError, Global};
 const LONGEST: usize = 65_536;
 
 /// How many zeros are written at once: what goes beyond 2 KiB, `memset` writes a byte at a time, as valgrind counts.
-const PIECE: usize = 1024;
+const PIECE: usize = 2048;
 
 /// Room that a reader uses again and again: for bytes that are only compared, and a block for runs that are kept. These share the block, so that
 /// not each of them takes memory of its own. A new block is twice as long as the one before.
@@ -18,6 +19,7 @@ pub(crate) struct Room {
     pub alloc: Global,
     pub spare: Vec<u8>,
     pub block: BytesMut,
+    pub parts: PartRoom,
     size: usize,
 }
 
@@ -40,11 +42,13 @@ impl Room {
             alloc,
             spare: Vec::new(alloc),
             block: BytesMut::new(alloc),
+            parts: PartRoom::new(alloc),
             size: 0,
         }
     }
 
     /// Opens the block for a run of so many bytes.
+    #[inline(always)]
     pub fn open(&mut self, len: usize) -> Result<(), AllocError>
         ensures { OnOk result (length self.new.block.items ≡ len) }
     {
@@ -57,6 +61,8 @@ impl Room {
     }
 
     /// Puts a new block in place of the old one, with room for a run of so many bytes.
+    #[cold]
+    #[inline(never)]
     fn renew(&mut self, len: usize) -> Result<(), AllocError>
         ensures empty { OnOk result (self.new.block.items ≡ []) }
         ensures room { OnOk result (len ≤ self.new.block.spare) }

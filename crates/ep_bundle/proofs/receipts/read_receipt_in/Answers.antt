@@ -1,5 +1,5 @@
 use Rattle.ep_bundle.proofs.Readings.{fails, goes_on}
-use Rattle.ep_bundle.proofs.receipts.read_receipt.Goals as goal
+use Rattle.ep_bundle.proofs.receipts.read_receipt_in.Goals as goal
 
 pub returns-in_err-client-clause-bytes : goal.returns-in_err-client-clause-bytes
 returns-in_err-client-clause-bytes g c = λ y0 e0. fails _ _ _ _ _ _ _ _ (c.in_err-client.ensures.bytes y0 e0) c.from_residual.ensures.1
