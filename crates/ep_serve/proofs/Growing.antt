@@ -7,7 +7,7 @@ use Rattle.ep_journal.specs.declared.event.Event.{Event as Happening}
 use Rattle.ep_journal.specs.declared.event.Event.TheVariants as event
 use Rattle.ep_node.specs.Nodes.{Takes}
 use Rattle.ep_replica.specs.Kept.{Kept}
-use Rattle.ep_serve.specs.Acting.{Acts, Executes, ExecutesEach, TakesOrRefuses}
+use Rattle.ep_serve.specs.Acting.{Acts, ExecutesEach, ExecutesSo, TakesOrRefuses}
 use Rattle.ep_serve.specs.Serving.{AllWait, AreServed, IsBatch, Waiting}
 use Rattle.ep_serve.specs.Lasting.{Crashes}
 use Rattle.ep_serve.specs.declared.due.Due.{Due}
@@ -42,9 +42,9 @@ takes_or_not k k' e State h = absurd h
 takes_or_not k k' e (Ready after most) h = absurd h
 takes_or_not k k' e (Malformed m) h = absurd h
 
-executes : (n : ℕ) (k k' : Kept) → Executes n k k' → Extends k k'
-executes zero k k' h = extends_same k k' h.1
-executes (suc n) k k' h = extends_more k h.0 k' (h.1.2.0 ∷ [], h.1.2.1.appended) (executes n h.0 k' h.2)
+executes : (n : ℕ) (k k' : Kept) → ExecutesSo n k k' → Extends k k'
+executes zero k k' h = extends_same k k' h
+executes (suc n) k k' h = extends_more k h.0 k' (executes n k h.0 h.1) (h.2.2.0 ∷ [], h.2.2.1.appended)
 
 executes_each : (k k' : Kept) (is : List ℕ) → ExecutesEach k is k' → Extends k k'
 executes_each k k' [] h = extends_same k k' h

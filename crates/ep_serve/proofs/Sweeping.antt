@@ -1,6 +1,7 @@
 -- An execution commits nothing: what waits for an instance that isn't committed waits still, and one try of each instance leaves none that is ready.
 use Rattle.std.proofs.Common.{◌≡◌, ℕ, ◌+◌, ◌≤◌, ◌<◌, Bool, true, false, List, [], ◌∷◌, ◌++◌, append_assoc, Option, Some, None, inl, inr, refl, sym, ap, ◌∙◌, subst, arith}
 use Rattle.std.specs.List.{flat_map}
+use Rattle.std.specs.Prelude.{OnErr, Result, Ok, Err}
 use Rattle.std.proofs.lemmas.Bool.{cases_lt}
 use Rattle.ep_base.specs.Instances.{instance_of, leader_of, number_of, highest_number}
 use Rattle.ep_base.specs.Places.{Has}
@@ -23,7 +24,7 @@ use Rattle.ep_rules.specs.Graph.Reaches.{itself, onward}
 use Rattle.ep_rules.specs.Order.{InBlocks, IsPlan}
 use Rattle.ep_rules.specs.States.{State, attrs_of, committed_in, graph_in}
 use Rattle.ep_rules.specs.Steps.{Executes as Executed, leaves, order_of}
-use Rattle.ep_serve.specs.Acting.{ExecutesEach, IsStampless, IsSwept, NoneIsReady, TriesOne}
+use Rattle.ep_serve.specs.Acting.{ExecutesEach, IsStampless, IsSwept, LedWantsMemory, NoneIsReady, StopsShort, TriesOne}
 
 -- One execution.
 
@@ -94,6 +95,11 @@ tried_still : (k k' : Kept) (i j : ℕ) (done : Bool) → IsTried k i done k' �
 tried_still k k' i j true h w = taken_still k k' i j h.1 w
 tried_still k k' i j false h w = subst (λ (x : Kept). Waits x j) (sym h.1) w
 
+-- what holds at an error holds of what is returned
+pub at_error : {A E P : Type 0} (result : Result A E) → P → OnErr result P
+at_error (Ok x) p = tt
+at_error (Err fault) p = p
+
 -- Several.
 
 abbrev pub ExecutesSome : Kept → Kept → Type 0
@@ -150,6 +156,19 @@ led_stops start k k' r i false told s h = subst (λ (x : Kept). (roots : List �
 pub led_all : (start k : Kept) (r n : ℕ) → highest_number < n → ExecutesSome start k → LedWait r n k → (roots : List ℕ) × ExecutesEach start roots k × IsSwept r true k
 led_all start k r n past s w = (s.0, s.1, λ i led p. w i led (let le = p.named.2 in omega arith) p)
 
+-- memory was wanted for one
+pub led_short : (start k k' : Kept) (r n i : ℕ) → i ≡ instance_of r n → ExecutesSome start k → LedWait r n k → IsOutstanding k i × (k' ≡ k) → n < 65536 → (roots : List ℕ) × ExecutesEach start roots k' × LedWantsMemory r k'
+led_short start k k' r n i is s w h low = subst (λ (x : Kept). (roots : List ℕ) × ExecutesEach start roots x × LedWantsMemory r x) (sym h.1) (
+  s.0,
+  s.1,
+  record {
+    next = i;
+    led = omega arith;
+    outstanding = h.0;
+    lesser = λ j led out less. w j led (omega arith) out;
+  },
+)
+
 -- Leader by leader.
 
 abbrev pub AllWait : ℕ → Kept → Type 0
@@ -174,3 +193,19 @@ every_stops start k k' r false told s h = let all : ExecutesSome start k' = some
 
 pub every_all : (start k : Kept) (n : ℕ) → 7 ≤ n → ExecutesSome start k → AllWait n k → (roots : List ℕ) × ExecutesEach start roots k × NoneIsReady k
 every_all start k n past s w = (s.0, s.1, inl (λ i p. w i (let le = p.named.0 in omega arith) p))
+
+pub every_short : (start k k' : Kept) (n r : ℕ) → r ≡ n → ExecutesSome start k → AllWait n k → (roots : List ℕ) × ExecutesEach k roots k' × LedWantsMemory r k' → StopsShort start k'
+every_short start k k' n r is s w h =
+    let all : ExecutesSome start k' = some_both start k k' s (h.0, h.1) in
+    let led : leader_of h.2.next ≡ r = h.2.led in (
+      all.0,
+      all.1,
+      record {
+        next = h.2.next;
+        outstanding = h.2.outstanding;
+        lesser = λ j out less. elim (cases_lt (leader_of j) n) [
+          | inl lt ↦ each_still k k' h.0 j h.1 (w j lt) out
+          | inr le ↦ h.2.lesser j (omega arith) out less
+        ];
+      },
+    )

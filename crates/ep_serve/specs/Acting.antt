@@ -51,13 +51,16 @@ seen_by (event.Execute i) = 0
 abbrev pub TakesNear : Kept → Happening → Due → Kept → Type 0
 TakesNear k happening due k' = (IsFarAhead k (seen_by happening) × (due ≡ Refused (Step StampFull)) × (k' ≡ k)) ⊎ ((¬ IsFarAhead k (seen_by happening)) × TakesOrRefuses k happening due k')
 
--- so many times the least own instance that is ready is executed, and then none is, or one is refused for want of memory or a full stamp
-abbrev pub Executes : ℕ → Kept → Kept → Type 0
-Executes zero k k' = ExecutesNext k false k'
-Executes (suc n) k k' = (m : Kept) × ExecutesNext k true m × Executes n m k'
+-- Executing own instances.
 
+-- so many were executed, each the least that was ready
+abbrev pub ExecutesSo : ℕ → Kept → Kept → Type 0
+ExecutesSo zero k k' = k' ≡ k
+ExecutesSo (suc n) k k' = (m : Kept) × ExecutesSo n k m × ExecutesNext m true k'
+
+-- so many, and then none is ready, or one is refused for want of memory or a full stamp
 abbrev pub AdvancesAll : Kept → Due → Kept → Type 0
-AdvancesAll k due k' = (times : ℕ) × Executes times k k' × (due ≡ Taken (length k.entries) (length k'.entries - length k.entries))
+AdvancesAll k due k' = (times : ℕ) × ExecutesSo times k k' × ExecutesNext k' false k' × (due ≡ Taken (length k.entries) (length k'.entries - length k.entries))
 
 -- Executing all that is ready, own or not.
 
@@ -77,6 +80,16 @@ NoneIsReady k = ((i : ℕ) → IsOutstanding k i → IsWaiting k i) ⊎ IsStampl
 abbrev pub ExecutesAll : Kept → Due → Kept → Type 0
 ExecutesAll k due k' = (roots : List ℕ) × ExecutesEach k roots k' × NoneIsReady k' × (due ≡ Taken (length k.entries) (length k'.entries - length k.entries))
 
+-- Memory was wanted to execute one that is committed and not executed. Each lesser one waits for one that isn't committed.
+pub record WantsMemory (k : Kept) : Type 0 where
+  pub next : ℕ
+  pub outstanding : IsOutstanding k next
+  pub lesser : (j : ℕ) → IsOutstanding k j → j < next → IsWaiting k j
+
+-- some were executed, each in its turn, and for the next one memory was wanted
+abbrev pub StopsShort : Kept → Kept → Type 0
+StopsShort k k' = (roots : List ℕ) × ExecutesEach k roots k' × WantsMemory k'
+
 -- The way there, instance by instance and leader by leader.
 
 -- an instance was tried; or no stamp is left for its entry, and nothing changed
@@ -88,6 +101,13 @@ TriesOne k i false k' = (IsOutstanding k i × IsDeclined k (event.Execute i) Sta
 abbrev pub IsSwept : ℕ → Bool → Kept → Type 0
 IsSwept r true k = (i : ℕ) → leader_of i ≡ r → IsOutstanding k i → IsWaiting k i
 IsSwept r false k = IsStampless k
+
+-- memory was wanted to execute one of this leader's; each lesser one of the leader's waits
+pub record LedWantsMemory (r : ℕ) (k : Kept) : Type 0 where
+  pub next : ℕ
+  pub led : leader_of next ≡ r
+  pub outstanding : IsOutstanding k next
+  pub lesser : (j : ℕ) → leader_of j ≡ r → IsOutstanding k j → j < next → IsWaiting k j
 
 -- a request that asks changes nothing
 abbrev pub Asks : Kept → Due → Due → Kept → Type 0
@@ -106,17 +126,21 @@ Acts k request.ExecuteAll due k' = ExecutesAll k due k'
 Acts k (request.Ready after most) due k' = Asks k (Ready after most) due k'
 Acts k (request.Malformed m) due k' = Asks k (Malformed m) due k'
 
--- Why a request wasn't done: an event is passed over by a node whose device has failed; those that execute several instances may have executed some of them;
--- and no other fails.
+-- the device has failed, and nothing changed
+abbrev pub IsPassedOver : {D : Type 0} → Logged D → Logged D → Type 0
+IsPassedOver n n' = (n.closed ≡ true) × (n' ≡ n)
+
+-- Why a request wasn't done: a node whose device has failed passes over what would change it; executing all that is ready may stop for want of memory, when
+-- some were executed; and no other fails.
 abbrev pub IsUndone : {D : Type 0} → Logged D → Request → Logged D → Type 0
-IsUndone n (request.Event happening) n' = (n.closed ≡ true) × (n' ≡ n)
+IsUndone n (request.Event happening) n' = IsPassedOver n n'
 IsUndone n request.BadFrame n' = ⊥
-IsUndone n request.Advance n' = Unit {0}
+IsUndone n request.Advance n' = IsPassedOver n n'
 IsUndone n (request.Get key) n' = ⊥
 IsUndone n (request.NextOpen after) n' = ⊥
 IsUndone n (request.Leads i) n' = ⊥
 IsUndone n request.Sync n' = ⊥
 IsUndone n request.State n' = ⊥
-IsUndone n request.ExecuteAll n' = Unit {0}
+IsUndone n request.ExecuteAll n' = IsPassedOver n n' ⊎ StopsShort n.replica n'.replica
 IsUndone n (request.Ready after most) n' = ⊥
 IsUndone n (request.Malformed m) n' = ⊥

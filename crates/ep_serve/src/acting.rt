@@ -1,9 +1,9 @@
 //! What a request does to a node.
 
-ghost use Rattle.std.specs.Prelude.{◌≡◌, ◌↔◌, ℕ, true, IsTrue, IfOk, OnErr};
+ghost use Rattle.std.specs.Prelude.{◌≡◌, ◌↔◌, ℕ, true, false, IsTrue, IfOk, OnErr};
 ghost use Rattle.ep_node.specs.Nodes.{Logged};
 ghost use Rattle.ep_replica.specs.Kept.{Kept};
-ghost use Rattle.ep_serve.specs.Acting.{seen_by, Acts, AdvancesAll, IsFarAhead, IsUndone, TakesNear, TakesOrRefuses};
+ghost use Rattle.ep_serve.specs.Acting.{seen_by, Acts, AdvancesAll, IsFarAhead, IsPassedOver, IsUndone, TakesNear, TakesOrRefuses};
 
 use crate::due::Due;
 use crate::executing::execute_all;
@@ -21,7 +21,7 @@ const REACH: u64 = 1_099_511_627_776;
 fn take<D: Device>(node: &mut Node<D>, event: Event) -> Result<Due, AllocError>
     ensures ok { IfOk result (λ due. TakesOrRefuses node.old.replica event due node.new.replica) }
     ensures same { node.new ≡ record node.old { replica = node.new.replica } }
-    ensures err { OnErr result ((node.old.closed ≡ true) × (node.new ≡ node.old)) }
+    ensures err { OnErr result (IsPassedOver node.old node.new) }
 {
     let from = node.taken();
     match node.step(event) {
@@ -59,7 +59,7 @@ fn seen_by(event: &Event) -> u64
 fn take_near<D: Device>(node: &mut Node<D>, event: Event) -> Result<Due, AllocError>
     ensures ok { IfOk result (λ due. TakesNear node.old.replica event due node.new.replica) }
     ensures same { node.new ≡ record node.old { replica = node.new.replica } }
-    ensures err { OnErr result ((node.old.closed ≡ true) × (node.new ≡ node.old)) }
+    ensures err { OnErr result (IsPassedOver node.old node.new) }
 {
     let seen = seen_by(&event);
     if is_far_ahead(node, seen) {
@@ -69,27 +69,43 @@ fn take_near<D: Device>(node: &mut Node<D>, event: Event) -> Result<Due, AllocEr
     take(node, event)
 }
 
-/// The node executes all own instances that are ready, in rising order, until none is.
-fn advance<D: Device>(node: &mut Node<D>) -> Result<Due, AllocError>
-    ensures ok { IfOk result (λ due. AdvancesAll node.old.replica due node.new.replica) }
+/// The node, whose device works, executes all own instances that are ready, in rising order, until none is.
+fn advance<D: Device>(node: &mut Node<D>) -> Due
+    requires { node.old.closed ≡ false }
+    ensures all { AdvancesAll node.old.replica result node.new.replica }
     ensures same { node.new ≡ record node.old { replica = node.new.replica } }
 {
     let from = node.taken();
-    for _ in 0..u64::MAX {
-        let Ok(executed) = node.execute_next() else {
-            return Err(AllocError);
+    for _times in 0..u64::MAX {
+        let executed = match node.execute_next() {
+            Ok(executed) => executed,
+            Err(_) => unreachable!(),
         };
         if !executed {
             let count = node.taken().saturating_sub(from);
-            return Ok(Due::Taken { from, count });
+            return Due::Taken { from, count };
         }
     }
-    // No replica has so many instances.
-    Err(AllocError)
+    // No replica has so many entries.
+    let _entries = node.taken();
+    unreachable!()
 }
 
-/// Does what the request asks, none of which is on the disk yet, and tells the answer that is due for it. `Err` for want of memory: an execution of
-/// several instances may have been done in part. No other request fails at a node whose device works.
+/// The same of any node; `Err` where its device has failed.
+fn try_advance<D: Device>(node: &mut Node<D>) -> Result<Due, AllocError>
+    ensures ok { IfOk result (λ due. AdvancesAll node.old.replica due node.new.replica) }
+    ensures same { node.new ≡ record node.old { replica = node.new.replica } }
+    ensures err { OnErr result (IsPassedOver node.old node.new) }
+{
+    if node.is_closed() {
+        return Err(AllocError);
+    }
+    Ok(advance(node))
+}
+
+/// Does what the request asks, none of which is on the disk yet, and tells the answer that is due for it. `Err` where the node's device has failed, and
+/// nothing changed; and for want of memory in executing all that is ready, of which some may have been executed. No other request fails at a node whose
+/// device works.
 pub fn act<D: Device>(node: &mut Node<D>, request: Request) -> Result<Due, AllocError>
     ensures ok { IfOk result (λ due. Acts node.old.replica request due node.new.replica) }
     ensures same { node.new ≡ record node.old { replica = node.new.replica } }
@@ -98,7 +114,7 @@ pub fn act<D: Device>(node: &mut Node<D>, request: Request) -> Result<Due, Alloc
     match request {
         Request::Event(event) => take_near(node, event),
         Request::BadFrame => Ok(Due::Refused(TakeFault::BadFrame)),
-        Request::Advance => advance(node),
+        Request::Advance => try_advance(node),
         Request::Get(key) => Ok(Due::Value(key)),
         Request::NextOpen(after) => Ok(Due::Open(after)),
         Request::Leads(instance) => Ok(Due::Leads(instance)),

@@ -1,10 +1,11 @@
 //! Executing all that is ready, own or not.
 
-ghost use Rattle.std.specs.Prelude.{◌≡◌, ◌≤◌, false, ℕ, List, IfOk, OnOk};
+ghost use Rattle.std.specs.Prelude.{◌≡◌, ◌≤◌, ◌⊎◌, false, ℕ, List, IfOk, OnOk, OnErr};
 ghost use Rattle.ep_base.specs.Instances.{instance_of, highest_number};
 ghost use Rattle.ep_journal.specs.declared.step_fault.StepFault.TheVariants as step;
+ghost use Rattle.ep_node.specs.Executing.{IsOutstanding};
 ghost use Rattle.ep_node.specs.Nodes.{Logged};
-ghost use Rattle.ep_serve.specs.Acting.{ExecutesAll, ExecutesEach, IsSwept, NoneIsReady, TriesOne};
+ghost use Rattle.ep_serve.specs.Acting.{ExecutesAll, ExecutesEach, IsPassedOver, IsSwept, LedWantsMemory, NoneIsReady, StopsShort, TriesOne};
 
 use crate::due::Due;
 use ep_base::{InstanceId, ReplicaId};
@@ -31,22 +32,26 @@ fn stampless(fault: StepFault) -> Result<bool, AllocError>
     }
 }
 
-/// Executes the instance, if it is ready; `false` where no stamp is left for that.
+/// Executes the instance, if it is ready; `false` where no stamp is left for that. Want of memory changes nothing.
 fn try_one<D: Device>(node: &mut Node<D>, instance: InstanceId) -> Result<bool, AllocError>
+    requires { node.old.closed ≡ false }
     ensures ok { IfOk result (λ tried. TriesOne node.old.replica instance tried node.new.replica) }
     ensures same { node.new ≡ record node.old { replica = node.new.replica } }
+    ensures err { OnErr result (IsOutstanding node.old.replica instance × (node.new.replica ≡ node.old.replica)) }
 {
     match node.execute(instance) {
         Ok(_) => Ok(true),
         Err(NodeFault::Refused(fault)) => stampless(fault),
-        Err(_) => Err(AllocError),
+        Err(_) => unreachable!(),
     }
 }
 
-/// Executes those of this leader's instances that are ready, in rising order; `false` where no stamp is left for one.
+/// Executes those of this leader's instances that are ready, in rising order; `false` where no stamp is left for one. Want of memory stops it at one.
 fn execute_led<D: Device>(node: &mut Node<D>, leader: ReplicaId) -> Result<bool, AllocError>
+    requires { node.old.closed ≡ false }
     ensures ok { IfOk result (λ swept. (roots : List ℕ) × ExecutesEach node.old.replica roots node.new.replica × IsSwept leader swept node.new.replica) }
     ensures same { node.new ≡ record node.old { replica = node.new.replica } }
+    ensures err { OnErr result ((roots : List ℕ) × ExecutesEach node.old.replica roots node.new.replica × LedWantsMemory leader node.new.replica) }
 {
     for number in 1..2001 {
         let tried = try_one(node, instance_at(leader, number))?;
@@ -59,8 +64,10 @@ fn execute_led<D: Device>(node: &mut Node<D>, leader: ReplicaId) -> Result<bool,
 
 /// Executes all instances that are ready, in rising order. One try of each suffices: an execution commits nothing.
 fn execute_every<D: Device>(node: &mut Node<D>) -> Result<(), AllocError>
+    requires { node.old.closed ≡ false }
     ensures ok { OnOk result ((roots : List ℕ) × ExecutesEach node.old.replica roots node.new.replica × NoneIsReady node.new.replica) }
     ensures same { node.new ≡ record node.old { replica = node.new.replica } }
+    ensures err { OnErr result (StopsShort node.old.replica node.new.replica) }
 {
     for index in 0..7 {
         let swept = execute_led(node, ReplicaId::known(index))?;
@@ -71,11 +78,15 @@ fn execute_every<D: Device>(node: &mut Node<D>) -> Result<(), AllocError>
     Ok(())
 }
 
-/// The node executes all that is committed and waits for nothing that isn't, own or not.
+/// The node executes all that is committed and waits for nothing that isn't, own or not. `Err` where its device has failed, and where memory is wanted.
 pub(crate) fn execute_all<D: Device>(node: &mut Node<D>) -> Result<Due, AllocError>
     ensures ok { IfOk result (λ due. ExecutesAll node.old.replica due node.new.replica) }
     ensures same { node.new ≡ record node.old { replica = node.new.replica } }
+    ensures err { OnErr result (IsPassedOver node.old node.new ⊎ StopsShort node.old.replica node.new.replica) }
 {
+    if node.is_closed() {
+        return Err(AllocError);
+    }
     let from = node.taken();
     execute_every(node)?;
     let count = node.taken().saturating_sub(from);

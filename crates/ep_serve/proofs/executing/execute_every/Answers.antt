@@ -1,5 +1,5 @@
 use Rattle.std.proofs.Common.{◌∙◌, refl, arith}
-use Rattle.ep_serve.proofs.Sweeping.{all_none, every_all, every_next, every_stops, some_none}
+use Rattle.ep_serve.proofs.Sweeping.{at_error, all_none, every_all, every_next, every_short, every_stops, some_none}
 use Rattle.ep_serve.proofs.executing.execute_every.Goals as goal
 
 pub loop-index-init : goal.loop-index-init
@@ -20,3 +20,7 @@ loop-index-preserved g c =
 
 pub returns-clause-ok : goal.returns-clause-ok
 returns-clause-ok g c = every_all c.args.node.now.replica c.loop-index.node.replica c.loop-index.index (let past = c.loop-index-test.false in omega arith) c.loop-index.invariant.some c.loop-index.invariant.wait
+
+pub returns-in_err-swept-clause-err : goal.returns-in_err-swept-clause-err
+returns-in_err-swept-clause-err g c =
+    at_error _ (every_short c.args.node.now.replica c.loop-index.node.replica c.execute_led.new.node.replica c.loop-index.index c.known.result c.known.ensures c.loop-index.invariant.some c.loop-index.invariant.wait c.in_err-swept.ensures.err)

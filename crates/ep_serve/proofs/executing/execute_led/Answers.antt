@@ -1,5 +1,5 @@
 use Rattle.std.proofs.Common.{◌∙◌, refl, arith}
-use Rattle.ep_serve.proofs.Sweeping.{led_all, led_next, led_none, led_stops, some_next, some_none}
+use Rattle.ep_serve.proofs.Sweeping.{at_error, led_all, led_next, led_none, led_short, led_stops, some_next, some_none}
 use Rattle.ep_serve.proofs.executing.execute_led.Goals as goal
 
 pub loop-number-init : goal.loop-number-init
@@ -19,3 +19,8 @@ loop-number-preserved g c = record {
 pub returns-clause-ok : goal.returns-clause-ok
 returns-clause-ok g c =
     led_all c.args.node.now.replica c.loop-number.node.replica c.args.leader c.loop-number.number (let past = c.loop-number-test.false in omega arith) c.loop-number.invariant.some c.loop-number.invariant.wait
+
+pub returns-in_err-tried-clause-err : goal.returns-in_err-tried-clause-err
+returns-in_err-tried-clause-err g c =
+    let low = c.loop-number-test.true in
+    at_error _ (led_short c.args.node.now.replica c.loop-number.node.replica c.try_one.new.node.replica c.args.leader c.loop-number.number c.instance_at.result c.instance_at.ensures c.loop-number.invariant.some c.loop-number.invariant.wait c.in_err-tried.ensures.err (omega arith))
