@@ -1,11 +1,13 @@
 -- The first part of what is split, and the rest.
-use Rattle.std.proofs.Common.{◌≡◌, ℕ, suc, ◌+◌, ◌<◌, ◌≤◌, Bool, true, false, cond, not, List, [], ◌∷◌, length, take, drop, refl, sym, ap, ◌∙◌, arith, filter}
+use Rattle.std.proofs.Common.{◌≡◌, ℕ, suc, ◌+◌, ◌<◌, ◌≤◌, Bool, true, false, cond, not, List, [], ◌∷◌, length, get_or, take, drop, refl, sym, ap, ◌∙◌, arith, filter}
 use Rattle.std.specs.Prelude.{◌==◌, ◌-◌, nat_lt, MatchBool, None}
 use Rattle.std.specs.List.{slice_split, onto_first, position_or_len}
 use Rattle.std.proofs.lemmas.Bool.Decides.{nat_tests}
 use Rattle.std.proofs.lemmas.List.Splits.{slice_split-cons_yes, slice_split-cons_no}
 use Rattle.std.proofs.lemmas.List.{length-drop, drop-drop, take_rest}
+use Rattle.std.proofs.lemmas.List.Sums.{position_or_len_is}
 use Rattle.std.proofs.Math.Seq.{take-length, drop-length}
+use Rattle.memchr.specs.Find.{NoneBefore, Nowhere, Passes}
 use Rattle.ep_script.specs.Grammar.{parts_of, instance_parts}
 use Rattle.ep_script.specs.Parts.{is_blank, words_of}
 use Rattle.ep_script.specs.Places.{BeginsWithout}
@@ -111,3 +113,15 @@ has_more w m k h = go (nat_lt m (length w)) refl
     go : (b : Bool) → nat_lt m (length w) ≡ b → MatchBool b ((n : ℕ) (first : List ℕ) → instance_parts n (first ∷ parts_of w) ≡ None) (parts_of w ≡ w ∷ [])
     go true e = let less : m < length w = grind (arith, nat_tests) in λ n first. too_many n w first m k less
     go false e = let same : m ≡ length w = grind (arith, nat_tests) in undotted w m k same
+
+-- The first place at which a search stops.
+
+not_passed : (b : Bool) → (b ≡ true → ⊥) → b ≡ false
+not_passed true h = absurd (h refl)
+not_passed false h = refl
+
+pub found_first : (p : ℕ → Bool) (xs : List ℕ) (k : ℕ) → NoneBefore (Passes p xs) 0 (length xs) k → Passes p xs k → k ≡ position_or_len p xs
+found_first p xs k none hit = sym (position_or_len_is p xs k 0 (let high = none.high in omega arith) (λ j below. not_passed (p (get_or xs j 0)) (none.before j (omega arith) below)) (λ _. hit))
+
+pub found_none : (p : ℕ → Bool) (xs : List ℕ) → Nowhere (Passes p xs) 0 (length xs) → length xs ≡ position_or_len p xs
+found_none p xs none = sym (position_or_len_is p xs (length xs) 0 (omega arith) (λ j below. not_passed (p (get_or xs j 0)) (none j (omega arith) below)) (λ below. absurd (omega arith)))

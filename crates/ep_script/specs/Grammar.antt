@@ -28,6 +28,11 @@ abbrev pub starts_comment : List ℕ → Bool
 starts_comment [] = false
 starts_comment (b ∷ bs) = b == 35
 
+-- a line of these words says nothing
+abbrev pub is_silent : List (List ℕ) → Bool
+is_silent [] = true
+is_silent (w ∷ ws) = starts_comment w
+
 -- how many replicas of a cluster of this size may fail
 abbrev pub faults_of : ℕ → Option ℕ
 faults_of n = if n == 3 then Some 1 else if n == 5 then Some 2 else if n == 7 then Some 3 else None

@@ -7,6 +7,7 @@ ghost use Rattle.ep_base.specs.Parts.{IsShort};
 ghost use Rattle.ep_base.specs.Quorums.{size as size_with};
 ghost use Rattle.ep_base.specs.Instances.{instance_of, highest_number};
 ghost use Rattle.ep_script.specs.Parts.{words_of};
+ghost use Rattle.ep_script.specs.Word.{bytes_of as read_bytes};
 ghost use Rattle.ep_script.specs.Grammar.{number_in as number_between, count_of, replica_of, instance_parts, parts_of, key_of, value_of, key_word, value_word, key_only, get_of, put_of, del_of, swap_with, swap_of, option_word, cas_of, opaque_of, opaque_with_two, seal_of, late_command_of, any_command_of, command_of, place_of};
 
 use crate::numbers::{number, number_in};
@@ -190,10 +191,41 @@ fn put(alloc: Global, words: &[u8]) -> Result<Option<Command>, AllocError>
     if next_word(rest).is_some() {
         return Ok(None);
     }
-    let Some(key) = read_key(alloc, first)? else {
+    put_words(alloc, first, second)
+}
+
+fn put_words(alloc: Global, key: &[u8], value: &[u8]) -> Result<Option<Command>, AllocError>
+    ensures { IfOk result (λ c. c ≡ put_of (key.now ∷ value.now ∷ [])) }
+{
+    if !spells_itself(key) {
+        return put_spelled(alloc, key, value);
+    }
+    if !spells_itself(value) {
+        return put_spelled(alloc, key, value);
+    }
+    put_plain(alloc, key, value)
+}
+
+// The put of words that spell themselves.
+fn put_plain(alloc: Global, key: &[u8], value: &[u8]) -> Result<Option<Command>, AllocError>
+    requires key { read_bytes key.now ≡ Some key.now }
+    requires value { read_bytes value.now ≡ Some value.now }
+    ensures { IfOk result (λ c. c ≡ put_of (key.now ∷ value.now ∷ [])) }
+{
+    match Command::put(alloc, key, value) {
+        Ok(command) => Ok(Some(command)),
+        Err(CommandFault::OutOfRange) => Ok(None),
+        Err(CommandFault::Memory) => Err(AllocError),
+    }
+}
+
+fn put_spelled(alloc: Global, key: &[u8], value: &[u8]) -> Result<Option<Command>, AllocError>
+    ensures { IfOk result (λ c. c ≡ put_of (key.now ∷ value.now ∷ [])) }
+{
+    let Some(key) = read_key(alloc, key)? else {
         return Ok(None);
     };
-    let Some(value) = read_value(alloc, second)? else {
+    let Some(value) = read_value(alloc, value)? else {
         return Ok(None);
     };
     match Command::put(alloc, key.as_slice(), value.as_slice()) {

@@ -1,6 +1,6 @@
 //! From the words of a line to what it says: `replicas N`, and the lines that scripts for a replay and for a run share.
 
-ghost use Rattle.std.specs.Prelude.{◌≡◌, IfOk, map, option_map};
+ghost use Rattle.std.specs.Prelude.{◌≡◌, ◌∷◌, IfOk, map, option_map};
 ghost use Rattle.ep_base.specs.Quorums.{size as size_with};
 ghost use Rattle.ep_script.specs.declared.agenda_line.AgendaLine.TheVariants.{GiveUp, Recover};
 ghost use Rattle.ep_script.specs.Parts.{words_of};
@@ -92,18 +92,16 @@ fn recover(size: Size, words: &[u8]) -> Option<AgendaLine>
     Some(AgendaLine::Recover(replica, instance))
 }
 
-/// What the words ask a replica to do; none for any other line, and where they are refused.
+/// What the first word and the rest of a line ask a replica to do; none for any other line, and where they are refused.
 pub(crate) fn read_agenda_line(
     alloc: Global,
     size: Size,
     version: Version,
-    words: &[u8],
+    first: &[u8],
+    rest: &[u8],
 ) -> Result<Option<AgendaLine>, AllocError>
-    ensures { IfOk result (λ l. l ≡ agenda_line (size_with size) version (words_of words.now)) }
+    ensures { IfOk result (λ l. l ≡ agenda_line (size_with size) version (first.now ∷ words_of rest.now)) }
 {
-    let Some((first, rest)) = next_word(words) else {
-        return Ok(None);
-    };
     if is_word(first, b"propose") {
         return propose(alloc, size, version, rest);
     }

@@ -1,6 +1,6 @@
 //! From the words of a line to what it says in a script for a replay.
 
-ghost use Rattle.std.specs.Prelude.{◌≡◌, [], IfOk, map, option_map};
+ghost use Rattle.std.specs.Prelude.{◌≡◌, [], ◌∷◌, IfOk, map, option_map};
 ghost use Rattle.ep_base.specs.Quorums.{size as size_with};
 ghost use Rattle.ep_script.specs.declared.line.Line.TheVariants.{Agenda, Execute};
 ghost use Rattle.ep_script.specs.Parts.{words_of};
@@ -35,18 +35,19 @@ pub(crate) fn read_line(
     if is_word(first, b"flush") {
         return Ok(flush(rest));
     }
-    shared(alloc, size, version, words)
+    shared(alloc, size, version, first, rest)
 }
 
 fn shared(
     alloc: Global,
     size: Size,
     version: Version,
-    words: &[u8],
+    first: &[u8],
+    rest: &[u8],
 ) -> Result<Option<Line>, AllocError>
-    ensures { IfOk result (λ l. l ≡ option_map (λ a. Agenda a) (agenda_line (size_with size) version (words_of words.now))) }
+    ensures { IfOk result (λ l. l ≡ option_map (λ a. Agenda a) (agenda_line (size_with size) version (first.now ∷ words_of rest.now))) }
 {
-    let Some(asked) = read_agenda_line(alloc, size, version, words)? else {
+    let Some(asked) = read_agenda_line(alloc, size, version, first, rest)? else {
         return Ok(None);
     };
     Ok(Some(Line::Agenda(asked)))

@@ -1,6 +1,6 @@
 //! From the words of a line to what it says in a script for a run.
 
-ghost use Rattle.std.specs.Prelude.{◌≡◌, IfOk, map, option_map};
+ghost use Rattle.std.specs.Prelude.{◌≡◌, ◌∷◌, IfOk, map, option_map};
 ghost use Rattle.ep_base.specs.Quorums.{size as size_with};
 ghost use Rattle.ep_script.specs.declared.run_line.RunLine.TheVariants.{Agenda, Weather};
 ghost use Rattle.ep_script.specs.Parts.{words_of};
@@ -94,18 +94,19 @@ fn plain(
     if is_word(first, b"section") {
         return Ok(section(rest));
     }
-    agenda(alloc, size, version, words)
+    agenda(alloc, size, version, first, rest)
 }
 
 fn agenda(
     alloc: Global,
     size: Size,
     version: Version,
-    words: &[u8],
+    first: &[u8],
+    rest: &[u8],
 ) -> Result<Option<RunLine>, AllocError>
-    ensures { IfOk result (λ l. l ≡ option_map (λ x. Agenda x) (agenda_line (size_with size) version (words_of words.now))) }
+    ensures { IfOk result (λ l. l ≡ option_map (λ x. Agenda x) (agenda_line (size_with size) version (first.now ∷ words_of rest.now))) }
 {
-    let Some(asked) = read_agenda_line(alloc, size, version, words)? else {
+    let Some(asked) = read_agenda_line(alloc, size, version, first, rest)? else {
         return Ok(None);
     };
     Ok(Some(RunLine::Agenda(asked)))

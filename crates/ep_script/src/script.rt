@@ -12,6 +12,9 @@ use ep_base::Size;
 use std::alloc::{AllocError, Global};
 use std::marker::Model;
 
+/// For so many lines a script has room from its first one on.
+const ROOM: usize = 2048;
+
 /// A script for a replay: its head, and the lines behind it that aren't skipped, each with its number.
 #[derive(Debug, Drop)]
 pub struct Script {
@@ -43,6 +46,9 @@ impl ScriptKind for Script {
         match read_line(alloc, self.head.size(), self.head.version(), words)? {
             None => Ok(false),
             Some(line) => {
+                if self.lines.is_empty() {
+                    self.lines.reserve(ROOM)?;
+                }
                 self.lines.push((number, line))?;
                 Ok(true)
             }

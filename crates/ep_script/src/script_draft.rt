@@ -17,7 +17,7 @@ use crate::reading_head::{is_generation, is_opening_line, read_generation, read_
 use crate::script_fault::ScriptFault;
 use crate::script_kind::ScriptKind;
 use crate::stage::Stage;
-use crate::words::{is_comment, next_word};
+use crate::words::is_silent_line;
 use ep_base::Size;
 use std::alloc::{AllocError, Global};
 
@@ -59,10 +59,7 @@ impl<P: ScriptKind> ScriptDraft<P> {
     fn take_words(&mut self, alloc: Global, number: u32, words: &[u8]) -> Result<bool, AllocError>
         ensures { IfOk result (λ b. MatchBool b (words_step P.begins P.takes number self.old.stage (words_of words.now) ≡ Some self.new.stage) (words_step P.begins P.takes number self.old.stage (words_of words.now) ≡ None)) }
     {
-        let Some((first, _)) = next_word(words) else {
-            return Ok(true);
-        };
-        if is_comment(first) {
+        if is_silent_line(words) {
             return Ok(true);
         }
         self.take_said(alloc, number, words)

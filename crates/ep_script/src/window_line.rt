@@ -12,6 +12,7 @@ use crate::got::Got;
 use crate::line_fault::LineFault;
 use crate::window::Window;
 use ep_base::Source;
+use memchr::memchr;
 use std::alloc::AllocError;
 
 /// The bytes before a line feed that a line can have: 8,192, and a carriage return.
@@ -66,14 +67,8 @@ fn run_length(bytes: &[u8], room: usize) -> usize
     ensures value { result ≡ min room (position_or_len (λ b. b == 10) bytes.now) }
     ensures bound { result ≤ length bytes.now }
 {
-    let mut count = 0usize;
-    let mut rest = bytes;
-    while let [first, after @ ..] = rest {
-        if count == room || *first == b'\n' {
-            return count;
-        }
-        count += 1;
-        rest = after;
+    match memchr(b'\n', bytes) {
+        Some(place) => room.min(place),
+        None => room.min(bytes.len()),
     }
-    count
 }

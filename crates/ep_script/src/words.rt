@@ -5,7 +5,9 @@ ghost use Rattle.std.specs.List.{position_or_len};
 ghost use Rattle.std.specs.Str.{bytes_eq};
 ghost use Rattle.ep_script.specs.Parts.{words_of, is_blank};
 ghost use Rattle.ep_script.specs.Places.{BeginsWithout};
-ghost use Rattle.ep_script.specs.Grammar.{parts_of, instance_parts, starts_comment};
+ghost use Rattle.ep_script.specs.Grammar.{parts_of, instance_parts, is_silent};
+
+use memchr::memchr2;
 
 fn is_blank_byte(byte: u8) -> bool
     ensures { result ≡ is_blank byte }
@@ -46,14 +48,10 @@ fn word_length(line: &[u8]) -> usize
     ensures value { result ≡ position_or_len is_blank line.now }
     ensures bound { result ≤ length line.now }
 {
-    let mut count = 0usize;
-    for byte in line {
-        if is_blank_byte(*byte) {
-            return count;
-        }
-        count += 1;
+    match memchr2(b' ', b'\t', line) {
+        Some(place) => place,
+        None => line.len(),
     }
-    count
 }
 
 /// What stands before the first dot of a word, and what stands after it; none where it has no dot.
@@ -91,12 +89,12 @@ fn dot_place(word: &[u8]) -> usize
     count
 }
 
-/// Whether a line whose first word this is says nothing.
-pub(crate) fn is_comment(word: &[u8]) -> bool
-    ensures { result ≡ starts_comment word.now }
+/// Whether a line says nothing: it has no words, or the first begins a comment.
+pub(crate) fn is_silent_line(line: &[u8]) -> bool
+    ensures { result ≡ is_silent (words_of line.now) }
 {
-    match word {
-        [] => false,
+    match without_blanks(line) {
+        [] => true,
         [first, ..] => *first == b'#',
     }
 }

@@ -3,6 +3,7 @@
 ghost use Rattle.std.specs.Prelude.{◌≡◌, ◌<◌, ◌≤◌, ◌+◌, ◌-◌, ◌++◌, ◌∷◌, [], length, slice_index_or, vec_len, vec_capacity, IfErr, OnOk, OnErr};
 ghost use Rattle.ep_world.specs.Replicas.{AreAll, world_of, places_up_to, Took, IsUntaken};
 
+use crate::notes::Notes;
 use crate::place::Place;
 use ep_base::{ReplicaId, Size};
 use ep_journal::{Entry, Event, StepFault};
@@ -37,28 +38,27 @@ fn last_entry(replica: &Replica) -> &Entry
 pub(crate) fn advance(
     cluster: Size,
     replicas: &mut Vec<Replica>,
-    steps: &mut Vec<(ReplicaId, u32)>,
-    messages: &mut Vec<Place>,
+    notes: &mut Notes,
     replica: ReplicaId,
     event: Event,
 ) -> Result<(), StepFault>
     requires { AreAll cluster replicas.old.items }
-    ensures ok { OnOk result (Took (world_of cluster replicas.old.items steps.old.items messages.old.items) replica event (world_of cluster replicas.new.items steps.new.items messages.new.items)) }
-    ensures refused { IfErr result (λ fault. IsUntaken (world_of cluster replicas.old.items steps.old.items messages.old.items) replica event fault) }
-    ensures err { OnErr result ((replicas.new.items ≡ replicas.old.items) × (steps.new.items ≡ steps.old.items) × (messages.new.items ≡ messages.old.items)) }
+    ensures ok { OnOk result (Took (world_of cluster replicas.old.items notes.old.steps.items notes.old.messages.items) replica event (world_of cluster replicas.new.items notes.new.steps.items notes.new.messages.items)) }
+    ensures refused { IfErr result (λ fault. IsUntaken (world_of cluster replicas.old.items notes.old.steps.items notes.old.messages.items) replica event fault) }
+    ensures err { OnErr result ((replicas.new.items ≡ replicas.old.items) × (notes.new.steps.items ≡ notes.old.steps.items) × (notes.new.messages.items ≡ notes.old.messages.items)) }
     ensures replicas { AreAll cluster replicas.new.items }
 {
     let place = replica.index() as usize;
     if place >= replicas.len() {
         return Err(StepFault::OutOfRange);
     }
-    steps.reserve(1)?;
-    messages.reserve(cluster.count() as usize + 1)?;
+    notes.steps.reserve(1)?;
+    notes.messages.reserve(cluster.count() as usize + 1)?;
     match replicas[place].take(event) {
         Ok(()) => {
             let entry = last_entry(&replicas[place]);
-            steps.push_reserved((replica, entry.number));
-            add_places(replica, entry, messages);
+            notes.steps.push_reserved((replica, entry.number));
+            add_places(replica, entry, &mut notes.messages);
             Ok(())
         }
         Err(fault) => Err(fault),

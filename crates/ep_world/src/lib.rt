@@ -10,6 +10,7 @@
 #![tactic(auto)]
 
 mod advance;
+mod notes;
 mod place;
 mod refused;
 mod replicas;

@@ -3,6 +3,7 @@
 ghost use Rattle.std.specs.Prelude.{◌≡◌};
 
 use crate::advance::advance;
+use crate::notes::Notes;
 use crate::place::Place;
 use crate::refused::Refused;
 use crate::replicas::{
@@ -22,8 +23,7 @@ use std::marker::Model;
 pub struct World {
     size: Size,
     replicas: Vec<Replica>,
-    steps: Vec<(ReplicaId, u32)>,
-    messages: Vec<Place>,
+    notes: Notes,
     alloc: Global,
 }
 
@@ -35,9 +35,9 @@ impl Model for World {
 
     ghost coded = { played_code };
 
-    ghost view = { λ w. world_of w.size w.replicas.items w.steps.items w.messages.items };
+    ghost view = { λ w. world_of w.size w.replicas.items w.notes.steps.items w.notes.messages.items };
 
-    ghost invariant = { λ w. AreAll w.size w.replicas.items × IsWorld (world_of w.size w.replicas.items w.steps.items w.messages.items) };
+    ghost invariant = { λ w. AreAll w.size w.replicas.items × IsWorld (world_of w.size w.replicas.items w.notes.steps.items w.notes.messages.items) };
 }
 
 impl World {
@@ -65,12 +65,12 @@ impl World {
         ensures steps { IfOk result (λ w. w.steps ≡ []) }
         ensures messages { IfOk result (λ w. w.messages ≡ []) }
     {
+        let notes = Notes::new(alloc)?;
         let replicas = all_fresh(alloc, cluster)?;
         Ok(World {
             size: cluster,
             replicas,
-            steps: Vec::new(alloc),
-            messages: Vec::new(alloc),
+            notes,
             alloc,
         })
     }
@@ -89,12 +89,12 @@ impl World {
         ensures steps { IfOk result (λ w. w.steps ≡ []) }
         ensures messages { IfOk result (λ w. w.messages ≡ []) }
     {
+        let notes = Notes::new(alloc)?;
         let replicas = all_opened(alloc, cluster, generation, opening)?;
         Ok(World {
             size: cluster,
             replicas,
-            steps: Vec::new(alloc),
-            messages: Vec::new(alloc),
+            notes,
             alloc,
         })
     }
@@ -169,8 +169,7 @@ impl World {
         match advance(
             self.size,
             &mut self.replicas,
-            &mut self.steps,
-            &mut self.messages,
+            &mut self.notes,
             replica,
             taken,
         ) {
@@ -259,7 +258,7 @@ impl World {
         ensures value { result.now ≡ self.now.steps }
         ensures run { IsPlayed self.now }
     {
-        self.steps.as_slice()
+        self.notes.steps.as_slice()
     }
 
     /// Where each message stands that was sent so far, in order of sending.
@@ -267,7 +266,7 @@ impl World {
         ensures value { result.now ≡ self.now.messages }
         ensures run { IsPlayed self.now }
     {
-        self.messages.as_slice()
+        self.notes.messages.as_slice()
     }
 
     /// The frame of a message, which are numbered from 1.
@@ -276,7 +275,7 @@ impl World {
         ensures none { result ≡ None → (message ≡ 0) ⊎ (length self.now.messages < message) }
         ensures frame { IfSome result (λ b. IsFrame b.now) }
     {
-        let Some(place) = numbered_place(self.messages.as_slice(), message) else {
+        let Some(place) = numbered_place(self.notes.messages.as_slice(), message) else {
             return None;
         };
         frame_at(self.replicas.as_slice(), place)
@@ -323,8 +322,7 @@ impl World {
         let World {
             size: _,
             replicas,
-            steps: _,
-            messages: _,
+            notes: _,
             alloc: _,
         } = self;
         match Journals::new(into_journals(alloc, replicas)?) {

@@ -18,7 +18,7 @@ returns-in-Err-clause-refused c =
     let less : place < length ks = search rules in
     let is : k ≡ get_or ks place k = c.index_mut.ensures.value in
     let h = here_at f c.args.replica place ks k c.requires c.index-place.ensures.value less is in
-    untaken f c.args.replica ks k c.args.steps.now.items c.args.messages.now.items c.args.event c.in-Err.fault h c.in-Err.ensures.refused
+    untaken f c.args.replica ks k c.args.notes.now.steps.items c.args.notes.now.messages.items c.args.event c.in-Err.fault h c.in-Err.ensures.refused
 
 pub add_places-requires-clause-few : goal.add_places-requires-clause-few
 add_places-requires-clause-few c =
@@ -78,7 +78,7 @@ returns-in-Ok-clause-ok c =
     let h = here_at f c.args.replica place ks k c.requires c.index-place.ensures.value less is in
     let there = put_there ks place c.take.new.self c.index.result.now less c.index.ensures in
     let a = with_last k c.take.new.self c.index.result.now c.args.event e c.in-Ok.ensures.ok there c.last_entry-entry.ensures in
-    let steps : c.push_reserved.new.self.items ≡ c.args.steps.now.items ++ (c.args.replica, e.number) ∷ [] = c.push_reserved.ensures.items ∙ ap (λ xs. xs ++ (c.args.replica, e.number) ∷ []) c.reserve.ensures.items in
-    let messages : c.add_places.new.messages.items ≡ c.args.messages.now.items ++ places_up_to c.args.replica e.number (length e.frames) =
+    let steps : c.push_reserved.new.self.items ≡ c.args.notes.now.steps.items ++ (c.args.replica, e.number) ∷ [] = c.push_reserved.ensures.items ∙ ap (λ xs. xs ++ (c.args.replica, e.number) ∷ []) c.reserve.ensures.items in
+    let messages : c.add_places.new.messages.items ≡ c.args.notes.now.messages.items ++ places_up_to c.args.replica e.number (length e.frames) =
     c.add_places.ensures ∙ ap (λ ps. ps ++ places_up_to c.args.replica e.number (length e.frames)) c.reserve-2.ensures.items in
-    took_at f c.args.replica place ks k c.take.new.self c.args.steps.now.items c.push_reserved.new.self.items c.args.messages.now.items c.add_places.new.messages.items c.args.event e c.requires c.index-place.ensures.value h a steps messages
+    took_at f c.args.replica place ks k c.take.new.self c.args.notes.now.steps.items c.push_reserved.new.self.items c.args.notes.now.messages.items c.add_places.new.messages.items c.args.event e c.requires c.index-place.ensures.value h a steps messages

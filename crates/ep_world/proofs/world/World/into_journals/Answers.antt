@@ -15,4 +15,4 @@ returns c =
     let ks = c.self.inside.replicas.items in
     let ls = c.in_ok-into_journals.field-0.items in
     subst (λ (w : Played). c.in-Ok.journals ≡ collected w) c.self.view_is
-    (collects c.self.inside.size ks c.self.inside.steps.items c.self.inside.messages.items ls c.in-Ok.journals c.self.invariant.0 c.in_ok-into_journals.ensures c.in-Ok.ensures.of_one c.in-Ok.ensures.ok)
+    (collects c.self.inside.size ks c.self.inside.notes.steps.items c.self.inside.notes.messages.items ls c.in-Ok.journals c.self.invariant.0 c.in_ok-into_journals.ensures c.in-Ok.ensures.of_one c.in-Ok.ensures.ok)

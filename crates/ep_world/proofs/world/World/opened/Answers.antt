@@ -5,4 +5,4 @@ pub invariant_of-result : goal.invariant_of-result
 invariant_of-result c =
     let ks = c.in_ok-replicas.replicas.items in
     let e = c.in_ok-replicas.ensures in
-    (e.replicas, new_world c.args.cluster ks c.new.result.items c.new-2.result.items e.replicas (third_opens ks c.args.generation e.version) e.entries c.new.ensures.items c.new-2.ensures.items)
+    (e.replicas, new_world c.args.cluster ks c.in_ok-notes.notes.steps.items c.in_ok-notes.notes.messages.items e.replicas (third_opens ks c.args.generation e.version) e.entries c.in_ok-notes.ensures.steps c.in_ok-notes.ensures.messages)

@@ -11,7 +11,7 @@ returns-clause-some c =
     let ks = c.self.inside.replicas.items in
     let value : option_copied c.find.result ≡ slice_get ks r = c.find.ensures ∙ ap (λ (xs : List Kept). slice_get xs r) c.as_slice.ensures.value in
     if_copied (λ (k : Kept). (r < size c.args.self.now.faults) × (k ≡ replica_in c.args.self.now r)) c.find.result (slice_get ks r) value
-    (λ k is. subst (λ (w : Played). (r < size w.faults) × (k ≡ replica_in w r)) c.self.view_is (this_replica c.self.inside.size r ks c.self.inside.steps.items c.self.inside.messages.items k c.self.invariant.0 is))
+    (λ k is. subst (λ (w : Played). (r < size w.faults) × (k ≡ replica_in w r)) c.self.view_is (this_replica c.self.inside.size r ks c.self.inside.notes.steps.items c.self.inside.notes.messages.items k c.self.invariant.0 is))
 
 pub returns-clause-none : goal.returns-clause-none
 returns-clause-none c = λ none.

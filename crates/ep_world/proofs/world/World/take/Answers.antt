@@ -14,10 +14,10 @@ pub invariant_of-self : goal.invariant_of-self
 invariant_of-self c =
     let f = c.self.inside.size in
     let ks = c.self.inside.replicas.items in
-    let steps = c.self.inside.steps.items in
-    let messages = c.self.inside.messages.items in
+    let steps = c.self.inside.notes.steps.items in
+    let messages = c.self.inside.notes.messages.items in
     let w : Played = world_of f ks steps messages in
-    let w' : Played = world_of f c.advance.new.replicas.items c.advance.new.steps.items c.advance.new.messages.items in
+    let w' : Played = world_of f c.advance.new.replicas.items c.advance.new.notes.steps.items c.advance.new.notes.messages.items in
     let r = c.args.replica in
     let taken = c.args.taken in
     let event : WorldEvent = c.requires.0 in
@@ -25,7 +25,7 @@ invariant_of-self c =
       c.advance.ensures.replicas,
       elim c.match-advance.branch [
         | in-Ok b ↦ step_world w w' event r taken c.self.invariant.1 is b.in-Ok.ensures.ok
-        | in-Err b ↦ same_world f ks c.advance.new.replicas.items steps c.advance.new.steps.items messages c.advance.new.messages.items b.in-Err.ensures.err c.self.invariant.1
+        | in-Err b ↦ same_world f ks c.advance.new.replicas.items steps c.advance.new.notes.steps.items messages c.advance.new.notes.messages.items b.in-Err.ensures.err c.self.invariant.1
       ],
     )
 
@@ -43,16 +43,16 @@ pub returns-clause-permanence : goal.returns-clause-permanence
 returns-clause-permanence c =
     let f = c.self.inside.size in
     let ks = c.self.inside.replicas.items in
-    let steps = c.self.inside.steps.items in
-    let messages = c.self.inside.messages.items in
+    let steps = c.self.inside.notes.steps.items in
+    let messages = c.self.inside.notes.messages.items in
     let w : Played = world_of f ks steps messages in
-    let w' : Played = world_of f c.advance.new.replicas.items c.advance.new.steps.items c.advance.new.messages.items in
+    let w' : Played = world_of f c.advance.new.replicas.items c.advance.new.notes.steps.items c.advance.new.notes.messages.items in
     let r = c.args.replica in
     let taken = c.args.taken in
     let event : WorldEvent = c.requires.0 in
     let is : asked w event ≡ Some (r, taken) = subst (λ (v : Played). asked v event ≡ Some (r, taken)) (sym c.self.view_is) c.requires.1 in
     let kept : Keeps w w' = elim c.match-advance.branch [
       | in-Ok b ↦ keeps_took w w' event r taken is b.in-Ok.ensures.ok
-      | in-Err b ↦ keeps_same f ks c.advance.new.replicas.items steps c.advance.new.steps.items messages c.advance.new.messages.items b.in-Err.ensures.err
+      | in-Err b ↦ keeps_same f ks c.advance.new.replicas.items steps c.advance.new.notes.steps.items messages c.advance.new.notes.messages.items b.in-Err.ensures.err
     ] in
     subst (λ (v : Played). Keeps v w') c.self.view_is kept
