@@ -5,7 +5,7 @@ use Rattle.std.proofs.lemmas.Bool.{false≢true}
 use Rattle.ep_bundle.specs.Reading.{Reading}
 use Rattle.ep_device.specs.declared.host_device.HostDevice.{HostDevice}
 use Rattle.ep_node.specs.Nodes.{Logged}
-use Rattle.ep_serve.specs.Acting.{IsUndone}
+use Rattle.ep_serve.specs.Acting.{IsUndone, StopsShort}
 use Rattle.ep_serve.specs.Serving.{dialect_of}
 use Rattle.ep_wire.specs.Requests.{next_request, ReadsRequest}
 use Rattle.ep_wire.specs.declared.dialect.Dialect.{Dialect}
@@ -13,7 +13,7 @@ use Rattle.ep_wire.specs.declared.request.Request.{Request}
 use Rattle.ep_wire.specs.declared.request.Request.TheVariants as request
 use Rattle.ep_wire.specs.declared.request_fault.RequestFault.{RequestFault}
 use Rattle.ep_wire.specs.declared.request_fault.RequestFault.TheVariants as wire
-use Rattle.ep_hosted.specs.Asking.{is_several, IsRequest, IsUnasked, IsUnread}
+use Rattle.ep_hosted.specs.Asking.{IsRequest, IsUnasked, IsUnread}
 use Rattle.ep_hosted.specs.Faults.{of_request}
 use Rattle.ep_hosted.specs.Hosting.{Hosting}
 use Rattle.ep_hosted.specs.declared.ask_fault.AskFault.{AskFault}
@@ -60,19 +60,25 @@ is_bad how zs wire.ReadFailed told place left is read = subst (λ (f : AskFault)
 is_bad how zs (wire.BadRequest at) told place left is read =
     subst (λ (f : AskFault). IsUnread how zs f) (sym is) (λ other one. failed (next_request how (record { at = 0; bytes = zs })) other read.1 (ap found_of one.read))
 
--- a request that a working node leaves undone has changed nothing, or executes several instances
-pub undone : (n : Logged HostDevice) (r : Request) (n' : Logged HostDevice) → n.closed ≡ false → IsUndone n r n' → (n' ≡ n) ⊎ (is_several r ≡ true)
+-- a request that a working node leaves undone has changed nothing, or executed some of all that is ready
+pub undone : (n : Logged HostDevice) (r : Request) (n' : Logged HostDevice) → n.closed ≡ false → IsUndone n r n' → (n' ≡ n) ⊎ ((r ≡ request.ExecuteAll) × StopsShort n.replica n'.replica)
 undone n (request.Event happening) n' works un = inl un.1
 undone n request.BadFrame n' works un = absurd un
-undone n request.Advance n' works un = inr refl
+undone n request.Advance n' works un = inl un.1
 undone n (request.Get key) n' works un = absurd un
 undone n (request.NextOpen after) n' works un = absurd un
 undone n (request.Leads i) n' works un = absurd un
 undone n request.Sync n' works un = absurd un
 undone n request.State n' works un = absurd un
-undone n request.ExecuteAll n' works un = inr refl
+undone n request.ExecuteAll n' works (inl over) = inl over.1
+undone n request.ExecuteAll n' works (inr part) = inr (refl, part)
 undone n (request.Ready after most) n' works un = absurd un
 undone n (request.Malformed m) n' works un = absurd un
+
+-- where its device works, it stopped for want of memory
+pub swept : (n n' : Logged HostDevice) → n.closed ≡ false → IsUndone n request.ExecuteAll n' → StopsShort n.replica n'.replica
+swept n n' works (inl over) = absurd (false≢true (sym works ∙ over.0))
+swept n n' works (inr part) = part
 
 -- why no request was read, and nothing has changed
 pub unasked : (h : Hosting) (bytes : List ℕ) (fault : AskFault) → IsUnread (dialect_of h.node.replica) bytes fault → IsUnasked h bytes fault h

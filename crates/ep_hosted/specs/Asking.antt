@@ -1,7 +1,7 @@
 -- What a node does by a request in bytes.
-use Rattle.std.specs.Prelude.{◌≡◌, ◌⊎◌, ℕ, Bool, true, false, List, [], ◌∷◌, ◌++◌, Some, None, Ok}
+use Rattle.std.specs.Prelude.{◌≡◌, ◌⊎◌, ℕ, List, [], ◌∷◌, ◌++◌, Some, None, Ok}
 use Rattle.ep_bundle.specs.Reading.{Left}
-use Rattle.ep_serve.specs.Acting.{Acts}
+use Rattle.ep_serve.specs.Acting.{Acts, StopsShort}
 use Rattle.ep_serve.specs.Serving.{dialect_of}
 use Rattle.ep_serve.specs.declared.due.Due.{Due}
 use Rattle.ep_wire.specs.Requests.{next_request}
@@ -34,25 +34,10 @@ pub record HasAsked (h : Hosting) (bytes : List ℕ) (h' : Hosting) : Type 0 whe
   pub acted : Acts h.node.replica request due h'.node.replica
   pub rest : h' ≡ record (with_replica h h'.node.replica) { dues = h.dues ++ due ∷ [] }
 
--- whether the request executes several instances
-abbrev pub is_several : Request → Bool
-is_several (request.Event happening) = false
-is_several request.BadFrame = false
-is_several request.Advance = true
-is_several (request.Get key) = false
-is_several (request.NextOpen after) = false
-is_several (request.Leads i) = false
-is_several request.Sync = false
-is_several request.State = false
-is_several request.ExecuteAll = true
-is_several (request.Ready after most) = false
-is_several (request.Malformed m) = false
-
--- some of the instances that the request executes may have been executed, and nothing else changed
+-- Of all that is ready, which the request executes, some were executed, each in its turn, and for the next one memory was wanted. No answer waits.
 pub record IsPartly (h : Hosting) (bytes : List ℕ) (h' : Hosting) : Type 0 where
-  pub request : Request
-  pub read : IsRequest (dialect_of h.node.replica) bytes request
-  pub several : is_several request ≡ true
+  pub read : IsRequest (dialect_of h.node.replica) bytes request.ExecuteAll
+  pub part : StopsShort h.node.replica h'.node.replica
   pub rest : h' ≡ with_replica h h'.node.replica
 
 -- why it wasn't done

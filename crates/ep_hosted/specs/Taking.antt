@@ -1,12 +1,11 @@
 -- What a node takes, and why it takes nothing.
-use Rattle.std.specs.Prelude.{◌≡◌, ◌≢◌, ◌⊎◌, ℕ, zero, suc, Bool, true, false, List, length, Option, Some, None, Ok}
+use Rattle.std.specs.Prelude.{◌≡◌, ◌≢◌, ℕ, Bool, true, false, List, length, Option, Some, None, Ok}
 use Rattle.ep_frame.specs.Spelling.{IsFrame}
 use Rattle.ep_journal.specs.declared.event.Event.{Event as Happening}
 use Rattle.ep_journal.specs.declared.event.Event.TheVariants.{Handle}
 use Rattle.ep_journal.specs.declared.step_fault.StepFault.TheVariants.{Memory}
-use Rattle.ep_replica.specs.Kept.{Kept}
 use Rattle.ep_replica.specs.Pending.{IsHeldUp, TriesNext}
-use Rattle.ep_serve.specs.Acting.{ExecutesAll, TakesNear}
+use Rattle.ep_serve.specs.Acting.{ExecutesAll, ExecutesSo, StopsShort, TakesNear}
 use Rattle.ep_serve.specs.declared.due.Due.{Due}
 use Rattle.ep_serve.specs.declared.due.Due.TheVariants as due
 use Rattle.ep_wire.specs.declared.take_fault.TakeFault.{TakeFault}
@@ -64,27 +63,23 @@ IsNotExecuted h Lent h' = IsBusy h h'
 IsNotExecuted h (Refused BadFrame) h' = ⊥
 IsNotExecuted h (Refused (Step fault)) h' = (h.lent ≡ None) × IsHeldUp h.node.replica fault × (h' ≡ h)
 
--- so many were executed, each the least that was ready
-abbrev pub ExecutesSo : ℕ → Kept → Kept → Type 0
-ExecutesSo zero k k' = k' ≡ k
-ExecutesSo (suc n) k k' = (m : Kept) × ExecutesSo n k m × TriesNext m (Ok true) k'
-
 -- all that were ready were executed, and then none is
 abbrev pub HasAdvanced : Hosting → Hosting → Type 0
 HasAdvanced h h' = Moves h h' × ((times : ℕ) × ExecutesSo times h.node.replica h'.node.replica × TriesNext h'.node.replica (Ok false) h'.node.replica)
 
--- some were executed, and the next one was refused
+-- some were executed, and the next one was refused, for want of memory or a full stamp
 abbrev pub HasStopped : Hosting → TakingFault → Hosting → Type 0
 HasStopped h Lent h' = IsBusy h h'
 HasStopped h (Refused BadFrame) h' = ⊥
-HasStopped h (Refused (Step fault)) h' = Moves h h' × ((times : ℕ) × ExecutesSo times h.node.replica h'.node.replica × ((fault ≡ Memory) ⊎ IsHeldUp h'.node.replica fault))
+HasStopped h (Refused (Step fault)) h' = Moves h h' × ((times : ℕ) × ExecutesSo times h.node.replica h'.node.replica × IsHeldUp h'.node.replica fault)
 
 -- Executing all instances that are ready.
 
 abbrev pub HasSwept : Hosting → Hosting → Type 0
 HasSwept h h' = Moves h h' × ((told : Due) × ExecutesAll h.node.replica told h'.node.replica)
 
--- some of them were executed
+-- some were executed, each in its turn, and for the next one memory was wanted
 abbrev pub HasLeftOff : Hosting → TakingFault → Hosting → Type 0
 HasLeftOff h Lent h' = IsBusy h h'
-HasLeftOff h (Refused refusal) h' = Moves h h'
+HasLeftOff h (Refused BadFrame) h' = ⊥
+HasLeftOff h (Refused (Step fault)) h' = Moves h h' × (fault ≡ Memory) × StopsShort h.node.replica h'.node.replica

@@ -12,7 +12,7 @@ pub enum AskFault {
     /// Bytes are lent that aren't on the disk yet: nothing is done before `synced` says that they are.
     #[error("bytes are lent that aren't on the disk")]
     Lent,
-    /// Memory was refused. Nothing was done, but of a request of kind 6 or 12, which execute several instances: some of them may have been executed.
+    /// Memory was refused. Nothing was done, but of a request of kind 12, which executes all that is ready: some of that may have been executed.
     #[error("E1 memory")]
     Memory,
     /// The bytes aren't just one request: its length is out of range, or isn't that of the bytes.

@@ -1,12 +1,11 @@
 //! What a node takes.
 
-ghost use Rattle.std.specs.Prelude.{◌≡◌, ◌⊎◌, ℕ, false, length, None, Some, Ok, IfOk, IfErr, OnOk};
-ghost use Rattle.ep_journal.specs.declared.step_fault.StepFault.TheVariants.{Memory};
+ghost use Rattle.std.specs.Prelude.{◌≡◌, ℕ, false, length, None, Some, Ok, IfOk, IfErr, OnOk, OnErr};
 ghost use Rattle.ep_replica.specs.Pending.{IsHeldUp, TriesNext};
-ghost use Rattle.ep_serve.specs.Acting.{ExecutesAll, TakesNear};
+ghost use Rattle.ep_serve.specs.Acting.{ExecutesAll, ExecutesSo, StopsShort, TakesNear};
 ghost use Rattle.ep_serve.specs.declared.due.Due.{Due as Answer};
 ghost use Rattle.ep_serve.specs.declared.due.Due.TheVariants.{Refused, Taken};
-ghost use Rattle.ep_hosted.specs.Taking.{refusal_of, ExecutesSo};
+ghost use Rattle.ep_hosted.specs.Taking.{refusal_of};
 
 use crate::call::Call;
 use crate::hosted::Hosted;
@@ -86,9 +85,9 @@ fn advance_at(node: &mut Node<HostDevice>) -> Result<(), StepFault>
     ensures some { (times : ℕ) × ExecutesSo times node.old.replica node.new.replica }
     ensures ok { OnOk result (TriesNext node.new.replica (Ok false) node.new.replica) }
     ensures same { node.new ≡ record node.old { replica = node.new.replica } }
-    ensures err { IfErr result (λ fault. (fault ≡ Memory) ⊎ IsHeldUp node.new.replica fault) }
+    ensures err { IfErr result (IsHeldUp node.new.replica) }
 {
-    for _ in 0..u64::MAX {
+    for _times in 0..u64::MAX {
         let executed = match execute_at(node) {
             Ok(executed) => executed,
             Err(fault) => return Err(fault),
@@ -97,14 +96,18 @@ fn advance_at(node: &mut Node<HostDevice>) -> Result<(), StepFault>
             return Ok(());
         }
     }
-    // No replica has so many instances.
-    Err(StepFault::Memory)
+    // No replica has so many entries.
+    let _entries = node.taken();
+    unreachable!()
 }
 
 /// The node executes all instances that are ready.
+#[tactic(auto, using(crate::proofs::Requests::swept))]
 fn sweep_at(node: &mut Node<HostDevice>) -> Result<(), AllocError>
+    requires { node.old.closed ≡ false }
     ensures ok { OnOk result ((told : Answer) × ExecutesAll node.old.replica told node.new.replica) }
     ensures same { node.new ≡ record node.old { replica = node.new.replica } }
+    ensures err { OnErr result (StopsShort node.old.replica node.new.replica) }
 {
     let _told = act(node, Request::ExecuteAll)?;
     Ok(())
@@ -216,7 +219,7 @@ impl Hosted {
     }
 
     /// Executes all instances that are ready, own or not: before a local read, or where a machine outside is to keep up. After `Refused`, for want of memory,
-    /// some have been executed; after `Lent` none has.
+    /// some have been executed, each in its turn; after `Lent` none has.
     pub fn execute_all(&mut self) -> Result<(), TakingFault>
         ensures ok { OnOk result (HasSwept self.old self.new) }
         ensures err { IfErr result (λ fault. HasLeftOff self.old fault self.new) }

@@ -1,11 +1,10 @@
 -- An execution commits nothing: what waits for an instance that isn't committed waits still, and one try of each instance leaves none that is ready.
-use Rattle.std.proofs.Common.{◌≡◌, ℕ, ◌+◌, ◌≤◌, ◌<◌, Bool, true, false, List, [], ◌∷◌, ◌++◌, append_assoc, Option, Some, None, inl, inr, refl, sym, ap, ◌∙◌, subst, arith}
+use Rattle.std.proofs.Common.{◌≡◌, ℕ, ◌+◌, ◌≤◌, ◌<◌, Bool, true, false, List, [], ◌∷◌, ◌++◌, append_assoc, Some, None, inl, inr, refl, sym, ap, ◌∙◌, subst, arith}
 use Rattle.std.specs.List.{flat_map}
 use Rattle.std.specs.Prelude.{OnErr, Result, Ok, Err}
 use Rattle.std.proofs.lemmas.Bool.{cases_lt}
 use Rattle.ep_base.specs.Instances.{instance_of, leader_of, number_of, highest_number}
 use Rattle.ep_base.specs.Places.{Has}
-use Rattle.ep_base.specs.declared.attrs.Attrs.{Attrs}
 use Rattle.ep_journal.proofs.Growing.{state_grows}
 use Rattle.ep_journal.specs.Events.{event_of}
 use Rattle.ep_journal.specs.declared.entry.Entry.{Entry}
