@@ -13,6 +13,7 @@ use itoa::Buffer;
 use std::alloc::AllocError;
 
 /// Appends a number in decimal digits.
+#[inline(always)]
 pub fn push_number(text: &mut Vec<u8>, number: u64) -> Result<(), AllocError>
     ensures { OnOk result (text.new.items ≡ text.old.items ++ decimal number) }
 {
@@ -20,6 +21,14 @@ pub fn push_number(text: &mut Vec<u8>, number: u64) -> Result<(), AllocError>
         text.push(b'0' + number as u8)?;
         return Ok(());
     }
+    push_more_digits(text, number)
+}
+
+// Appends a number of more than one digit.
+fn push_more_digits(text: &mut Vec<u8>, number: u64) -> Result<(), AllocError>
+    requires { 10 ≤ number }
+    ensures { OnOk result (text.new.items ≡ text.old.items ++ decimal number) }
+{
     if number < 100 {
         return push_two(text, number);
     }

@@ -98,12 +98,23 @@ fn push_closing_lines(text: &mut Vec<u8>, life: Option<&Life<'_>>) -> Result<(),
     Ok(())
 }
 
+// How many bytes such a report usually has at most, where keys and values are short. It is room that is made at once.
+fn usual_length(found: &Findings<'_>) -> usize {
+    let lines = found
+        .committed
+        .len()
+        .saturating_add(found.history.len())
+        .saturating_add(found.receipts.len());
+    lines.saturating_mul(48)
+}
+
 /// The report of what an audit accepts: in version 3 its generation, the committed instances with their decrees, the history, in version 3 the
 /// first seal and what the keys have after the history, and the receipts.
 pub fn accepted(alloc: Global, found: &Findings<'_>) -> Result<Vec<u8>, AllocError>
     ensures { IfOk result (λ t. t.items ≡ text_of (accepted_lines (option_copied found.now.life) found.now.committed.now found.now.history.now found.now.receipts.now)) }
 {
     let mut text = Vec::from_slice(alloc, b"verdict accepted\n")?;
+    text.reserve(usual_length(found))?;
     push_generation_lines(&mut text, found.life)?;
     push_committed(&mut text, found.committed)?;
     push_history(&mut text, found.history)?;

@@ -1,3 +1,4 @@
+use Rattle.std.proofs.Common.{◌∙◌}
 use Rattle.std.specs.Option.{option_copied}
 use Rattle.std.specs.Prelude.{codes, map}
 use Rattle.ep_report.specs.Lives.{generation_lines, closing_lines}
@@ -13,5 +14,5 @@ returns c =
     (counted (codes "history") (history_lines 1 c.args.found.now.history.now))
     (closing_lines (option_copied c.args.found.now.life))
     (counted (codes "receipts") (map receipt_line c.args.found.now.receipts.now))
-    c.in_ok-text.text.items c.push_generation_lines.new.text.items c.push_committed.new.text.items c.push_history.new.text.items c.push_closing_lines.new.text.items c.push_receipts.new.text.items
-    c.in_ok-text.ensures.items c.in_ok-push_generation_lines.ensures c.in_ok-push_committed.ensures c.in_ok-push_history.ensures c.in_ok-push_closing_lines.ensures c.in_ok-push_receipts.ensures
+    c.reserve.new.self.items c.push_generation_lines.new.text.items c.push_committed.new.text.items c.push_history.new.text.items c.push_closing_lines.new.text.items c.push_receipts.new.text.items
+    (c.reserve.ensures.items ∙ c.in_ok-text.ensures.items) c.in_ok-push_generation_lines.ensures c.in_ok-push_committed.ensures c.in_ok-push_history.ensures c.in_ok-push_closing_lines.ensures c.in_ok-push_receipts.ensures
