@@ -3,3 +3,4 @@ mod Refusals
 mod Requests
 mod Still
 mod Writing
+mod Puts

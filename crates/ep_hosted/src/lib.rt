@@ -9,6 +9,7 @@
 
 mod ask_fault;
 mod asking;
+mod blocks;
 mod call;
 mod hosted;
 mod opening;

@@ -8,6 +8,7 @@ ghost use Rattle.ep_opening.specs.Bytes.{opening_bytes};
 ghost use Rattle.ep_hosted.specs.Beginning.{begin_of, log_of, IsFileOf, IsOriginOf, IsUnfounded};
 ghost use Rattle.ep_hosted.specs.Hosting.{Buffer};
 
+use crate::blocks::Blocks;
 use crate::hosted::Hosted;
 use crate::seat::Seat;
 use crate::start_fault::StartFault;
@@ -103,6 +104,7 @@ fn hosted_by(alloc: Global, node: Node<MemoryDevice>) -> Hosted
         is_anew: true,
         dues: Vec::new(alloc),
         answers: Vec::new(alloc),
+        blocks: Blocks::new(alloc),
     }
 }
 

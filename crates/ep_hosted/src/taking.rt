@@ -10,8 +10,7 @@ ghost use Rattle.ep_hosted.specs.Taking.{refusal_of};
 use crate::call::Call;
 use crate::hosted::Hosted;
 use crate::taking_fault::TakingFault;
-use bytes::Bytes;
-use ep_base::{Command, InstanceId};
+use ep_base::{Command, CommandFault, InstanceId};
 use ep_device::HostDevice;
 use ep_frame::Frame;
 use ep_journal::{Event, StepFault};
@@ -114,7 +113,9 @@ fn sweep_at(node: &mut Node<HostDevice>) -> Result<(), AllocError>
 }
 
 impl Hosted {
-    ghost use Rattle.std.specs.Prelude.{◌≡◌, IfOk, IfErr, OnOk};
+    ghost use Rattle.std.specs.Prelude.{◌≡◌, ◌<◌, ◌↔◌, ◌⊎◌, Err, IfOk, IfErr, OnOk, length};
+    ghost use Rattle.ep_base.specs.Commands.{Put};
+    ghost use Rattle.ep_base.specs.Values.{most_value};
     ghost use Rattle.ep_journal.specs.declared.event.Event.TheVariants.{Propose, Handle, GiveUp, Recover, Execute};
     ghost use Rattle.ep_hosted.specs.Taking.{HasAdvanced, HasExecuted, HasLeftOff, HasStopped, HasSwept, HasTaken, IsNotExecuted, IsNotTaken, IsUnheard};
 
@@ -149,6 +150,15 @@ impl Hosted {
         })
     }
 
+    /// The put of this key and value, which a proposal then takes; `OutOfRange` unless the key has 1 to 255 bytes and the value at most 65,535.
+    pub fn put(&mut self, alloc: Global, key: &[u8], value: &[u8]) -> Result<Command, CommandFault>
+        ensures ok { IfOk result (λ c. c ≡ Put key.now value.now) }
+        ensures out_of_range { result ≡ Err CommandFault.OutOfRange ↔ ((length key.now ≡ 0) ⊎ (255 < length key.now) ⊎ (most_value < length value.now)) }
+        ensures same { self.new ≡ self.old }
+    {
+        self.blocks.put(alloc, key, value)
+    }
+
     /// Handles bytes that came from a peer; `BadFrame` where they are no frame.
     pub fn handle(&mut self, alloc: Global, bytes: &[u8]) -> Result<(), TakingFault>
         ensures ok { OnOk result (HasTaken self.old (Handle bytes.now) self.new) }
@@ -157,7 +167,7 @@ impl Hosted {
         if self.is_lending() {
             return Err(TakingFault::Lent);
         }
-        let Ok(bytes) = Bytes::copy_from_slice(alloc, bytes) else {
+        let Ok(bytes) = self.blocks.copy(alloc, bytes) else {
             return Err(TakingFault::Refused(TakeFault::Step(StepFault::Memory)));
         };
         match Frame::read(bytes) {

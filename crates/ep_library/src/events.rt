@@ -16,7 +16,7 @@ use std::alloc::Global;
 use std::mem;
 
 /// The replica takes an event.
-fn takes(hosted: &mut Hosted, event: Event) -> u8
+pub(crate) fn takes(hosted: &mut Hosted, event: Event) -> u8
     ensures { Takes result hosted.old event hosted.new }
 {
     match hosted.take(event) {

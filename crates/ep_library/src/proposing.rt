@@ -1,21 +1,35 @@
 //! What clients ask for.
 
-ghost use Rattle.std.specs.Prelude.{◌≡◌};
+ghost use Rattle.std.specs.Prelude.{◌≡◌, Some};
 ghost use Rattle.ep_base.specs.Commands.{Get, Put, Del, Swap, Cas, Opaque, Seal};
 ghost use Rattle.ep_base.specs.Views.{touched};
 ghost use Rattle.ep_library.specs.Arguments.{part, touched_in};
-ghost use Rattle.ep_library.specs.Calls.{Made, Proposes};
+ghost use Rattle.ep_library.specs.Calls.{proposal, Made, Proposes};
 
 use crate::call::Call;
 use crate::codes::command_status;
-use crate::events::take;
+use crate::events::{take, takes};
 use crate::exchange::Exchange;
 use crate::making::part;
 use crate::touching::Touching;
 use ep_base::{Command, CommandFault};
 use ep_handle::Handle;
+use ep_hosted::Hosted;
 use ep_journal::Event;
 use std::alloc::Global;
+use std::mem;
+
+/// A client's proposal.
+fn proposal(call: &Call, command: Command) -> Event
+    ensures { result ≡ proposal call.now command }
+{
+    Event::Propose {
+        client: call.client,
+        request: call.request,
+        command,
+        seen: call.seen,
+    }
+}
 
 /// The replica, if there is one, takes a client's proposal of the command, where that was made.
 fn propose(
@@ -28,16 +42,7 @@ fn propose(
 {
     match made {
         Err(fault) => command_status(fault),
-        Ok(command) => take(
-            alloc,
-            handle,
-            Event::Propose {
-                client: call.client,
-                request: call.request,
-                command,
-                seen: call.seen,
-            },
-        ),
+        Ok(command) => take(alloc, handle, proposal(call, command)),
     }
 }
 
@@ -52,6 +57,24 @@ pub extern "C" fn ep_propose_get(alloc: Global, handle: &mut Handle, call: &Call
     propose(alloc, handle, call, Command::get(alloc, key))
 }
 
+/// The replica takes a client's proposal of the command, where that was made.
+fn proposes(hosted: &mut Hosted, call: &Call, made: Result<Command, CommandFault>) -> u8
+    ensures { Made result (Some hosted.old) call.now made (Some hosted.new) }
+{
+    match made {
+        Err(fault) => command_status(fault),
+        Ok(command) => takes(hosted, proposal(call, command)),
+    }
+}
+
+/// The replica takes a client's put.
+fn puts(alloc: Global, hosted: &mut Hosted, call: &Call, key: &[u8], value: &[u8]) -> u8
+    ensures { Proposes result (Some hosted.old) call.now (Put key.now value.now) (Some hosted.new) }
+{
+    let made = hosted.put(alloc, key, value);
+    proposes(hosted, call, made)
+}
+
 /// A client gives a key a value. The answer is what it had. Statuses are those of `ep_propose_get`.
 #[unsafe(no_mangle)]
 pub extern "C" fn ep_propose_put(
@@ -63,7 +86,15 @@ pub extern "C" fn ep_propose_put(
 ) -> u8
     ensures { Proposes result handle.old.value call.now (Put key.now value.now) handle.new.value }
 {
-    propose(alloc, handle, call, Command::put(alloc, key, value))
+    let held = mem::replace(handle, Handle::empty());
+    match held.into_box(alloc) {
+        None => propose(alloc, handle, call, Command::put(alloc, key, value)),
+        Some(mut hosted) => {
+            let status = puts(alloc, &mut hosted, call, key, value);
+            *handle = Handle::of(hosted);
+            status
+        }
+    }
 }
 
 /// A client takes a key's value away. The answer is what it had. Statuses are those of `ep_propose_get`.

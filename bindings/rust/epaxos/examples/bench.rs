@@ -1,4 +1,5 @@
-//! How many puts a second three replicas in one process do, a thread each, with channels for a network and no disk.
+//! How many puts a second three replicas in one process do, a thread each, with channels for a network and no disk. All that a replica has for a peer, or for its
+//! clients, at a time goes in one message.
 //!
 //!     cargo run --release --example bench -- [OPEN [ROUNDS [VALUE]]]
 //!
@@ -17,8 +18,27 @@ const KEYS: u32 = 100;
 /// So much is taken before one `ready`.
 const BATCH: usize = 256;
 
+/// Frames for one replica, one behind the other, and where each ends.
+#[derive(Default)]
+struct Frames {
+    bytes: Vec<u8>,
+    ends: Vec<usize>,
+}
+
+impl Frames {
+    fn push(&mut self, frame: &[u8]) {
+        self.bytes.extend(frame);
+        self.ends.push(self.bytes.len());
+    }
+
+    fn iter(&self) -> impl Iterator<Item = &[u8]> {
+        let begins = std::iter::once(0).chain(self.ends.iter().copied());
+        begins.zip(&self.ends).map(|(begin, &end)| &self.bytes[begin..end])
+    }
+}
+
 enum Told {
-    Frame(Vec<u8>),
+    Frames(Frames),
     Put { call: Call, key: String, value: Vec<u8> },
     End,
 }
@@ -34,12 +54,12 @@ fn run(
     mut replica: Replica,
     inbox: &Receiver<Told>,
     peers: &[Sender<Told>],
-    clients: &Sender<Done>,
+    clients: &Sender<Vec<Done>>,
 ) -> Result<(), Fault> {
     while let Ok(first) = inbox.recv() {
         for told in std::iter::once(first).chain(inbox.try_iter().take(BATCH)) {
             match told {
-                Told::Frame(frame) => replica.handle(&frame)?,
+                Told::Frames(frames) => frames.iter().try_for_each(|frame| replica.handle(frame))?,
                 Told::Put { call, key, value } => {
                     replica.propose(call, Command::Put { key: key.as_bytes(), value: &value })?;
                 }
@@ -48,11 +68,18 @@ fn run(
         }
         replica.advance()?;
         let output = replica.ready()?.synced()?;
+        let mut frames: [Frames; 3] = Default::default();
         for frame in output.frames() {
-            let _ = peers[usize::from(frame.to)].send(Told::Frame(frame.bytes.to_vec()));
+            frames[usize::from(frame.to)].push(frame.bytes);
         }
-        for receipt in output.receipts() {
-            let _ = clients.send(Done { client: receipt.client, stamp: receipt.stamp });
+        for (peer, frames) in peers.iter().zip(frames) {
+            if !frames.ends.is_empty() {
+                let _ = peer.send(Told::Frames(frames));
+            }
+        }
+        let done: Vec<Done> = output.receipts().map(|it| Done { client: it.client, stamp: it.stamp }).collect();
+        if !done.is_empty() {
+            let _ = clients.send(done);
         }
     }
     Ok(())
@@ -64,7 +91,7 @@ fn drive(
     open: u32,
     value: usize,
     at: &Sender<Told>,
-    done: &Receiver<Done>,
+    done: &Receiver<Vec<Done>>,
 ) -> Result<(), Box<dyn Error + Send + Sync>> {
     let mut requests = 0;
     let mut next = |client: u32, seen: u64| {
@@ -75,10 +102,13 @@ fn drive(
     for index in 0..open {
         next(1 + me + 3 * index, 0)?;
     }
-    for answered in 1..=PUTS {
-        let Done { client, stamp } = done.recv()?;
-        if answered + open <= PUTS {
-            next(client, stamp)?;
+    let mut answered = 0;
+    while answered < PUTS {
+        for Done { client, stamp } in done.recv()? {
+            answered += 1;
+            if answered + open <= PUTS {
+                next(client, stamp)?;
+            }
         }
     }
     Ok(())
