@@ -1,6 +1,9 @@
 -- The receipts of a world's last step, and that earlier ones stay their replicas' own.
-use Rattle.std.proofs.Common.{◌≡◌, inl, inr, ℕ, zero, suc, ◌+◌, ◌-◌, List, [], ◌∷◌, ◌++◌, length, length-append, get_or, drop, refl, sym, ap, subst, ◌∙◌, arith, append-nil}
+use Rattle.std.proofs.Common.{◌≡◌, inl, inr, ℕ, zero, suc, ◌+◌, ◌-◌, List, [], ◌∷◌, ◌++◌, length, length-append, get_or, drop, Option, None, Some, refl, sym, ap, subst, ◌∙◌, arith, append-nil}
 use Rattle.std.proofs.lemmas.List.{get_or_push}
+use Rattle.ep_base.specs.declared.reply.Answer.{Answer}
+use Rattle.ep_rules.specs.States.{State}
+use Rattle.ep_rules.specs.Steps.{Executes}
 use Rattle.ep_rules.specs.Worlds.{In}
 use Rattle.ep_rules.specs.Verdicts.{IsOwn}
 use Rattle.ep_rules.specs.Journals as rules
@@ -12,10 +15,15 @@ use Rattle.ep_journal.specs.Openings.{opens}
 use Rattle.ep_journal.specs.declared.entry.Entry.{Entry}
 use Rattle.ep_journal.proofs.Growing.{entries_append}
 use Rattle.ep_replica.specs.Kept.{Kept}
-use Rattle.ep_replica.specs.Receipts.{receipts_of, receipts_by, receipts_after}
-use Rattle.ep_world.specs.Played.{Played, entries_in, replica_in, journals_in}
-use Rattle.ep_world.specs.Playing.{Happens, with_entry}
+use Rattle.ep_journal.specs.Events.{event_of, frame_at}
+use Rattle.ep_journal.specs.Leaving.{standing}
+use Rattle.ep_journal.specs.declared.event.Event.{Event as Happening}
+use Rattle.ep_journal.specs.declared.event.Event.TheVariants.{Handle}
+use Rattle.ep_replica.specs.Receipts.{receipts_for, receipts_of, receipts_by, receipts_after}
+use Rattle.ep_world.specs.Played.{Played, entries_in, replica_in, journals_in, message_in}
+use Rattle.ep_world.specs.Playing.{Happens, with_entry, given}
 use Rattle.ep_world.specs.declared.world_event.WorldEvent.{WorldEvent}
+use Rattle.ep_world.specs.declared.world_event.WorldEvent.TheVariants.{Deliver}
 use Rattle.ep_replay.specs.Tables.{AreOwn}
 
 -- The last step.
@@ -41,6 +49,24 @@ last_step w v event h steps p same at =
     let is : steps ≡ w.steps ++ (h.replica, h.entry.number) ∷ [] = same ∙ ap (λ (u : Played). u.steps) h.becomes in
     let n : length w.steps ≡ length steps - 1 = (let l : length steps ≡ length w.steps + 1 = ap length is ∙ length-append w.steps ((h.replica, h.entry.number) ∷ []) in omega arith) in
     at ∙ ap (λ (xs : List (ℕ × ℕ)). get_or xs (length steps - 1) p) is ∙ get_or_push w.steps (h.replica, h.entry.number) p (length steps - 1) n
+
+-- What a message makes a replica do.
+
+was_handled : (o : Option (List ℕ)) (r : ℕ) (t : Happening) → given o ≡ Some (r, t) → (b : List ℕ) × (t ≡ Handle b)
+was_handled None r t h = absurd cc
+was_handled (Some b) r t h =
+    let same : ((frame_at b).sent.to, Handle b) ≡ (r, t) = cc in
+    (b, sym (ap (λ (p : ℕ × Happening). p.1) same))
+
+executes_nothing : (s : State) (t : Happening) (b : List ℕ) (done : List (ℕ × Answer)) → t ≡ Handle b → Executes s (event_of t) done → done ≡ []
+executes_nothing s t b done is ran = subst (λ (u : Happening). Executes s (event_of u) done) is ran
+
+-- a delivery executes nothing
+pub no_receipts : (w v : Played) (message : ℕ) (h : Happens w (Deliver message) v) → receipts_of h.replica (journals_in v h.replica) (entry_of h.entry) ≡ []
+no_receipts w v message h =
+    let handled = was_handled (message_in w message) h.replica h.taken h.asked in
+    let nothing : h.entry.done ≡ [] = executes_nothing (standing (replica_in w h.replica)).state h.entry.event handled.0 h.entry.done (h.applied.event ∙ handled.1) h.applied.step.step.executes in
+    ap (receipts_for h.replica (journals_in v h.replica) (entry_of h.entry)) nothing
 
 pub own_here : (v : Played) (r : ℕ) (k : Kept) (rs : List Receipt) → k ≡ replica_in v r → ((t : Receipt) → In t rs → IsOwn (opens k.opening) k.faults k.me (entries_of k.entries) t) → AreOwn v rs
 own_here v r k rs is own t h = (r, subst (λ (z : Kept). IsOwn (opens z.opening) z.faults z.me (entries_of z.entries) t) is (own t h))

@@ -6,6 +6,9 @@ ghost use Rattle.ep_replay.specs.Tables.{AreFlagged};
 
 use std::alloc::{AllocError, Global};
 
+/// A flush rarely has more messages than so many.
+const USUAL: usize = 32;
+
 /// Which messages were given.
 #[derive(Drop)]
 pub(crate) struct Given {
@@ -63,8 +66,10 @@ impl Given {
         ensures value { IfOk result (λ numbers. (given : List ℕ) → AreFlagged self.old given → AreUngiven given sent numbers.items) }
     {
         self.advance();
+        let from = self.floor.min(sent);
         let mut numbers = Vec::new(alloc);
-        for place in self.floor.min(sent)..sent {
+        numbers.reserve((sent - from).min(USUAL))?;
+        for place in from..sent {
             if !self.is_given(place) {
                 numbers.push(place as u64 + 1)?;
             }

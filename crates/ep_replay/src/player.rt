@@ -285,21 +285,14 @@ impl Player {
         }
     }
 
-    /// Tries to give the message of this number to its receiver, and keeps nothing of it but its refusal. (An event of it would be moved from call to call.)
+    /// Tries to give the message of this number to its receiver, and keeps nothing of it but its refusal. A delivery executes nothing, so it
+    /// has no receipts. (An event of it would be moved from call to call.)
     fn hand_over_alone(&mut self, line: u32, message: u64) -> Result<(), AllocError>
         requires { self.old.keeps ≡ false }
         ensures { OnOk result (Leads (λ p q. Tries p line (event.Deliver message) q) self.old self.new) }
     {
         match self.world.deliver(message) {
-            Ok(()) => {
-                collect(
-                    self.alloc,
-                    &self.world,
-                    &mut self.clients,
-                    &mut self.receipts,
-                )?;
-                Ok(())
-            }
+            Ok(()) => Ok(()),
             Err(refusal) => {
                 let _cause = list(&mut self.refused, line, refusal)?;
                 Ok(())

@@ -1,13 +1,16 @@
-use Rattle.std.proofs.Common.{refl}
+use Rattle.std.proofs.Common.{◌∙◌, ◌++◌, List, append-nil, refl, sym, ap}
 use Rattle.ep_world.specs.declared.world_event.WorldEvent.TheVariants.{Deliver}
+use Rattle.ep_rules.specs.declared.receipt.Receipt.{Receipt as Told}
 use Rattle.ep_replay.proofs.Leading.{took, listed, unkept}
+use Rattle.ep_replay.proofs.Receiving.{no_receipts}
 use Rattle.ep_replay.proofs.player.Player.hand_over_alone.Goals as goal
 
-pub returns-in_ok-collect-in-Ok : goal.returns-in_ok-collect-in-Ok
-returns-in_ok-collect-in-Ok c =
-    took c.args.self.now (record { world = c.deliver.new.self; clients = c.collect.new.clients; given = c.args.self.now.given; receipts = c.collect.new.receipts; refused = c.args.self.now.refused; keeps = c.args.self.now.keeps; tried = c.args.self.now.tried; alloc = c.args.self.now.alloc })
-    c.args.line (Deliver c.args.message) c.in-Ok.ensures.ok (c.in_ok-collect-in-Ok.ensures.receipts c.args.self.now.world (Deliver c.args.message) c.in-Ok.ensures.ok) refl refl refl (unkept c.args.self.now.keeps c.requires)
-    c.in_ok-collect-in-Ok.ensures.counted c.in_ok-collect-in-Ok.ensures.own
+pub returns-in-Ok : goal.returns-in-Ok
+returns-in-Ok c =
+    let had : List Told = c.args.self.now.receipts.items in
+    took c.args.self.now (record { world = c.deliver.new.self; clients = c.args.self.now.clients; given = c.args.self.now.given; receipts = c.args.self.now.receipts; refused = c.args.self.now.refused; keeps = c.args.self.now.keeps; tried = c.args.self.now.tried; alloc = c.args.self.now.alloc })
+    c.args.line (Deliver c.args.message) c.in-Ok.ensures.ok (sym (ap (λ (ts : List Told). had ++ ts) (no_receipts c.args.self.now.world c.deliver.new.self c.args.message c.in-Ok.ensures.ok) ∙ append-nil had)) refl refl refl (unkept c.args.self.now.keeps c.requires)
+    (λ ps counted. counted) (λ own. own)
 
 pub returns-in_ok-_cause-in-Err : goal.returns-in_ok-_cause-in-Err
 returns-in_ok-_cause-in-Err c =
