@@ -8,6 +8,7 @@
         output = ready.synced()                          # only then there is something to send
         for to, frame in output.frames: ..
         for receipt in output.receipts: ..
+        for to, frame in replica.report(told).frames: ..     # where a link stands again by which all of the first `told` entries had come
 
         replica.propose(client=1, request=1, command=put(b"x", b"1"))
         replica.handle(frame)                            # bytes from a peer
@@ -266,6 +267,11 @@ class Replica:
         output = Output(self._core.tell(self._told, most))
         self._told = output.entries
         return output
+
+    def report(self, after, most=0):
+        """Tells once more what there was to tell behind the first `after` entries, for a peer whose link stands again, and after a start: a Commit that is lost
+        may leave nothing open there. All that was taken has to be on the disk."""
+        return Output(self._core.tell(after, most))
 
     def get(self, key) -> Optional[bytes]:
         """What this replica's map has at the key: a local read, which may be old. All that was taken has to be on the disk."""
