@@ -16,8 +16,9 @@
 //! # let regained = || Some((1u8, 0u32));
 //! # let came = [Event::Propose { call: Call::new(1, 1), command: Command::Put { key: b"x", value: b"1" } }];
 //!
-//! let mut file = LogFile::begin(&path)?;          // at the first start; at each later one `LogFile::open`, and with its bytes
-//! let mut replica = Replica::new(Cluster::Three, 0)?;                                                         // `Replica::open`
+//! // At the first start; at each later one `let (mut file, log) = LogFile::open(&path)?` and `Replica::open(Cluster::Three, 0, &log)?`.
+//! let mut file = LogFile::begin(&path)?;
+//! let mut replica = Replica::new(Cluster::Three, 0)?;
 //! let mut patience = Patience::new(Cluster::Three, 0, Waits::default(), 7);
 //! let begun = Instant::now();
 //! loop {
@@ -45,8 +46,9 @@
 //!
 //! # What is lost on its way
 //!
-//! Nothing is sent again by itself. When to wait no longer for what is open is a question of time, of which the core knows nothing: [`Patience`] tells. Have
-//! `ready_with_open` ask what is open a few times a second, and have the replica take what `turn` returns: it then asks the others.
+//! Nothing is sent again by itself. When to wait no longer for what is open is a question of time, of which the core knows nothing: [`Patience`] tells. Ask
+//! what is open a few times a second ([`Replica::ready_with_open`]; in between [`Replica::ready`] does, without a turn), and have the replica take what
+//! [`Patience::turn`] returns: it then asks the others.
 //!
 //! One thing that is lost leaves nothing open: a Commit, to a replica that has heard nothing else of its instance. That one lacks the command until a later one
 //! comes that depends on it. So whoever has sent it tells it again, by [`Replica::report`]:

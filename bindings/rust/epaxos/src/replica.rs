@@ -383,8 +383,8 @@ impl Replica {
         Ok(Output::new(told, &self.follower))
     }
 
-    /// Reports once more what there was to report behind the first `after` entries, for who has to send it again: frames, receipts and commits; not what was
-    /// proposed or executed. And the least `most` instances that are open. With `u32::MAX` it reports these alone.
+    /// Reports once more what there was to report behind the first `after` entries, for who has to send it again ([when](crate#what-is-lost-on-its-way)): frames,
+    /// receipts and commits; not what was proposed or executed. And the least `most` instances that are open. With `u32::MAX` it reports these alone.
     ///
     /// # Errors
     ///
@@ -452,9 +452,12 @@ impl Replica {
     /// ```no_run
     /// # fn of(mut replica: epaxos::Replica) -> Result<(), Box<dyn std::error::Error>> {
     /// use epaxos::{Cluster, Setup};
+    /// use std::{fs::File, io::Write};
     ///
     /// let opening = replica.close(Cluster::Three).map_err(|(_, fault)| fault)?;
-    /// std::fs::write("2.opening", &opening)?;
+    /// let mut file = File::create("zero/2/opening")?;
+    /// file.write_all(&opening)?;
+    /// file.sync_all()?;
     /// let next = Setup { opening: Some(&opening), ..Setup::new(Cluster::Three, 0) }.begin()?;
     /// # drop(next);
     /// # Ok(()) }
