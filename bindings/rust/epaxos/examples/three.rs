@@ -64,6 +64,10 @@ impl Host {
         let (file, replica) = if is_first {
             fs::create_dir_all(folder.join("1"))?;
             fs::write(folder.join("1/opening"), CLUSTER.first_opening())?;
+            // (a power loss must not take the log with its folders)
+            for above in folder.ancestors().take(2) {
+                File::open(above)?.sync_all()?;
+            }
             (LogFile::begin(&path)?, Setup::new(CLUSTER, me).begin()?)
         } else {
             // (where the log isn't there any more this is refused: a replica that has forgotten must not come back)
@@ -149,6 +153,7 @@ fn starts(folder: &Path) -> Result<u32, Box<dyn Error>> {
     let path = folder.join("starts");
     let starts = if path.exists() { fs::read_to_string(&path)?.trim().parse()? } else { 0 };
     fs::write(&path, (starts + 1).to_string())?;
+    File::open(&path)?.sync_all()?;
     Ok(starts)
 }
 
