@@ -40,7 +40,7 @@ def rust(scratch, environment, library):
         for words in (["three", folder], ["three", folder], ["lock"], ["machine"]):
             yield is_well([f"{scratch}/target/debug/examples/{words[0]}", *words[1:]], env=core)
         folders = [f"{folder}/{me}" for me in range(3)]
-        yield is_audited(environment["EPAXOS"], folders, [f"{it}/told" for it in folders]) == 600
+        yield is_audited(environment["EPAXOS"], folders, [f"{it}/receipts" for it in folders]) == 600
 
 
 def is_audited(program, folders, receipts=()):

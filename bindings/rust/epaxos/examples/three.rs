@@ -44,7 +44,7 @@ struct Host {
     replica: Replica,
     file: LogFile,
     /// The receipts of what clients were told, for an audit.
-    told: File,
+    receipts: File,
     peers: Vec<Sender<Told>>,
     patience: Patience,
     begun: Instant,
@@ -74,9 +74,9 @@ impl Host {
             let (file, log) = LogFile::open(&path)?;
             (file, Setup::new(CLUSTER, me).open(&log)?)
         };
-        let told = File::options().append(true).create(true).open(folder.join("told"))?;
+        let receipts = File::options().append(true).create(true).open(folder.join("receipts"))?;
         let patience = Patience::new(CLUSTER, me, Waits::default(), u64::from(me));
-        Ok(Host { replica, file, told, peers, patience, begun: Instant::now(), waiting: Vec::new() })
+        Ok(Host { replica, file, receipts, peers, patience, begun: Instant::now(), waiting: Vec::new() })
     }
 
     /// Takes what comes until it is to end.
@@ -121,7 +121,7 @@ impl Host {
             let _ = self.peers[usize::from(frame.to)].send(Told::Frame(frame.bytes.to_vec()));
         }
         for receipt in output.receipts() {
-            self.told.write_all(receipt.bytes)?;
+            self.receipts.write_all(receipt.bytes)?;
             if let Some(at) = self.waiting.iter().position(|(client, _)| *client == receipt.client) {
                 let (_, done) = self.waiting.swap_remove(at);
                 let _ = done.send(receipt.stamp);
@@ -161,17 +161,10 @@ fn main() -> Result<(), Box<dyn Error>> {
     let folder = PathBuf::from(std::env::args_os().nth(1).ok_or("usage: three FOLDER")?);
     run(&folder)?;
     let path = |me: u8| folder.join(me.to_string()).display().to_string();
-    let told = |me: u8| format!("--receipts {}/told", path(me));
+    let folders = [0, 1, 2].map(path).join(" ");
+    let receipts = [0, 1, 2].map(|me| format!("--receipts {}/receipts", path(me))).join(" ");
     println!("an audit of it, by `epaxos` of the repository's top:");
-    println!(
-        "epaxos collect --generation 1 {} {} {} {} {} {} | epaxos audit",
-        path(0),
-        path(1),
-        path(2),
-        told(0),
-        told(1),
-        told(2)
-    );
+    println!("epaxos collect --generation 1 {folders} {receipts} | epaxos audit");
     Ok(())
 }
 

@@ -103,10 +103,10 @@
 //! # Ok::<(), std::io::Error>(())
 //! ```
 //!
-//! and appends [`Receipt::bytes`] to a file, `zero/told` say, before it answers. Then, with `epaxos` of the repository's top,
+//! and appends [`Receipt::bytes`] to a file, `zero/receipts` say, before it answers. Then, with `epaxos` of the repository's top,
 //!
 //! ```text
-//! epaxos collect --generation 1 zero one two --receipts zero/told --receipts one/told --receipts two/told > 1.bundle
+//! epaxos collect --generation 1 zero one two --receipts zero/receipts --receipts one/receipts --receipts two/receipts > 1.bundle
 //! epaxos audit < 1.bundle
 //! ```
 //!

@@ -77,7 +77,7 @@ fn audit(world: &World, folder: &Path) {
         fs::create_dir_all(store.join("1")).unwrap();
         fs::write(store.join("1/opening"), world.cluster.first_opening()).unwrap();
         fs::write(store.join("1/log"), &seat.log).unwrap();
-        fs::write(store.join("told"), &seat.receipts).unwrap();
+        fs::write(store.join("receipts"), &seat.receipts).unwrap();
         folders.push(store);
     }
     let report = audited(&folders);

@@ -20,11 +20,11 @@ fn the_logs_of_the_example_are_accepted() {
         assert!(report.starts_with("verdict accepted\ngeneration 1 since 0\n"), "{report}");
         assert!(report.contains(&format!("\nreceipts {}\n", 300 * starts)), "{report}");
     }
-    // a receipt of something else is not
-    let told = fs::read(folders[0].join("told")).unwrap();
-    let mut changed = told.clone();
-    changed[3] = 9; // (the client)
-    fs::write(folders[0].join("told"), changed).unwrap();
+    // a receipt of something else isn't accepted
+    let path = folders[0].join("receipts");
+    let mut receipts = fs::read(&path).unwrap();
+    receipts[3] = 9; // (the client)
+    fs::write(&path, receipts).unwrap();
     assert!(audited(&folders).starts_with("verdict refused\nA4 unknown receipt 1\n"));
     fs::remove_dir_all(folder).unwrap();
 }

@@ -18,15 +18,15 @@ pub fn cores() -> Vec<Core> {
     [Core::Process(program())].into_iter().chain(library).collect()
 }
 
-/// What an audit says of the replicas whose folders these are, in generation 1: of their logs, and of the receipts in the file `told` of each.
+/// What an audit says of the replicas whose folders these are, in generation 1: of their logs, and of the receipts in the file `receipts` of each.
 pub fn audited(folders: &[PathBuf]) -> String {
     let run = |words: &[&Path], input: process::Stdio| {
         process::Command::new(program()).args(words).stdin(input).output().expect("the program starts")
     };
-    let told: Vec<PathBuf> = folders.iter().map(|it| it.join("told")).collect();
+    let receipts: Vec<PathBuf> = folders.iter().map(|it| it.join("receipts")).collect();
     let mut words = vec![Path::new("collect"), Path::new("--generation"), Path::new("1")];
     words.extend(folders.iter().map(PathBuf::as_path));
-    words.extend(told.iter().flat_map(|told| [Path::new("--receipts"), told]));
+    words.extend(receipts.iter().flat_map(|it| [Path::new("--receipts"), it]));
     let collected = run(&words, process::Stdio::null());
     assert!(collected.status.success(), "{}", String::from_utf8_lossy(&collected.stderr));
     let bundle = folders[0].with_file_name("1.bundle");
