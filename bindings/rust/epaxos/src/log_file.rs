@@ -37,8 +37,12 @@ pub struct LogFile {
     file: Option<File>,
     /// Whether a write or a sync has failed: then nobody knows what the file has.
     has_failed: bool,
-    lock: File,
+    _lock: Lock,
 }
+
+/// A lock that is held.
+#[derive(Debug)]
+struct Lock(File);
 
 impl LogFile {
     /// That of a replica that begins. [`keep`](LogFile::keep) makes the file, with the log's beginning in it: a start that ends before leaves none.
@@ -64,7 +68,7 @@ impl LogFile {
             Ok(found) if found.len() == 0 => Err(refused(ErrorKind::AlreadyExists, path, EMPTY)),
             Ok(_) => Err(refused(ErrorKind::AlreadyExists, path, BEGUN)),
             Err(error) if error.kind() == ErrorKind::NotFound => {
-                Ok(LogFile { path: path.into(), file: None, has_failed: false, lock })
+                Ok(LogFile { path: path.into(), file: None, has_failed: false, _lock: lock })
             }
             Err(error) => Err(named(path, &error)),
         }
@@ -89,7 +93,7 @@ impl LogFile {
         let read = opened.and_then(|mut file| file.read_to_end(&mut log).map(|_| file));
         match read {
             Ok(_) if log.is_empty() => Err(refused(ErrorKind::InvalidData, path, EMPTY)),
-            Ok(file) => Ok((LogFile { path: path.into(), file: Some(file), has_failed: false, lock }, log)),
+            Ok(file) => Ok((LogFile { path: path.into(), file: Some(file), has_failed: false, _lock: lock }, log)),
             Err(error) if error.kind() == ErrorKind::NotFound => Err(refused(error.kind(), path, MISSING)),
             Err(error) => Err(named(path, &error)),
         }
@@ -143,10 +147,10 @@ impl LogFile {
     }
 }
 
-impl Drop for LogFile {
+impl Drop for Lock {
     /// A process that is just being started may still have the lock's file open.
     fn drop(&mut self) {
-        let _ = self.lock.unlock();
+        let _ = self.0.unlock();
     }
 }
 
@@ -158,7 +162,7 @@ fn beside(path: &Path, end: &str) -> PathBuf {
 }
 
 /// A lock that another program, or another thread, may not have too.
-fn lock(path: &Path) -> io::Result<File> {
+fn lock(path: &Path) -> io::Result<Lock> {
     let name = beside(path, ".lock");
     let lock = OpenOptions::new().write(true).create(true).truncate(false).open(&name);
     let lock = lock.map_err(|error| match error.kind() {
@@ -166,7 +170,7 @@ fn lock(path: &Path) -> io::Result<File> {
         _ => named(&name, &error),
     })?;
     match lock.try_lock() {
-        Ok(()) => Ok(lock),
+        Ok(()) => Ok(Lock(lock)),
         Err(TryLockError::WouldBlock) => Err(refused(ErrorKind::WouldBlock, path, IN_USE)),
         Err(TryLockError::Error(error)) => Err(named(&name, &error)),
     }
