@@ -1,5 +1,5 @@
 """The bindings for Rust and Python in bindings/, over the programs that `rt ci` built, and over the library where there is one: the crate's tests and pages where
-cargo is there, and the example of each, begun and gone on with. Runs alone too: python3 .ci/bindings.py [NODE PROGRAM [FOLDER]], of other builds, with
+cargo is there, and the example of each, begun, gone on with, and audited. Runs alone too: python3 .ci/bindings.py [NODE PROGRAM [FOLDER]], of other builds, with
 the folder that libepaxos.a and libepaxos.so are in.
 """
 
@@ -8,6 +8,7 @@ import os
 import re
 import shutil
 import struct
+import subprocess
 import sys
 import tempfile
 
@@ -35,8 +36,21 @@ def rust(scratch, environment, library):
         cores.append(without(environment, "EPAXOS"))
         yield is_well(["cargo", "test", "--offline", "--quiet", "--doc"], cwd=CRATE, env=cores[1])
     for number, core in enumerate(cores):
-        for words in (["three", f"{scratch}/rust{number}"], ["three", f"{scratch}/rust{number}"], ["lock"], ["machine"]):
+        folder = f"{scratch}/rust{number}"
+        for words in (["three", folder], ["three", folder], ["lock"], ["machine"]):
             yield is_well([f"{scratch}/target/debug/examples/{words[0]}", *words[1:]], env=core)
+        folders = [f"{folder}/{me}" for me in range(3)]
+        yield is_audited(environment["EPAXOS"], folders, [f"{it}/receipts" for it in folders]) == 600
+
+
+def is_audited(program, folders, receipts=()):
+    """How many receipts there are, where an audit accepts what the logs and these receipts say; else None."""
+    words = [program, "collect", "--generation", "1", *folders, *(word for it in receipts for word in ("--receipts", it))]
+    print("epaxos", *words[1:], "| epaxos audit", flush=True)
+    bundle = subprocess.run(words, stdin=subprocess.DEVNULL, stdout=subprocess.PIPE)
+    report = subprocess.run([program, "audit"], input=bundle.stdout, stdout=subprocess.PIPE)
+    found = re.match(r"verdict accepted\n(?s:.*)^receipts (\d+)\n", report.stdout.decode(), re.M)
+    return int(found[1]) if found and not bundle.returncode and not report.returncode else None
 
 
 def without(environment, name):
@@ -170,6 +184,47 @@ def python(scratch, environment, library):
     if library:
         for name in ("0.log", "1.log", "2.log"):
             yield filecmp.cmp(f"{scratch}/python0/{name}", f"{scratch}/python1/{name}", shallow=False)
+    import epaxos
+
+    folders = [f"{scratch}/audited/{me}" for me in range(3)]
+    for me, folder in enumerate(folders):
+        os.makedirs(f"{folder}/1")
+        shutil.copy(f"{scratch}/python0/{me}.log", f"{folder}/1/log")
+        with open(f"{folder}/1/opening", "wb") as file:
+            file.write(epaxos.first_opening(3))
+    yield is_audited(environment["EPAXOS"], folders) == 0
+    yield refuses_an_older_log(epaxos, cores, f"{scratch}/python0/0.log")
+
+
+def refuses_an_older_log(epaxos, cores, path):
+    """Whether a log that has fewer entries than were told is refused, and one that has as many isn't."""
+    with open(path, "rb") as file:
+        log = file.read()
+    entries = epaxos._entries(log)
+    for core in cores:
+        told = []
+        for more in (0, 1):
+            words = [sys.executable, "-c", OLDER, PYTHON, path, str(entries + more)]
+            told.append(subprocess.run(words, env=core, stdout=subprocess.PIPE, text=True).stdout)
+        if told != [f"{entries}\n", f"the log has {entries} entries, and {entries + 1} were told: it is an older one, and must not be gone on from\n"]:
+            print(f"an older log: {told}", flush=True)
+            return False
+    return True
+
+
+# Opens a log of which so many entries were told.
+OLDER = """
+import sys
+sys.path.insert(0, sys.argv[1])
+import epaxos
+with open(sys.argv[2], "rb") as file:
+    log = file.read()
+try:
+    with epaxos.Replica.open(3, 0, log, told=int(sys.argv[3])) as replica:
+        print(replica.ready().synced().entries)
+except epaxos.OpenFault as fault:
+    print(fault)
+"""
 
 
 def tried(node=BUILT[0], program=BUILT[1], library=None):

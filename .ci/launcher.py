@@ -224,12 +224,36 @@ def shown(room):
     yield "replay to a full device, on a terminal", room.seen("./epaxos replay < put.script > /dev/full"), (4, "writing failed\n")
 
 
+# What a build does that has one thing to do, of which nothing is heard for a while.
+BUILD = """
+import time
+from progress import Progress
+progress = Progress("crates proved", silence=0.1)
+progress.count = 2
+progress.start()
+progress.begin("ep_base")
+time.sleep(1)
+progress.end("ep_base", True)
+"""
+
+
+def builds(room):
+    """How a build tells how far it is."""
+    line = "epaxos: 0 of 2 crates proved, at ep_base (0 min 00 s)"
+    told = subprocess.run([sys.executable, "-Bc", BUILD], cwd=f"{room.top}/tools", stdout=subprocess.PIPE, stderr=subprocess.PIPE, text=True)
+    lines = told.stderr.splitlines()
+    # (the last ones may be of a second later)
+    yield "a long build, not on a terminal", (told.returncode, told.stdout, lines[:2], len(lines) < 12), (0, "", [line, line], True)
+    status, seen = room.seen(f"cd tools && {sys.executable} -Bc '{BUILD}'")
+    yield "a long build, on a terminal", (status, seen.startswith(f"\r\033[K{line}\r\033[K"), "\n" in seen), (0, True, False)
+
+
 def tried():
     """Makes all runs, prints a line for each that fails, and returns how many passed and how many failed."""
     passed = failed = 0
     with tempfile.TemporaryDirectory() as top:
         room = Room(top)
-        for part in (fixed, chosen, shown):
+        for part in (fixed, chosen, shown, builds):
             for name, found, wanted in part(room):
                 is_well = found == wanted
                 passed, failed = passed + is_well, failed + (not is_well)

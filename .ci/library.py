@@ -46,13 +46,18 @@ def agrees(said, client):
     return found == [("0", "18"), ("1", "19"), ("2", "20")] and last == "three replicas agree"
 
 
+def keeps_opening(logs):
+    """Whether the example has kept what generation 1 opens with."""
+    with open(f"{logs}/1.opening", "rb") as file:
+        return file.read() == first_opening()
+
+
 def is_audited(logs, scratch, node, program):
     """Whether an audit accepts what these logs say."""
     for me in range(REPLICAS):
         os.makedirs(f"{scratch}/{me}/1")
         shutil.copy(f"{logs}/{me}.log", f"{scratch}/{me}/1/log")
-        with open(f"{scratch}/{me}/1/opening", "wb") as file:
-            file.write(first_opening())
+        shutil.copy(f"{logs}/1.opening", f"{scratch}/{me}/1/opening")
     words = [node, "collect", "--generation", "1", *(f"{scratch}/{me}" for me in range(REPLICAS))]
     bundle = subprocess.run(words, stdin=subprocess.DEVNULL, stdout=subprocess.PIPE)
     report = subprocess.run([program, "audit"], input=bundle.stdout, stdout=subprocess.PIPE)
@@ -72,7 +77,7 @@ def example(compiler, scratch, node, program):
     logs = f"{scratch}/{compiler}-logs"
     os.mkdir(logs)
     for client in (1, 4):
-        yield agrees(lines([f"{scratch}/{compiler}-example", logs]), client)
+        yield agrees(lines([f"{scratch}/{compiler}-example", logs]), client) and keeps_opening(logs)
     if os.path.isfile(node) and os.path.isfile(program):
         yield is_audited(logs, f"{scratch}/{compiler}-nodes", node, program)
 

@@ -4,13 +4,17 @@ import sys
 import threading
 import time
 
+# Where the line isn't rewritten, the longest time without one, in seconds.
+SILENCE = 20
+
 
 class Progress:
-    """Tells how far a build is: a line for each thing begun, or, on a terminal, one line that is rewritten each second."""
+    """Tells how far a build is: a line for each thing begun, and one after each 20 seconds without; or, on a terminal, one line that is rewritten each second."""
 
-    def __init__(self, what):
+    def __init__(self, what, silence=SILENCE):
         self.begun, self.is_rewritten, self.what = time.monotonic(), sys.stderr.isatty(), what
         self.count, self.done, self.at, self.writing = 0, 0, [], threading.Lock()
+        self.silence, self.written = silence, self.begun
 
     def minutes(self):
         seconds = int(time.monotonic() - self.begun)
@@ -31,21 +35,23 @@ class Progress:
         self.write("\r\033[K" * self.is_rewritten + text + end)
 
     def start(self):
-        """Rewrites the line each second from now on, where it is rewritten."""
+        """Tells it again from now on: rewrites the line each second, or writes one where there was none for long."""
         threading.Thread(target=self.tick, daemon=True).start()
 
     def tick(self):
-        while self.is_rewritten:
-            time.sleep(1)
+        while True:
+            time.sleep(min(1, self.silence))
             with self.writing:
-                if self.at:
-                    self.put("")
+                is_silent = time.monotonic() - self.written >= self.silence
+                if self.at and (self.is_rewritten or is_silent):
+                    self.put("" if self.is_rewritten else "\n")
 
     def line(self, text):
         with self.writing:
             self.write("\r\033[K" * self.is_rewritten + f"epaxos: {text}\n")
 
     def write(self, text):
+        self.written = time.monotonic()
         try:
             print(text, end="", file=sys.stderr, flush=True)
         except OSError:

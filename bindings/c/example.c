@@ -1,7 +1,8 @@
 /* Three replicas in one process, with a file each for a log: ./example FOLDER
 
    Begins them in the folder, which has to be there, or goes on with those that are in it. Each of three clients puts 20 values, at a replica of its own; the
-   keys are the same three for all. Then the maps are compared. A program of yours has one replica, and sends frames to others. */
+   keys are the same three for all. Then the maps are compared. A program of yours has one replica, and sends frames to others. What the generation opened
+   with is kept beside the logs, for an audit. */
 #include "epaxos.h"
 
 #include <fcntl.h>
@@ -167,10 +168,10 @@ static struct ep_bytes read_file(const char *path)
     return bytes;
 }
 
-static void open_node(struct node *node, const char *folder, uint8_t me, struct ep_bytes opening)
+/* At the first start alone a replica is new: one whose log is lost must not come back. */
+static void open_node(struct node *node, const char *folder, uint8_t me, struct ep_bytes opening, int is_new)
 {
     snprintf(node->path, sizeof node->path, "%s/%d.log", folder, me);
-    int is_new = access(node->path, F_OK) != 0;
     struct ep_bytes log = read_file(node->path);
     struct ep_setup setup = { .opening = opening, .log = log, .replicas = REPLICAS, .replica = me, .is_new = (uint8_t)is_new };
     struct ep_place place = { 0, 0 };
@@ -203,7 +204,7 @@ static void settle(void)
     } while (sent);
 }
 
-/* How often the program was started here before: a client's number is never given twice. */
+/* How often the program was started here before: each start has clients' numbers of its own, since a number and a request name one command over all starts. */
 static uint32_t starts(const char *folder)
 {
     char path[4096];
@@ -221,6 +222,15 @@ static uint32_t starts(const char *folder)
     return count;
 }
 
+static void write_opening(const char *folder, struct ep_bytes opening)
+{
+    char path[4096];
+    snprintf(path, sizeof path, "%s/1.opening", folder);
+    FILE *file = fopen(path, "wb");
+    if (!file || fwrite(opening.at, 1, opening.len, file) != opening.len || fclose(file))
+        stop("%s can't be written", path);
+}
+
 int main(int count, char **words)
 {
     if (count != 2)
@@ -230,9 +240,10 @@ int main(int count, char **words)
     uint8_t first[64];
     struct ep_bytes opening = { first, 0 };
     check("ep_first_opening", ep_first_opening(REPLICAS, first, sizeof first, &opening.len));
+    write_opening(words[1], opening);
     uint32_t client = REPLICAS * starts(words[1]) + 1;
     for (uint8_t me = 0; me < REPLICAS; me++)
-        open_node(&nodes[me], words[1], me, opening);
+        open_node(&nodes[me], words[1], me, opening, client == 1);
     settle();
     for (uint32_t request = 1; request <= PUTS; request++) {
         for (uint8_t me = 0; me < REPLICAS; me++) {

@@ -8,6 +8,7 @@
         output = ready.synced()                          # only then there is something to send
         for to, frame in output.frames: ..
         for receipt in output.receipts: ..
+        for to, frame in replica.report(told).frames: ..     # where a link stands again by which all of the first `told` entries had come
 
         replica.propose(client=1, request=1, command=put(b"x", b"1"))
         replica.handle(frame)                            # bytes from a peer
@@ -20,6 +21,7 @@ bindings/rust/epaxos/src/lib.rs; the bytes in docs/FORMATS.md, section 10. Nothi
 """
 
 import ctypes
+import hashlib
 import os
 import re
 import shutil
@@ -124,6 +126,12 @@ def seal(value):
     return _command(9, b"", body=value)
 
 
+def first_opening(replicas):
+    """The file that generation 1 opens with, of so many replicas: a map in which nothing is. `epaxos collect` wants it beside each log (README.md)."""
+    front = b"EPOP\3" + bytes([replicas]) + (1).to_bytes(4, "big") + bytes(17)
+    return front + hashlib.sha256(front).digest()
+
+
 def _command(op, first, second=b"", body=b""):
     longest = 2 * (LONGEST_VALUE + 5) if op == 6 else LONGEST_VALUE
     if len(first) > LONGEST_KEY or len(second) > LONGEST_KEY or len(body) > longest:
@@ -215,7 +223,12 @@ class Replica:
         """The replica that this log is of, as if it had never stopped. `told`: how many entries were told before; None: all that the log has."""
         if not log:
             raise OpenFault("the log is empty")
-        return cls(_core(core)(replicas, me, opening, log), _entries(log) if told is None else told)
+        replica = cls(_core(core)(replicas, me, opening, log), _entries(log))
+        if told is not None and told > replica._told:
+            replica.end()
+            raise OpenFault(f"the log has {replica._told} entries, and {told} were told: it is an older one, and must not be gone on from")
+        replica._told = replica._told if told is None else told
+        return replica
 
     def propose(self, client, request, command, seen=0):
         """Proposes a client's command: `seen` is the greatest stamp of the receipts that it knows of. (Nothing is taken while a Ready isn't synced: Unsynced.)"""
@@ -254,6 +267,11 @@ class Replica:
         output = Output(self._core.tell(self._told, most))
         self._told = output.entries
         return output
+
+    def report(self, after, most=0):
+        """Tells once more what there was to tell behind the first `after` entries, for a peer whose link stands again, and after a start: a Commit that is lost
+        may leave nothing open there. All that was taken has to be on the disk."""
+        return Output(self._core.tell(after, most))
 
     def get(self, key) -> Optional[bytes]:
         """What this replica's map has at the key: a local read, which may be old. All that was taken has to be on the disk."""

@@ -33,10 +33,10 @@ class File:
             os.close(folder)
 
 
-def opened(folder, me):
-    """A replica and its file."""
+def opened(folder, me, is_first):
+    """A replica and its file. At the first start alone it is new: one whose log is lost must not come back."""
     path = f"{folder}/{me}.log"
-    if not os.path.exists(path):
+    if is_first:
         return Replica.new(3, me), File(path)
     with open(path, "rb") as file:
         return Replica.open(3, me, file.read()), File(path)
@@ -62,7 +62,7 @@ def settle(replicas, frames, told):
 
 
 def starts(folder):
-    """How often this was started here before: client numbers are never given twice."""
+    """How often this was started here before: each start has clients' numbers of its own, since a number and a request name one command over all starts."""
     path, count = f"{folder}/starts", 0
     if os.path.exists(path):
         with open(path, encoding="ascii") as file:
@@ -75,12 +75,15 @@ def starts(folder):
 def main(folder):
     os.makedirs(folder, exist_ok=True)
     first = 3 * starts(folder) + 1
-    replicas = [opened(folder, me) for me in range(3)]
+    replicas = [opened(folder, me, first == 1) for me in range(3)]
     frames, told, seen = [], {}, [0] * 3
     for replica, file in replicas:
         ready = replica.ready()
         file.keep(ready)
         ready.synced()
+        # (what was sent before this start may be lost)
+        frames.extend(replica.report(0).frames)
+    settle(replicas, frames, told)
     for request in range(1, PUTS + 1):
         for me, (replica, _) in enumerate(replicas):
             replica.propose(first + me, request, put(b"key %d" % (request % KEYS), b"%d.%d" % (first + me, request)), seen[me])

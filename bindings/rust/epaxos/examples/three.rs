@@ -3,12 +3,13 @@
 //!     cargo run --example three -- FOLDER
 //!
 //! Begins the replicas in the folder, or goes on with those that are there. Each of three clients puts 100 values, at a replica of its own; the keys are the
-//! same ones for all. Then the maps are compared.
+//! same ones for all. Then the maps are compared. What is left can be audited: each replica has a folder, as `epaxos collect` reads it.
 #![forbid(unsafe_code)]
 
 use epaxos::{Call, Cluster, Command, LogFile, Patience, Replica, Setup, Waits};
 use std::error::Error;
-use std::fs;
+use std::fs::{self, File};
+use std::io::Write;
 use std::path::{Path, PathBuf};
 use std::sync::mpsc::{Receiver, Sender, channel};
 use std::thread;
@@ -42,6 +43,8 @@ enum Told {
 struct Host {
     replica: Replica,
     file: LogFile,
+    /// The receipts of what clients were told, for an audit.
+    receipts: File,
     peers: Vec<Sender<Told>>,
     patience: Patience,
     begun: Instant,
@@ -50,22 +53,39 @@ struct Host {
 }
 
 impl Host {
-    /// Begins a replica in the folder, or goes on with the one that is there.
-    fn open(folder: &Path, me: u8, peers: Vec<Sender<Told>>) -> Result<Host, Box<dyn Error + Send + Sync>> {
-        let path: PathBuf = folder.join(format!("{me}.log"));
-        let (file, replica) = if path.exists() {
+    /// Begins a replica in its folder, or goes on with the one that is there.
+    fn open(
+        folder: &Path,
+        me: u8,
+        is_first: bool,
+        peers: Vec<Sender<Told>>,
+    ) -> Result<Host, Box<dyn Error + Send + Sync>> {
+        let path = folder.join("1/log");
+        let (file, replica) = if is_first {
+            fs::create_dir_all(folder.join("1"))?;
+            fs::write(folder.join("1/opening"), CLUSTER.first_opening())?;
+            // (a power loss must not take the log with its folders)
+            for above in folder.ancestors().take(2) {
+                File::open(above)?.sync_all()?;
+            }
+            (LogFile::begin(&path)?, Setup::new(CLUSTER, me).begin()?)
+        } else {
+            // (where the log isn't there any more this is refused: a replica that has forgotten must not come back)
             let (file, log) = LogFile::open(&path)?;
             (file, Setup::new(CLUSTER, me).open(&log)?)
-        } else {
-            (LogFile::begin(&path)?, Setup::new(CLUSTER, me).begin()?)
         };
+        let receipts = File::options().append(true).create(true).open(folder.join("receipts"))?;
         let patience = Patience::new(CLUSTER, me, Waits::default(), u64::from(me));
-        Ok(Host { replica, file, peers, patience, begun: Instant::now(), waiting: Vec::new() })
+        Ok(Host { replica, file, receipts, peers, patience, begun: Instant::now(), waiting: Vec::new() })
     }
 
     /// Takes what comes until it is to end.
     fn run(mut self, inbox: &Receiver<Told>) -> Result<(), Box<dyn Error + Send + Sync>> {
         self.settle()?;
+        // What was sent before this start may be lost, and of a Commit that is lost nothing may be open: all is sent once more.
+        for frame in self.replica.report(0, 0)?.frames() {
+            let _ = self.peers[usize::from(frame.to)].send(Told::Frame(frame.bytes.to_vec()));
+        }
         loop {
             let first = inbox.recv_timeout(LOOK).ok();
             for told in first.into_iter().chain(inbox.try_iter()) {
@@ -101,6 +121,7 @@ impl Host {
             let _ = self.peers[usize::from(frame.to)].send(Told::Frame(frame.bytes.to_vec()));
         }
         for receipt in output.receipts() {
+            self.receipts.write_all(receipt.bytes)?;
             if let Some(at) = self.waiting.iter().position(|(client, _)| *client == receipt.client) {
                 let (_, done) = self.waiting.swap_remove(at);
                 let _ = done.send(receipt.stamp);
@@ -127,24 +148,38 @@ fn client(number: u32, at: &Sender<Told>) -> Result<(), Box<dyn Error + Send + S
     Ok(())
 }
 
-/// Client numbers are never given twice, over all starts: each start has a block of its own.
-fn first_client(folder: &Path) -> Result<u32, Box<dyn Error>> {
+/// How often the cluster was started in the folder before.
+fn starts(folder: &Path) -> Result<u32, Box<dyn Error>> {
     let path = folder.join("starts");
-    let starts: u32 = fs::read_to_string(&path).map_or(Ok(0), |text| text.trim().parse())?;
+    let starts = if path.exists() { fs::read_to_string(&path)?.trim().parse()? } else { 0 };
     fs::write(&path, (starts + 1).to_string())?;
-    Ok(3 * starts + 1)
+    File::open(&path)?.sync_all()?;
+    Ok(starts)
 }
 
 fn main() -> Result<(), Box<dyn Error>> {
     let folder = PathBuf::from(std::env::args_os().nth(1).ok_or("usage: three FOLDER")?);
-    fs::create_dir_all(&folder)?;
-    let first = first_client(&folder)?;
+    run(&folder)?;
+    let path = |me: u8| folder.join(me.to_string()).display().to_string();
+    let folders = [0, 1, 2].map(path).join(" ");
+    let receipts = [0, 1, 2].map(|me| format!("--receipts {}/receipts", path(me))).join(" ");
+    println!("an audit of it, by `epaxos` of the repository's top:");
+    println!("epaxos collect --generation 1 {folders} {receipts} | epaxos audit");
+    Ok(())
+}
+
+/// Starts the cluster in the folder, and ends it when all is done.
+pub fn run(folder: &Path) -> Result<(), Box<dyn Error>> {
+    fs::create_dir_all(folder)?;
+    let starts = starts(folder)?;
+    // A client's number and its request's name one command, over all starts: each start has numbers of its own.
+    let first = 3 * starts + 1;
     let (senders, inboxes): (Vec<_>, Vec<_>) = (0..3).map(|_| channel::<Told>()).unzip();
     let begun = Instant::now();
     let mut replicas = Vec::new();
     for (me, inbox) in (0..).zip(inboxes) {
-        let (folder, peers) = (folder.clone(), senders.clone());
-        replicas.push(thread::spawn(move || Host::open(&folder, me, peers)?.run(&inbox)));
+        let (folder, peers) = (folder.join(me.to_string()), senders.clone());
+        replicas.push(thread::spawn(move || Host::open(&folder, me, starts == 0, peers)?.run(&inbox)));
     }
     let clients: Vec<_> =
         (first..).zip(senders.clone()).map(|(number, at)| thread::spawn(move || client(number, &at))).collect();

@@ -1,7 +1,7 @@
 //! What a command was answered.
 #![forbid(unsafe_code)]
 
-use crate::bytes::Fields;
+use crate::bytes::{Fields, push_block};
 
 /// An answer whose value is lent, as it is told.
 ///
@@ -117,8 +117,7 @@ impl<'a> Answer<'a> {
             Answer::Absent => out.push(0),
             Answer::Present(value) => {
                 out.push(1);
-                out.extend((value.len() as u32).to_be_bytes());
-                out.extend(*value);
+                push_block(out, value);
             }
             Answer::Lost => out.push(2),
             Answer::Closed => out.push(3),

@@ -116,3 +116,9 @@ impl<'a> Fields<'a> {
         before.get(..before.len() - self.rest.len())
     }
 }
+
+/// Appends the bytes, behind a number of four bytes that says how many they are.
+pub(crate) fn push_block(out: &mut Vec<u8>, run: &[u8]) {
+    out.extend((run.len() as u32).to_be_bytes());
+    out.extend(run);
+}

@@ -4,7 +4,8 @@
 /// Whose command it is. A client has a number from 1, numbers its requests from 1, and hands on the greatest stamp that it was told.
 ///
 /// A pair of a client and a request names one command, over all starts: the core doesn't compare them, so a request that is proposed
-/// twice is executed twice.
+/// twice is executed twice, and the receipt of one may be taken for the other's. So after a start a client's number is used again only where its requests go on
+/// above all earlier ones; who doesn't know them takes another number.
 ///
 /// ```
 /// use epaxos::Call;

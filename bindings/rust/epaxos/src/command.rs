@@ -1,7 +1,7 @@
 //! What a client asks for.
 #![forbid(unsafe_code)]
 
-use crate::bytes::Fields;
+use crate::bytes::{Fields, push_block};
 use crate::{Fault, LONGEST_KEY, LONGEST_VALUE};
 
 /// A command whose bytes are lent, as calls take it.
@@ -259,8 +259,7 @@ fn write_part(out: &mut Vec<u8>, part: Option<&[u8]>) {
         None => out.push(0),
         Some(value) => {
             out.push(1);
-            out.extend((value.len() as u32).to_be_bytes());
-            out.extend(value);
+            push_block(out, value);
         }
     }
 }

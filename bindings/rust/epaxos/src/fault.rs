@@ -94,7 +94,9 @@ impl fmt::Display for Fault {
             Fault::NotMine => "the frame is for another replica",
             Fault::BadFrame => "the bytes are no frame of this generation",
             Fault::StampFull => "the seen stamp is out of reach",
-            Fault::Unsynced => "what was taken is not on the disk yet",
+            Fault::Unsynced => {
+                "what was taken, or the log behind a start, is not on the disk yet: ready and synced come first"
+            }
             Fault::Ended(what) => return write!(f, "the core has ended: {what}"),
         })
     }

@@ -5,25 +5,35 @@
 //! bytes for your log, and, *once you say that these are on the disk*, what to send and whom to answer. The types have you do it in this order.
 //!
 //! ```
-//! use epaxos::{Call, Cluster, Command, Event, LogFile, Replica};
+//! use epaxos::{Call, Cluster, Command, Event, LogFile, Patience, Replica, Waits};
+//! use std::time::Instant;
 //! # fn main() -> Result<(), Box<dyn std::error::Error>> {
 //! # let folder = std::env::temp_dir().join(format!("epaxos-page-{}", std::process::id()));
 //! # std::fs::create_dir_all(&folder)?;
 //! # let path = folder.join("zero.log");
 //! # let send = |_to: u8, _frame: &[u8]| ();
 //! # let answer = |_client: u32, _answer: epaxos::Answer| ();
+//! # let regained = || Some((1u8, 0u32));
 //! # let came = [Event::Propose { call: Call::new(1, 1), command: Command::Put { key: b"x", value: b"1" } }];
 //!
+//! // At the first start; at each later one `let (mut file, log) = LogFile::open(&path)?` and `Replica::open(Cluster::Three, 0, &log)?`.
 //! let mut file = LogFile::begin(&path)?;
 //! let mut replica = Replica::new(Cluster::Three, 0)?;
+//! let mut patience = Patience::new(Cluster::Three, 0, Waits::default(), 7);
+//! let begun = Instant::now();
 //! loop {
-//!     let ready = replica.ready()?;
+//!     let ready = replica.ready_with_open(64)?;
 //!     file.keep(&ready)?;                         // one write and one sync for all that was taken; at first, the log's beginning
 //!     let output = ready.synced()?;               // only then is there anything to send
 //!     output.frames().for_each(|frame| send(frame.to, frame.bytes));
 //!     output.receipts().for_each(|receipt| answer(receipt.client, receipt.answer));
 //! #   if output.entries() > 0 { break }
-//!     for event in &came {
+//!     let late = patience.turn(begun.elapsed().as_millis() as u64, output.open());     // what has been open for too long
+//!     if let Some((peer, entries)) = regained() { // a link stands again, by which all of the first so many entries had come
+//!         let again = replica.report(entries, 0)?;
+//!         again.frames().filter(|frame| frame.to == peer).for_each(|frame| send(frame.to, frame.bytes));
+//!     }
+//!     for event in came.iter().chain(&late) {     // frames of peers, commands of clients, and what is late
 //!         let _refused = replica.take(event);     // a refusal has changed nothing
 //!     }
 //!     replica.advance()?;                         // executes what can be executed
@@ -33,6 +43,21 @@
 //! ```
 //!
 //! `examples/three.rs` is a cluster of three threads with a file each, `examples/lock.rs` a lock, `examples/machine.rs` a machine of one's own that is replicated.
+//!
+//! # What is lost on its way
+//!
+//! Nothing is sent again by itself. When to wait no longer for what is open is a question of time, of which the core knows nothing: [`Patience`] tells. Ask
+//! what is open a few times a second ([`Replica::ready_with_open`]; in between [`Replica::ready`] does, without a turn), and have the replica take what
+//! [`Patience::turn`] returns: it then asks the others.
+//!
+//! One thing that is lost leaves nothing open: a Commit, to a replica that has heard nothing else of its instance. That one lacks the command until a later one
+//! comes that depends on it. So whoever has sent it tells it again, by [`Replica::report`]:
+//!
+//! - when a link to a peer stands again, and after a start: what was told behind the entries by which the peer is sure to have all
+//!   ([`Output::entries`] counts them). 0 is always right, and tells all of the generation;
+//! - now and then, where the network loses single frames: what was told in the last seconds.
+//!
+//! A frame that comes twice does no harm; it costs its receiver an entry of its log.
 //!
 //! # Where the core runs
 //!
@@ -54,16 +79,44 @@
 //!
 //! - The bytes of [`Ready::log`] are on the disk before you call [`Ready::synced`]. One replica, one log; a replica never starts from an older copy, and
 //!   one whose log is lost doesn't come back under its number in its generation.
-//! - A client and its request name one command, over all starts. Hand on stamps of receipts, and nothing else, as [`Call::seen`].
+//! - A client's number and its request's name one command, over all starts ([`Call`]). Hand on stamps of receipts, and nothing else, as [`Call::seen`].
 //! - A frame that is handled was sent. It may be lost, repeated, delayed, overtaken; nobody may forge one.
 //!
-//! When to wait no longer is a question of time, of which the core knows nothing: [`Patience`] tells.
+//! # An audit
+//!
+//! Of the logs of all replicas, and of what clients were told, an audit says whether one history of one map explains them, or names the first fault. Once the
+//! replicas have stopped, `epaxos collect` makes a bundle of their folders. A replica's folder has, for generation 1, the file `1/log`, and beside it
+//! `1/opening`, which is what the generation opened with ([`Cluster::first_opening`]; of a later one, the very bytes that the replica was begun with). So a host
+//! keeps its log there from the start, or copies it there for the audit:
+//!
+//! ```
+//! use epaxos::{Cluster, LogFile};
+//! use std::fs;
+//! # let folder = std::env::temp_dir().join(format!("epaxos-audit-{}", std::process::id()));
+//! # let zero = folder.join("zero");
+//!
+//! fs::create_dir_all(zero.join("1"))?;
+//! fs::write(zero.join("1/opening"), Cluster::Three.first_opening())?;
+//! let file = LogFile::begin(zero.join("1/log"))?;
+//! # drop(file);
+//! # fs::remove_dir_all(&folder)?;
+//! # Ok::<(), std::io::Error>(())
+//! ```
+//!
+//! and appends [`Receipt::bytes`] to a file, `zero/receipts` say, before it answers. Then, with `epaxos` of the repository's top,
+//!
+//! ```text
+//! epaxos collect --generation 1 zero one two --receipts zero/receipts --receipts one/receipts --receipts two/receipts > 1.bundle
+//! epaxos audit < 1.bundle
+//! ```
+//!
+//! prints `verdict accepted`, and the history; `epaxos contents zero` prints a replica's map. `examples/three.rs` leaves such folders.
 //!
 //! # Generations
 //!
 //! A replica takes 1,990 commands in a generation. When [`State::used`] comes near, propose [`Command::Seal`]; once it is executed
 //! ([`Output::is_sealed`]), [`Replica::close`] hands out the opening of the next generation, with which each replica begins anew, of another number of replicas if you like.
-//! A command whose answer is [`Answer::Closed`] is asked again there.
+//! A command whose answer is [`Answer::Closed`] is asked again there. Keep the opening of generation 2 as `2/opening`, and its log as `2/log`.
 #![deny(unsafe_code)]
 
 mod answer;

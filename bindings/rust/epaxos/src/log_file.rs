@@ -2,12 +2,11 @@
 #![forbid(unsafe_code)]
 
 use crate::Ready;
-use crate::records::HEADER;
-use std::fs::{self, File, OpenOptions};
-use std::io::{self, Read, Seek, SeekFrom, Write};
+use std::fs::{self, File, OpenOptions, TryLockError};
+use std::io::{self, ErrorKind, Read, Seek, SeekFrom, Write};
 use std::path::{Path, PathBuf};
 
-/// A replica's log in a file, for programs that want no other place for it.
+/// A replica's log in a file, for programs that want no other place for it. The file's folder has to be there, and on the disk.
 ///
 /// Beside the file `NAME.lock` keeps a second program out while this one has it, and `NAME.new` is of no meaning between two starts.
 ///
@@ -34,18 +33,24 @@ use std::path::{Path, PathBuf};
 #[derive(Debug)]
 pub struct LogFile {
     path: PathBuf,
-    file: File,
+    /// None before the log begins: then no file is there, or none that was ever told of.
+    file: Option<File>,
     /// Whether a write or a sync has failed: then nobody knows what the file has.
     has_failed: bool,
-    lock: File,
+    _lock: Lock,
 }
 
+/// A lock that is held.
+#[derive(Debug)]
+struct Lock(File);
+
 impl LogFile {
-    /// That of a replica that begins. The file isn't there, or no replica has told anything of it.
+    /// That of a replica that begins. [`keep`](LogFile::keep) makes the file, with the log's beginning in it: a start that ends before leaves none.
     ///
     /// # Errors
     ///
-    /// `AlreadyExists` where it is there and has a log; else the system's.
+    /// `AlreadyExists` where a file is there, also one that is empty: a replica whose log was emptied must not begin again. `WouldBlock` where another
+    /// `LogFile` has it, in this program or another one. Else the system's.
     ///
     /// ```
     /// # let folder = std::env::temp_dir().join(format!("epaxos-begin-{}", std::process::id()));
@@ -59,31 +64,39 @@ impl LogFile {
     pub fn begin(path: impl AsRef<Path>) -> io::Result<LogFile> {
         let path = path.as_ref();
         let lock = lock(path)?;
-        let file = OpenOptions::new().read(true).write(true).create(true).truncate(false).open(path)?;
-        // (nothing gets out of a replica before its log has a header)
-        if file.metadata()?.len() >= HEADER as u64 {
-            return Err(io::ErrorKind::AlreadyExists.into());
+        match fs::metadata(path) {
+            Ok(found) if found.len() == 0 => Err(refused(ErrorKind::AlreadyExists, path, EMPTY)),
+            Ok(_) => Err(refused(ErrorKind::AlreadyExists, path, BEGUN)),
+            Err(error) if error.kind() == ErrorKind::NotFound => {
+                Ok(LogFile { path: path.into(), file: None, has_failed: false, _lock: lock })
+            }
+            Err(error) => Err(named(path, &error)),
         }
-        file.set_len(0)?;
-        Ok(LogFile { path: path.into(), file, has_failed: false, lock })
     }
 
     /// That of a replica which goes on, and what it has.
     ///
     /// # Errors
     ///
-    /// The system's.
+    /// `NotFound` where no file is there. `InvalidData` where it is empty, which no log is. `WouldBlock` where another `LogFile` has it, in this program or
+    /// another one. Else the system's.
     ///
     /// ```
-    /// assert!(epaxos::LogFile::open("/nowhere/zero.log").is_err());
+    /// let refused = epaxos::LogFile::open("/nowhere/zero.log").unwrap_err();
+    /// assert_eq!(refused.to_string(), "/nowhere/zero.log has no folder: make it first");
     /// ```
     pub fn open(path: impl AsRef<Path>) -> io::Result<(LogFile, Vec<u8>)> {
         let path = path.as_ref();
         let lock = lock(path)?;
-        let mut file = OpenOptions::new().read(true).write(true).open(path)?;
         let mut log = Vec::new();
-        file.read_to_end(&mut log)?;
-        Ok((LogFile { path: path.into(), file, has_failed: false, lock }, log))
+        let opened = OpenOptions::new().read(true).write(true).open(path);
+        let read = opened.and_then(|mut file| file.read_to_end(&mut log).map(|_| file));
+        match read {
+            Ok(_) if log.is_empty() => Err(refused(ErrorKind::InvalidData, path, EMPTY)),
+            Ok(file) => Ok((LogFile { path: path.into(), file: Some(file), has_failed: false, _lock: lock }, log)),
+            Err(error) if error.kind() == ErrorKind::NotFound => Err(refused(error.kind(), path, MISSING)),
+            Err(error) => Err(named(path, &error)),
+        }
     }
 
     /// Puts what is ready on the disk, and returns when it is there.
@@ -108,13 +121,16 @@ impl LogFile {
         if self.has_failed {
             return Err(io::Error::other("an earlier write has failed"));
         }
-        let kept = if ready.is_anew() {
-            self.replace(ready.log())
-        } else {
-            self.file.write_all(ready.log()).and_then(|()| self.file.sync_data())
-        };
+        let kept = if ready.is_anew() { self.replace(ready.log()) } else { self.append(ready.log()) };
         self.has_failed = kept.is_err();
         kept
+    }
+
+    fn append(&mut self, log: &[u8]) -> io::Result<()> {
+        let file =
+            self.file.as_mut().ok_or_else(|| io::Error::other("the log is another replica's: it has no beginning"))?;
+        file.write_all(log)?;
+        file.sync_data()
     }
 
     /// The bytes take the place of the whole file, at once.
@@ -126,15 +142,15 @@ impl LogFile {
         fs::rename(&new, &self.path)?;
         sync_folder_of(&self.path)?;
         file.seek(SeekFrom::End(0))?;
-        self.file = file;
+        self.file = Some(file);
         Ok(())
     }
 }
 
-impl Drop for LogFile {
+impl Drop for Lock {
     /// A process that is just being started may still have the lock's file open.
     fn drop(&mut self) {
-        let _ = self.lock.unlock();
+        let _ = self.0.unlock();
     }
 }
 
@@ -146,10 +162,35 @@ fn beside(path: &Path, end: &str) -> PathBuf {
 }
 
 /// A lock that another program, or another thread, may not have too.
-fn lock(path: &Path) -> io::Result<File> {
-    let lock = OpenOptions::new().write(true).create(true).truncate(false).open(beside(path, ".lock"))?;
-    lock.try_lock()?;
-    Ok(lock)
+fn lock(path: &Path) -> io::Result<Lock> {
+    let name = beside(path, ".lock");
+    let lock = OpenOptions::new().write(true).create(true).truncate(false).open(&name);
+    let lock = lock.map_err(|error| match error.kind() {
+        ErrorKind::NotFound => refused(error.kind(), path, NO_FOLDER),
+        _ => named(&name, &error),
+    })?;
+    match lock.try_lock() {
+        Ok(()) => Ok(Lock(lock)),
+        Err(TryLockError::WouldBlock) => Err(refused(ErrorKind::WouldBlock, path, IN_USE)),
+        Err(TryLockError::Error(error)) => Err(named(&name, &error)),
+    }
+}
+
+/// Why there is no log, behind the file's name, and what to do.
+const BEGUN: &str = "is there already: LogFile::open goes on with it";
+const EMPTY: &str = "is empty. If a replica had its log there, that is lost, and it must not come back under its number in its generation; if none \
+                     had, remove the file and begin";
+const MISSING: &str = "is not there: LogFile::begin begins it, at a replica's first start alone; at a later one its disk is lost, or isn't mounted";
+const NO_FOLDER: &str = "has no folder: make it first";
+const IN_USE: &str = "is in use: another program has it, or another LogFile of this one; end that first";
+
+fn refused(kind: ErrorKind, path: &Path, why: &str) -> io::Error {
+    io::Error::new(kind, format!("{} {why}", path.display()))
+}
+
+/// What the system says, behind the file's name.
+fn named(path: &Path, error: &io::Error) -> io::Error {
+    io::Error::new(error.kind(), format!("{}: {error}", path.display()))
 }
 
 /// A file that was renamed is there after a crash once its folder is on the disk.

@@ -24,6 +24,14 @@ pub enum OpenFault {
     NoLog,
     /// It is the log of another replica, cluster or generation.
     OtherLog,
+    /// The log has fewer entries than were told ([`Setup::told`](crate::Setup::told)): it is older than what the replica has promised, as one that was put
+    /// back from a copy. The replica must not go on from it.
+    Forgotten {
+        /// How many entries the log has.
+        entries: u32,
+        /// How many were told.
+        told: u32,
+    },
     /// The bytes are no log that can be gone on from: why, and at which byte.
     BadLog(String),
     /// The bytes are no opening, or one for another number of replicas: why.
@@ -41,6 +49,12 @@ impl fmt::Display for OpenFault {
             OpenFault::OutOfRange => f.write_str("the replica's number is out of range"),
             OpenFault::NoLog => f.write_str("the log is empty"),
             OpenFault::OtherLog => f.write_str("the log of another replica, cluster or generation"),
+            OpenFault::Forgotten { entries, told } => {
+                write!(
+                    f,
+                    "the log has {entries} entries, and {told} were told: it is an older one, and must not be gone on from"
+                )
+            }
             OpenFault::BadLog(why) => write!(f, "the log can't be gone on from: {why}"),
             OpenFault::BadOpening(why) => write!(f, "the opening is refused: {why}"),
             OpenFault::NoCore(what) => write!(f, "there is no core: {what}"),

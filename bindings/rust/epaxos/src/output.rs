@@ -33,7 +33,7 @@ impl<'a> Output<'a> {
     }
 
     /// How many entries there are, all of which were told with this. A host that keeps the number beside the log can have a start go on
-    /// from there ([`Setup::told`](crate::Setup)).
+    /// from there, and refuse a log that is older ([`Setup::told`](crate::Setup::told)).
     ///
     /// ```
     /// # fn of(output: &epaxos::Output) -> std::io::Result<()> {

@@ -13,6 +13,9 @@ use std::marker::PhantomData;
 
 /// One replica. It takes what happens, and tells what is to be done, once what it took is on the disk. See [the crate's page](crate).
 ///
+/// Its log comes first: before [`ready`](Replica::ready) and [`synced`](Ready::synced) nothing is taken ([`Fault::Unsynced`]). In the examples here
+/// `replica.ready()?.synced()?` puts it nowhere; a program puts it on its disk in between ([`LogFile::keep`](crate::LogFile::keep)).
+///
 /// It is [`Send`] and not [`Sync`]: it lives on one thread at a time, and every call takes `&mut self`.
 ///
 /// ```
@@ -110,7 +113,11 @@ impl Replica {
             let records = log.get(HEADER..passed).unwrap_or_default();
             follower.follow(records).ok_or_else(|| OpenFault::BadLog("it can't be followed".into()))?;
         }
-        let told = setup.told.map_or(follower.entries(), |told| told.min(follower.entries()));
+        let entries = follower.entries();
+        let told = setup.told.unwrap_or(entries);
+        if told > entries {
+            return Err(OpenFault::Forgotten { entries, told });
+        }
         follower.pass(told);
         Ok(Replica {
             host,
@@ -156,7 +163,7 @@ impl Replica {
     /// ```
     /// # use epaxos::{Cluster, Event, Fault, Instance, Replica};
     /// let mut replica = Replica::new(Cluster::Three, 0)?;
-    /// # replica.ready()?.synced()?;
+    /// replica.ready()?.synced()?;                     // its log comes first
     /// let instance = Instance { replica: 1, number: 1 };
     /// assert_eq!(replica.take(&Event::Execute(instance)), Err(Fault::NotCommitted(instance)));
     /// # Ok::<(), Box<dyn std::error::Error>>(())
@@ -171,7 +178,7 @@ impl Replica {
     /// ```
     /// # use epaxos::{Call, Cluster, Command, Event, Fault, Replica};
     /// let mut replica = Replica::new(Cluster::Three, 0)?;
-    /// # replica.ready()?.synced()?;
+    /// replica.ready()?.synced()?;                     // its log comes first
     /// let put = Event::Propose { call: Call::new(1, 1), command: Command::Put { key: b"x", value: b"1" } };
     /// assert_eq!(replica.take_all(&[Event::Handle(b"garbage"), put]), [Err(Fault::BadFrame), Ok(())]);
     /// # Ok::<(), Box<dyn std::error::Error>>(())
@@ -189,7 +196,7 @@ impl Replica {
     /// ```
     /// # use epaxos::{Call, Cluster, Command, Fault, Replica};
     /// let mut replica = Replica::new(Cluster::Three, 0)?;
-    /// # replica.ready()?.synced()?;
+    /// replica.ready()?.synced()?;                     // its log comes first
     /// replica.propose(Call::new(1, 1), Command::Get { key: b"x" })?;
     /// assert_eq!(replica.propose(Call::new(1, 2), Command::Get { key: b"" }), Err(Fault::OutOfRange));
     /// # Ok::<(), Box<dyn std::error::Error>>(())
@@ -208,8 +215,8 @@ impl Replica {
     /// # use epaxos::{Call, Cluster, Command, Replica};
     /// let mut zero = Replica::new(Cluster::Three, 0)?;
     /// let mut one = Replica::new(Cluster::Three, 1)?;
-    /// # zero.ready()?.synced()?;
-    /// # one.ready()?.synced()?;
+    /// zero.ready()?.synced()?;                        // its log comes first
+    /// one.ready()?.synced()?;                         // its log comes first
     /// zero.propose(Call::new(1, 1), Command::Put { key: b"x", value: b"1" })?;
     /// for frame in zero.ready()?.synced()?.frames() {
     ///     one.handle(frame.bytes)?;
@@ -230,7 +237,7 @@ impl Replica {
     /// ```
     /// # use epaxos::{Call, Cluster, Command, Fault, Instance, Replica};
     /// let mut replica = Replica::new(Cluster::Three, 0)?;
-    /// # replica.ready()?.synced()?;
+    /// replica.ready()?.synced()?;                     // its log comes first
     /// replica.propose(Call::new(1, 1), Command::Get { key: b"x" })?;
     /// let instance = Instance { replica: 0, number: 1 };
     /// assert_eq!(replica.give_up(instance), Err(Fault::TooFewAnswers));
@@ -249,7 +256,7 @@ impl Replica {
     /// ```
     /// # use epaxos::{Cluster, Instance, Replica};
     /// let mut replica = Replica::new(Cluster::Three, 0)?;
-    /// # replica.ready()?.synced()?;
+    /// replica.ready()?.synced()?;                     // its log comes first
     /// replica.recover(Instance { replica: 1, number: 1 })?;
     /// assert_eq!(replica.ready()?.synced()?.frames().count(), 2);     // Prepare, to both others
     /// # Ok::<(), Box<dyn std::error::Error>>(())
@@ -267,7 +274,7 @@ impl Replica {
     /// ```
     /// # use epaxos::{Cluster, Instance, Replica};
     /// let mut replica = Replica::new(Cluster::Three, 0)?;
-    /// # replica.ready()?.synced()?;
+    /// replica.ready()?.synced()?;                     // its log comes first
     /// assert!(replica.execute(Instance { replica: 0, number: 1 }).is_err());
     /// # Ok::<(), Box<dyn std::error::Error>>(())
     /// ```
@@ -284,7 +291,7 @@ impl Replica {
     /// ```
     /// # use epaxos::{Cluster, Replica};
     /// let mut replica = Replica::new(Cluster::Three, 0)?;
-    /// # replica.ready()?.synced()?;
+    /// replica.ready()?.synced()?;                     // its log comes first
     /// replica.advance()?;                  // nothing is ready
     /// # Ok::<(), Box<dyn std::error::Error>>(())
     /// ```
@@ -301,7 +308,7 @@ impl Replica {
     /// ```
     /// # use epaxos::{Cluster, Replica};
     /// let mut replica = Replica::new(Cluster::Three, 0)?;
-    /// # replica.ready()?.synced()?;
+    /// replica.ready()?.synced()?;                     // its log comes first
     /// replica.execute_all()?;
     /// # Ok::<(), Box<dyn std::error::Error>>(())
     /// ```
@@ -339,7 +346,7 @@ impl Replica {
     /// ```
     /// # use epaxos::{Call, Cluster, Command, Phase, Replica};
     /// let mut replica = Replica::new(Cluster::Three, 0)?;
-    /// # replica.ready()?.synced()?;
+    /// replica.ready()?.synced()?;                     // its log comes first
     /// replica.propose(Call::new(1, 1), Command::Get { key: b"x" })?;
     /// let output = replica.ready_with_open(64)?.synced()?;
     /// let (instance, leading) = output.led().next().unwrap();
@@ -376,8 +383,8 @@ impl Replica {
         Ok(Output::new(told, &self.follower))
     }
 
-    /// Reports once more what there was to report behind the first `after` entries, for who has to send it again: frames, receipts and commits; not what was
-    /// proposed or executed. And the least `most` instances that are open. With `u32::MAX` it reports these alone.
+    /// Reports once more what there was to report behind the first `after` entries, for who has to send it again ([when](crate#what-is-lost-on-its-way)): frames,
+    /// receipts and commits; not what was proposed or executed. And the least `most` instances that are open. With `u32::MAX` it reports these alone.
     ///
     /// # Errors
     ///
@@ -386,7 +393,7 @@ impl Replica {
     /// ```
     /// # use epaxos::{Call, Cluster, Command, Replica};
     /// let mut replica = Replica::new(Cluster::Three, 0)?;
-    /// # replica.ready()?.synced()?;
+    /// replica.ready()?.synced()?;                     // its log comes first
     /// replica.propose(Call::new(1, 1), Command::Get { key: b"x" })?;
     /// assert_eq!(replica.ready()?.synced()?.frames().count(), 1);
     /// let output = replica.report(0, 64)?;
@@ -445,9 +452,12 @@ impl Replica {
     /// ```no_run
     /// # fn of(mut replica: epaxos::Replica) -> Result<(), Box<dyn std::error::Error>> {
     /// use epaxos::{Cluster, Setup};
+    /// use std::{fs::File, io::Write};
     ///
     /// let opening = replica.close(Cluster::Three).map_err(|(_, fault)| fault)?;
-    /// std::fs::write("2.opening", &opening)?;
+    /// let mut file = File::create("zero/2/opening")?;
+    /// file.write_all(&opening)?;
+    /// file.sync_all()?;
     /// let next = Setup { opening: Some(&opening), ..Setup::new(Cluster::Three, 0) }.begin()?;
     /// # drop(next);
     /// # Ok(()) }

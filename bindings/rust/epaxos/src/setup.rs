@@ -24,7 +24,8 @@ pub struct Setup<'a> {
     /// What the generation opens with: the bytes that [`close`](Replica::close) handed out, here or at another replica. None: generation 1, whose map
     /// has nothing.
     pub opening: Option<&'a [u8]>,
-    /// How many entries of the log were told before: behind them the first [`Output`](crate::Output) begins. None: all that the log has.
+    /// How many entries of the log were told before: behind them the first [`Output`](crate::Output) begins. None: all that the log has. More than the log
+    /// has are [`OpenFault::Forgotten`].
     pub told: Option<u32>,
     /// Where its core runs.
     pub core: Core,

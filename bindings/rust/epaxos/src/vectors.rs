@@ -3,12 +3,13 @@
 
 use crate::wire::{self, Done, Entry, Question, Told};
 use crate::{
-    Answer, Call, Command, Event, Fault, Fields, Frame, Instance, Leading, OpenInstance, Phase, Receipt, State,
+    Answer, Call, Cluster, Command, Event, Fault, Fields, Frame, Instance, Leading, OpenInstance, Phase, Receipt, State,
 };
 
 const WIRE: &str = include_str!("../../../../examples/wire.txt");
 const REQUESTS: &str = include_str!("../../../../examples/requests.txt");
 const FRAMES: &str = include_str!("../../../../examples/frames.txt");
+const OPENINGS: &str = include_str!("../../../../examples/openings.txt");
 
 /// The bytes of a line that is indented and written in hexadecimal.
 fn hex(line: &str) -> Vec<u8> {
@@ -31,6 +32,12 @@ fn answer(name: &str) -> Vec<u8> {
     let (length, answer) = bytes.split_first_chunk().expect("a length");
     assert_eq!(u32::from_be_bytes(*length) as usize, answer.len(), "{name}");
     answer.to_vec()
+}
+
+#[test]
+fn the_first_opening() {
+    let lines: String = OPENINGS.lines().filter_map(|line| line.strip_prefix("    ")).take(2).collect();
+    assert_eq!(Cluster::Three.first_opening(), hex(&lines));
 }
 
 const ONE: Instance = Instance { replica: 1, number: 258 };

@@ -3,11 +3,10 @@
 
 mod common;
 
-use common::{Owned, Plain, Random, Reply, World, cores, program};
+use common::{Owned, Plain, Random, Reply, World, audited, cores};
 use epaxos::{Cluster, Core};
 use std::fs;
-use std::path::Path;
-use std::process::{Command, Stdio};
+use std::path::{Path, PathBuf};
 
 const SEEDS: u64 = 4;
 const COMMANDS: u32 = 60;
@@ -70,41 +69,21 @@ fn play(world: &mut World) {
     world.finish();
 }
 
-/// Whether `epaxos collect` makes a bundle of the logs, and `epaxos audit` accepts it with the receipts.
+/// An audit accepts the logs of generation 1 with the receipts.
 fn audit(world: &World, folder: &Path) {
-    let opening = world.opening.map(<[u8]>::to_vec).unwrap_or_else(|| opening_of_the_page(world.cluster));
-    let mut words = vec!["collect".to_string(), "--generation".into(), "1".into()];
+    let mut folders: Vec<PathBuf> = Vec::new();
     for seat in &world.seats {
         let store = folder.join(seat.me.to_string());
         fs::create_dir_all(store.join("1")).unwrap();
-        fs::write(store.join("1/opening"), &opening).unwrap();
+        fs::write(store.join("1/opening"), world.cluster.first_opening()).unwrap();
         fs::write(store.join("1/log"), &seat.log).unwrap();
-        words.push(store.to_str().unwrap().into());
+        fs::write(store.join("receipts"), &seat.receipts).unwrap();
+        folders.push(store);
     }
-    for seat in &world.seats {
-        let told = folder.join(format!("told.{}", seat.me));
-        fs::write(&told, &seat.receipts).unwrap();
-        words.extend(["--receipts".into(), told.to_str().unwrap().into()]);
-    }
-    let collected = Command::new(program()).args(&words).stdin(Stdio::null()).output().unwrap();
-    assert!(collected.status.success(), "{}", String::from_utf8_lossy(&collected.stderr));
-    let bundle = folder.join("bundle");
-    fs::write(&bundle, &collected.stdout).unwrap();
-    let audited = Command::new(program()).arg("audit").stdin(fs::File::open(&bundle).unwrap()).output().unwrap();
-    let report = String::from_utf8_lossy(&audited.stdout);
-    assert!(report.starts_with("verdict accepted\n"), "{report}{}", String::from_utf8_lossy(&audited.stderr));
+    let report = audited(&folders);
+    assert!(report.starts_with("verdict accepted\n"), "{report}");
     let told: usize = world.seats.iter().map(|it| it.told.len()).sum();
     assert!(report.contains(&format!("\nreceipts {told}\n")), "{report}");
-}
-
-/// The opening of generation 1 of three replicas, by hand (examples/openings.txt).
-fn opening_of_the_page(cluster: Cluster) -> Vec<u8> {
-    assert_eq!(cluster, Cluster::Three);
-    let page = include_str!("../../../../examples/openings.txt");
-    let lines = page.lines().filter_map(|it| it.strip_prefix("    ")).take(2);
-    let digits: String = lines.flat_map(str::chars).filter(|it| *it != ' ').collect();
-    let bytes = digits.as_bytes().chunks(2);
-    bytes.map(|it| u8::from_str_radix(std::str::from_utf8(it).unwrap(), 16).unwrap()).collect()
 }
 
 #[test]
@@ -135,11 +114,45 @@ fn cores_do_the_same() {
 }
 
 #[test]
-fn five_replicas_agree() {
+fn more_replicas_agree() {
+    let folder = std::env::temp_dir().join(format!("epaxos-more-{}", std::process::id()));
     for core in cores() {
-        let mut world = World::new(Cluster::Five, &core, None, 5);
-        play(&mut world);
-        world.check();
+        for (cluster, seed) in [(Cluster::Five, 5), (Cluster::Seven, 7)] {
+            let mut world = World::new(cluster, &core, None, seed);
+            play(&mut world);
+            world.check();
+            audit(&world, &folder.join(seed.to_string()));
+        }
+    }
+    fs::remove_dir_all(folder).unwrap();
+}
+
+/// A Commit that is lost leaves nothing open at a replica that has heard nothing else of its instance. It comes by a report.
+#[test]
+fn a_lost_commit_comes_by_a_report() {
+    for core in cores() {
+        let mut world = World::new(Cluster::Three, &core, None, 13);
+        world.propose(0, 1, 1, &Owned::Put(b"x".to_vec(), b"1".to_vec()));
+        world.settle(0);
+        while !world.frames.is_empty() {
+            world.frames.retain(|(to, _)| *to != 2);
+            world.deliver(false);
+            (0..2).for_each(|me| world.settle(me));
+        }
+        world.settle(2);
+        assert!(world.seats.iter().all(|seat| !seat.is_open));
+        world.replica(2).execute_all().unwrap();
+        world.settle(2);
+        assert_eq!(world.replica(2).get(b"x").unwrap(), None);
+        let again = world.replica(0).report(0, 0).unwrap();
+        let again: Vec<_> = again.frames().filter(|it| it.to == 2).map(|it| it.bytes.to_vec()).collect();
+        // (what comes twice does no harm)
+        for frame in again.iter().chain(&again) {
+            world.replica(2).handle(frame).unwrap();
+        }
+        world.replica(2).execute_all().unwrap();
+        world.settle(2);
+        assert_eq!(world.replica(2).get(b"x").unwrap(), Some(&b"1"[..]));
     }
 }
 

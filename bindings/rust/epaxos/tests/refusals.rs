@@ -6,6 +6,7 @@ mod common;
 use common::{Owned, World, cores, program};
 use epaxos::{Call, Cluster, Command, Core, Event, Fault, Instance, LogFile, OpenFault, Replica, Setup};
 use std::fs;
+use std::io::ErrorKind;
 use std::os::unix::fs::PermissionsExt;
 
 const PUT: Command = Command::Put { key: b"x", value: b"1" };
@@ -141,6 +142,26 @@ fn logs_are_refused() {
         assert!(matches!(setup(Cluster::Three, 0).open(&turned).unwrap_err(), OpenFault::BadLog(_)));
         let bad = Setup { opening: Some(b"no opening"), ..setup(Cluster::Three, 0) };
         assert!(matches!(bad.begin().unwrap_err(), OpenFault::BadOpening(_)));
+
+        // an older log, of which more was told than it has
+        let told = |told| Setup { told: Some(told), ..setup(Cluster::Three, 0) };
+        assert_eq!(told(3).open(&first).unwrap_err(), OpenFault::Forgotten { entries: 2, told: 3 });
+        assert_eq!(told(1).begin().unwrap_err(), OpenFault::Forgotten { entries: 0, told: 1 });
+        assert!(told(2).open(&first).is_ok() && told(0).begin().is_ok());
+    }
+}
+
+/// A log's header has the digest of what its generation opened with: the first one opens with the same, handed in or not.
+#[test]
+fn the_first_opening_is_what_generation_1_opens_with() {
+    for core in cores() {
+        for cluster in [Cluster::Three, Cluster::Five, Cluster::Seven] {
+            let setup = Setup { core: core.clone(), ..Setup::new(cluster, 2) };
+            let header = setup.begin().unwrap().ready().unwrap().log().to_vec();
+            let given = Setup { opening: Some(cluster.first_opening()), ..setup };
+            assert_eq!(given.begin().unwrap().ready().unwrap().log(), header);
+            assert_eq!(header[11..], cluster.first_opening()[27..]);
+        }
     }
 }
 
@@ -215,22 +236,53 @@ fn a_process_that_ends() {
     fs::remove_file(script).unwrap();
 }
 
+fn check_refusal(refusal: &std::io::Error, kind: ErrorKind, why: &str) {
+    assert_eq!((refusal.kind(), refusal.to_string()), (kind, why.to_string()));
+}
+
 #[test]
 fn a_log_is_begun_once() {
     let folder = std::env::temp_dir().join(format!("epaxos-once-{}", std::process::id()));
-    fs::create_dir_all(&folder).unwrap();
     let path = folder.join("zero.log");
-    assert!(LogFile::open(&path).is_err());
+    let name = path.display();
+    let begin = |kind, why: &str| check_refusal(&LogFile::begin(&path).unwrap_err(), kind, why);
+    let open = |kind, why: &str| check_refusal(&LogFile::open(&path).unwrap_err(), kind, why);
+    let none = format!("{name} has no folder: make it first");
+    begin(ErrorKind::NotFound, &none);
+    open(ErrorKind::NotFound, &none);
+    fs::create_dir_all(&folder).unwrap();
+    let missing = format!(
+        "{name} is not there: LogFile::begin begins it, at a replica's first start alone; at a later one its disk is lost, or isn't mounted"
+    );
+    open(ErrorKind::NotFound, &missing);
     let mut file = LogFile::begin(&path).unwrap();
-    assert!(LogFile::open(&path).is_err(), "two have it");
+    let held = format!("{name} is in use: another program has it, or another LogFile of this one; end that first");
+    begin(ErrorKind::WouldBlock, &held);
+    open(ErrorKind::WouldBlock, &held);
     // (nothing was told yet)
     drop(file);
+    open(ErrorKind::NotFound, &missing);
     file = LogFile::begin(&path).unwrap();
     let mut replica = Setup { core: cores()[0].clone(), ..Setup::new(Cluster::Three, 0) }.begin().unwrap();
     file.keep(&replica.ready().unwrap()).unwrap();
+    replica.ready().unwrap().synced().unwrap();
+    replica.propose(Call::new(1, 1), PUT).unwrap();
+    file.keep(&replica.ready().unwrap()).unwrap();
+    // what is to be appended is for a log that is there
     drop(file);
-    assert_eq!(LogFile::begin(&path).unwrap_err().kind(), std::io::ErrorKind::AlreadyExists);
-    let (_file, log) = LogFile::open(&path).unwrap();
-    assert_eq!(log.len(), 43);
+    fs::rename(&path, folder.join("one.log")).unwrap();
+    assert!(LogFile::begin(&path).unwrap().keep(&replica.ready().unwrap()).is_err());
+    fs::rename(folder.join("one.log"), &path).unwrap();
+    begin(ErrorKind::AlreadyExists, &format!("{name} is there already: LogFile::open goes on with it"));
+    let (file, log) = LogFile::open(&path).unwrap();
+    assert!(log.len() > 43);
+    drop(file);
+    // one that was emptied is no new one
+    fs::write(&path, b"").unwrap();
+    let empty = format!(
+        "{name} is empty. If a replica had its log there, that is lost, and it must not come back under its number in its generation; if none had, remove the file and begin"
+    );
+    begin(ErrorKind::AlreadyExists, &empty);
+    open(ErrorKind::InvalidData, &empty);
     fs::remove_dir_all(folder).unwrap();
 }

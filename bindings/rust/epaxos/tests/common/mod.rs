@@ -3,8 +3,8 @@
 
 use epaxos::{Answer, Call, Cluster, Command, Core, Executed, Instance, Patience, Replica, Setup, Waits};
 use std::collections::BTreeMap;
-use std::env;
 use std::path::{Path, PathBuf};
+use std::{env, fs, process};
 
 /// The program `epaxos`, of which processes are started.
 pub fn program() -> PathBuf {
@@ -16,6 +16,23 @@ pub fn program() -> PathBuf {
 pub fn cores() -> Vec<Core> {
     let library = Core::has_library().then_some(Core::Library);
     [Core::Process(program())].into_iter().chain(library).collect()
+}
+
+/// What an audit says of the replicas whose folders these are, in generation 1: of their logs, and of the receipts in the file `receipts` of each.
+pub fn audited(folders: &[PathBuf]) -> String {
+    let run = |words: &[&Path], input: process::Stdio| {
+        process::Command::new(program()).args(words).stdin(input).output().expect("the program starts")
+    };
+    let receipts: Vec<PathBuf> = folders.iter().map(|it| it.join("receipts")).collect();
+    let mut words = vec![Path::new("collect"), Path::new("--generation"), Path::new("1")];
+    words.extend(folders.iter().map(PathBuf::as_path));
+    words.extend(receipts.iter().flat_map(|it| [Path::new("--receipts"), it]));
+    let collected = run(&words, process::Stdio::null());
+    assert!(collected.status.success(), "{}", String::from_utf8_lossy(&collected.stderr));
+    let bundle = folders[0].with_file_name("1.bundle");
+    fs::write(&bundle, &collected.stdout).expect("a bundle can be written");
+    let audited = run(&[Path::new("audit")], fs::File::open(&bundle).expect("it can be read").into());
+    format!("{}{}", String::from_utf8_lossy(&audited.stdout), String::from_utf8_lossy(&audited.stderr))
 }
 
 /// Numbers that look random, by a seed.
