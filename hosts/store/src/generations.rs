@@ -134,8 +134,11 @@ impl Generations {
         let bytes = self.bytes(generation)?;
         let opened = opened(bytes).map_err(|why| GenerationsFault::BadOpening(Some(generation), why))?;
         match opened.generation {
-            other if other != generation => Err(GenerationsFault::OfAnother(generation, other)),
-            _ => Ok(opened),
+            here if here == generation => Ok(opened),
+            other => {
+                let whole = damage(&opened.bytes).map_err(|why| GenerationsFault::BadOpening(Some(generation), why));
+                whole.and(Err(GenerationsFault::OfAnother(generation, other)))
+            }
         }
     }
 
@@ -189,25 +192,32 @@ fn unusable(path: &Path) -> impl FnOnce(io::Error) -> FileFault {
     move |error| FileFault::Unusable(path.to_path_buf(), error)
 }
 
-/// The opening of these bytes, or why they are none, in the words of the programs. All behind its header is the core's to judge.
+/// The opening of these bytes, or why they are none, in the words of the programs. All behind its header is the core's to judge, as is its digest,
+/// where the header may be an opening's.
 pub fn opened(bytes: Vec<u8>) -> Result<Opened, String> {
-    let (count, wrong) = (bytes.len(), |at: usize| Err(format!("wrong field at byte {at}")));
-    let (Some((body, digest)), Some(&[replicas, a, b, c, d])) = (
-        bytes.split_last_chunk::<32>().filter(|_| count >= SHORTEST),
-        bytes.get(MAGIC.len()..).and_then(|body| body.first_chunk()),
-    ) else {
-        return Err(format!("cut short at byte {count}"));
+    let header = bytes.get(MAGIC.len()..).and_then(|body| body.first_chunk()).filter(|_| bytes.len() >= SHORTEST);
+    let Some(&[replicas, a, b, c, d]) = header else {
+        return Err(format!("cut short at byte {}", bytes.len()));
     };
-    if let Some(at) = MAGIC.iter().zip(body).position(|(wanted, byte)| wanted != byte) {
-        return wrong(if at < 4 { 0 } else { 4 });
+    let generation = u32::from_be_bytes([a, b, c, d]);
+    let wrong = |at: usize| Err(format!("wrong field at byte {at}"));
+    match MAGIC.iter().zip(&bytes).position(|(wanted, byte)| wanted != byte) {
+        Some(4) => wrong(4),
+        Some(_) => wrong(0),
+        None if [3, 5, 7].contains(&replicas) && generation > 0 => {
+            Ok(Opened { generation, replicas, bytes, is_new: false })
+        }
+        None => damage(&bytes).and(wrong(if generation > 0 { 5 } else { 6 })),
     }
-    if Sha256::digest(body)[..] != digest[..] {
-        return Err(format!("damaged: no digest of the bytes before it at byte {}", body.len()));
-    }
-    match (replicas, u32::from_be_bytes([a, b, c, d])) {
-        (3 | 5 | 7, 0) => wrong(6),
-        (3 | 5 | 7, generation) => Ok(Opened { generation, replicas, bytes, is_new: false }),
-        _ => wrong(5),
+}
+
+/// Whether the digest of an opening isn't that of its other bytes.
+fn damage(bytes: &[u8]) -> Result<(), String> {
+    match bytes.split_last_chunk::<32>() {
+        Some((body, digest)) if Sha256::digest(body)[..] != digest[..] => {
+            Err(format!("damaged: no digest of the bytes before it at byte {}", body.len()))
+        }
+        _ => Ok(()),
     }
 }
 
@@ -242,18 +252,13 @@ mod tests {
         for count in 0..59 {
             assert_eq!(why(&second[..count]), format!("cut short at byte {count}"));
         }
-        for count in 59..77 {
-            let told = format!("damaged: no digest of the bytes before it at byte {}", count - 32);
-            assert_eq!(why(&second[..count]), told);
-        }
-        for place in 0..second.len() {
+        for (place, told) in [
+            (0, "wrong field at byte 0"),
+            (4, "wrong field at byte 4"),
+            (5, "damaged: no digest of the bytes before it at byte 45"),
+        ] {
             let mut changed = second.clone();
             changed[place] ^= 0x10;
-            let told = match place {
-                0..4 => "wrong field at byte 0",
-                4 => "wrong field at byte 4",
-                _ => "damaged: no digest of the bytes before it at byte 45",
-            };
             assert_eq!(why(&changed), told);
         }
         for (place, byte, told) in [(5, 4, "wrong field at byte 5"), (9, 0, "wrong field at byte 6")] {
