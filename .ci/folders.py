@@ -137,6 +137,7 @@ class ByStore(tuple):
 IN_STORE = {
     "log refused: a log of another cluster or replica": "the log of another replica, cluster or generation",
     "log refused: a log of another generation": "the log of another replica, cluster or generation",
+    "log refused: no header of a log": "the log can't be gone on from: no header of a log",
 }
 
 
@@ -205,7 +206,15 @@ def first_starts(it, _folder):
     it.size = 3
     shutil.copytree(it.place(0), it.place(1))
     yield "the folder of another", differs(told(it, 1), (2, None, line("log refused: a log of another cluster or replica")))
-    os.remove(f"{it.place(0)}/1/log")
+    log = f"{it.place(0)}/1/log"
+    os.truncate(log, 42)
+    no_header = line("log refused: no header of a log")
+    yield "a log without a header", differs(told(it, 0), (2, None, no_header))
+    yield "a log without a header, --new", differs(told(it, 0, "--new"), (2, None, line("log refused: there is one already")))
+    os.truncate(log, 0)
+    yield "a log without a byte", differs(told(it, 0), (2, None, no_log_line(1)))
+    yield "a log without a byte, --new", differs(told(it, 0, "--new"), (0, 1, ""))
+    os.remove(log)
     yield "no log", differs(told(it, 0), (2, None, no_log_line(1)))
     yield "no log, --new", differs(told(it, 0, "--new"), (0, 1, ""))
     # what isn't a generation's is passed over

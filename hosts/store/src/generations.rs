@@ -117,12 +117,18 @@ impl Generations {
     /// Whether the log of the plan's generation is begun. There is one where it may not be.
     fn begins(&self, plan: Plan) -> Result<bool, GenerationsFault> {
         let path = self.log(plan.generation);
-        let has_log = is_there(&path).and_then(|is_it| Ok(is_it && fs::metadata(&path)?.len() > 0));
-        match (plan.log, has_log.map_err(unusable(&path))?) {
-            (LogStart::New, true) => Err(GenerationsFault::HasLog),
-            (LogStart::Existing, false) => Err(GenerationsFault::NoLog(plan.generation)),
-            (_, has_log) => Ok(!has_log),
+        let is_there = is_there(&path).map_err(unusable(&path))?;
+        let has_log = is_there && fs::metadata(&path).map_err(unusable(&path))?.len() > 0;
+        match plan.log {
+            LogStart::New if has_log => return Err(GenerationsFault::HasLog),
+            LogStart::Existing if !has_log => return Err(GenerationsFault::NoLog(plan.generation)),
+            _ => {}
         }
+        if is_there && !has_log {
+            // (a file without a byte is none, and stands in the way of one that is begun)
+            fs::remove_file(&path).map_err(unusable(&path))?;
+        }
+        Ok(!has_log)
     }
 
     fn bytes(&self, generation: u32) -> Result<Vec<u8>, GenerationsFault> {

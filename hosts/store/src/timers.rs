@@ -194,8 +194,9 @@ impl Timers {
         self.heard.remove(&instance);
     }
 
-    /// A peer was reached again: what waits for long needn't any more.
+    /// A peer was reached again, or a seal is committed: what waits for long needn't any more, and what isn't known yet is looked for.
     pub fn hurry(&mut self, now: Instant) {
+        self.next_look = self.next_look.min(now);
         for wait in self.open.values_mut().filter(|wait| wait.tries > 0) {
             wait.tries = 1;
             wait.due = wait.due.min(now + self.random.from_once_to_twice(LEAST_WAIT));
