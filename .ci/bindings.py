@@ -14,11 +14,9 @@ import tempfile
 
 sys.dont_write_bytecode = True
 
-from store import BUILT, CHEAP, TOP, is_well, joined
+from store import BUILT, CHEAP, TOP, is_well, joined, library_there
 
 CRATE, PYTHON, HEADER = f"{TOP}/bindings/rust/epaxos", f"{TOP}/bindings/python", f"{TOP}/bindings/c/epaxos.h"
-# where builds put the library: first the proved one
-LIBRARIES = (f"{TOP}/out", f"{TOP}/out/unproved")
 # how a page that lacks something, or links to nothing, isn't made
 STRICT = {"RUSTDOCFLAGS": "-D warnings"}
 # (a launcher of what isn't proved says so, on each start of a process)
@@ -232,7 +230,7 @@ def tried(node=BUILT[0], program=BUILT[1], library=None):
     if not os.path.isfile(node) or not os.path.isfile(program):
         print("the bindings are not tried: `rt ci` has not built both programs", flush=True)
         return 0, 0
-    library = library or next((it for it in LIBRARIES if os.path.isfile(f"{it}/libepaxos.a") and os.path.isfile(f"{it}/libepaxos.so")), None)
+    library = library or library_there()
     if not library:
         print("the bindings are not tried over the library: there is none", flush=True)
     with tempfile.TemporaryDirectory(prefix="epaxos-bindings-") as scratch:

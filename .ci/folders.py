@@ -1,9 +1,13 @@
 """Runs of `epaxos node --dir`: what is refused, and lives through generations, of which each start is a process of its own.
 
-Requests and answers are those of docs/FORMATS.md, section 10, openings those of section 12, and folders those of section 13."""
+Requests and answers are those of docs/FORMATS.md, section 10, openings those of section 12, and folders those of section 13.
+
+hosts/store has the same rules once more, for a core in the store: `.ci/folders.py NODE FOLDER` has its program `folder` make each start that is only looked
+at, between those of the node that has the replicas go on, in the same folders."""
 
 import hashlib
 import os
+import re
 import shutil
 import struct
 import subprocess
@@ -53,10 +57,10 @@ def parts_of(bytes_):
 
 
 class Cluster:
-    """Replicas in folders of a folder. Frames are given to a replica by its next start."""
+    """Replicas in folders of a folder. Frames are given to a replica by its next start. Starts that are only looked at are those of `starter`."""
 
-    def __init__(self, program, folder, size=3):
-        self.program, self.folder, self.size = program, folder, size
+    def __init__(self, program, folder, size=3, starter=None):
+        self.program, self.folder, self.size, self.starter = program, folder, size, starter
         self.frames = [[] for _ in range(7)]
 
     def place(self, replica):
@@ -125,12 +129,44 @@ def get(key):
     return shim.request(7, key)
 
 
+class ByStore(tuple):
+    """What a start by the rules of hosts/store tells."""
+
+
+# what a core in the store tells in other words than a node
+IN_STORE = {
+    "log refused: a log of another cluster or replica": "the log of another replica, cluster or generation",
+    "log refused: a log of another generation": "the log of another replica, cluster or generation",
+    "log refused: no header of a log": "the log can't be gone on from: no header of a log",
+}
+
+
+def in_short(status, generation, words):
+    """Without what is to be done, and of a failure the status alone: there a store names the file too."""
+    words = words.partition(";")[0].strip() if status == 2 else ""
+    return status, generation, IN_STORE.get(words, re.sub(r"it is for --replicas (\d)", r"it is for \1 replicas", words))
+
+
+def as_told(got, wanted):
+    """What is wanted, where starts by the rules of hosts/store in short."""
+    if isinstance(got, ByStore):
+        return in_short(*wanted)
+    if isinstance(got, tuple) and isinstance(wanted, tuple) and len(got) == len(wanted):
+        return tuple(map(as_told, got, wanted))
+    return wanted
+
+
 def differs(got, wanted):
+    wanted = as_told(got, wanted)
     return "" if got == wanted else f"{got!r} and not {wanted!r}"
 
 
 def told(cluster, replica, *more):
-    """Status and fault output of a start that asks for a state."""
+    """Status, generation and fault output of a start that asks for a state."""
+    if cluster.starter:
+        words = [cluster.starter, *cluster.words(replica, *more)[1:]]
+        it = subprocess.run(words, stdin=subprocess.DEVNULL, capture_output=True, text=True, timeout=SECONDS, check=False)
+        return ByStore(in_short(it.returncode, int(it.stdout) if it.stdout else None, it.stderr))
     status, answers, line = cluster.start(replica, STATE, *more)
     return status, generation_of(answers), line
 
@@ -150,9 +186,8 @@ def no_log_line(generation):
     return line(f"folder refused: generation {generation} has no log; repeat the --take that was broken off, or go on with the opening of a later one by --take FILE")
 
 
-def first_starts(program, folder):
+def first_starts(it, _folder):
     """A first start, and what is refused then."""
-    it = Cluster(program, folder)
     no_folder = line("folder failed: no such file or directory")
     yield "no folder", differs(told(it, 0, "--new"), (4, None, no_folder))
     os.mkdir(it.place(0))
@@ -171,7 +206,15 @@ def first_starts(program, folder):
     it.size = 3
     shutil.copytree(it.place(0), it.place(1))
     yield "the folder of another", differs(told(it, 1), (2, None, line("log refused: a log of another cluster or replica")))
-    os.remove(f"{it.place(0)}/1/log")
+    log = f"{it.place(0)}/1/log"
+    os.truncate(log, 42)
+    no_header = line("log refused: no header of a log")
+    yield "a log without a header", differs(told(it, 0), (2, None, no_header))
+    yield "a log without a header, --new", differs(told(it, 0, "--new"), (2, None, line("log refused: there is one already")))
+    os.truncate(log, 0)
+    yield "a log without a byte", differs(told(it, 0), (2, None, no_log_line(1)))
+    yield "a log without a byte, --new", differs(told(it, 0, "--new"), (0, 1, ""))
+    os.remove(log)
     yield "no log", differs(told(it, 0), (2, None, no_log_line(1)))
     yield "no log, --new", differs(told(it, 0, "--new"), (0, 1, ""))
     # what isn't a generation's is passed over
@@ -195,9 +238,8 @@ def first_starts(program, folder):
     yield "another opening than the log's", differs(told(it, 0), (2, None, line("log refused: a log of another generation")))
 
 
-def one_at_a_time(program, folder):
+def one_at_a_time(it, folder):
     """A folder that a node has isn't another one's, whatever it asks for."""
-    it = Cluster(program, folder)
     it.begin(0)
     with open(f"{folder}/taken", "wb") as file:
         file.write(opening(generation=7))
@@ -213,9 +255,8 @@ def one_at_a_time(program, folder):
     yield "nothing was taken", differs(told(it, 0), (0, 1, ""))
 
 
-def a_life(program, folder):
+def a_life(it, folder):
     """Three replicas through two seals, of which one comes late, one has a lost disk, and one is new."""
-    it = Cluster(program, folder)
     it.begin()
     it.settle(put(1, b"x", b"1") + put(2, b"y", b"2"), 0, 1)
     it.settle(seal(3, b"next") + put(4, b"z", b"3"), 0, 1)
@@ -352,7 +393,7 @@ def larger(it, folder):
     yield "with three again", differs(told(it, 0), (2, None, size))
 
 
-def words_refused(program, folder):
+def words_refused(cluster, folder):
     """Words that don't go together."""
     for words, why in (
         ((), "'--log' or '--dir' is missing"),
@@ -360,19 +401,19 @@ def words_refused(program, folder):
         (("--log", "l", "--take", "f"), "'--take' goes with '--dir' alone"),
         (("--dir", "d", "--take", "f", "--new"), "'--new' and '--take' don't go together"),
     ):
-        it = subprocess.run([program, "node", "--replicas", "3", "--replica", "0", *words], input=b"", capture_output=True, timeout=SECONDS, check=False, cwd=folder)
+        it = subprocess.run([cluster.program, "node", "--replicas", "3", "--replica", "0", *words], input=b"", capture_output=True, timeout=SECONDS, check=False, cwd=folder)
         wanted = f"command line refused\nerror: {why}\n\nFor more information, try '--help'.\n"
         yield f"words {' '.join(words)}", differs((it.returncode, it.stdout, it.stderr.decode()), (2, b"", wanted))
 
 
-def every(program):
+def every(program, starter=None):
     """The name of each run, and what is wrong with it, or nothing."""
     with tempfile.TemporaryDirectory(dir="/dev/shm" if os.path.isdir("/dev/shm") else None) as folder:
-        for rows in (first_starts, one_at_a_time, a_life, words_refused):
+        for rows in (first_starts, one_at_a_time, a_life, *[words_refused] * (not starter)):
             place = f"{folder}/{rows.__name__}"
             os.mkdir(place)
             try:
-                yield from ((f"folder, {name}", wrong) for name, wrong in rows(program, place))
+                yield from ((f"folder, {name}", wrong) for name, wrong in rows(Cluster(program, place, starter=starter), place))
             except (AssertionError, LookupError, OSError, StopIteration, struct.error, subprocess.TimeoutExpired) as fault:
                 yield f"folder, {rows.__name__.replace('_', ' ')}", repr(fault)[:300]
 
@@ -382,7 +423,7 @@ if __name__ == "__main__":
 
     sys.dont_write_bytecode = True
     failed = 0
-    for at, (name, wrong) in enumerate(every(os.path.abspath(sys.argv[1])), 1):
+    for at, (name, wrong) in enumerate(every(*map(os.path.abspath, sys.argv[1:3])), 1):
         failed += bool(wrong)
         if wrong:
             print(f"{name}: {wrong}")

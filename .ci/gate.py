@@ -277,8 +277,8 @@ PARTS = (
     Part("failing devices", lambda: sweeps(failing_devices)),
     Part("turned bundles", lambda: sweeps(lambda: [swept("turned-bundles", [])])),
     Part("lives", lives),
-    Part("hosts/store", store.tried),
     Part("library", library.tried),
+    Part("hosts/store", store.tried),
     Part("bindings", bindings.tried),
 )
 

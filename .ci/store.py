@@ -1,6 +1,7 @@
-"""The host in hosts/store, where cargo is there: builds it and runs its tests, some of them over the programs that `rt ci` built, then clients that
-others have written and strangers at its ports, where redis-py is there, and then plays a trial of 60 seconds over several generations, with 6 kills
-and a machine replaced, whose chain the audit judges. Runs alone too: python3 .ci/store.py [NODE PROGRAM], of other builds.
+"""The host in hosts/store, where cargo is there: builds it over the library, where there is one, and runs its tests, some of them over the programs
+that `rt ci` built, then clients that others have written and strangers at its ports, where redis-py is there, and then plays two trials of 30 seconds
+over several generations, each with 3 kills and a machine replaced, whose chains the audit judges: one over nodes' processes, one whose stores have the
+core in them. Runs alone too: python3 .ci/store.py [NODE PROGRAM [FOLDER]], of other builds, with the folder that libepaxos.a and libepaxos.so are in.
 
 It is built without optimisation and without what debuggers need: with its tests that takes half of the processor time of a release build alone.
 """
@@ -16,6 +17,8 @@ TOP = os.path.dirname(os.path.dirname(os.path.abspath(__file__)))
 STORE = f"{TOP}/hosts/store"
 # what `rt ci` built: the program of `node` and `collect`, and that of all else
 BUILT = (f"{TOP}/crates/ep_server/out/ep_server", f"{TOP}/crates/ep_main/out/ep_main")
+# where builds put the library: first the proved one
+LIBRARIES = (f"{TOP}/out", f"{TOP}/out/unproved")
 # the crates that it takes, as Debian's packages bring them; elsewhere they are crates.io's
 PACKAGES = ("librust-hmac-dev", "librust-sha2-dev", "librust-signal-hook-dev", "librust-subtle-dev")
 REGISTRY = "/usr/share/cargo/registry"
@@ -23,6 +26,8 @@ REGISTRY = "/usr/share/cargo/registry"
 CLIENTS = ("redis-server", "redis-tools", "python3-redis", "stunnel4")
 # for so many seconds strangers come, and half as long before and after it is looked how clients do without them
 STRANGERS = "6"
+# how long each trial plays, and how many of its stores are killed
+TRIAL = ("--short", "--seconds", "30", "--kills", "3", "--audit")
 CHEAP = {"CARGO_INCREMENTAL": "0", "CARGO_PROFILE_DEV_DEBUG": "0"}
 # as ./epaxos goes about it
 EPAXOS = """#!/bin/sh
@@ -73,13 +78,21 @@ def joined(scratch, node, program):
     return epaxos
 
 
-def tried(node=BUILT[0], program=BUILT[1]):
+def library_there():
+    """The folder of the library that a build made, or none."""
+    return next((it for it in LIBRARIES if os.path.isfile(f"{it}/libepaxos.a") and os.path.isfile(f"{it}/libepaxos.so")), None)
+
+
+def tried(node=BUILT[0], program=BUILT[1], library=None):
     """How many of these passed, and how many failed."""
+    library = library or library_there()
     if not shutil.which("cargo"):
         print("hosts/store is not tried: there is no cargo", flush=True)
         return 0, 0
     with tempfile.TemporaryDirectory(prefix="epaxos-store-") as scratch:
-        environment = {**os.environ, **CHEAP, "CARGO_TARGET_DIR": f"{scratch}/target"}
+        environment = {**os.environ, **CHEAP, "CARGO_TARGET_DIR": f"{scratch}/target", "EPAXOS_LIBRARY": library or ""}
+        if not library:
+            print("hosts/store is not tried with the core in it: there is no library", flush=True)
         epaxos = joined(scratch, node, program) if os.path.isfile(node) and os.path.isfile(program) else None
         if epaxos:
             # (of it the tests start clusters)
@@ -90,16 +103,22 @@ def tried(node=BUILT[0], program=BUILT[1]):
         packages, it = source(), python()
         well = [is_well(["cargo", "test", *packages, "--quiet"], cwd=STORE, env=environment)]
         if epaxos and all(well):
+            # (its core is the one in the store, where there is a library)
+            core = {name: value for name, value in environment.items() if name != "EPAXOS" or not library}
+            well.append(is_well([sys.executable, f"{TOP}/.ci/folders.py", node, f"{scratch}/target/debug/folder"], env=core))
+        if epaxos and all(well):
             well.append(is_well([it, f"{STORE}/tests/libraries.py", f"{scratch}/target/debug/store", epaxos]))
         if epaxos and all(well) and has_redis(it):
             well.append(is_well([it, f"{STORE}/tests/strangers.py", f"{scratch}/target/debug/store", epaxos, STRANGERS]))
+        trial = [f"{scratch}/target/debug/trial", *TRIAL, "--node", epaxos, "--dir"]
         if epaxos and all(well):
-            trial = f"{scratch}/target/debug/trial"
-            well.append(is_well([trial, "--short", "--audit", "--node", epaxos, "--dir", f"{scratch}/trial"]))
+            well.append(is_well([*trial, f"{scratch}/nodes"]))
+        if epaxos and library and all(well):
+            well.append(is_well([*trial, f"{scratch}/in-store", "--in-store"]))
     return well.count(True), well.count(False)
 
 
 if __name__ == "__main__":
-    counts = tried(*map(os.path.abspath, sys.argv[1:3]))
+    counts = tried(*map(os.path.abspath, sys.argv[1:4]))
     print("{} passed, {} failed".format(*counts))
     sys.exit(1 if counts[1] else 0)

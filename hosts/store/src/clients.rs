@@ -339,7 +339,9 @@ impl Session {
         let is_counted = !parts.iter().all(|part| matches!(part, Part::Come(_)));
         let (deadline, due) = (begun + patience, self.shared.due.begin());
         let slot = Slot { combine, parts, version: self.version, begun, deadline, share, is_counted, due };
-        self.messages.send(Message::Begun(slot)).map_err(|_| Over)?;
+        if self.window.begin(slot) {
+            self.messages.send(Message::Begun).map_err(|_| Over)?;
+        }
         Ok(command)
     }
 

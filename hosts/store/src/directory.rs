@@ -1,6 +1,8 @@
 //! The folder of a replica: where its files are, a lock, and whether they are whole.
+use crate::directory_fault::DirectoryFault;
+use crate::file_fault::FileFault;
+use crate::generations::numbers_in;
 use crate::identities;
-use std::fmt;
 use std::fs::{self, File, OpenOptions, TryLockError};
 use std::io::{self, Seek, Write};
 use std::path::{Path, PathBuf};
@@ -13,76 +15,6 @@ const PATIENCE: Duration = Duration::from_secs(10);
 const ROOM_FOR_ERRORS: usize = 4_096;
 /// Marks the folder of a machine that has never acted, and waits until a generation names it.
 const JOINING: &str = "joining";
-const NEVER: &str = "This replica must not come back: it may have promised what it doesn't know any more";
-
-/// Why a folder isn't taken.
-#[derive(Debug)]
-pub enum DirectoryFault {
-    /// It can't be read or written.
-    Unusable(PathBuf, io::Error),
-    /// Another store or its node has it.
-    InUse(PathBuf),
-    /// It is of a store that had no generations.
-    Old(PathBuf),
-    /// A file was lost, without which the replica doesn't know what it promised.
-    Lost(PathBuf),
-    /// What clients were told was lost.
-    ReceiptsLost(PathBuf),
-    /// A replica is to be begun where there is one.
-    Begun(PathBuf),
-    /// A replica is to go on where there is none.
-    NotBegun(PathBuf),
-    /// Of this generation there are so many entries, and a client was told of a later one.
-    Forgotten { generation: u32, entries: u32, told: u32 },
-    /// There are entries, and no identities.
-    NotWhole(PathBuf),
-}
-
-impl DirectoryFault {
-    /// Whether the replica must not come back with this folder.
-    pub fn is_lasting(&self) -> bool {
-        !matches!(self, DirectoryFault::Unusable(..) | DirectoryFault::InUse(_))
-    }
-}
-
-impl fmt::Display for DirectoryFault {
-    fn fmt(&self, f: &mut fmt::Formatter) -> fmt::Result {
-        match self {
-            DirectoryFault::Unusable(path, error) => write!(f, "{} can't be used: {error}", path.display()),
-            DirectoryFault::InUse(path) => {
-                write!(f, "the folder {} is in use by another store or its node", path.display())
-            }
-            DirectoryFault::Old(path) => write!(
-                f,
-                "the folder {} has a log from before generations, and this store doesn't go on from it: start the store of that time, \
-                 read all keys there, and set them in a new cluster with empty folders",
-                path.display()
-            ),
-            DirectoryFault::Lost(path) => write!(f, "{} was lost. {NEVER}", path.display()),
-            DirectoryFault::ReceiptsLost(path) => write!(
-                f,
-                "{} was lost: what clients were told can't be audited, nor compared with the log",
-                path.display()
-            ),
-            DirectoryFault::Begun(path) => {
-                write!(f, "the folder {} has a replica already: --new is for its first start alone", path.display())
-            }
-            DirectoryFault::NotBegun(path) => {
-                write!(f, "the folder {} has no replica: --new begins one, where there never was one", path.display())
-            }
-            DirectoryFault::Forgotten { generation, entries, told } => write!(
-                f,
-                "the log of generation {generation} has forgotten: it has {entries} entries, and a client was told of entry {told}. {NEVER}"
-            ),
-            DirectoryFault::NotWhole(path) => write!(
-                f,
-                "the folder {} isn't whole: its log has entries, and {} is lost",
-                path.display(),
-                identities::NAME
-            ),
-        }
-    }
-}
 
 /// A replica's folder, which this process alone uses.
 pub struct Directory {
@@ -94,7 +26,7 @@ pub struct Directory {
 impl Directory {
     /// Opens or creates the folder.
     pub fn open(path: &Path) -> Result<Directory, DirectoryFault> {
-        let told = |error: io::Error| DirectoryFault::Unusable(path.to_path_buf(), error);
+        let told = |error: io::Error| unusable(path.to_path_buf(), error);
         create(path).map_err(told)?;
         let errors_path = path.join("node-errors");
         let mut errors =
@@ -167,11 +99,9 @@ impl Directory {
 
     /// The generations that have a file of this name, in rising order.
     fn generations_with(&self, name: &str) -> Vec<u32> {
-        let found = fs::read_dir(self.generations()).into_iter().flatten().flatten();
-        let with = found.filter(|entry| entry.path().join(name).exists());
-        let mut all: Vec<u32> = with.filter_map(|entry| entry.file_name().to_str()?.parse().ok()).collect();
-        all.sort_unstable();
-        all
+        let folder = self.generations();
+        let all = numbers_in(&folder).unwrap_or_default().into_iter();
+        all.filter(|generation| folder.join(generation.to_string()).join(name).exists()).collect()
     }
 
     /// How many bytes the log of a generation has, 0 where there is none.
@@ -211,8 +141,7 @@ impl Directory {
             if self.has_identities() {
                 return Err(DirectoryFault::Lost(self.generations()));
             }
-            identities::replace(&self.path, JOINING, "")
-                .map_err(|error| DirectoryFault::Unusable(self.path.join(JOINING), error))?;
+            identities::replace(&self.path, JOINING, "").map_err(|error| unusable(self.path.join(JOINING), error))?;
         }
         Ok(true)
     }
@@ -224,7 +153,7 @@ impl Directory {
             return Ok(());
         }
         let removed = fs::remove_file(&path).and_then(|()| File::open(&self.path)?.sync_all());
-        removed.map_err(|error| DirectoryFault::Unusable(path, error))
+        removed.map_err(|error| unusable(path, error))
     }
 
     /// A replica is begun where its user says so, and never twice: a folder without one may be another folder, or one whose disk
@@ -241,7 +170,7 @@ impl Directory {
     /// The folders for generations and receipts are there, and on the disk.
     pub fn prepare(&self) -> Result<(), DirectoryFault> {
         for folder in [self.generations(), self.path.join("receipts")] {
-            create(&folder).map_err(|error| DirectoryFault::Unusable(folder, error))?;
+            create(&folder).map_err(|error| unusable(folder, error))?;
         }
         Ok(())
     }
@@ -266,7 +195,7 @@ impl Directory {
     /// Takes back that the node has opened its newest generation, of which nobody was told: it was for another number of replicas than
     /// the seal wants. The marks go first, or what is left of the generation would be missed.
     pub fn take_back(&self, generation: u32) -> Result<(), DirectoryFault> {
-        let failed = |path: PathBuf| move |error| DirectoryFault::Unusable(path, error);
+        let failed = |path: PathBuf| move |error| unusable(path, error);
         for left in self.generations_with("left") {
             let folder = self.generations().join(left.to_string());
             let removed = fs::remove_file(folder.join("left")).and_then(|()| File::open(&folder)?.sync_all());
@@ -294,6 +223,10 @@ impl Directory {
     }
 }
 
+fn unusable(path: PathBuf, error: io::Error) -> DirectoryFault {
+    FileFault::Unusable(path, error).into()
+}
+
 /// Creates the folder, and those above it; each is on the disk before anything lies in it.
 fn create(path: &Path) -> io::Result<()> {
     if path.is_dir() {
@@ -311,8 +244,8 @@ fn lock(file: &File, path: &Path) -> Result<(), DirectoryFault> {
         match file.try_lock() {
             Ok(()) => return Ok(()),
             Err(TryLockError::WouldBlock) if start.elapsed() < PATIENCE => thread::sleep(Duration::from_millis(20)),
-            Err(TryLockError::WouldBlock) => return Err(DirectoryFault::InUse(path.to_path_buf())),
-            Err(TryLockError::Error(error)) => return Err(DirectoryFault::Unusable(path.to_path_buf(), error)),
+            Err(TryLockError::WouldBlock) => return Err(FileFault::InUse(path.to_path_buf()).into()),
+            Err(TryLockError::Error(error)) => return Err(unusable(path.to_path_buf(), error)),
         }
     }
 }

@@ -652,11 +652,15 @@ impl<C: Core> Driver<C> {
             outcome.receipts = changed(&outcome.receipts);
         }
         self.receipts.append(&outcome.receipts).map_err(StopFault::Receipts)?;
+        let mut frames: Vec<Vec<Vec<u8>>> = vec![Vec::new(); self.place.replicas];
         for Outgoing { to, frame } in outcome.frames {
             self.note_own_frame(&frame);
-            if self.others.is_heard(to) {
-                self.peers.send(to, frame);
+            if let (true, Some(frames)) = (self.others.is_heard(to), frames.get_mut(usize::from(to))) {
+                frames.push(frame);
             }
+        }
+        for (to, frames) in frames.into_iter().enumerate().filter(|(_, frames)| !frames.is_empty()) {
+            self.peers.send_several(to as u8, frames);
         }
         for receipt in receipts(&outcome.receipts) {
             if receipt.client == self.sealer.0 {
@@ -755,13 +759,17 @@ impl<C: Core> Driver<C> {
         match (request, done) {
             (Request::Propose { call, command, reply }, Ok(())) => {
                 let instance = self.own_instance(call, proposed)?;
+                self.timers.open(instance, self.is_hopeless(), Instant::now());
                 if matches!(command, OwnedCommand::Put { .. }) && self.plant == Some(Plant::Early) {
                     reply.send(Told::Done { stamp: call.seen, reply: OwnedAnswer::Absent });
                 } else {
                     self.waiting.insert((call.client, call.request), Waiting { instance, reply });
                 }
             }
-            (Request::Seal { call, .. }, Ok(())) => _ = self.own_instance(call, proposed)?,
+            (Request::Seal { call, .. }, Ok(())) => {
+                let instance = self.own_instance(call, proposed)?;
+                self.timers.open(instance, self.is_hopeless(), Instant::now());
+            }
             (Request::Frame { from, head, bytes }, Ok(())) => {
                 self.others.see(from, head.entry);
                 if head.is_commit() {
@@ -769,6 +777,8 @@ impl<C: Core> Driver<C> {
                     self.timers.forget(head.instance);
                 } else if head.is_prepare() && !self.commits.here.has(head.instance) {
                     self.timers.put_off(head.instance, head.ballot, Instant::now());
+                } else if head.is_proposal() && !self.commits.here.has(head.instance) {
+                    self.timers.open(head.instance, false, Instant::now());
                 }
                 if head.is_seal_committed() {
                     self.commit_seal(head.seal(&bytes));

@@ -1,13 +1,15 @@
 //! The folder of a replica's generations (docs/FORMATS.md, section 13), for a core whose logs the store keeps itself.
-use crate::core::Begin;
+use crate::file_fault::FileFault;
 use crate::generations_fault::GenerationsFault;
+use crate::planning::{Held, LogStart, Plan, Wish, generation_in, left_in, newest, plan};
 use sha2::{Digest, Sha256};
 use std::fs::{self, File, OpenOptions};
 use std::io::{self, Write};
 use std::path::{Path, PathBuf};
 
-/// A log that is shorter has no header, and nothing was told of it.
-const LOG_HEADER: u64 = 43;
+/// What an opening begins with, up to its version, and how long it is at least.
+const MAGIC: &[u8] = b"EPOP\x03";
+const SHORTEST: usize = 59;
 
 /// The folder, in which this process alone acts.
 pub struct Generations {
@@ -29,9 +31,8 @@ impl Generations {
     /// Opens a folder, which is there.
     pub fn open(folder: &Path) -> Result<Generations, GenerationsFault> {
         let path = folder.join("node.lock");
-        let lock = OpenOptions::new().write(true).create(true).truncate(false).open(&path);
-        let lock = lock.map_err(|error| GenerationsFault::Unusable(path.clone(), error))?;
-        lock.try_lock().map_err(|_| GenerationsFault::InUse(path))?;
+        let lock = OpenOptions::new().write(true).create(true).truncate(false).open(&path).map_err(unusable(&path))?;
+        lock.try_lock().map_err(|_| FileFault::InUse(path))?;
         Ok(Generations { folder: folder.to_path_buf(), _lock: lock })
     }
 
@@ -47,145 +48,188 @@ impl Generations {
         self.folder_of(generation).join("log")
     }
 
-    /// The generation with which a start goes on, or which it begins: its opening is on the disk then.
-    pub fn start(&self, begin: &Begin, replicas: u8) -> Result<Opened, GenerationsFault> {
-        let newest = self.with("opening")?.pop();
-        let marked = self.marked()?;
-        match begin {
-            Begin::New => {
-                let here = newest.max(marked).filter(|here| *here > 1 || self.is_begun(1));
-                here.map_or(Ok(()), |here| Err(GenerationsFault::Begun(here)))?;
-                self.begin(first_opening(replicas))
-            }
-            Begin::Take(path) => {
-                let bytes = fs::read(path).map_err(|error| GenerationsFault::Unusable(path.clone(), error))?;
-                let taken = opened(bytes).ok_or(GenerationsFault::NotAnOpening(None))?;
-                let generation = taken.generation;
-                if taken.replicas != replicas {
-                    return Err(GenerationsFault::OtherSize(generation, taken.replicas));
-                }
-                // (generations are counted from 1)
-                let here = newest.unwrap_or(0);
-                let is_marked = marked == Some(generation);
-                if here > generation {
-                    return Err(GenerationsFault::Earlier(here));
-                }
-                if here < generation && is_marked {
-                    return Err(GenerationsFault::Left(generation));
-                }
-                // (the same one is taken again where a start was broken off)
-                if here == generation && self.read(generation)?.bytes != taken.bytes {
-                    return Err(GenerationsFault::Other(generation));
-                }
-                if is_marked && !self.is_begun(generation) {
-                    return Err(GenerationsFault::NoLog(generation));
-                }
-                match marked.filter(|marked| *marked > generation) {
-                    Some(marked) => Err(GenerationsFault::Left(marked)),
-                    None => self.begin(taken),
-                }
-            }
-            Begin::Again => {
-                let newest = newest.max(marked).ok_or(GenerationsFault::None)?;
-                if !self.opening(newest).exists() {
-                    return Err(GenerationsFault::Left(newest));
-                }
-                let here = self.read(newest)?;
-                if self.is_begun(newest) {
-                    return Ok(here);
-                }
-                // (where the generation before is here this one was never begun, unless it has a mark)
-                let may_begin = newest > 1 && self.opening(newest - 1).exists() && marked.is_none_or(|it| it < newest);
-                if may_begin { self.begin(here) } else { Err(GenerationsFault::NoLog(newest)) }
-            }
+    /// The generation that is gone on with. Where its log is begun its opening is on the disk.
+    pub fn go_on(&self) -> Result<Opened, GenerationsFault> {
+        let plan = plan(&self.look()?, Wish::GoOn)?;
+        let is_new = self.begins(plan)?;
+        let here = self.read(plan.generation)?;
+        if is_new {
+            // (what was read may not be on the disk, and the log must not be there without it)
+            self.put(&here)?;
         }
+        Ok(Opened { is_new, ..here })
     }
 
-    /// The opening of a generation is here from now on, and its log is begun where there is none.
-    pub fn begin(&self, opening: Opened) -> Result<Opened, GenerationsFault> {
-        let folder = self.folder_of(opening.generation);
-        let written = self.write(&folder, "opening", &opening.bytes);
-        written.map_err(|error| GenerationsFault::Unusable(folder, error))?;
-        Ok(Opened { is_new: !self.is_begun(opening.generation), ..opening })
+    /// Generation 1 of a new replica, one of so many. Its opening is on the disk.
+    pub fn begin(&self, replicas: u8) -> Result<Opened, GenerationsFault> {
+        self.hand(first_opening(replicas), |_, is_same| Wish::New { is_same })
+    }
+
+    /// The generation of an opening that a peer has, or that this process made as it closed the one before. Where its log is begun the opening is on
+    /// the disk.
+    pub fn take(&self, opening: Opened) -> Result<Opened, GenerationsFault> {
+        self.hand(opening, |generation, is_same| Wish::Take { generation, is_same })
+    }
+
+    fn hand(&self, opening: Opened, wish: impl Fn(u32, bool) -> Wish) -> Result<Opened, GenerationsFault> {
+        let (held, generation) = (self.look()?, opening.generation);
+        let is_same = newest(&held) == generation && self.bytes(generation)? == opening.bytes;
+        let plan = plan(&held, wish(generation, is_same))?;
+        if plan.writes {
+            self.put(&opening)?;
+        }
+        let is_new = self.begins(plan)?;
+        if is_new && !plan.writes {
+            self.put(&opening)?;
+        }
+        Ok(Opened { is_new, ..opening })
     }
 
     /// The header of this generation's log is on the disk: the replica acts in no earlier one any more.
     pub fn leave_before(&self, generation: u32) -> Result<(), GenerationsFault> {
-        let text = generation.to_string();
-        for left in self.with("")?.into_iter().filter(|left| *left < generation) {
-            let folder = self.folder_of(left);
-            let mark = fs::read_to_string(folder.join("left")).ok().and_then(|mark| mark.trim().parse::<u32>().ok());
-            if mark.is_none_or(|mark| mark < generation) {
-                let written = self.write(&folder, "left", text.as_bytes());
-                written.map_err(|error| GenerationsFault::Unusable(folder, error))?;
-            }
+        for one in self.look()?.into_iter().filter(|one| one.number < generation) {
+            let folder = self.folder_of(one.number);
+            let left = if one.left_for < generation {
+                write(&folder, "left", generation.to_string().as_bytes())
+            } else {
+                // (a mark that is there outlasts a crash from now on)
+                File::open(&folder).and_then(|folder| folder.sync_all())
+            };
+            left.map_err(unusable(&folder))?;
         }
         Ok(())
     }
 
-    /// The generations whose folders have a file of this name, in rising order; all that have a folder, by no name.
-    fn with(&self, name: &str) -> Result<Vec<u32>, GenerationsFault> {
-        let failed = |error| GenerationsFault::Unusable(self.folder.clone(), error);
-        let mut all = Vec::new();
-        for entry in fs::read_dir(&self.folder).map_err(failed)? {
-            let entry = entry.map_err(failed)?;
-            let number: Option<u32> = entry.file_name().to_str().and_then(|name| name.parse().ok());
-            all.extend(number.filter(|_| entry.path().join(name).exists()));
-        }
-        all.sort_unstable();
-        Ok(all)
+    /// What the folder has of each generation.
+    fn look(&self) -> Result<Vec<Held>, GenerationsFault> {
+        let numbers = numbers_in(&self.folder).map_err(unusable(&self.folder))?;
+        numbers.into_iter().map(|number| self.held(number)).collect()
     }
 
-    /// The latest generation that a mark names.
-    fn marked(&self) -> Result<Option<u32>, GenerationsFault> {
-        let mut latest = None;
-        for left in self.with("left")? {
-            let path = self.folder_of(left).join("left");
-            let text = fs::read_to_string(&path).map_err(|error| GenerationsFault::Unusable(path.clone(), error))?;
-            let mark =
-                text.trim().parse().map_err(|_| GenerationsFault::Unusable(path, io::ErrorKind::InvalidData.into()))?;
-            latest = latest.max(Some(mark));
-        }
-        Ok(latest)
+    fn held(&self, number: u32) -> Result<Held, GenerationsFault> {
+        let (opening, mark) = (self.opening(number), self.folder_of(number).join("left"));
+        let has_opening = is_there(&opening).map_err(unusable(&opening))?;
+        let bytes = is_there(&mark).and_then(|is_marked| is_marked.then(|| fs::read(&mark)).transpose());
+        let left_for = bytes.map_err(unusable(&mark))?.map_or(0, |bytes| left_in(&bytes, number));
+        Ok(Held { number, has_opening, left_for })
     }
 
-    fn is_begun(&self, generation: u32) -> bool {
-        fs::metadata(self.log(generation)).is_ok_and(|found| found.len() >= LOG_HEADER)
+    /// Whether the log of the plan's generation is begun. There is one where it may not be.
+    fn begins(&self, plan: Plan) -> Result<bool, GenerationsFault> {
+        let path = self.log(plan.generation);
+        let is_there = is_there(&path).map_err(unusable(&path))?;
+        let has_log = is_there && fs::metadata(&path).map_err(unusable(&path))?.len() > 0;
+        match plan.log {
+            LogStart::New if has_log => return Err(GenerationsFault::HasLog),
+            LogStart::Existing if !has_log => return Err(GenerationsFault::NoLog(plan.generation)),
+            _ => {}
+        }
+        if is_there && !has_log {
+            // (a file without a byte is none, and stands in the way of one that is begun)
+            fs::remove_file(&path).map_err(unusable(&path))?;
+        }
+        Ok(!has_log)
+    }
+
+    fn bytes(&self, generation: u32) -> Result<Vec<u8>, GenerationsFault> {
+        let path = self.opening(generation);
+        Ok(fs::read(&path).map_err(unusable(&path))?)
     }
 
     fn read(&self, generation: u32) -> Result<Opened, GenerationsFault> {
-        let path = self.opening(generation);
-        let bytes = fs::read(&path).map_err(|error| GenerationsFault::Unusable(path, error))?;
-        let opened = opened(bytes).filter(|opened| opened.generation == generation);
-        opened.ok_or(GenerationsFault::NotAnOpening(Some(generation)))
+        let bytes = self.bytes(generation)?;
+        let opened = opened(bytes).map_err(|why| GenerationsFault::BadOpening(Some(generation), why))?;
+        match opened.generation {
+            here if here == generation => Ok(opened),
+            other => {
+                let whole = damage(&opened.bytes).map_err(|why| GenerationsFault::BadOpening(Some(generation), why));
+                whole.and(Err(GenerationsFault::OfAnother(generation, other)))
+            }
+        }
     }
 
-    /// A file is whole on the disk, or as it was before; its folder is on the disk before it.
-    fn write(&self, folder: &Path, name: &str, bytes: &[u8]) -> io::Result<()> {
-        if !folder.is_dir() {
-            fs::create_dir(folder)?;
+    /// Puts an opening into its place. The folder that it is in is on the disk before it.
+    fn put(&self, opening: &Opened) -> Result<(), GenerationsFault> {
+        let folder = self.folder_of(opening.generation);
+        self.make(&folder).map_err(unusable(&folder))?;
+        Ok(write(&folder, "opening", &opening.bytes).map_err(unusable(&folder))?)
+    }
+
+    /// Makes a folder, where it isn't there. (Of one that is nobody knows whether its name outlasts a crash.)
+    fn make(&self, folder: &Path) -> io::Result<()> {
+        match fs::create_dir(folder) {
+            Err(error) if error.kind() != io::ErrorKind::AlreadyExists => return Err(error),
+            _ => {}
         }
-        File::open(&self.folder)?.sync_all()?;
-        let new = folder.join(format!("{name}.new"));
-        let mut file = File::create(&new)?;
-        file.write_all(bytes)?;
-        file.sync_all()?;
-        fs::rename(&new, folder.join(name))?;
-        File::open(folder)?.sync_all()
+        let above = self.folder.parent().filter(|above| !above.as_os_str().is_empty()).unwrap_or(Path::new("."));
+        [&self.folder, above].into_iter().try_for_each(|folder: &Path| File::open(folder)?.sync_all())
     }
 }
 
-/// The opening of these bytes. None where their header is none, or the digest isn't theirs.
-pub fn opened(bytes: Vec<u8>) -> Option<Opened> {
-    let (body, digest) = bytes.split_last_chunk::<32>()?;
-    let is_whole = body.starts_with(b"EPOP\x03") && Sha256::digest(body)[..] == digest[..];
-    let (replicas, generation) = (*body.get(5)?, u32::from_be_bytes(*body.get(6..)?.first_chunk()?));
-    is_whole.then_some(Opened { generation, replicas, bytes, is_new: false })
+/// The generations that have a folder here, in rising order.
+pub fn numbers_in(folder: &Path) -> io::Result<Vec<u32>> {
+    let mut all = Vec::new();
+    for entry in fs::read_dir(folder)? {
+        all.extend(entry?.file_name().to_str().and_then(generation_in));
+    }
+    all.sort_unstable();
+    Ok(all)
+}
+
+/// Whether something has this name. What isn't a folder has nothing in it.
+fn is_there(path: &Path) -> io::Result<bool> {
+    match path.try_exists() {
+        Err(error) if error.kind() == io::ErrorKind::NotADirectory => Ok(false),
+        is_there => is_there,
+    }
+}
+
+/// Writes a file: after a crash it is as it was before, or whole.
+fn write(folder: &Path, name: &str, bytes: &[u8]) -> io::Result<()> {
+    let new = folder.join(format!("{name}.new"));
+    let mut file = File::create(&new)?;
+    file.write_all(bytes)?;
+    file.sync_all()?;
+    fs::rename(&new, folder.join(name))?;
+    File::open(folder)?.sync_all()
+}
+
+fn unusable(path: &Path) -> impl FnOnce(io::Error) -> FileFault {
+    move |error| FileFault::Unusable(path.to_path_buf(), error)
+}
+
+/// The opening of these bytes, or why they are none, in the words of the programs. All behind its header is the core's to judge, as is its digest,
+/// where the header may be an opening's.
+pub fn opened(bytes: Vec<u8>) -> Result<Opened, String> {
+    let header = bytes.get(MAGIC.len()..).and_then(|body| body.first_chunk()).filter(|_| bytes.len() >= SHORTEST);
+    let Some(&[replicas, a, b, c, d]) = header else {
+        return Err(format!("cut short at byte {}", bytes.len()));
+    };
+    let generation = u32::from_be_bytes([a, b, c, d]);
+    let wrong = |at: usize| Err(format!("wrong field at byte {at}"));
+    match MAGIC.iter().zip(&bytes).position(|(wanted, byte)| wanted != byte) {
+        Some(4) => wrong(4),
+        Some(_) => wrong(0),
+        None if [3, 5, 7].contains(&replicas) && generation > 0 => {
+            Ok(Opened { generation, replicas, bytes, is_new: false })
+        }
+        None => damage(&bytes).and(wrong(if generation > 0 { 5 } else { 6 })),
+    }
+}
+
+/// Whether the digest of an opening isn't that of its other bytes.
+fn damage(bytes: &[u8]) -> Result<(), String> {
+    match bytes.split_last_chunk::<32>() {
+        Some((body, digest)) if Sha256::digest(body)[..] != digest[..] => {
+            Err(format!("damaged: no digest of the bytes before it at byte {}", body.len()))
+        }
+        _ => Ok(()),
+    }
 }
 
 /// What generation 1 of so many replicas opens with: nothing.
 fn first_opening(replicas: u8) -> Opened {
-    let mut bytes = b"EPOP\x03".to_vec();
+    let mut bytes = MAGIC.to_vec();
     bytes.extend([replicas, 0, 0, 0, 1]);
     // (no stamp, no seal, no keys, nothing that was executed)
     bytes.extend([0; 17]);
@@ -197,101 +241,37 @@ fn first_opening(replicas: u8) -> Opened {
 mod tests {
     use super::*;
 
-    fn digits(text: &str) -> Vec<u8> {
-        let digits: Vec<u8> = text.bytes().filter(|byte| !byte.is_ascii_whitespace()).collect();
-        let pair = |pair: &[u8]| u8::from_str_radix(std::str::from_utf8(pair).unwrap(), 16).unwrap();
-        digits.chunks(2).map(pair).collect()
-    }
-
-    /// The openings of docs/FORMATS.md, section 12.2: of generation 1, and of generation 2.
-    fn openings() -> [Vec<u8>; 2] {
-        [
-            digits(
-                "45504f50 03 03 00000001 0000000000000000 00 00000000 00000000
-                 eb5a8aa78654c433ae5ae2e8b6468a4d6af5d3dde105ada9fd77d626eb39478e",
-            ),
-            digits(
-                "45504f50 03 03 00000002 0000000000000005 01 00000001 78 00000001 01 00000001 61 31
-                 00000002  00 0001  02 0007 ba4a4d800fb593e6b4257ad4a8286b173b475a92cf8b8c816f8b2f08e944b31a",
-            ),
-        ]
-    }
-
+    /// What a start does by the rules is in .ci/folders.py: the same rows for a node and for a core that is hosted here.
     #[test]
     fn openings_of_the_page() {
-        let [first, second] = openings();
+        let page = include_str!("../../../examples/openings.txt");
+        let lines: Vec<&str> = page.lines().filter_map(|line| line.strip_prefix("    ")).collect();
+        let bytes_of = |lines: &[&str]| -> Vec<u8> {
+            let digits: Vec<char> = lines.iter().flat_map(|line| line.chars()).filter(|digit| *digit != ' ').collect();
+            digits.chunks(2).map(|pair| u8::from_str_radix(&String::from_iter(pair), 16).unwrap()).collect()
+        };
+        let (first, second) = (bytes_of(&lines[..2]), bytes_of(&lines[2..6]));
         assert_eq!(first_opening(3).bytes, first);
         let told = opened(second.clone()).unwrap();
-        assert_eq!((told.generation, told.replicas), (2, 3));
-        for place in 0..second.len() {
+        assert_eq!((told.generation, told.replicas, &told.bytes), (2, 3, &second));
+        let why = |bytes: &[u8]| opened(bytes.to_vec()).unwrap_err();
+        for count in 0..59 {
+            assert_eq!(why(&second[..count]), format!("cut short at byte {count}"));
+        }
+        for (place, told) in [
+            (0, "wrong field at byte 0"),
+            (4, "wrong field at byte 4"),
+            (5, "damaged: no digest of the bytes before it at byte 45"),
+        ] {
             let mut changed = second.clone();
-            changed[place] ^= 1;
-            assert_eq!(opened(changed), None);
-            assert_eq!(opened(second[..place].to_vec()), None);
+            changed[place] ^= 0x10;
+            assert_eq!(why(&changed), told);
         }
-    }
-
-    /// Each rule of docs/FORMATS.md, section 13, on a start.
-    #[test]
-    fn starts_by_the_rules() {
-        let folder = std::env::temp_dir().join(format!("store-generations-{}", std::process::id()));
-        let _ = fs::remove_dir_all(&folder);
-        fs::create_dir_all(&folder).unwrap();
-        let [first, second] = openings();
-        let generations = Generations::open(&folder).unwrap();
-        assert!(matches!(Generations::open(&folder), Err(GenerationsFault::InUse(_))));
-        let log = |generation: u32, length: usize| fs::write(generations.log(generation), vec![0; length]).unwrap();
-        let start = |begin: &Begin| generations.start(begin, 3);
-        // Nothing is here, and then a replica is begun, also where a crash came before its log had a header.
-        assert!(matches!(start(&Begin::Again), Err(GenerationsFault::None)));
-        for _ in 0..2 {
-            let opened = start(&Begin::New).unwrap();
-            assert_eq!((opened.generation, opened.is_new, opened.bytes), (1, true, first.clone()));
-            log(1, 42);
+        for (place, byte, told) in [(5, 4, "wrong field at byte 5"), (9, 0, "wrong field at byte 6")] {
+            let mut changed = second[..45].to_vec();
+            changed[place] = byte;
+            let digest = Sha256::digest(&changed);
+            assert_eq!(why(&[&changed[..], &digest].concat()), told);
         }
-        assert!(matches!(start(&Begin::Again), Err(GenerationsFault::NoLog(1))));
-        log(1, 43);
-        assert!(matches!(start(&Begin::New), Err(GenerationsFault::Begun(1))));
-        assert_eq!(start(&Begin::Again).unwrap(), Opened { is_new: false, ..first_opening(3) });
-        // A later opening is taken, or the same again, and no other one.
-        let file = folder.join("taken");
-        fs::write(&file, &second).unwrap();
-        let take = Begin::Take(file.clone());
-        for _ in 0..2 {
-            let opened = start(&take).unwrap();
-            assert_eq!((opened.generation, opened.is_new), (2, true));
-        }
-        let mut other = second[..second.len() - 32].to_vec();
-        other[17] = 6;
-        let digest = Sha256::digest(&other);
-        fs::write(&file, [&other[..], &digest].concat()).unwrap();
-        assert!(matches!(start(&take), Err(GenerationsFault::Other(2))));
-        fs::write(&file, &first).unwrap();
-        assert!(matches!(start(&take), Err(GenerationsFault::Earlier(2))));
-        assert!(matches!(generations.start(&take, 5), Err(GenerationsFault::OtherSize(1, 3))));
-        fs::write(&file, b"EPOP").unwrap();
-        assert!(matches!(start(&take), Err(GenerationsFault::NotAnOpening(None))));
-        fs::write(&file, &second).unwrap();
-        // Its log may be begun as long as the one before is here, and it has no mark.
-        assert!(start(&Begin::Again).unwrap().is_new);
-        log(2, 43);
-        generations.leave_before(2).unwrap();
-        assert_eq!(fs::read_to_string(folder.join("1/left")).unwrap(), "2");
-        for begin in [&Begin::Again, &take] {
-            let opened = start(begin).unwrap();
-            assert_eq!((opened.generation, opened.is_new), (2, false));
-        }
-        fs::remove_file(generations.log(2)).unwrap();
-        assert!(matches!(start(&Begin::Again), Err(GenerationsFault::NoLog(2))));
-        assert!(matches!(start(&take), Err(GenerationsFault::NoLog(2))));
-        // A mark names a generation that is gone.
-        fs::remove_dir_all(folder.join("2")).unwrap();
-        assert!(matches!(start(&Begin::Again), Err(GenerationsFault::Left(2))));
-        assert!(matches!(start(&take), Err(GenerationsFault::Left(2))));
-        assert!(matches!(start(&Begin::New), Err(GenerationsFault::Begun(2))));
-        fs::create_dir(folder.join("2")).unwrap();
-        fs::write(folder.join("2/opening"), &first).unwrap();
-        assert!(matches!(start(&Begin::Again), Err(GenerationsFault::NotAnOpening(Some(2)))));
-        fs::remove_dir_all(&folder).unwrap();
     }
 }

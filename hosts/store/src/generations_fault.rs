@@ -1,19 +1,17 @@
 //! Why the folder of generations isn't gone on with.
+use crate::file_fault::FileFault;
 use std::fmt;
-use std::io;
-use std::path::PathBuf;
 
 /// Why the folder of generations isn't gone on with.
 #[derive(Debug)]
 pub enum GenerationsFault {
-    /// It can't be read or written.
-    Unusable(PathBuf, io::Error),
-    /// Another process acts for the replica.
-    InUse(PathBuf),
+    File(FileFault),
     /// It has no opening.
     None,
     /// A replica is to be begun, and this generation is here already.
     Begun(u32),
+    /// A replica is to be begun, and its log is here.
+    HasLog,
     /// The replica has been in this generation, which is gone, or which is to be taken.
     Left(u32),
     /// An opening of an earlier generation than this one, which is here, is to be taken.
@@ -22,8 +20,12 @@ pub enum GenerationsFault {
     Other(u32),
     /// This generation has no log, and it may have had one.
     NoLog(u32),
-    /// These bytes are no opening of this generation; of no generation where they were to be taken.
-    NotAnOpening(Option<u32>),
+    /// What stands in the place of this generation's opening is none, or what is to be taken: why.
+    BadOpening(Option<u32>, String),
+    /// In the place of the opening of the first of these generations stands that of the second.
+    OfAnother(u32, u32),
+    /// What is to be taken is for so many replicas, and there are others.
+    OtherCluster(u8),
     /// This generation is for so many replicas, and isn't closed.
     OtherSize(u32, u8),
 }
@@ -31,25 +33,30 @@ pub enum GenerationsFault {
 impl GenerationsFault {
     /// Whether another start would end in the same way.
     pub fn is_lasting(&self) -> bool {
-        !matches!(self, GenerationsFault::Unusable(..) | GenerationsFault::InUse(_))
+        !matches!(self, GenerationsFault::File(_))
     }
 }
 
+impl From<FileFault> for GenerationsFault {
+    fn from(fault: FileFault) -> GenerationsFault {
+        GenerationsFault::File(fault)
+    }
+}
+
+/// The lines of docs/FORMATS.md, section 13; behind `;` stands what to do with a store.
 impl fmt::Display for GenerationsFault {
     fn fmt(&self, f: &mut fmt::Formatter) -> fmt::Result {
         match self {
-            GenerationsFault::Unusable(path, error) => write!(f, "{}: {error}", path.display()),
-            GenerationsFault::InUse(path) => write!(f, "{} is in use by another process", path.display()),
+            GenerationsFault::File(fault) => fault.fmt(f),
             GenerationsFault::None => f.write_str("folder refused: no generation is here"),
-            GenerationsFault::Begun(generation) => {
-                write!(f, "folder refused: generation {generation} is here already")
-            }
+            GenerationsFault::Begun(generation) => write!(f, "folder refused: generation {generation} is here already"),
+            GenerationsFault::HasLog => f.write_str("log refused: there is one already"),
             GenerationsFault::Left(generation) => write!(
                 f,
                 "folder refused: the replica has been in generation {generation}, which is gone; take the opening of a later one"
             ),
-            GenerationsFault::Earlier(generation) => {
-                write!(f, "opening refused: it is of an earlier generation than {generation}, which is here")
+            GenerationsFault::Earlier(here) => {
+                write!(f, "opening refused: it is of an earlier generation than {here}, which is here")
             }
             GenerationsFault::Other(generation) => {
                 write!(f, "opening refused: generation {generation} has another one here")
@@ -57,13 +64,18 @@ impl fmt::Display for GenerationsFault {
             GenerationsFault::NoLog(generation) => {
                 write!(f, "folder refused: generation {generation} has no log; take the opening of a later generation")
             }
-            GenerationsFault::NotAnOpening(None) => f.write_str("opening refused: it is none"),
-            GenerationsFault::NotAnOpening(Some(generation)) => {
-                write!(f, "folder refused: the opening of generation {generation} is damaged")
+            GenerationsFault::BadOpening(Some(generation), why) => {
+                write!(f, "folder refused: the opening of generation {generation}: {why}")
             }
-            GenerationsFault::OtherSize(generation, replicas) => {
-                write!(f, "folder refused: generation {generation} is for {replicas} replicas and isn't closed")
+            GenerationsFault::BadOpening(None, why) => write!(f, "opening refused: {why}"),
+            GenerationsFault::OfAnother(generation, other) => {
+                write!(f, "folder refused: the opening of generation {generation} is that of generation {other}")
             }
+            GenerationsFault::OtherCluster(replicas) => write!(f, "opening refused: it is for {replicas} replicas"),
+            GenerationsFault::OtherSize(generation, replicas) => write!(
+                f,
+                "folder refused: generation {generation} has another size and isn't closed; it is for {replicas} replicas"
+            ),
         }
     }
 }

@@ -1,12 +1,14 @@
 //! The core without a disk of its own: in this process, or in one beside it. Its logs are the store's to keep, in the folder that a node would have.
 use crate::core::{Begin, Core};
+use crate::file_fault::FileFault;
 use crate::generations::{Generations, Opened, opened};
 use crate::generations_fault::GenerationsFault;
 use crate::node_fault::NodeFault;
 use crate::outcome::{Asked, Outcome, Outgoing, Report};
 use crate::peers::Place;
 use epaxos::{Cluster, Fault, Instance, LogFile, OpenFault, Output, Replica, Setup, State};
-use std::path::PathBuf;
+use std::fs;
+use std::path::{Path, PathBuf};
 
 /// Which replica it is, and where it runs.
 pub struct Hosting {
@@ -80,18 +82,37 @@ impl Hosting {
 
     /// The generation with which the folder is gone on with.
     fn open(&self, generations: &Generations, begin: &Begin) -> Result<Opened, NodeFault> {
-        let opening = generations.start(begin, self.cluster()?.replicas()).map_err(NodeFault::Generations)?;
+        let opening = match begin {
+            Begin::Again => generations.go_on(),
+            Begin::New => generations.begin(self.cluster()?.replicas()),
+            Begin::Take(path) => generations.take(self.taken(path)?),
+        };
+        let opening = opening.map_err(NodeFault::Generations)?;
         if opening.is_new {
             self.check_size(&opening)?;
         }
         Ok(opening)
     }
 
+    /// The opening in a file that is to be taken: nothing of it comes into the folder before the core has judged it.
+    fn taken(&self, path: &Path) -> Result<Opened, NodeFault> {
+        let bytes = fs::read(path).map_err(|error| FileFault::Unusable(path.to_path_buf(), error));
+        let bytes = bytes.map_err(|fault| NodeFault::Generations(fault.into()))?;
+        let taken = opened(bytes).map_err(|why| NodeFault::Generations(GenerationsFault::BadOpening(None, why)))?;
+        let core = self.core.clone();
+        let setup = Setup { opening: Some(&taken.bytes), core, ..Setup::new(cluster(taken.replicas)?, 0) };
+        setup.begin().map_err(|fault| open_fault(fault, None))?;
+        if usize::from(taken.replicas) != self.place.replicas {
+            return Err(NodeFault::Generations(GenerationsFault::OtherCluster(taken.replicas)));
+        }
+        Ok(taken)
+    }
+
     /// Closes the generation of a replica that has executed a seal: the next one.
     fn close(&self, generations: &Generations, replica: Replica) -> Result<Opened, NodeFault> {
         let bytes = replica.close(self.cluster()?).map_err(|(_, fault)| NodeFault::Close(fault))?;
-        let closed = opened(bytes).ok_or(NodeFault::Generations(GenerationsFault::NotAnOpening(None)))?;
-        generations.begin(closed).map_err(NodeFault::Generations)
+        let closed = opened(bytes).map_err(|why| GenerationsFault::BadOpening(None, why));
+        closed.and_then(|closed| generations.take(closed)).map_err(NodeFault::Generations)
     }
 
     /// Goes on with this generation, and with the next ones while one has executed a seal.
@@ -110,11 +131,12 @@ impl Hosting {
             };
             let path = generations.log(opening.generation);
             let failed = |error| NodeFault::Log(path.clone(), error);
+            let refused = |fault| open_fault(fault, Some(opening.generation));
             let (mut file, mut replica) = if opening.is_new {
-                (LogFile::begin(&path).map_err(failed)?, setup.begin().map_err(NodeFault::Open)?)
+                (LogFile::begin(&path).map_err(failed)?, setup.begin().map_err(refused)?)
             } else {
                 let (file, log) = LogFile::open(&path).map_err(failed)?;
-                (file, setup.open(&log).map_err(NodeFault::Open)?)
+                (file, setup.open(&log).map_err(refused)?)
             };
             let ready = replica.ready().map_err(NodeFault::Core)?;
             file.keep(&ready).map_err(failed)?;
@@ -138,6 +160,14 @@ impl Hosting {
 
 fn cluster(replicas: u8) -> Result<Cluster, NodeFault> {
     Cluster::try_from(replicas).map_err(|_| NodeFault::Open(OpenFault::OutOfRange))
+}
+
+/// Why a core isn't opened: by this generation's opening, or by one that is to be taken.
+fn open_fault(fault: OpenFault, generation: Option<u32>) -> NodeFault {
+    match fault {
+        OpenFault::BadOpening(why) => NodeFault::Generations(GenerationsFault::BadOpening(generation, why)),
+        fault => NodeFault::Open(fault),
+    }
 }
 
 fn outgoing<'a>(output: &Output<'a>) -> impl Iterator<Item = Outgoing> + use<'a> {

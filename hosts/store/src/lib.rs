@@ -13,7 +13,9 @@ pub mod connect_fault;
 pub mod connections;
 pub mod core;
 pub mod directory;
+pub mod directory_fault;
 pub mod driver;
+pub mod file_fault;
 pub mod frames;
 pub mod generation;
 pub mod generations;
@@ -54,6 +56,7 @@ pub mod peers;
 #[cfg(test)]
 #[path = "../tests/common/plain.rs"]
 mod plain;
+pub mod planning;
 pub mod plants;
 pub mod ports;
 pub mod processes;

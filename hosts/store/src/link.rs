@@ -6,6 +6,11 @@ pub trait Link: Send + Sync {
     /// Sends these bytes behind what waits, or loses them. It doesn't wait.
     fn send(&self, bytes: Vec<u8>);
 
+    /// Sends all of these likewise, in their order.
+    fn send_several(&self, all: Vec<Vec<u8>>) {
+        all.into_iter().for_each(|bytes| self.send(bytes));
+    }
+
     /// Sends these bytes before what waits.
     fn send_first(&self, bytes: Vec<u8>);
 

@@ -127,6 +127,13 @@ impl Peers {
         }
     }
 
+    /// The same of several.
+    pub fn send_several(&self, to: u8, all: Vec<Vec<u8>>) {
+        if let Some(link) = self.link(to) {
+            link.send_several(all);
+        }
+    }
+
     pub fn is_reached(&self, replica: u8) -> bool {
         self.link(replica).is_some_and(|link| link.is_reached())
     }
@@ -142,6 +149,8 @@ impl Peers {
 struct Queue {
     frames: VecDeque<Vec<u8>>,
     bytes: usize,
+    /// Whether the thread that sends waits for them.
+    is_awaited: bool,
     /// Why the connection is over, if it is.
     over: Option<LinkFault>,
     /// Whether the peer was seen to be there since the last try to connect.
@@ -162,9 +171,13 @@ struct TcpLink {
 
 impl Link for TcpLink {
     fn send(&self, bytes: Vec<u8>) {
+        self.send_several(vec![bytes]);
+    }
+
+    fn send_several(&self, all: Vec<Vec<u8>>) {
         let mut queue = self.queue();
-        queue.bytes += bytes.len();
-        queue.frames.push_back(bytes);
+        queue.bytes += all.iter().map(Vec::len).sum::<usize>();
+        queue.frames.extend(all);
         while queue.bytes > MOST_WAITING {
             let Some(oldest) = queue.frames.pop_front() else {
                 break;
@@ -172,7 +185,10 @@ impl Link for TcpLink {
             queue.bytes -= oldest.len();
             self.lost.fetch_add(1, Ordering::Relaxed);
         }
-        self.changed.notify_one();
+        // (each word takes a call of the system, also where nobody waits)
+        if queue.is_awaited {
+            self.changed.notify_one();
+        }
     }
 
     fn send_first(&self, bytes: Vec<u8>) {
@@ -321,8 +337,10 @@ impl TcpLink {
         loop {
             let mut queue = self.queue();
             while queue.frames.is_empty() && queue.over.is_none() {
+                queue.is_awaited = true;
                 queue = self.changed.wait(queue).unwrap_or_else(|poisoned| poisoned.into_inner());
             }
+            queue.is_awaited = false;
             if let Some(over) = queue.over {
                 return over;
             }

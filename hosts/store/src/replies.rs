@@ -8,12 +8,14 @@ use std::collections::VecDeque;
 use std::io::{self, Write};
 use std::sync::atomic::{AtomicBool, AtomicUsize, Ordering};
 use std::sync::mpsc::{Receiver, RecvTimeoutError, Sender, TryRecvError};
-use std::sync::{Arc, Condvar, Mutex, PoisonError};
+use std::sync::{Arc, Condvar, Mutex, MutexGuard, PoisonError};
 use std::thread;
 use std::time::{Duration, Instant};
 
 /// So much of a connection may be under way.
 const MOST_UNDER_WAY: usize = 1_024;
+/// The thread that writes replies looks by itself what has begun, where nothing has come for so long; then it sleeps until it is told.
+const LINGER: Duration = Duration::from_millis(100);
 
 /// The replies that clients of all connections are due, so that a store ends once they have them.
 #[derive(Default)]
@@ -55,8 +57,8 @@ impl Drop for OneDue {
 
 /// What the thread that writes replies is told.
 pub enum Message {
-    /// The next command.
-    Begun(Slot),
+    /// A command has begun.
+    Begun,
     /// A part of a command's reply has come.
     Part(u64, usize, Reply),
     /// No more commands come.
@@ -142,7 +144,8 @@ impl Slot {
     }
 }
 
-/// How much of a connection is under way, which is bounded.
+/// How much of a connection is under way, which is bounded, and what has begun. The thread that writes replies takes that when it looks: it isn't woken
+/// for each command, whose reply wakes it anyway.
 #[derive(Default)]
 pub struct Window {
     used: Mutex<Used>,
@@ -153,32 +156,65 @@ pub struct Window {
 struct Used {
     count: usize,
     is_over: bool,
+    /// Whether the thread that reads commands waits for a change.
+    is_awaited: bool,
+    begun: VecDeque<Slot>,
+    /// Whether the thread that writes replies sleeps until it is told that a command has begun.
+    is_asleep: bool,
 }
 
 /// The connection's replies can't be written any more.
 pub struct Over;
 
 impl Window {
+    fn used(&self) -> MutexGuard<'_, Used> {
+        self.used.lock().unwrap_or_else(PoisonError::into_inner)
+    }
+
+    /// Waits while it is so. (Who changes something tells nobody where nobody waits.)
+    fn wait_while(&self, is_so: impl Fn(&Used) -> bool) -> Result<MutexGuard<'_, Used>, Over> {
+        let mut used = self.used();
+        while !used.is_over && is_so(&used) {
+            used.is_awaited = true;
+            used = self.change.wait(used).unwrap_or_else(PoisonError::into_inner);
+        }
+        used.is_awaited = false;
+        if used.is_over { Err(Over) } else { Ok(used) }
+    }
+
     /// Waits until there is room for so much, or all that there is.
     pub fn enter(&self, weight: usize) -> Result<(), Over> {
-        let used = self.used.lock().unwrap_or_else(PoisonError::into_inner);
-        let is_full = |used: &mut Used| !used.is_over && used.count > 0 && used.count + weight > MOST_UNDER_WAY;
-        let mut used = self.change.wait_while(used, is_full).unwrap_or_else(PoisonError::into_inner);
-        used.count += weight;
-        if used.is_over { Err(Over) } else { Ok(()) }
+        self.wait_while(|used| used.count > 0 && used.count + weight > MOST_UNDER_WAY)?.count += weight;
+        Ok(())
     }
 
     /// Waits until nothing is under way.
     pub fn settle(&self) -> Result<(), Over> {
-        let used = self.used.lock().unwrap_or_else(PoisonError::into_inner);
-        let is_busy = |used: &mut Used| !used.is_over && used.count > 0;
-        let used = self.change.wait_while(used, is_busy).unwrap_or_else(PoisonError::into_inner);
-        if used.is_over { Err(Over) } else { Ok(()) }
+        self.wait_while(|used| used.count > 0).map(|_| ())
+    }
+
+    /// A command has begun. Whether the thread that writes replies is to be told.
+    pub fn begin(&self, slot: Slot) -> bool {
+        // (for what has come already nothing else wakes it)
+        let is_ready = slot.is_ready();
+        let mut used = self.used();
+        used.begun.push_back(slot);
+        std::mem::take(&mut used.is_asleep) || is_ready
+    }
+
+    /// What has begun since the last look. Where that is nothing the thread may sleep.
+    fn look(&self, slots: &mut VecDeque<Slot>, may_sleep: bool) {
+        let mut used = self.used();
+        used.is_asleep = may_sleep && used.begun.is_empty();
+        slots.append(&mut used.begun);
     }
 
     fn change(&self, change: impl FnOnce(&mut Used)) {
-        change(&mut self.used.lock().unwrap_or_else(PoisonError::into_inner));
-        self.change.notify_all();
+        let mut used = self.used();
+        change(&mut used);
+        if used.is_awaited {
+            self.change.notify_all();
+        }
     }
 
     fn leave(&self, weight: usize) {
@@ -265,24 +301,40 @@ impl<W: Write> Replies<W> {
 
     /// Waits for a message, or for the time of the first command to be over.
     fn wait(&mut self) {
-        let received = match self.slots.front() {
-            None => self.messages.recv().map_err(|_| RecvTimeoutError::Disconnected),
-            Some(slot) => self.messages.recv_timeout(slot.deadline.saturating_duration_since(Instant::now())),
-        };
-        match received {
+        if self.slots.is_empty() {
+            self.look(false);
+        }
+        let left = self.slots.front().map(|slot| slot.deadline.saturating_duration_since(Instant::now()));
+        match self.messages.recv_timeout(left.unwrap_or(LINGER)) {
             Ok(message) => self.take(message),
-            Err(RecvTimeoutError::Timeout) => self.withdraw(),
+            Err(RecvTimeoutError::Timeout) if left.is_some() => self.withdraw(),
+            Err(RecvTimeoutError::Timeout) => {
+                self.look(true);
+                if self.slots.is_empty() {
+                    self.messages.recv().into_iter().for_each(|message| self.take(message));
+                }
+            }
             Err(RecvTimeoutError::Disconnected) => {}
         }
     }
 
+    fn look(&mut self, may_sleep: bool) {
+        self.window.look(&mut self.slots, may_sleep);
+    }
+
     fn take(&mut self, message: Message) {
         match message {
-            Message::Begun(slot) => self.slots.push_back(slot),
-            Message::Over => self.is_over = true,
+            Message::Begun => self.look(false),
+            Message::Over => {
+                self.look(false);
+                self.is_over = true;
+            }
             Message::Part(command, part, reply) => {
-                // (what comes too late is of no use)
                 let place = command.checked_sub(self.first).map(|place| place as usize);
+                if place.is_some_and(|place| place >= self.slots.len()) {
+                    self.look(false);
+                }
+                // (what comes too late is of no use)
                 let Some(slot) = place.and_then(|place| self.slots.get_mut(place)) else { return };
                 if let Some(share) = &mut slot.share {
                     share.count(reply.size());

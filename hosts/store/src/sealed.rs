@@ -26,6 +26,8 @@ const MAGIC: [u8; 5] = *b"EPST\x04";
 const NONCE: usize = 16;
 const PROOF: usize = 32;
 const TAG: usize = 16;
+/// So much room is taken at once.
+const ROOM: usize = 1 << 12;
 /// A message's length and kind.
 const HEAD: usize = 5;
 /// What a file of a key may have.
@@ -207,7 +209,7 @@ impl Direction {
             return Err(io::ErrorKind::InvalidData.into());
         }
         // (a length isn't authentic before the tag is: room is taken as the bytes come)
-        let mut bytes = Vec::new();
+        let mut bytes = Vec::with_capacity(length.min(ROOM));
         if reader.by_ref().take(length as u64).read_to_end(&mut bytes)? < length {
             return Err(io::ErrorKind::UnexpectedEof.into());
         }

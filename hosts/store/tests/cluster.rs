@@ -45,32 +45,31 @@ fn wait_for_keys(store: &Store, count: usize) {
     }
 }
 
-#[test]
-fn who_was_down_is_sent_what_was_committed_meanwhile() {
+/// The third replica comes once the first one has set keys, and `meanwhile` is over: it has them soon.
+fn catches_up(name: &str, meanwhile: impl FnOnce(&mut Option<Store>, &Store)) {
     let Some(node) = real_node() else { return };
-    let places = Places::new("down");
-    let first = places.start(0, &node);
-    let _second = places.start(1, &node);
-    set_keys(&first, 20);
-    // No command is proposed from now on, so that nothing but this brings the third one what it lacks.
+    let places = Places::new(name);
+    let (mut first, second) = (Some(places.start(0, &node)), places.start(1, &node));
+    first.iter().for_each(|first| set_keys(first, 20));
+    meanwhile(&mut first, &second);
     let third = places.start(2, &node);
     wait_for_keys(&third, 20);
     wait("the last one", || third.info("instances_open") == "0");
 }
 
 #[test]
+fn who_was_down_is_sent_what_was_committed_meanwhile() {
+    // (no command is proposed once the third one is there, so that nothing but this brings it what it lacks)
+    catches_up("down", |_first, _second| {});
+}
+
+#[test]
 fn what_nobody_can_send_again_is_recovered() {
-    let Some(node) = real_node() else { return };
-    let places = Places::new("hearsay");
-    let first = places.start(0, &node);
-    let second = places.start(1, &node);
-    set_keys(&first, 20);
-    wait_for_keys(&second, 20);
     // The one who has sent the Commits is gone, and the other one only knows of them.
-    drop(first);
-    let third = places.start(2, &node);
-    wait_for_keys(&third, 20);
-    wait("the last one", || third.info("instances_open") == "0");
+    catches_up("hearsay", |first, second| {
+        wait_for_keys(second, 20);
+        *first = None;
+    });
 }
 
 fn no_majority() -> Reply {

@@ -330,12 +330,9 @@ fn what_drivers_do_wrong_is_found() {
     }
 }
 
-/// Its logs are the store's to keep, as with the library.
-#[test]
-fn over_a_hosted_core_too() {
-    let Some(program) = real_node() else { return };
-    let folder = folder("hosted");
-    let core = if epaxos::Core::has_library() { epaxos::Core::Library } else { epaxos::Core::Process(program) };
+/// Its logs are the store's to keep.
+fn play_hosted(name: &str, core: &epaxos::Core) {
+    let folder = folder(name);
     let it = Play { folder: &folder, plant: None, commands: 150, generations: 3 };
     let notes = play(&it, |place, directory, _| {
         let hosting = Hosting { place, folder: directory.generations(), core: core.clone() };
@@ -345,6 +342,20 @@ fn over_a_hosted_core_too() {
     });
     assert!(are_linearizable(&notes));
     fs::remove_dir_all(&folder).unwrap();
+}
+
+#[test]
+fn over_the_library_too() {
+    if epaxos::Core::has_library() {
+        play_hosted("library", &epaxos::Core::Library);
+    }
+}
+
+#[test]
+fn over_a_process_without_a_log_too() {
+    if let Some(program) = real_node() {
+        play_hosted("hosted", &epaxos::Core::Process(program));
+    }
 }
 
 #[test]

@@ -214,8 +214,8 @@ fn open_fault(status: u8, Place { at, by }: Place) -> OpenFault {
         status::TURNED => log(format!("damaged at byte {at}, which was on the disk by the record at byte {by}")),
         status::NOT_CLOCKED => log(format!("entry {at} is not clocked")),
         status::OPENING_SHORT => opening(format!("cut short at byte {at}")),
-        status::OPENING_DAMAGED => opening(format!("damaged, by the digest at byte {at}")),
-        status::OPENING_WRONG => opening(format!("the field at byte {at} is wrong")),
+        status::OPENING_DAMAGED => opening(format!("damaged: no digest of the bytes before it at byte {at}")),
+        status::OPENING_WRONG => opening(format!("wrong field at byte {at}")),
         status::OTHER_OPENING => opening("it is for another number of replicas".into()),
         _ => OpenFault::Ended(unknown(status)),
     }

@@ -2,6 +2,9 @@
 //!
 //! The process keeps a log too, in a scratch folder that nobody needs once it has ended. The records of that log are what is lent to be written, and what
 //! the process tells is handed on only once they are on the caller's disk.
+//!
+//! A process closes the generation of a log whose replica has executed a seal. So that the replica serves the generation until it is told to close it,
+//! a process is given the log up to there, and asked for the rest anew.
 #![forbid(unsafe_code)]
 
 use crate::core::{Host, Lent};
@@ -44,6 +47,45 @@ pub(crate) struct Process {
 
 impl Process {
     pub(crate) fn start(program: &Path, begin: &Begin) -> Result<Process, OpenFault> {
+        let (process, state) = Process::started(program, begin)?;
+        match begin.log {
+            Some(log) if state.generation != process.generation => {
+                drop(process);
+                Process::start_sealed(program, begin, log)
+            }
+            _ => Ok(process),
+        }
+    }
+
+    /// Starts the process of a replica that has executed a seal, by this log, which a process has judged.
+    fn start_sealed(program: &Path, begin: &Begin, log: &[u8]) -> Result<Process, OpenFault> {
+        let at = records::sealing(log).ok_or_else(|| not_again("no entry executes it"))?;
+        let log = &log[..records::whole(log)];
+        let (mut process, _) = Process::started(program, &Begin { log: Some(&log[..at]), ..*begin })?;
+        process.take_again(&log[at..])?;
+        process.lent = log.to_vec();
+        Ok(process)
+    }
+
+    /// Takes again what these records have, which have to come out the same.
+    fn take_again(&mut self, records: &[u8]) -> Result<(), OpenFault> {
+        let entries = records::entries(records).ok_or_else(|| not_again("its records aren't whole"))?;
+        for some in entries.chunks(MOST_EVENTS) {
+            for entry in some {
+                let (kind, body) = records::event_of(entry).ok_or_else(|| not_again("an entry has no event"))?;
+                wire::push_again(&mut self.request, kind, body);
+            }
+            let done = self.send_for(some.len()).and_then(|done| done.into_iter().collect::<Result<Vec<()>, Fault>>());
+            done.map_err(|fault| not_again(&fault.to_string()))?;
+        }
+        let mut made = Vec::new();
+        let read = self.log.read_to_end(&mut made);
+        let is_same = read.is_ok() && records::entries(&made).is_some_and(|made| made == entries);
+        if is_same { Ok(()) } else { Err(not_again("an entry comes out otherwise")) }
+    }
+
+    /// Starts a process, and waits until it has read its log: how far it is then.
+    fn started(program: &Path, begin: &Begin) -> Result<(Process, State), OpenFault> {
         let scratch = Scratch::new().map_err(|error| OpenFault::NoCore(format!("no scratch folder: {error}")))?;
         let failed = |error: io::Error| OpenFault::Ended(error.to_string());
         let generation = generation_of(begin.opening);
@@ -63,18 +105,19 @@ impl Process {
             running = Running::start(program, begin.cluster, begin.me, &scratch, &[])?;
         }
         let (mut request, mut answer) = (Vec::new(), Vec::new());
-        wire::push_question(&mut request, Question::Sync);
-        if running.write(&request).and_then(|()| running.read(&mut answer)).is_err() {
+        wire::push_question(&mut request, Question::State);
+        let answered = running.write(&request).and_then(|()| running.read(&mut answer));
+        let Some(state) = answered.ok().and_then(|()| wire::state(&answer)) else {
             let _ = running.end();
             return Err(open_fault(&scratch.said()));
-        }
+        };
         request.clear();
         let opening = File::open(scratch.opening(generation)).map_err(failed)?;
         let mut log = File::open(scratch.log(generation)).map_err(failed)?;
         scratch.remove();
         let mut lent = Vec::new();
         log.read_to_end(&mut lent).map_err(failed)?;
-        Ok(Process {
+        let process = Process {
             running,
             scratch,
             program: program.to_path_buf(),
@@ -90,7 +133,8 @@ impl Process {
             request,
             answer,
             end: None,
-        })
+        };
+        Ok((process, state))
     }
 
     /// The process is of no use any more.
@@ -300,6 +344,11 @@ impl Host for Process {
 fn generation_of(opening: Option<&[u8]>) -> u32 {
     let told = opening.and_then(|opening| opening.get(6..10)?.try_into().ok());
     told.map_or(1, u32::from_be_bytes)
+}
+
+/// Why a process doesn't go on from the log of a replica that has executed a seal.
+fn not_again(why: &str) -> OpenFault {
+    OpenFault::BadLog(format!("it has executed a seal, and a process doesn't take the rest again: {why}; open it by the library"))
 }
 
 /// What a process says that refuses to start.

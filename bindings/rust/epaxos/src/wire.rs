@@ -85,6 +85,11 @@ pub fn push_event(out: &mut Vec<u8>, event: &Event) -> Result<(), Fault> {
     Ok(())
 }
 
+/// Appends the request that an event of this kind, with this body, was asked by.
+pub(crate) fn push_again(out: &mut Vec<u8>, kind: u8, body: &[u8]) {
+    push(out, kind, |out| out.extend(body));
+}
+
 /// Appends the request that asks this.
 ///
 /// ```

@@ -172,7 +172,21 @@ fn a_generation_is_closed_and_the_next_one_opened() {
         let plain = world.check();
         assert!(plain.is_closed);
         assert_eq!(world.seats[2].told.last().unwrap().reply, Reply::Closed);
-        assert!(world.replica(0).state().unwrap().is_sealed);
+        // Who comes back from such a log serves the generation until it is told to close it.
+        for (me, torn) in [(1, &b""[..]), (2, b"torn")] {
+            let log = world.seats[me].log.clone();
+            world.stop(me);
+            world.start(me, torn);
+            assert_eq!(world.seats[me].log, log);
+            world.settle(me);
+        }
+        world.propose(1, 2, 2, &Owned::Put(b"x".to_vec(), b"3".to_vec()));
+        world.settle(1);
+        world.finish();
+        assert_eq!(world.seats[1].told.last().unwrap().reply, Reply::Closed);
+        for me in 0..3 {
+            assert!(world.replica(me).state().unwrap().is_sealed);
+        }
         let openings: Vec<Vec<u8>> = (0..3)
             .map(|me| world.seats[me].replica.take().unwrap().close(Cluster::Five).map_err(|it| it.1).unwrap())
             .collect();

@@ -1,67 +1,30 @@
 //! Three members of etcd, and a client of its own protocol: gRPC, which is HTTP/2 with a message in each request's body.
 use crate::options::Options;
-use crate::stores::{end, spawn};
-use crate::{Cluster, Connection, MEMBERS};
+use crate::running::Running;
+use crate::{Connection, MEMBERS, PATIENCE};
 use std::io::{self, BufReader, Read, Write};
 use std::net::TcpStream;
 use std::path::Path;
-use std::process::{Child, Command};
-use std::time::Duration;
-use store::ports::Ports;
+use std::process::Command;
 
-const PATIENCE: Duration = Duration::from_secs(15);
-
-/// A running cluster. It ends when this is dropped.
-pub struct Etcd {
-    ports: Ports,
-    children: Vec<Child>,
-}
-
-impl Etcd {
-    pub fn start(options: &Options, directory: &Path) -> Result<Etcd, String> {
-        let ports = Ports::take().map_err(|error| error.to_string())?;
-        let mut etcd = Etcd { ports, children: Vec::new() };
-        let names = (0..MEMBERS).map(|member| format!("member-{member}={}", etcd.url(MEMBERS + member)));
-        let cluster = names.collect::<Vec<_>>().join(",");
-        for member in 0..MEMBERS {
-            let folder = directory.join(member.to_string());
-            let (client, peer) = (etcd.url(member), etcd.url(MEMBERS + member));
-            let mut command = Command::new(&options.etcd);
-            command.args(["--name", &format!("member-{member}"), "--initial-cluster", &cluster]);
-            command.args(["--listen-client-urls", &client, "--advertise-client-urls", &client]);
-            command.args(["--listen-peer-urls", &peer, "--initial-advertise-peer-urls", &peer]);
-            command.args(["--log-level", "error", "--data-dir"]).arg(folder.join("dir"));
-            etcd.children.push(spawn(&mut command, &folder)?);
-        }
-        Ok(etcd)
+/// A running cluster.
+pub fn start(options: &Options, directory: &Path) -> Result<Running<Caller>, String> {
+    let mut etcd = Running::new("etcd", Caller::connect)?;
+    let urls: Vec<String> =
+        (0..2 * MEMBERS).map(|place| format!("http://127.0.0.1:{}", etcd.ports.port(place))).collect();
+    let (clients, peers) = urls.split_at(MEMBERS);
+    let names = peers.iter().enumerate().map(|(member, peer)| format!("member-{member}={peer}"));
+    let cluster = names.collect::<Vec<_>>().join(",");
+    for (member, (client, peer)) in clients.iter().zip(peers).enumerate() {
+        let folder = directory.join(member.to_string());
+        let mut command = Command::new(&options.etcd);
+        command.args(["--name", &format!("member-{member}"), "--initial-cluster", &cluster]);
+        command.args(["--listen-client-urls", client, "--advertise-client-urls", client]);
+        command.args(["--listen-peer-urls", peer, "--initial-advertise-peer-urls", peer]);
+        command.args(["--log-level", "error", "--data-dir"]).arg(folder.join("dir"));
+        etcd.start(&mut command, &folder)?;
     }
-
-    fn url(&self, place: usize) -> String {
-        format!("http://127.0.0.1:{}", self.ports.port(place))
-    }
-}
-
-impl Drop for Etcd {
-    fn drop(&mut self) {
-        end(&mut self.children);
-    }
-}
-
-impl Cluster for Etcd {
-    fn name(&self) -> &'static str {
-        "etcd"
-    }
-
-    fn connect(&self, member: usize) -> Result<Box<dyn Connection>, String> {
-        match Caller::connect(self.ports.port(member)) {
-            Ok(caller) => Ok(Box::new(caller)),
-            Err(error) => Err(format!("etcd {member} can't be reached: {error}")),
-        }
-    }
-
-    fn processes(&self) -> Vec<u32> {
-        self.children.iter().map(Child::id).collect()
-    }
+    Ok(etcd)
 }
 
 // Kinds of frames, and flags.
@@ -77,7 +40,7 @@ const END_OF_STREAM: u8 = 1;
 const END_OF_HEADERS: u8 = 4;
 
 /// A connection that carries one call at a time.
-struct Caller {
+pub struct Caller {
     reader: BufReader<TcpStream>,
     stream: u32,
 }

@@ -3,20 +3,20 @@ mod etcd;
 mod measure;
 mod options;
 mod redis;
+mod running;
 mod stores;
 
-use etcd::Etcd;
 use measure::{Measured, Work};
 use options::{HELP, Options, read};
-use redis::Redis;
 use std::process::ExitCode;
 use std::thread;
 use std::time::{Duration, Instant};
 use store::processes::processor_time;
-use stores::Stores;
 
 /// How many members each cluster has.
 const MEMBERS: usize = 3;
+/// How long a connection waits for an answer.
+const PATIENCE: Duration = Duration::from_secs(15);
 
 /// A cluster that can be asked.
 pub trait Cluster: Sync {
@@ -101,9 +101,9 @@ fn start(options: &Options, directory: &std::path::Path) -> Result<Vec<Box<dyn C
     for name in &options.clusters {
         let directory = directory.join(name);
         clusters.push(match name.as_str() {
-            "store" => Box::new(Stores::start(options, &directory)?),
-            "etcd" => Box::new(Etcd::start(options, &directory)?),
-            _ => Box::new(Redis::start(options, &directory)?),
+            "store" => Box::new(stores::start(options, &directory)?),
+            "etcd" => Box::new(etcd::start(options, &directory)?),
+            _ => Box::new(redis::start(options, &directory)?),
         });
     }
     clusters.iter().try_for_each(|cluster| ready(&**cluster))?;

@@ -4,9 +4,9 @@ use std::path::PathBuf;
 pub const HELP: &str = "\
 bench: three stores, three members of etcd and one Redis, on this machine, asked in turns by the same number of clients
 
-    bench --node PATH [--store PATH] [--etcd PATH] [--redis PATH] [--clusters A,B,..] [--clients A,B,..] [--commands N] [--turns T] [--dir DIR]
+    bench [--node PATH] [--store PATH] [--etcd PATH] [--redis PATH] [--clusters A,B,..] [--clients A,B,..] [--commands N] [--turns T] [--dir DIR]
 
-    --node PATH      the program `epaxos`
+    --node PATH      the program `epaxos`, in which the cores of the stores run; default: they run in the stores, as these find them
     --store PATH     the program `store`; default: beside this one
     --etcd PATH      the program `etcd`; default: the one on the PATH
     --redis PATH     the program `redis-server`; likewise
@@ -21,7 +21,7 @@ All write what they answer to the disk first. Status 0: the table is printed. 2:
 
 #[derive(Clone, Debug)]
 pub struct Options {
-    pub node: PathBuf,
+    pub node: Option<PathBuf>,
     pub store: PathBuf,
     pub etcd: PathBuf,
     pub redis: PathBuf,
@@ -36,7 +36,7 @@ pub struct Options {
 pub fn read(words: impl IntoIterator<Item = String>) -> Result<Option<Options>, String> {
     let program = std::env::current_exe().map_err(|error| format!("where this program is can't be told: {error}"))?;
     let mut options = Options {
-        node: PathBuf::new(),
+        node: None,
         store: program.with_file_name("store"),
         etcd: PathBuf::from("etcd"),
         redis: PathBuf::from("redis-server"),
@@ -51,7 +51,7 @@ pub fn read(words: impl IntoIterator<Item = String>) -> Result<Option<Options>, 
         let mut value = || words.next().ok_or(format!("{word} wants a value"));
         match word.as_str() {
             "--help" | "-h" => return Ok(None),
-            "--node" => options.node = PathBuf::from(value()?),
+            "--node" => options.node = Some(PathBuf::from(value()?)),
             "--store" => options.store = PathBuf::from(value()?),
             "--etcd" => options.etcd = PathBuf::from(value()?),
             "--redis" => options.redis = PathBuf::from(value()?),
@@ -62,9 +62,6 @@ pub fn read(words: impl IntoIterator<Item = String>) -> Result<Option<Options>, 
             "--dir" => options.directory = PathBuf::from(value()?),
             _ => return Err(format!("unknown word {word}; --help tells the words")),
         }
-    }
-    if options.node.as_os_str().is_empty() {
-        return Err("--node is missing".into());
     }
     if let Some(odd) = options.clusters.iter().find(|name| !["store", "etcd", "redis"].contains(&name.as_str())) {
         return Err(format!("--clusters: {odd} is none of store, etcd, redis"));

@@ -1,8 +1,10 @@
 //! The stores of a round: starting, killing, stopping them.
 use crate::links::Link;
 use crate::options::{Options, Plant};
-use std::fs::{File, OpenOptions};
+use std::ffi::OsString;
+use std::fs::{self, File, OpenOptions};
 use std::io;
+use std::os::unix::fs::symlink;
 use std::os::unix::process::CommandExt;
 use std::path::{Path, PathBuf};
 use std::process::{Child, Command, ExitStatus, Stdio};
@@ -81,7 +83,7 @@ impl Cluster {
         let peer_ports: Vec<u16> = (all..2 * all).map(|place| ports.port(place)).collect();
         let links = make_links(&peer_ports[..replicas], &ports, 2 * all)?;
         let directory = options.directory.join(format!("round-{round}"));
-        std::fs::create_dir_all(&directory)?;
+        fs::create_dir_all(&directory)?;
         let cluster = Cluster {
             options: options.clone(),
             directory,
@@ -146,13 +148,30 @@ impl Cluster {
         (0..count).map(|to| format!("127.0.0.1:{}", port(to))).collect::<Vec<_>>().join(",")
     }
 
+    /// The folders in which programs are looked for: first one that has `epaxos`.
+    fn path(&self) -> io::Result<OsString> {
+        let folder = self.directory.join("bin");
+        match fs::create_dir(&folder).and_then(|()| symlink(self.options.node.canonicalize()?, folder.join("epaxos"))) {
+            Err(error) if error.kind() != io::ErrorKind::AlreadyExists => return Err(error),
+            _ => {}
+        }
+        let others = std::env::var_os("PATH").unwrap_or_default();
+        std::env::join_paths([folder].into_iter().chain(std::env::split_paths(&others))).map_err(io::Error::other)
+    }
+
     /// Starts a replica, in a group of processes of its own.
     pub fn launch(&self, replica: usize) -> io::Result<()> {
         let told = OpenOptions::new().append(true).create(true).open(self.told(replica))?;
         let mut command = Command::new(&self.options.store);
         command.args(["--replica", &replica.to_string(), "--peers", &self.peers(replica)]);
         command.args(["--listen", &self.client_ports[replica].to_string(), "--patience", "10"]);
-        command.arg("--dir").arg(self.folder(replica)).arg("--node").arg(&self.options.node);
+        command.arg("--dir").arg(self.folder(replica));
+        if self.options.in_store {
+            // (listings run the program that is found)
+            command.env("PATH", self.path()?);
+        } else {
+            command.arg("--node").arg(&self.options.node);
+        }
         for (flag, number) in
             [("--seal-numbers", self.options.numbers), ("--seal-dependencies", self.options.dependencies)]
         {
@@ -187,6 +206,11 @@ impl Cluster {
         let Some(mut child) = self.running[replica].lock().unwrap().take() else { return Ok(()) };
         let group = format!("-{}", child.id());
         let node = node_process(child.id());
+        if self.options.in_store && node.is_some() {
+            return Err(format!(
+                "the store of replica {replica} has a node's process: it was built without the library"
+            ));
+        }
         match (target, node) {
             (Target::Store, _) => signal("KILL", &child.id().to_string()),
             (Target::Node, Some(node)) => signal("KILL", &node),
@@ -217,10 +241,10 @@ impl Cluster {
         let lost = self.directory.join(format!("{replica}-lost-{}", self.lost.lock().unwrap().len()));
         // (its node may still be ending)
         wait_for(|| is_free(&folder).then_some(())).ok_or(format!("the node of replica {replica} doesn't end"))?;
-        std::fs::rename(&folder, &lost).map_err(told)?;
+        fs::rename(&folder, &lost).map_err(told)?;
         self.lost.lock().unwrap().push((replica, lost));
         self.joined[replica].store(true, Ordering::SeqCst);
-        let before = std::fs::read_to_string(self.told(replica)).map_err(told)?.len();
+        let before = fs::read_to_string(self.told(replica)).map_err(told)?.len();
         self.launch(replica).map_err(told)?;
         let said = || self.said(replica, before);
         let identity = self.identity(replica, before)?;
@@ -250,14 +274,14 @@ impl Cluster {
         let (folder, older) = (self.folder(replica), self.directory.join(format!("{replica}-older")));
         wait_for(|| is_free(&folder).then_some(())).ok_or(format!("the node of replica {replica} doesn't end"))?;
         let (from, to) = if older.exists() { (&older, &folder) } else { (&folder, &older) };
-        let _ = std::fs::remove_dir_all(to);
+        let _ = fs::remove_dir_all(to);
         let copied = Command::new("cp").arg("-r").args([from, to]).status().map_err(|error| error.to_string())?;
         if copied.success() { Ok(()) } else { Err(format!("{} can't be copied", from.display())) }
     }
 
     /// What a store has told behind so many bytes.
     fn said(&self, replica: usize, before: usize) -> Option<String> {
-        Some(std::fs::read_to_string(self.told(replica)).ok()?.get(before..)?.to_string())
+        Some(fs::read_to_string(self.told(replica)).ok()?.get(before..)?.to_string())
     }
 
     /// Who a machine is that waits to be let in.
@@ -344,7 +368,7 @@ impl Cluster {
     /// Cuts the last records off the log of a replica that was killed.
     pub fn forget_last(&self, replica: usize) -> io::Result<()> {
         let log = self.log(replica);
-        let bytes = std::fs::read(&log)?;
+        let bytes = fs::read(&log)?;
         match records(&bytes).iter().rev().nth(LAST_RECORDS - 1) {
             Some(start) => cut(&log, *start),
             None => Ok(()),
@@ -360,11 +384,11 @@ impl Cluster {
             let of = |generation: u32| folder.join(format!("generations/{generation}"));
             let newest = newest(folder).unwrap_or(all_begun);
             let mut begun = (all_begun..=newest).map(of).filter(|path| path.exists());
-            begun.try_for_each(|path| std::fs::remove_dir_all(path))?;
-            (1..all_begun).for_each(|generation| _ = std::fs::remove_file(of(generation).join("left")));
+            begun.try_for_each(fs::remove_dir_all)?;
+            (1..all_begun).for_each(|generation| _ = fs::remove_file(of(generation).join("left")));
             let log = of(all_begun - 1).join("log");
             // (one that lagged has none)
-            let Ok(bytes) = std::fs::read(&log) else { continue };
+            let Ok(bytes) = fs::read(&log) else { continue };
             let starts = records(&bytes);
             let ends = starts.iter().skip(1).copied().chain([bytes.len()]);
             let has_seal = |record: &[u8]| record.windows(SEAL.len()).any(|part| part == SEAL);
@@ -473,8 +497,8 @@ fn cut(path: &Path, length: usize) -> io::Result<()> {
 
 /// How many bytes a file has, or the files of a folder.
 fn bytes_of(path: &Path) -> u64 {
-    let files = std::fs::read_dir(path).into_iter().flatten().flatten().filter_map(|entry| entry.metadata().ok());
-    let own = std::fs::metadata(path).ok();
+    let files = fs::read_dir(path).into_iter().flatten().flatten().filter_map(|entry| entry.metadata().ok());
+    let own = fs::metadata(path).ok();
     files.chain(own).filter(|found| found.is_file()).map(|found| found.len()).sum()
 }
 
@@ -490,8 +514,8 @@ fn newest_with_log(folder: &Path) -> Option<u32> {
 
 /// The newest generation that has a file of this name.
 fn generations(folder: &Path, name: &str) -> Option<u32> {
-    let found = std::fs::read_dir(folder.join("generations")).ok()?.flatten();
-    let with = found.filter(|entry| std::fs::metadata(entry.path().join(name)).is_ok_and(|file| file.len() > 0));
+    let found = fs::read_dir(folder.join("generations")).ok()?.flatten();
+    let with = found.filter(|entry| fs::metadata(entry.path().join(name)).is_ok_and(|file| file.len() > 0));
     with.filter_map(|entry| entry.file_name().to_str()?.parse().ok()).max()
 }
 

@@ -5,10 +5,11 @@ use std::time::Duration;
 pub const HELP: &str = "\
 trial: a cluster of stores on this machine, clients, kills and cuts; then what the clients were told is checked
 
-    trial --node PATH [--short | --long | --smoke] [--replicas N] [--seconds S] [--kills K] [--rounds R] [--audit]
+    trial --node PATH [--in-store] [--short | --long | --smoke] [--replicas N] [--seconds S] [--kills K] [--rounds R] [--audit]
           [--plant early|emptied|unsynced|unsealed|older|lacking|again|changed] [--store PATH] [--dir DIR] [--seed S]
 
     --node PATH      the program `epaxos`
+    --in-store       the stores are started without it, so that the core runs in each of them, by the library that they were built with
     --short          60 seconds, 6 kills, one machine replaced, two changes of generation or more: the default
     --long           10 rounds of 60 seconds with 10 kills each and two machines replaced, every round with fresh folders
     --life           20 minutes and 1,000,000 commands or more, 32 clients without pauses, 100 kills, two machines replaced, two more for a
@@ -50,6 +51,8 @@ pub enum Plant {
 #[derive(Clone, Debug)]
 pub struct Options {
     pub node: PathBuf,
+    /// Whether the core runs in the stores.
+    pub in_store: bool,
     pub store: PathBuf,
     pub directory: PathBuf,
     pub replicas: usize,
@@ -102,6 +105,7 @@ pub fn read(words: impl IntoIterator<Item = String>) -> Result<Option<Options>, 
             "--commands" => options.commands = number(&value()?)?,
             "--long" => options.play(60, 10, 2, 10),
             "--node" => options.node = PathBuf::from(value()?),
+            "--in-store" => options.in_store = true,
             "--store" => options.store = PathBuf::from(value()?),
             "--dir" => options.directory = PathBuf::from(value()?),
             "--replicas" => options.replicas = number(&value()?)?,
@@ -143,6 +147,7 @@ fn defaults() -> Result<Options, String> {
     let seed = store::random::Random::new().below(1 << 32);
     Ok(Options {
         node: PathBuf::new(),
+        in_store: false,
         store: program.with_file_name("store"),
         directory,
         replicas: 3,

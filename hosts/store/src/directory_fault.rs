@@ -1,0 +1,82 @@
+//! Why a folder isn't taken.
+use crate::file_fault::FileFault;
+use crate::identities;
+use std::fmt;
+use std::path::PathBuf;
+
+const NEVER: &str = "This replica must not come back: it may have promised what it doesn't know any more";
+
+/// Why a folder isn't taken.
+#[derive(Debug)]
+pub enum DirectoryFault {
+    File(FileFault),
+    /// It is of a store that had no generations.
+    Old(PathBuf),
+    /// A file was lost, without which the replica doesn't know what it promised.
+    Lost(PathBuf),
+    /// What clients were told was lost.
+    ReceiptsLost(PathBuf),
+    /// A replica is to be begun where there is one.
+    Begun(PathBuf),
+    /// A replica is to go on where there is none.
+    NotBegun(PathBuf),
+    /// Of this generation there are so many entries, and a client was told of a later one.
+    Forgotten {
+        generation: u32,
+        entries: u32,
+        told: u32,
+    },
+    /// There are entries, and no identities.
+    NotWhole(PathBuf),
+}
+
+impl DirectoryFault {
+    /// Whether the replica must not come back with this folder.
+    pub fn is_lasting(&self) -> bool {
+        !matches!(self, DirectoryFault::File(_))
+    }
+}
+
+impl From<FileFault> for DirectoryFault {
+    fn from(fault: FileFault) -> DirectoryFault {
+        DirectoryFault::File(fault)
+    }
+}
+
+impl fmt::Display for DirectoryFault {
+    fn fmt(&self, f: &mut fmt::Formatter) -> fmt::Result {
+        match self {
+            DirectoryFault::File(fault) => fault.fmt(f),
+            DirectoryFault::Old(path) => write!(
+                f,
+                "the folder {} has a log from before generations, and this store doesn't go on from it: start the store of that time, \
+                 read all keys there, and set them in a new cluster with empty folders",
+                path.display()
+            ),
+            DirectoryFault::Lost(path) => write!(f, "{} was lost. {NEVER}", path.display()),
+            DirectoryFault::ReceiptsLost(path) => write!(
+                f,
+                "{} was lost: what clients were told can't be audited, nor compared with the log",
+                path.display()
+            ),
+            DirectoryFault::Begun(path) => {
+                write!(f, "the folder {} has a replica already: --new is for its first start alone", path.display())
+            }
+            DirectoryFault::NotBegun(path) => {
+                write!(f, "the folder {} has no replica: --new begins one, where there never was one", path.display())
+            }
+            DirectoryFault::Forgotten { generation, entries, told } => write!(
+                f,
+                "the log of generation {generation} has forgotten: it has {entries} entries, and a client was told of entry {told}. {NEVER}"
+            ),
+            DirectoryFault::NotWhole(path) => write!(
+                f,
+                "the folder {} isn't whole: its log has entries, and {} is lost",
+                path.display(),
+                identities::NAME
+            ),
+        }
+    }
+}
+
+impl std::error::Error for DirectoryFault {}
