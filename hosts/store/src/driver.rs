@@ -759,17 +759,13 @@ impl<C: Core> Driver<C> {
         match (request, done) {
             (Request::Propose { call, command, reply }, Ok(())) => {
                 let instance = self.own_instance(call, proposed)?;
-                self.timers.open(instance, self.is_hopeless(), Instant::now());
                 if matches!(command, OwnedCommand::Put { .. }) && self.plant == Some(Plant::Early) {
                     reply.send(Told::Done { stamp: call.seen, reply: OwnedAnswer::Absent });
                 } else {
                     self.waiting.insert((call.client, call.request), Waiting { instance, reply });
                 }
             }
-            (Request::Seal { call, .. }, Ok(())) => {
-                let instance = self.own_instance(call, proposed)?;
-                self.timers.open(instance, self.is_hopeless(), Instant::now());
-            }
+            (Request::Seal { call, .. }, Ok(())) => _ = self.own_instance(call, proposed)?,
             (Request::Frame { from, head, bytes }, Ok(())) => {
                 self.others.see(from, head.entry);
                 if head.is_commit() {
@@ -777,8 +773,6 @@ impl<C: Core> Driver<C> {
                     self.timers.forget(head.instance);
                 } else if head.is_prepare() && !self.commits.here.has(head.instance) {
                     self.timers.put_off(head.instance, head.ballot, Instant::now());
-                } else if head.is_proposal() && !self.commits.here.has(head.instance) {
-                    self.timers.open(head.instance, false, Instant::now());
                 }
                 if head.is_seal_committed() {
                     self.commit_seal(head.seal(&bytes));

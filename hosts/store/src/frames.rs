@@ -4,7 +4,6 @@ use epaxos::{Fields, Instance};
 const MAGIC: &[u8] = b"EP";
 const VERSION: u8 = 3;
 const PRE_ACCEPT: u8 = 1;
-const ACCEPT: u8 = 3;
 const COMMIT: u8 = 5;
 const PREPARE: u8 = 6;
 /// The op of a seal.
@@ -52,11 +51,6 @@ impl Head {
         self.kind == COMMIT
     }
 
-    /// Whether its sender proposes a command for the instance, for the first time or not.
-    pub fn is_proposal(&self) -> bool {
-        self.kind == PRE_ACCEPT || self.kind == ACCEPT
-    }
-
     /// Whether its sender begins to recover the instance.
     pub fn is_prepare(&self) -> bool {
         self.kind == PREPARE
@@ -100,7 +94,6 @@ mod tests {
         assert_eq!((head.entry, head.ballot, head.dependencies, head.generation), (258, 1_800, 772, 1_286));
         assert_eq!(head.instance, Instance { replica: 2, number: 300 });
         assert!(head.is_seal_committed() && !head.is_seal_proposed() && head.is_commit() && !head.is_prepare());
-        assert!(!head.is_proposal());
         frame[44..48].copy_from_slice(&[0, 0, 0, 2]);
         let whole = [&frame[..], b"me", &[0; 6]].concat();
         assert_eq!((head.seal(&whole), head.seal(&frame)), (Some(&b"me"[..]), None));
@@ -112,14 +105,9 @@ mod tests {
         assert!(head.is_prepare() && !head.is_commit());
         frame[34] = 9;
         frame[3] = 1;
-        assert!(Head::read(&frame).unwrap().is_seal_proposed() && Head::read(&frame).unwrap().is_proposal());
+        assert!(Head::read(&frame).unwrap().is_seal_proposed());
         frame[34] = 3;
         assert!(!Head::read(&frame).unwrap().is_seal_proposed());
-        let kinds = (0..9).filter(|kind| {
-            frame[3] = *kind;
-            Head::read(&frame).unwrap().is_proposal()
-        });
-        assert!(kinds.eq([1, 3]));
         assert_eq!(Head::read(&frame[..43]), None);
         frame[2] = 2;
         assert_eq!(Head::read(&frame), None);

@@ -1,14 +1,13 @@
-//! When to give up, and when to recover: which instances are open, and since when. Most are known by their proposals. What is known to the core as
-//! a dependency alone, or from before a start, is found by looks, each of which takes the core several passes over all that it knows.
+//! When to give up, and when to recover: which instances are open, and since when.
 use crate::random::Random;
 use epaxos::Instance;
 use std::collections::{BTreeMap, BTreeSet};
 use std::time::{Duration, Instant};
 
-/// Between two looks for open instances.
-const BETWEEN_LOOKS: Duration = Duration::from_millis(200);
+/// Between two looks for open instances, each of which takes the core several passes over all that it knows.
+const BETWEEN_LOOKS: Duration = Duration::from_millis(30);
 /// Looking may take at most one part in so many of the time.
-const SHARE_OF_LOOKS: u32 = 20;
+const SHARE_OF_LOOKS: u32 = 40;
 /// For an own instance, whose leader this is.
 const OWN_WAIT: Duration = Duration::from_millis(100);
 /// The same where not all answers can come.
@@ -35,8 +34,6 @@ const MOST_PUT_OFF: u32 = 16;
 struct Wait {
     due: Instant,
     tries: u32,
-    /// How many looks there were when it was noted.
-    looks: u64,
 }
 
 /// The least wait after so many tries.
@@ -61,8 +58,6 @@ pub struct Timers {
     /// What the look that is under way has found.
     found: BTreeSet<Instance>,
     is_looking: bool,
-    /// How many looks have begun.
-    looks: u64,
     /// Whether something was taken since the last look began.
     is_changed: bool,
     next_look: Instant,
@@ -78,7 +73,6 @@ impl Timers {
             heard: BTreeSet::new(),
             found: BTreeSet::new(),
             is_looking: false,
-            looks: 0,
             is_changed: true,
             next_look: now,
             random,
@@ -106,38 +100,28 @@ impl Timers {
     pub fn after(&mut self) -> Option<Instance> {
         if !self.is_looking {
             self.is_looking = true;
-            self.looks += 1;
             self.is_changed = false;
         }
         self.found.last().copied()
     }
 
-    /// The instance is open. `is_hopeless`: an own proposal won't get its answers.
-    pub fn open(&mut self, instance: Instance, is_hopeless: bool, now: Instant) {
-        let wait = match instance.replica == self.replica {
-            true if is_hopeless => HOPELESS_WAIT,
-            true => OWN_WAIT,
-            false => self.random.from_once_to_twice(OTHERS_WAIT),
-        };
-        self.wait(instance, now + wait);
-    }
-
-    /// The wait of an instance: a new one ends then.
-    fn wait(&mut self, instance: Instance, due: Instant) -> &mut Wait {
-        self.open.entry(instance).or_insert(Wait { due, tries: 0, looks: self.looks })
-    }
-
-    /// The look found these next.
+    /// The look found these next. `is_hopeless`: an own proposal won't get its answers.
     pub fn find(&mut self, found: &[Instance], is_hopeless: bool, now: Instant) {
-        found.iter().for_each(|instance| self.open(*instance, is_hopeless, now));
+        for instance in found {
+            let wait = match instance.replica == self.replica {
+                true if is_hopeless => HOPELESS_WAIT,
+                true => OWN_WAIT,
+                false => self.random.from_once_to_twice(OTHERS_WAIT),
+            };
+            self.open.entry(*instance).or_insert(Wait { due: now + wait, tries: 0 });
+        }
         self.found.extend(found);
     }
 
-    /// It found all that there are, but for what was noted since it began.
+    /// It found all that there are.
     pub fn find_no_more(&mut self) {
-        let (found, looks) = (std::mem::take(&mut self.found), self.looks);
-        self.open
-            .retain(|instance, wait| wait.looks == looks || found.contains(instance) || self.heard.contains(instance));
+        let found = std::mem::take(&mut self.found);
+        self.open.retain(|instance, _| found.contains(instance) || self.heard.contains(instance));
         self.is_looking = false;
     }
 
@@ -162,7 +146,7 @@ impl Timers {
     pub fn put_off(&mut self, instance: Instance, ballot: u16, now: Instant) {
         let least = LEAST_WAIT * (1 + u32::from(ballot) / BALLOTS_FOR_MORE).min(MOST_PUT_OFF);
         let due = now + self.random.from_once_to_twice(least);
-        let wait = self.wait(instance, due);
+        let wait = self.open.entry(instance).or_insert(Wait { due, tries: 0 });
         wait.due = wait.due.max(due);
     }
 
@@ -171,7 +155,7 @@ impl Timers {
         for instance in instances {
             if self.heard.insert(instance) {
                 let due = now + self.random.from_once_to_twice(HEARD_WAIT);
-                self.wait(instance, due);
+                self.open.entry(instance).or_insert(Wait { due, tries: 0 });
             }
         }
     }
@@ -194,9 +178,8 @@ impl Timers {
         self.heard.remove(&instance);
     }
 
-    /// A peer was reached again, or a seal is committed: what waits for long needn't any more, and what isn't known yet is looked for.
+    /// A peer was reached again: what waits for long needn't any more.
     pub fn hurry(&mut self, now: Instant) {
-        self.next_look = self.next_look.min(now);
         for wait in self.open.values_mut().filter(|wait| wait.tries > 0) {
             wait.tries = 1;
             wait.due = wait.due.min(now + self.random.from_once_to_twice(LEAST_WAIT));
