@@ -78,6 +78,13 @@ fn close(
     Ok(())
 }
 
+/// A root, and the components of what it reaches.
+#[derive(Drop)]
+pub struct Reach {
+    pub root: InstanceId,
+    pub components: Vec<Vec<InstanceId>>,
+}
+
 /// The components of what the root reaches by what is not skipped, each after those that it depends on.
 pub fn components(
     alloc: Global,
