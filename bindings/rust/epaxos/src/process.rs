@@ -348,7 +348,9 @@ fn generation_of(opening: Option<&[u8]>) -> u32 {
 
 /// Why a process doesn't go on from the log of a replica that has executed a seal.
 fn not_again(why: &str) -> OpenFault {
-    OpenFault::BadLog(format!("it has executed a seal, and a process doesn't take the rest again: {why}; open it by the library"))
+    OpenFault::BadLog(format!(
+        "it has executed a seal, and a process doesn't take the rest again: {why}; open it by the library"
+    ))
 }
 
 /// What a process says that refuses to start.
