@@ -319,8 +319,8 @@ uint8_t ep_synced(struct ep_replica *replica, size_t count);
 uint8_t ep_answers(struct ep_replica *replica, uint32_t told, uint8_t most, struct ep_bytes *answers);
 
 /* Does what a request asks: the bytes of one, from its length on. What it is answered, also where it is refused or
-   malformed, comes by `ep_answers`. EP_NO_REPLICA, EP_LENT; EP_NOT_ONE; EP_MEMORY: nothing was done, but of kinds 6
-   and 12, which execute several instances: some may have been executed, no answer comes, and asking again goes on. */
+   malformed, comes by `ep_answers`. EP_NO_REPLICA, EP_LENT; EP_NOT_ONE; EP_MEMORY: nothing was done, but of kind 12,
+   which executes all that is ready: some may have been executed, no answer comes, and asking again goes on. */
 uint8_t ep_ask(struct ep_replica *replica, const uint8_t *request, size_t request_len);
 
 /* ---- What a replica knows ---- */

@@ -156,7 +156,7 @@ fn asks(alloc: Global, hosted: &mut Hosted, request: &[u8]) -> u8
 }
 
 /// Does what a request asks: the bytes of one, from its length on. What it is answered, also where it is refused or malformed, comes by `ep_answers`. EP_NO_REPLICA, EP_LENT;
-/// EP_NOT_ONE; EP_MEMORY: nothing was done, but of kinds 6 and 12, which execute several instances: some may have been executed, no answer comes, and asking again goes on.
+/// EP_NOT_ONE; EP_MEMORY: nothing was done, but of kind 12, which executes all that is ready: some may have been executed, no answer comes, and asking again goes on.
 #[unsafe(no_mangle)]
 pub extern "C" fn ep_ask(alloc: Global, handle: &mut Handle, request: &[u8]) -> u8
     ensures { Unless result handle.old.value handle.new.value (λ h k. Asks result h request.now k) }
