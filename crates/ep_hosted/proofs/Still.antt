@@ -44,9 +44,11 @@ closed h0 h next file bytes same on_disk closing told = subst (λ (x : Hosting).
 })
 
 pub not_all : (h0 h : Hosting) (bytes : Buffer) (count : ℕ) → h0 ≡ h → h0.lent ≡ Some bytes → ¬ (length bytes.items ≡ count) → IsUnnoted h count NotAll
+unfolding IsUnnoted
 not_all h0 h bytes count same lent other = (bytes, ap (λ (x : Hosting). x.lent) (sym same) ∙ lent, other)
 
 pub not_noted : (h0 h : Hosting) (n' : Logged HostDevice) (bytes : Buffer) (count : ℕ) (fault : SyncFault) → h0 ≡ h → h0.lent ≡ Some bytes → length bytes.items ≡ count → (fault ≡ NoMemory) × (n' ≡ h0.node) → IsUnnoted h count fault × (record h0 { node = n' } ≡ h)
+unfolding IsUnnoted
 not_noted h0 h n' bytes count fault same lent long un = (
   subst (λ (f : SyncFault). IsUnnoted h count f) (sym un.0) (bytes, ap (λ (x : Hosting). x.lent) (sym same) ∙ lent, long),
   ap (λ (n : Logged HostDevice). record h0 { node = n }) un.1 ∙ same,
@@ -54,6 +56,7 @@ not_noted h0 h n' bytes count fault same lent long un = (
 
 pub noted : (h0 h : Hosting) (n' : Logged HostDevice) (bytes : Buffer) (count : ℕ) → h0 ≡ h → h0.lent ≡ Some bytes → length bytes.items ≡ count
     → n' ≡ record h0.node { device = n'.device; synced = length h0.node.replica.entries; on_disk = end_of h0.is_anew h0.node.on_disk (length bytes.items) } → HasNoted h count (record h0 { node = n'; lent = None; is_anew = false })
+unfolding HasNoted
 noted h0 h n' bytes count same lent long is = subst (λ (x : Hosting). HasNoted x count (record h0 { node = n'; lent = None; is_anew = false })) same (inl (record {
   bytes = bytes;
   lent = lent;

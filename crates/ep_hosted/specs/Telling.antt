@@ -16,8 +16,9 @@ use Rattle.ep_hosted.specs.declared.sync_fault.SyncFault.TheVariants as sync
 use Rattle.ep_hosted.specs.declared.tell_fault.TellFault.{TellFault}
 use Rattle.ep_hosted.specs.declared.tell_fault.TellFault.TheVariants.{Memory, Unsynced}
 
--- What is lent: what was lent before; nothing, where all is on the disk; or else the records of the entries that aren't.
-abbrev pub HasLent : Hosting → Hosting → Type 0
+-- What is lent: what was lent before; nothing, where all is on the disk; or else the records of the entries that aren't. (Callers take it whole, as the two
+-- below: it unfolds only where it is made.)
+unfoldable pub HasLent : Hosting → Hosting → Type 0
 HasLent h h' =
     ((h.lent ≢ None) × (h' ≡ h)) ⊎ (IsOnDisk h × (h' ≡ h)) ⊎ ((h.lent ≡ None) × (¬ IsOnDisk h) × ((bytes : Buffer) × (bytes.items ≡ unwritten h.node) × (h' ≡ record h { lent = Some bytes })))
 
@@ -35,7 +36,7 @@ pub record IsNoted (h : Hosting) (count : ℕ) (h' : Hosting) : Type 0 where
   pub is : h' ≡ record h { node = record h.node { device = h'.node.device; synced = length h.node.replica.entries; on_disk = h'.node.on_disk }; lent = None; is_anew = false }
 
 -- the same; or nothing was lent, and no bytes are said to be there
-abbrev pub HasNoted : Hosting → ℕ → Hosting → Type 0
+unfoldable pub HasNoted : Hosting → ℕ → Hosting → Type 0
 HasNoted h count h' = IsNoted h count h' ⊎ ((h.lent ≡ None) × (count ≡ 0) × (h' ≡ h))
 
 -- the log behind which the bytes are written, or whose place they take, and then
@@ -51,7 +52,7 @@ IsWritten h h' =
     → IsLogOf (origin_of h'.node) h'.node.replica.faults h'.node.replica.me h'.node.replica.entries h'.node.on_disk (log_after h.is_anew log bytes.items)
 
 -- why it isn't
-abbrev pub IsUnnoted : Hosting → ℕ → SyncFault → Type 0
+unfoldable pub IsUnnoted : Hosting → ℕ → SyncFault → Type 0
 IsUnnoted h count sync.NotLent = (h.lent ≡ None) × (count ≢ 0)
 IsUnnoted h count sync.NotAll = (bytes : Buffer) × (h.lent ≡ Some bytes) × (length bytes.items ≢ count)
 IsUnnoted h count sync.Memory = (bytes : Buffer) × (h.lent ≡ Some bytes) × (length bytes.items ≡ count)

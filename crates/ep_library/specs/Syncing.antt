@@ -23,24 +23,15 @@ abbrev pub IsRunOf : Option Buffer → Lent → Type 0
 IsRunOf None run = run.len ≡ 0
 IsRunOf (Some buffer) run = IsRun buffer run
 
--- What came of it. (Calls take it whole, so it unfolds only where it is made.)
-
-unfoldable pub HasMadeReady : Hosting → Hosting → Type 0
-HasMadeReady h k = HasLent h k
-
-unfoldable pub HasSynced : Hosting → ℕ → Hosting → Type 0
-HasSynced h count k = HasNoted h count k
-
-unfoldable pub IsUnsynced : Hosting → ℕ → SyncFault → Hosting → Type 0
-IsUnsynced h count fault k = IsUnnoted h count fault × (k ≡ h)
+-- What came of it.
 
 -- what is to be written is lent, and told; or there was no memory
 abbrev pub Lends : ℕ → Hosting → Hosting → Lent → ℕ → Type 0
-Lends status h k run anew = ((status ≡ done) × HasMadeReady h k × IsRunOf k.lent run × (anew ≡ flag k.is_anew)) ⊎ ((status ≡ memory) × (k ≡ h))
+Lends status h k run anew = ((status ≡ done) × HasLent h k × IsRunOf k.lent run × (anew ≡ flag k.is_anew)) ⊎ ((status ≡ memory) × (k ≡ h))
 
 -- so many bytes are on the disk; or they don't count so, as the status says
 abbrev pub Syncs : ℕ → Hosting → ℕ → Hosting → Type 0
-Syncs status h count k = ((status ≡ done) × HasSynced h count k) ⊎ ((fault : SyncFault) × (status ≡ sync_status fault) × IsUnsynced h count fault k)
+Syncs status h count k = ((status ≡ done) × HasNoted h count k) ⊎ ((fault : SyncFault) × (status ≡ sync_status fault) × IsUnnoted h count fault × (k ≡ h))
 
 -- what waits was told, and all that there is to tell; or nothing was, as the status says
 abbrev pub Answers : ℕ → Hosting → ℕ → ℕ → Hosting → Lent → Type 0

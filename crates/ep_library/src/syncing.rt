@@ -38,7 +38,6 @@ fn point_to(buffer: Option<&Vec<u8>>, run: &mut Lent)
 }
 
 /// The replica lends what is to be written.
-#[tactic(auto, unfolding(crate::specs::Syncing::HasMadeReady))]
 fn lends(alloc: Global, hosted: &mut Hosted, log: &mut Lent, is_anew: &mut u8) -> u8
     ensures told { Lends result hosted.old hosted.new log.new is_anew.new }
     ensures untold { result ≢ 0 → (log.new ≡ log.old) × (is_anew.new ≡ is_anew.old) }
@@ -79,7 +78,6 @@ pub extern "C" fn ep_ready(
 }
 
 /// So many bytes are on the disk.
-#[tactic(auto, unfolding(crate::specs::Syncing::HasSynced, crate::specs::Syncing::IsUnsynced))]
 fn syncs(hosted: &mut Hosted, count: usize) -> u8
     ensures { Syncs result hosted.old count hosted.new }
 {
