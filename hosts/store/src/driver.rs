@@ -18,7 +18,7 @@ use crate::plants::{Plant, changed};
 use crate::receipts::Receipts;
 use crate::stop_fault::StopFault;
 use crate::teller::Teller;
-use crate::timers::{Due, Timers};
+use crate::timers::{Due, OTHERS_WAIT, OWN_WAIT, Timers};
 use epaxos::{Answer, Call, Fault, Instance, MOST_COMMANDS, OwnedAnswer, OwnedCommand, Proposed, State};
 use std::collections::{HashMap, VecDeque};
 use std::fmt::Write;
@@ -237,6 +237,8 @@ pub struct Driver<C> {
     pub(crate) kept: usize,
     pub(crate) patience: Duration,
     pub(crate) held: VecDeque<Held>,
+    /// When each replica has sent the last frame.
+    pub(crate) heard: Vec<Option<Instant>>,
     /// Since when no majority is known to be reached.
     pub(crate) alone_since: Option<Instant>,
     /// The clients whose commands another replica proposes, with its number and since when, by client and request.
@@ -295,6 +297,7 @@ impl<C: Core> Driver<C> {
             kept: parts.kept,
             patience: parts.patience,
             held: VecDeque::new(),
+            heard: vec![None; place.replicas],
             alone_since: None,
             handed: HashMap::new(),
             answers: Arc::default(),
@@ -423,11 +426,17 @@ impl<C: Core> Driver<C> {
     fn take(&mut self, event: Event, batch: &mut Batch) -> Result<(), StopFault> {
         match event {
             Event::Came { from, bytes } if Message::is_one(&bytes) => self.hear(from, &bytes)?,
-            Event::Came { from, bytes } => self.take_frame(from, bytes, batch),
+            Event::Came { from, bytes } => {
+                if let Some(heard) = self.heard.get_mut(usize::from(from)) {
+                    *heard = Some(Instant::now());
+                }
+                self.take_frame(from, bytes, batch);
+            }
             Event::PeerReached(peer) => self.greet(peer),
             Event::PeerCame(peer) => {
                 self.peers.hurry(peer);
                 // (what came on the connection before may have been lost)
+                self.timers.doubt(Instant::now());
                 self.tell_commits(peer);
             }
             Event::NodeEnded(run) if run == self.node.run() => return Err(StopFault::Node(self.node.ended())),
@@ -563,10 +572,15 @@ impl<C: Core> Driver<C> {
         !self.is_whole(self.place.replica)
     }
 
+    /// The replica that isn't in this one's fast quorum: the one just below.
+    fn below(&self, replica: u8) -> u8 {
+        let replicas = self.place.replicas as u8;
+        (replica + replicas - 1) % replicas
+    }
+
     /// Whether all of a replica's fast quorum is reached, as far as this one knows: all replicas but the one just below.
     fn is_whole(&self, replica: u8) -> bool {
-        let replicas = self.place.replicas as u8;
-        let below = (replica + replicas - 1) % replicas;
+        let below = self.below(replica);
         self.peer_numbers().all(|peer| peer == below || self.is_reached(peer))
     }
 
@@ -596,10 +610,28 @@ impl<C: Core> Driver<C> {
         if self.is_alone() {
             return;
         }
-        for Due { instance, is_first } in self.timers.take_due(Instant::now()) {
+        let now = Instant::now();
+        let busy: Vec<_> = (0..self.place.replicas as u8).map(|replica| self.is_busy(replica, now)).collect();
+        for Due { instance, is_first } in
+            self.timers.take_due(now, |it| busy.get(usize::from(it.replica)) == Some(&true))
+        {
             let gives_up = is_first && instance.replica == self.place.replica;
             batch.requests.push(if gives_up { Request::GiveUp(instance) } else { Request::Recover(instance) });
         }
+    }
+
+    /// Whether those whom a replica's instances wait for have just sent frames: so what is late isn't lost. An own one waits for its fast quorum, another
+    /// one for its replica.
+    fn is_busy(&self, replica: u8, now: Instant) -> bool {
+        let has_sent = |peer: u8, patience: Duration| {
+            let heard = self.heard.get(usize::from(peer)).copied().flatten();
+            self.is_reached(peer) && heard.is_some_and(|at| now < at + patience)
+        };
+        if replica != self.place.replica {
+            return has_sent(replica, OTHERS_WAIT);
+        }
+        let below = self.below(replica);
+        self.peer_numbers().all(|peer| peer == below || has_sent(peer, OWN_WAIT))
     }
 
     /// Asks all of a batch with one sync, and hands out what comes of it: first the receipts to their file.

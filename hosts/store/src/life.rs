@@ -77,6 +77,7 @@ impl<C: Core> Driver<C> {
         let now = Instant::now();
         self.commits.open(peer, now);
         self.tell_commits(peer);
+        self.timers.doubt(now);
         self.timers.hurry(now);
     }
 

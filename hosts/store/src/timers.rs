@@ -10,11 +10,14 @@ const BETWEEN_LOOKS: Duration = Duration::from_millis(200);
 /// Looking may take at most one part in so many of the time.
 const SHARE_OF_LOOKS: u32 = 20;
 /// For an own instance, whose leader this is.
-const OWN_WAIT: Duration = Duration::from_millis(100);
+pub const OWN_WAIT: Duration = Duration::from_millis(100);
 /// The same where not all answers can come.
 const HOPELESS_WAIT: Duration = Duration::from_millis(10);
 /// For another one's: it may well be under way.
-const OTHERS_WAIT: Duration = Duration::from_millis(300);
+pub const OTHERS_WAIT: Duration = Duration::from_millis(300);
+/// While those whom it waits for are busy with other things, a first wait lasts so long at most: to give up and to recover then would be more to do for
+/// all, and the later still.
+const MOST_BUSY: Duration = Duration::from_secs(3);
 /// For one that a peer tells to be committed: mostly it comes by itself, or who has sent the Commit sends it again.
 const HEARD_WAIT: Duration = Duration::from_millis(1_500);
 /// After the first try; it doubles with each further one,
@@ -33,6 +36,8 @@ const BALLOTS_FOR_MORE: u32 = 8;
 const MOST_PUT_OFF: u32 = 16;
 
 struct Wait {
+    /// Until when whom it waits for may be busy.
+    patient: Instant,
     due: Instant,
     tries: u32,
     /// How many looks there were when it was noted.
@@ -119,12 +124,17 @@ impl Timers {
             true => OWN_WAIT,
             false => self.random.from_once_to_twice(OTHERS_WAIT),
         };
-        self.wait(instance, now + wait);
+        self.wait(instance, now, wait);
     }
 
-    /// The wait of an instance: a new one ends then.
-    fn wait(&mut self, instance: Instance, due: Instant) -> &mut Wait {
-        self.open.entry(instance).or_insert(Wait { due, tries: 0, looks: self.looks })
+    /// The wait of an instance: a new one begins now, for so long.
+    fn wait(&mut self, instance: Instance, now: Instant, wait: Duration) -> &mut Wait {
+        self.open.entry(instance).or_insert(Wait {
+            patient: now + MOST_BUSY,
+            due: now + wait,
+            tries: 0,
+            looks: self.looks,
+        })
     }
 
     /// The look found these next.
@@ -146,10 +156,17 @@ impl Timers {
         self.next_look = now + BETWEEN_LOOKS.max(cost * SHARE_OF_LOOKS);
     }
 
-    /// Those whose waits are over, each of which waits again, for longer.
-    pub fn take_due(&mut self, now: Instant) -> Vec<Due> {
+    /// Those whose waits are over, each of which waits again, for longer. `is_busy`: whom it waits for is there, and does other things.
+    pub fn take_due(&mut self, now: Instant, is_busy: impl Fn(Instance) -> bool) -> Vec<Due> {
         let mut all = Vec::new();
-        for (instance, wait) in self.open.iter_mut().filter(|(_, wait)| wait.due <= now).take(MOST_DUE) {
+        for (instance, wait) in self.open.iter_mut().filter(|(_, wait)| wait.due <= now) {
+            if wait.tries == 0 && now < wait.patient && is_busy(*instance) {
+                wait.due = now + OWN_WAIT;
+                continue;
+            }
+            if all.len() == MOST_DUE {
+                break;
+            }
             all.push(Due { instance: *instance, is_first: wait.tries == 0 });
             wait.tries += 1;
             wait.due = now + self.random.from_once_to_twice(least_after(wait.tries));
@@ -161,17 +178,17 @@ impl Timers {
     /// one, as the one that has begun may be lost, and a longer one where many have come to nothing.
     pub fn put_off(&mut self, instance: Instance, ballot: u16, now: Instant) {
         let least = LEAST_WAIT * (1 + u32::from(ballot) / BALLOTS_FOR_MORE).min(MOST_PUT_OFF);
-        let due = now + self.random.from_once_to_twice(least);
-        let wait = self.wait(instance, due);
-        wait.due = wait.due.max(due);
+        let least = self.random.from_once_to_twice(least);
+        let wait = self.wait(instance, now, least);
+        wait.due = wait.due.max(now + least);
     }
 
     /// A peer tells that these are committed, which they aren't here. Those that are known to be open wait no longer for that.
     pub fn hear(&mut self, instances: impl IntoIterator<Item = Instance>, now: Instant) {
         for instance in instances {
             if self.heard.insert(instance) {
-                let due = now + self.random.from_once_to_twice(HEARD_WAIT);
-                self.wait(instance, due);
+                let wait = self.random.from_once_to_twice(HEARD_WAIT);
+                self.wait(instance, now, wait);
             }
         }
     }
@@ -192,6 +209,11 @@ impl Timers {
     pub fn forget(&mut self, instance: Instance) {
         self.open.remove(&instance);
         self.heard.remove(&instance);
+    }
+
+    /// A connection was opened anew: what was on its way before may be lost, whoever is busy.
+    pub fn doubt(&mut self, now: Instant) {
+        self.open.values_mut().for_each(|wait| wait.patient = now);
     }
 
     /// A peer was reached again, or a seal is committed: what waits for long needn't any more, and what isn't known yet is looked for.
@@ -239,21 +261,21 @@ mod tests {
         let mut now = Instant::now();
         let mut timers = Timers::new(0, now, Random::from_seed(1));
         looked(&mut timers, &[OWN, OTHER], now);
-        assert_eq!(timers.take_due(now), []);
+        assert_eq!(timers.take_due(now, |_| false), []);
         assert_eq!((timers.next(false), timers.next(true)), (Some(now + OWN_WAIT), None));
         now += OWN_WAIT;
-        assert_eq!(timers.take_due(now), [Due { instance: OWN, is_first: true }]);
+        assert_eq!(timers.take_due(now, |_| false), [Due { instance: OWN, is_first: true }]);
         timers.retry(OWN, now);
         timers.retry(Instance { number: 9, ..OWN }, now);
-        assert_eq!(timers.take_due(now), [Due { instance: OWN, is_first: false }]);
+        assert_eq!(timers.take_due(now, |_| false), [Due { instance: OWN, is_first: false }]);
         now += OTHERS_WAIT * 2;
         let due = [Due { instance: OWN, is_first: false }, Due { instance: OTHER, is_first: true }];
-        assert_eq!(timers.take_due(now), due);
+        assert_eq!(timers.take_due(now, |_| false), due);
         for least in [150, 300, 600, 1_200, 2_400, 4_800, 4_800, 4_800].map(Duration::from_millis) {
             let wait = timers.open[&OTHER].due - now;
             assert!(least <= wait && wait <= 2 * least);
             now += wait;
-            timers.take_due(now);
+            timers.take_due(now, |_| false);
             timers.open.remove(&OWN);
         }
         timers.change();
@@ -278,7 +300,7 @@ mod tests {
         let due = timers.open[&OTHER].due;
         timers.put_off(OTHER, 1, now);
         assert_eq!(timers.open[&OTHER].due, due);
-        assert_eq!(timers.take_due(due), [Due { instance: OTHER, is_first: true }]);
+        assert_eq!(timers.take_due(due, |_| false), [Due { instance: OTHER, is_first: true }]);
         // What isn't known to be open is, until a look finds that it isn't.
         timers.put_off(OWN, 1, now);
         assert_eq!(timers.count(), 2);
@@ -291,15 +313,37 @@ mod tests {
         let now = Instant::now();
         let mut timers = Timers::new(0, now, Random::from_seed(1));
         timers.hear([OTHER], now);
-        assert_eq!(timers.take_due(now + HEARD_WAIT - Duration::from_millis(1)), []);
+        assert_eq!(timers.take_due(now + HEARD_WAIT - Duration::from_millis(1), |_| false), []);
         // (that it is told again puts nothing off)
         timers.hear([OTHER], now + HEARD_WAIT);
         looked(&mut timers, &[OWN], now);
         assert_eq!((timers.count(), timers.count_with(&[OWN]), timers.count_with(&[OWN, OTHER])), (2, 2, 2));
         let due = [Due { instance: OWN, is_first: true }, Due { instance: OTHER, is_first: true }];
-        assert_eq!(timers.take_due(now + 2 * HEARD_WAIT), due);
+        assert_eq!(timers.take_due(now + 2 * HEARD_WAIT, |_| false), due);
         timers.forget(OTHER);
         looked(&mut timers, &[], now);
         assert_eq!((timers.count(), timers.count_with(&[])), (0, 0));
+    }
+
+    #[test]
+    fn who_is_busy_has_more_time() {
+        let now = Instant::now();
+        let mut timers = Timers::new(0, now, Random::from_seed(1));
+        timers.open(OWN, false, now);
+        timers.open(OTHER, false, now);
+        let late = now + MOST_BUSY - Duration::from_millis(1);
+        assert_eq!(timers.take_due(late, |_| true), []);
+        assert_eq!(
+            timers.take_due(late + OWN_WAIT, |it| it == OTHER),
+            [OWN, OTHER].map(|instance| Due { instance, is_first: true })
+        );
+        // What was tried once is tried again, and what may be lost isn't waited for.
+        assert_eq!(timers.take_due(late + 2 * MOST_BUSY, |_| true).len(), 2);
+        timers.open(Instance { number: 4, ..OWN }, false, now);
+        timers.doubt(now);
+        assert_eq!(
+            timers.take_due(now + OWN_WAIT, |_| true),
+            [Due { instance: Instance { number: 4, ..OWN }, is_first: true }]
+        );
     }
 }

@@ -77,7 +77,7 @@ fn run_with_patience(cluster: &Cluster, replica: usize, words: &[&str]) -> Strin
     for _ in 0..50 {
         let Ok(output) = Command::new("redis-cli").args(["-p", &port]).args(words).output() else { break };
         let told = String::from_utf8_lossy(&[output.stdout, output.stderr].concat()).trim().to_string();
-        if !told.contains("Connection refused") {
+        if !told.contains("Connection refused") && !told.contains("takes no part") {
             return told;
         }
         thread::sleep(Duration::from_millis(100));
