@@ -1,5 +1,5 @@
 -- Filling a buffer part by part.
-use Rattle.std.proofs.Common.{◌≡◌, ℕ, ◌+◌, ◌-◌, ◌≤◌, ◌<◌, Bool, true, false, List, [], ◌∷◌, ◌++◌, length, take, drop, slice_range, Option, Some, None, refl, sym, ap, ◌∙◌, subst, le_refl, drop_at, length-take-le, take_all, append_assoc, append-nil, length-append, arith}
+use Rattle.std.proofs.Common.{◌≡◌, ℕ, ◌+◌, ◌-◌, ◌≤◌, ◌<◌, false, List, [], ◌∷◌, ◌++◌, length, take, drop, slice_range, Option, Some, None, refl, sym, ap, ◌∙◌, subst, le_refl, drop_at, length-take-le, append_assoc, append-nil, length-append, arith}
 use Rattle.std.proofs.lemmas.Slice.{take-put_mid_below}
 use Rattle.std.specs.Io.KnownBytes.{Consumes, IsAtEnd}
 use borrow.Rule.Slice.PartMut.{put_mid, post_of}
@@ -30,10 +30,6 @@ pub front : (a k n : ℕ) (xs ys : List ℕ) → a ≤ length xs → n ≤ lengt
 front a k n xs ys within fits =
     ap (λ l. take a xs ++ l) (sym (slice_range-put_mid a k n xs ys within fits))
     ∙ take_split a (a + n) xs (put_mid a k xs ys) (omega arith) (take-put_mid_below _ _ _ _ _ (le_refl _) within)
-
--- the buffer is full
-pub full : (zs buf : List ℕ) (at : ℕ) (left : Option (List ℕ)) → length buf ≤ at → Begun zs (take at buf) left → Fills true zs buf left
-full zs buf at left h c = (c.0, c.1, c.2 ∙ ap (λ l. l ++ c.0) (take_all at buf h))
 
 -- the source is at its end before
 pub short : (zs buf : List ℕ) (at n : ℕ) (left left' : Option (List ℕ)) (cs : List ℕ) → at < length buf → Begun zs (take at buf) left → IsAtEnd left → Consumes left left' cs → Fills false zs buf left'

@@ -1,4 +1,5 @@
 pub mod Readings
+pub mod Fronts
 pub mod Filled
 pub mod Loops
 pub mod Next

@@ -3,7 +3,7 @@
 ghost use Rattle.std.specs.Prelude.{◌≡◌, ◌≤◌, ℕ, List, Some, length, take, IfOk, OnOk, true};
 ghost use Rattle.ep_base.specs.Devices.{FailsAsTold};
 ghost use Rattle.ep_bundle.specs.Reading.{map_ok, field, number, run, is_read_failed, Reads};
-ghost use Rattle.ep_bundle.specs.Filling.{Begun, Fills};
+ghost use Rattle.ep_bundle.specs.Filling.{Begun, Fills, FillsTo};
 
 use crate::bundle_fault::BundleFault;
 use crate::room::Room;
@@ -12,6 +12,26 @@ use bytes::{Bytes, BytesMut};
 use ep_base::{ReadFailed, Source};
 use std::alloc::Global;
 
+/// Fills the front of the buffer with the next bytes of the source, all of it unless the input ends before: how many they are.
+#[inline(always)]
+pub(crate) fn fill_to<S: Source>(source: &mut S, buf: &mut [u8]) -> Result<usize, ReadFailed>
+    ensures bytes { (zs : List ℕ) → S.left source.old ≡ Some zs → IfOk result (λ n. FillsTo n zs buf.new (S.left source.new)) }
+    ensures long { length buf.new ≡ length buf.old }
+    ensures told { FailsAsTold (λ _. true) result (S.has_failed source.old) (S.has_failed source.new) }
+{
+    if buf.is_empty() {
+        return Ok(0);
+    }
+    let count = source.pull(buf)?;
+    if count == 0 {
+        return Ok(0);
+    }
+    if count < buf.len() {
+        return fill_from(source, buf, count);
+    }
+    Ok(count)
+}
+
 /// Fills the buffer with the next bytes of the source; false where the input ends before it is full.
 #[inline(always)]
 pub(crate) fn fill<S: Source>(source: &mut S, buf: &mut [u8]) -> Result<bool, ReadFailed>
@@ -19,24 +39,18 @@ pub(crate) fn fill<S: Source>(source: &mut S, buf: &mut [u8]) -> Result<bool, Re
     ensures long { length buf.new ≡ length buf.old }
     ensures told { FailsAsTold (λ _. true) result (S.has_failed source.old) (S.has_failed source.new) }
 {
-    if buf.is_empty() {
-        return Ok(true);
-    }
-    let count = source.pull(buf)?;
-    if count == 0 {
-        return Ok(false);
-    }
+    let count = fill_to(source, buf)?;
     if count < buf.len() {
-        return fill_from(source, buf, count);
+        return Ok(false);
     }
     Ok(true)
 }
 
-/// Fills the rest of a buffer, of which so many bytes were taken.
+/// Fills the rest of a buffer, of which so many bytes were taken: how many are then.
 #[cold]
-fn fill_from<S: Source>(source: &mut S, buf: &mut [u8], from: usize) -> Result<bool, ReadFailed>
+fn fill_from<S: Source>(source: &mut S, buf: &mut [u8], from: usize) -> Result<usize, ReadFailed>
     requires { from ≤ length buf.old }
-    ensures bytes { (zs : List ℕ) → Begun zs (take from buf.old) (S.left source.old) → IfOk result (λ full. Fills full zs buf.new (S.left source.new)) }
+    ensures bytes { (zs : List ℕ) → Begun zs (take from buf.old) (S.left source.old) → IfOk result (λ n. FillsTo n zs buf.new (S.left source.new)) }
     ensures long { length buf.new ≡ length buf.old }
     ensures told { FailsAsTold (λ _. true) result (S.has_failed source.old) (S.has_failed source.new) }
 {
@@ -44,11 +58,11 @@ fn fill_from<S: Source>(source: &mut S, buf: &mut [u8], from: usize) -> Result<b
     while at < buf.len() {
         let count = source.pull(&mut buf[at..])?;
         if count == 0 {
-            return Ok(false);
+            return Ok(at);
         }
         at += count;
     }
-    Ok(true)
+    Ok(at)
 }
 
 /// Takes as many bytes as the buffer is long.

@@ -63,18 +63,18 @@ fn extended(list: Vec<InstanceId>, more: Vec<InstanceId>) -> Result<Vec<Instance
 }
 
 /// The same with their tests.
-fn pool_listed(first: Marked, second: Marked) -> Result<Marked, AllocError>
+fn pool_marked(first: Marked, second: Marked) -> Result<Marked, AllocError>
     ensures { IfOk result (λ l. l ≡ pooled first second) }
 {
     if first.as_slice().len() < second.as_slice().len() {
-        extended_listed(second, first)
+        extended_marked(second, first)
     } else {
-        extended_listed(first, second)
+        extended_marked(first, second)
     }
 }
 
 /// A list with another one at its end, with its test.
-fn extended_listed(list: Marked, more: Marked) -> Result<Marked, AllocError>
+fn extended_marked(list: Marked, more: Marked) -> Result<Marked, AllocError>
     ensures { IfOk result (λ l. l ≡ list ++ more) }
 {
     let mut list = list;
@@ -91,7 +91,7 @@ fn join(below: Level, top: Level) -> Result<Level, AllocError>
         members: more,
         edges: others,
     } = top;
-    let members = pool_listed(members, more)?;
+    let members = pool_marked(members, more)?;
     let edges = pool(edges, others)?;
     Ok(Level { members, edges })
 }

@@ -14,7 +14,7 @@ use crate::graph::attrs_at;
 use crate::level::append;
 use crate::plan_fault::PlanFault;
 use crate::ready::{lesser, order_of};
-use crate::walk::components;
+use crate::walk::{Reach, components};
 use ep_base::InstanceId;
 use ep_space::Space;
 use std::alloc::{AllocError, Global};
@@ -80,12 +80,13 @@ fn plan_past(
     if is_alone(space, skipped, root) {
         return Ok(Vec::from_slice(alloc, &[root])?);
     }
-    let found = components(alloc, space, skipped, root)?;
-    let members = members_of(alloc, &found)?;
+    let components = components(alloc, space, skipped, root)?;
+    let reach = Reach { root, components };
+    let members = members_of(alloc, &reach.components)?;
     if let Some(instance) = least_missing(space, &members) {
         return Err(PlanFault::NotCommitted(instance));
     }
-    Ok(order_of(alloc, space, skipped, executed, root, &found)?)
+    Ok(order_of(alloc, space, skipped, executed, &reach)?)
 }
 
 /// The execution order of a root, after these were executed (EPaxos, section 4.3.2): nothing where the root was executed, and else all that it

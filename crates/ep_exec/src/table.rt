@@ -359,26 +359,32 @@ pub fn exchange(
     Ok(put_both(table, name, other, other_name, own))
 }
 
+/// What a key is to have, where it has what is expected.
+#[derive(Clone, Copy)]
+pub struct Change<'a> {
+    pub expected: Option<&'a [u8]>,
+    pub new: Option<&'a [u8]>,
+}
+
 /// The same as `compare`, and notes what is changed to be put back.
 pub fn compare_noted(
     alloc: Global,
     table: &mut ValueTable,
     undo: &mut Vec<(Vec<u8>, Option<Value>)>,
     key: &[u8],
-    expected: Option<&[u8]>,
-    new: Option<&[u8]>,
+    change: Change<'_>,
 ) -> Result<Option<Value>, AllocError>
-    requires { IsShort (option_copied new) }
+    requires { IsShort (option_copied change.new) }
     ensures was { IfOk result (λ was. was ≡ value_at (contents_of table.old.entries) key.now) }
-    ensures ok { OnOk result (contents_of table.new.entries ≡ written (contents_of table.old.entries) (Cas key.now (option_copied expected.entry) (option_copied new.entry))) }
+    ensures ok { OnOk result (contents_of table.new.entries ≡ written (contents_of table.old.entries) (Cas key.now (option_copied change.entry.expected) (option_copied change.entry.new))) }
     ensures err { OnErr result (contents_of table.new.entries ≡ contents_of table.old.entries) }
     ensures undo { restored undo.new.items (contents_of table.new.entries) ≡ restored undo.old.items (contents_of table.old.entries) }
     ensures places { HavePlaces table.old.entries undo.old.items → HavePlaces table.new.entries undo.new.items }
 {
-    if !has_value(table, key, expected) {
+    if !has_value(table, key, change.expected) {
         return copied(alloc, value_of(table, key));
     }
-    let value = made(alloc, new)?;
+    let value = made(alloc, change.new)?;
     write(alloc, table, undo, key, value)
 }
 

@@ -10,8 +10,8 @@ ghost use Rattle.ep_exec.specs.Tries.{tried};
 
 use crate::store::Store;
 use crate::table::{
-    ValueTable, compare_noted, copied, exchange, sealed, sweep_all, take_back, told, value_of,
-    write,
+    Change, ValueTable, compare_noted, copied, exchange, sealed, sweep_all, take_back, told,
+    value_of, write,
 };
 use ep_base::{Answer, Command, CommandView, Reply, Value};
 use std::alloc::{AllocError, Global};
@@ -166,7 +166,8 @@ fn try_open(
             Ok(Answer::Told(told(was)))
         }
         CommandView::Cas(key, expected, new) => {
-            let was = compare_noted(alloc, table, undo, key, expected, new)?;
+            let change = Change { expected, new };
+            let was = compare_noted(alloc, table, undo, key, change)?;
             Ok(Answer::Told(told(was)))
         }
     }

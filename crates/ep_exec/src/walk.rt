@@ -17,6 +17,15 @@ use ep_base::InstanceId;
 use ep_space::Space;
 use std::alloc::{AllocError, Global};
 
+/// A walk under way: what is in closed components, what was met, and the path.
+#[derive(Drop)]
+struct Walk {
+    alloc: Global,
+    closed: Marked,
+    seen: Marked,
+    path: Vec<Level>,
+}
+
 /// Puts a level of one instance on the path.
 fn enter(
     alloc: Global,
@@ -37,30 +46,28 @@ fn enter(
 
 /// Follows a dependency of the top level.
 fn follow(
-    alloc: Global,
+    walk: &mut Walk,
     space: &Space,
     skipped: &Executed,
-    closed: &Marked,
-    seen: &mut Marked,
-    path: &mut Vec<Level>,
     top: Level,
     instance: InstanceId,
 ) -> Result<(), AllocError>
-    requires { Sees seen.old closed.now (flat top ∷ stack path.old.items) }
-    ensures path { OnOk result (Follows (left_in space.now.records skipped.now.list) closed.now (flat top) (stack path.old.items) instance (stack path.new.items)) }
-    ensures seen { OnOk result (Sees seen.new closed.now (stack path.new.items)) }
+    requires { Sees walk.old.seen walk.old.closed (flat top ∷ stack walk.old.path.items) }
+    ensures path { OnOk result (Follows (left_in space.now.records skipped.now.list) walk.old.closed (flat top) (stack walk.old.path.items) instance (stack walk.new.path.items)) }
+    ensures seen { OnOk result (Sees walk.new.seen walk.old.closed (stack walk.new.path.items)) }
+    ensures closed { OnOk result (walk.new.closed ≡ walk.old.closed) }
 {
-    if closed.contains(instance) {
-        path.push(top)?;
+    if walk.closed.contains(instance) {
+        walk.path.push(top)?;
         return Ok(());
     }
-    if seen.contains(instance) {
-        merge(path, top, instance)?;
+    if walk.seen.contains(instance) {
+        merge(&mut walk.path, top, instance)?;
         return Ok(());
     }
-    path.push(top)?;
-    enter(alloc, space, skipped, path, instance)?;
-    seen.push(instance)?;
+    walk.path.push(top)?;
+    enter(walk.alloc, space, skipped, &mut walk.path, instance)?;
+    walk.seen.push(instance)?;
     Ok(())
 }
 
@@ -78,6 +85,13 @@ fn close(
     Ok(())
 }
 
+/// A root, and the components of what it reaches.
+#[derive(Drop)]
+pub struct Reach {
+    pub root: InstanceId,
+    pub components: Vec<Vec<InstanceId>>,
+}
+
 /// The components of what the root reaches by what is not skipped, each after those that it depends on.
 pub fn components(
     alloc: Global,
@@ -87,26 +101,23 @@ pub fn components(
 ) -> Result<Vec<Vec<InstanceId>>, AllocError>
     ensures { IfOk result (λ v. AreComponents (left_in space.now.records skipped.now.list) root (lists v.items)) }
 {
-    let mut closed = Marked::new(alloc);
-    let mut seen = Marked::new(alloc);
+    let mut walk = Walk {
+        alloc,
+        closed: Marked::new(alloc),
+        seen: Marked::new(alloc),
+        path: Vec::new(alloc),
+    };
     let mut found = Vec::new(alloc);
-    let mut path = Vec::new(alloc);
-    enter(alloc, space, skipped, &mut path, root)?;
-    seen.push(root)?;
-    while let Some(top) = path.pop() {
+    enter(alloc, space, skipped, &mut walk.path, root)?;
+    walk.seen.push(root)?;
+    while let Some(top) = walk.path.pop() {
         let Level { members, mut edges } = top;
         match edges.pop() {
-            None => close(&mut closed, &mut found, members)?,
-            Some(instance) => follow(
-                alloc,
-                space,
-                skipped,
-                &closed,
-                &mut seen,
-                &mut path,
-                Level { members, edges },
-                instance,
-            )?,
+            None => close(&mut walk.closed, &mut found, members)?,
+            Some(instance) => {
+                let top = Level { members, edges };
+                follow(&mut walk, space, skipped, top, instance)?;
+            }
         }
     }
     Ok(found)

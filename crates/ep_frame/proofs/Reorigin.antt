@@ -68,10 +68,6 @@ again v b from o n m s apart fits = record {
   is = ap (λ (x : List ℕ). readdressed x n) s.is ∙ sym (changed n (parts_of v from o m)) ∙ ap parts_bytes (sym (reorigin_is v from o n m));
 }
 
--- with its own origin it is as it was
-pub same : (v : Version) (b : List ℕ) (from : ℕ) (o : Origin) (m : Message) → Spells v b from o m → readdressed b o ≡ b
-same v b from o m s = ap (λ (x : List ℕ). readdressed x o) s.is ∙ sym (changed o (parts_of v from o m)) ∙ ap parts_bytes (sym (reorigin_is v from o o m)) ∙ sym s.is
-
 pub length-readdressed : (b : List ℕ) (n : Origin) → 20 ≤ length b → length (readdressed b n) ≡ length b
 unfolding number_bytes
 length-readdressed b n long = omega (arith, length-append (take 5 b ++ origin_bytes n) (drop 20 b), length-append (take 5 b) (origin_bytes n), length-take 5 b, length-drop 20 b)

@@ -1,5 +1,5 @@
 -- The frames of one message to several replicas.
-use Rattle.std.specs.Prelude.{◌≡◌, ℕ, suc, List, [], ◌∷◌}
+use Rattle.std.specs.Prelude.{ℕ, suc, List, [], ◌∷◌}
 use Rattle.ep_base.specs.declared.message.Message.{Message}
 use Rattle.ep_base.specs.declared.version.Version.{Version}
 use Rattle.ep_frame.specs.Origins.{readdressed, OriginFits}
@@ -21,8 +21,3 @@ readdressed_to b n stamp k (r ∷ rs) = readdressed b (record { to = r; out = k;
 abbrev pub OriginsFit : ℕ → ℕ → ℕ → List ℕ → Type 0
 OriginsFit n stamp k [] = Unit {0}
 OriginsFit n stamp k (r ∷ rs) = OriginFits (record { to = r; out = k; entry = n; stamp = stamp }) × OriginsFit n stamp (suc k) rs
-
--- the frame has the origin of the first receiver's, which is in range
-abbrev pub IsFirst : List ℕ → ℕ → ℕ → List ℕ → Type 0
-IsFirst b n stamp [] = Unit {0}
-IsFirst b n stamp (r ∷ rs) = (readdressed b (record { to = r; out = 0; entry = n; stamp = stamp }) ≡ b) × OriginFits (record { to = r; out = 0; entry = n; stamp = stamp })

@@ -1,6 +1,6 @@
 //! Writing a message as a frame.
 
-ghost use Rattle.std.specs.Prelude.{◌≡◌, ◌≢◌, ◌≤◌, ◌<◌, ◌^◌, ◌++◌, ◌∷◌, [], length, take, OnOk, IfOk};
+ghost use Rattle.std.specs.Prelude.{◌≡◌, ◌≢◌, ◌≤◌, ◌<◌, ◌^◌, ◌++◌, ◌∷◌, [], length, OnOk, IfOk};
 ghost use Rattle.std.specs.List.{flat_map, concat, AllByRecursion};
 ghost use Rattle.ep_frame.specs.Fields.{spelled, start_fields, origin_fields, ballot_fields, vote_fields, text_len, body_fields, late_fields, header_bytes, dep_bytes};
 ghost use Rattle.ep_frame.specs.Spelling.{IsFrame, Spells, parts_bytes};
@@ -8,7 +8,7 @@ ghost use Rattle.ep_base.specs.Fitting.{BallotsFit};
 ghost use Rattle.ep_base.specs.Versions.{CanSay};
 ghost use Rattle.ep_frame.specs.Layouts.{parts_in, told_by};
 ghost use Rattle.ep_frame.specs.Origins.{readdressed, OriginFits};
-ghost use Rattle.ep_frame.specs.Rounds.{AreFramesTo, IsFirst, OriginsFit, readdressed_to};
+ghost use Rattle.ep_frame.specs.Rounds.{AreFramesTo, OriginsFit, readdressed_to};
 
 use crate::frame::Frame;
 use crate::frame_mut::origin_array;
@@ -17,7 +17,7 @@ use crate::layout::Layout;
 use crate::origin::Origin;
 use crate::round::Round;
 use crate::telling::Telling;
-use bytes::{Bytes, BytesMut};
+use bytes::Bytes;
 use ep_base::{InstanceId, Message, ReplicaId, Version};
 use std::alloc::{AllocError, Global};
 
@@ -252,14 +252,9 @@ pub fn write_each(
     requires sayable { CanSay version (told_by telling.now) }
     ensures { IfOk result (λ f. AreFramesTo version from (told_by telling.now) round.now.entry round.now.stamp 0 round.now.receivers.now f.items) }
 {
-    let origin = round.origin(0);
-    let _kind = version.kind();
-    let parts = Layout::of(version, from, origin, telling);
-    let first = spelled(alloc, &parts, round.receivers.len())?;
-    let len = first.len();
-    let all = repeated(first, round)?;
-    let front = all.slice(0..len)?;
-    cut(alloc, all, front.as_slice(), round)
+    let first = written(alloc, version, from, telling, round.origin(0))?;
+    let all = repeated(alloc, &first, round)?;
+    cut(alloc, Bytes::from_vec(all)?, &first, round)
 }
 
 /// The bytes of the frame of what is told.
@@ -278,49 +273,37 @@ fn written(
 {
     let _kind = version.kind();
     let parts = Layout::of(version, from, origin, telling);
-    spelled(alloc, &parts, 1)
-}
-
-/// The frame's bytes, with room for so many such frames.
-fn spelled(alloc: Global, parts: &Layout<'_>, count: usize) -> Result<Vec<u8>, AllocError>
-    requires { text_len parts.now.header < 2 ^ 16 }
-    ensures { IfOk result (λ b. b.items ≡ parts_bytes (parts_in parts.now)) }
-{
-    let mut out = Vec::with_capacity(alloc, parts.header.len().saturating_mul(count))?;
-    put_parts(&mut out, parts)?;
+    let mut out = Vec::with_capacity(alloc, parts.header.len())?;
+    put_parts(&mut out, &parts)?;
     Ok(out)
 }
 
-/// The frame's bytes once for each of the receivers, one after the other, each with its origin; the first has the first one's.
-fn repeated(frame: Vec<u8>, round: &Round<'_>) -> Result<Bytes, AllocError>
-    requires long { 20 ≤ length frame.items }
-    requires some { 1 ≤ length round.now.receivers.now }
+/// The frame's bytes once for each of the receivers, one after the other, each with its origin.
+fn repeated(alloc: Global, frame: &[u8], round: &Round<'_>) -> Result<Vec<u8>, AllocError>
+    requires long { 20 ≤ length frame.now }
     requires few { length round.now.receivers.now ≤ 7 }
     requires entry { 1 ≤ round.now.entry }
-    requires first { IsFirst frame.items round.now.entry round.now.stamp round.now.receivers.now }
-    ensures bytes { IfOk result (λ b. b ≡ concat (readdressed_to frame.items round.now.entry round.now.stamp 0 round.now.receivers.now)) }
+    ensures bytes { IfOk result (λ b. b.items ≡ concat (readdressed_to frame.now round.now.entry round.now.stamp 0 round.now.receivers.now)) }
     ensures in_range { IfOk result (λ _. OriginsFit round.now.entry round.now.stamp 0 round.now.receivers.now) }
 {
-    let len = frame.len();
-    let mut all = BytesMut::from_vec(frame);
-    for place in 1..round.receivers.len() {
-        put_again(&mut all, len, round.origin(place))?;
+    let count = round.receivers.len();
+    let mut all = Vec::with_capacity(alloc, frame.len().saturating_mul(count))?;
+    for place in 0..count {
+        put_readdressed(&mut all, frame, round.origin(place))?;
     }
-    Ok(all.freeze()?)
+    Ok(all)
 }
 
-/// Adds the frame in front, of so many bytes, once more, with this origin in place of its own.
-#[tactic(auto, using(crate::proofs::Repeating::put_behind))]
-fn put_again(all: &mut BytesMut, len: usize, origin: Origin) -> Result<(), AllocError>
-    requires long { 20 ≤ len }
-    requires there { len ≤ length all.old.items }
+/// Adds the frame's bytes with this origin in place of its own.
+fn put_readdressed(out: &mut Vec<u8>, frame: &[u8], origin: Origin) -> Result<(), AllocError>
+    requires long { 20 ≤ length frame.now }
     requires entry { 1 ≤ origin.entry }
-    ensures ok { OnOk result (all.new.items ≡ all.old.items ++ readdressed (take len all.old.items) origin) }
+    ensures ok { OnOk result (out.new.items ≡ out.old.items ++ readdressed frame.now origin) }
     ensures in_range { OriginFits origin }
 {
-    all.extend_from_within(0..5)?;
-    all.extend_from_slice(&origin_array(origin))?;
-    all.extend_from_within(20..len)
+    out.extend_from_slice(&frame[..5])?;
+    out.extend_from_slice(&origin_array(origin))?;
+    out.extend_from_slice(&frame[20..])
 }
 
 /// The frames that stand in these bytes one after the other, each as long as this one.

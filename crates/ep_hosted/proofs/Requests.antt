@@ -8,7 +8,7 @@ use Rattle.ep_node.specs.Nodes.{Logged}
 use Rattle.ep_serve.specs.Acting.{IsUndone, StopsShort}
 use Rattle.ep_serve.specs.Serving.{dialect_of}
 use Rattle.ep_wire.specs.Requests.{next_request, ReadsRequest}
-use Rattle.ep_wire.specs.declared.dialect.Dialect.{Dialect}
+use Rattle.ep_bundle.specs.declared.dialect.Dialect.{Dialect}
 use Rattle.ep_wire.specs.declared.request.Request.{Request}
 use Rattle.ep_wire.specs.declared.request.Request.TheVariants as request
 use Rattle.ep_wire.specs.declared.request_fault.RequestFault.{RequestFault}

@@ -5,7 +5,7 @@ use Rattle.ep_serve.specs.Acting.{Acts, StopsShort}
 use Rattle.ep_serve.specs.Serving.{dialect_of}
 use Rattle.ep_serve.specs.declared.due.Due.{Due}
 use Rattle.ep_wire.specs.Requests.{next_request}
-use Rattle.ep_wire.specs.declared.dialect.Dialect.{Dialect}
+use Rattle.ep_bundle.specs.declared.dialect.Dialect.{Dialect}
 use Rattle.ep_wire.specs.declared.request.Request.{Request}
 use Rattle.ep_wire.specs.declared.request.Request.TheVariants as request
 use Rattle.ep_hosted.specs.Hosting.{Hosting, with_replica}

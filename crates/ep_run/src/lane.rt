@@ -69,12 +69,13 @@ pub(crate) fn lanes(alloc: Global, cluster: Size) -> Result<Vec<Lane>, AllocErro
 /// Runs a section's tasks, in two threads for each lane.
 pub(crate) fn run_lanes<S: Start + Send + Sync, R: Threads + Wait + Sync>(
     rt: &R,
-    alloc: Global,
     host: &LockHost<S>,
-    tasks: &[Submission],
+    tasks: &Vec<Submission>,
     lanes: &[Lane],
     turns: u32,
 ) -> Result<(), RunFault> {
+    let alloc = *tasks.allocator();
+    let tasks = tasks.as_slice();
     let is_started = thread::scope(thread::scope_env(), rt, |scope| {
         let mut is_started = true;
         for lane in lanes {

@@ -123,7 +123,7 @@ impl<S: Start + Send + Sync> Runner<S> {
         let tasks = submissions_of(self.alloc, &mut self.clients, section)?;
         let lanes = lanes(self.alloc, self.host.size())?;
         self.set_weather(rt, section)?;
-        run_lanes(rt, self.alloc, &self.host, &tasks, &lanes, turns)?;
+        run_lanes(rt, &self.host, &tasks, &lanes, turns)?;
         self.host.release(rt);
         self.settle(rt, turns);
         self.list(rt, &tasks)?;

@@ -13,7 +13,7 @@ use Rattle.ep_serve.specs.Lasting.{Crashes}
 use Rattle.ep_serve.specs.declared.due.Due.{Due}
 use Rattle.ep_serve.specs.declared.due.Due.TheVariants.{Taken, Refused, Value, Open, Leads, Synced, State, Ready, Malformed}
 use Rattle.ep_serve.specs.declared.mode.Mode.{Mode}
-use Rattle.ep_wire.specs.declared.dialect.Dialect.{Dialect}
+use Rattle.ep_bundle.specs.declared.dialect.Dialect.{Dialect}
 use Rattle.ep_wire.specs.declared.request.Request.{Request}
 use Rattle.ep_wire.specs.declared.request.Request.TheVariants as request
 

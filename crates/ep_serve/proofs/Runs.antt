@@ -5,7 +5,7 @@ use Rattle.std.proofs.KnownBytes.{Appends-nil, Appends-trans}
 use Rattle.ep_bundle.specs.Reading.{Left}
 use Rattle.ep_replica.specs.Kept.{Kept}
 use Rattle.ep_wire.specs.Requests.{next_request, ReadsRequest}
-use Rattle.ep_wire.specs.declared.dialect.Dialect.{Dialect}
+use Rattle.ep_bundle.specs.declared.dialect.Dialect.{Dialect}
 use Rattle.ep_wire.specs.declared.request.Request.{Request}
 use Rattle.ep_wire.specs.declared.request_fault.RequestFault.{RequestFault}
 use Rattle.ep_wire.specs.declared.request_fault.RequestFault.TheVariants as request

@@ -15,7 +15,7 @@ use Rattle.ep_serve.specs.declared.mode.Mode.TheVariants.{Asked}
 use Rattle.ep_serve.specs.declared.serve_fault.ServeFault.{ServeFault}
 use Rattle.ep_serve.specs.declared.serve_fault.ServeFault.TheVariants.{Memory, ReadFailed, BadRequest, WriteFailed, LogFailed}
 use Rattle.ep_wire.specs.Requests.{next_request}
-use Rattle.ep_wire.specs.declared.dialect.Dialect.{Dialect}
+use Rattle.ep_bundle.specs.declared.dialect.Dialect.{Dialect}
 use Rattle.ep_wire.specs.declared.request.Request.{Request}
 use Rattle.ep_wire.specs.declared.request.Request.TheVariants as request
 

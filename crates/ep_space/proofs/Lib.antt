@@ -4,6 +4,7 @@ pub mod Spots
 pub mod Rising
 pub mod Holders
 pub mod Entered
+pub mod Standing
 pub mod Bringing
 pub mod Room
 pub mod Kept

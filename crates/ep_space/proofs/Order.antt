@@ -1,5 +1,5 @@
 -- The equality of instances as code tests it is that of their numbers.
-use Rattle.std.proofs.Common.{◌≡◌, ℕ, Bool, refl, sym, ◌∙◌}
+use Rattle.std.proofs.Common.{◌≡◌, ℕ, refl}
 use Rattle.std.specs.Prelude.{◌==◌}
 use Rattle.std.specs.Cmp.{IsEquivalence, nat_eq_equiv, unsigned_tied}
 use Rattle.std.specs.Ordering.{nat_cmp, eq_by_cmp}

@@ -1,5 +1,5 @@
 -- An index by key: for each key the instances whose recorded command has it, in rising order.
-use Rattle.std.specs.Prelude.{◌≡◌, ℕ, suc, cond, not, ◌&&◌, List, [], ◌∷◌, Option, Some, None, Bool, true, false, Vec, ◌==◌, nat_lt}
+use Rattle.std.specs.Prelude.{◌≡◌, ℕ, suc, cond, not, ◌&&◌, List, [], ◌∷◌, Option, Some, None, Bool, true, false, Vec, ◌==◌, nat_lt, slice_get}
 use Rattle.std.specs.Global.{Global}
 use Rattle.std.specs.Map.{lookup}
 use Rattle.std.specs.Vec.{vec_len, vec_capacity}
@@ -31,6 +31,12 @@ run_in es k = listed (lookup (is_at k) es)
 abbrev pub run : Index → List ℕ → List ℕ
 run x [] = x.seals.items
 run x (b ∷ bs) = run_in x.runs.entries (b ∷ bs)
+
+-- here stands the key k, with its run
+pub record StandsAt (es : List Entry) (n : ℕ) (k : List ℕ) : Type 0 where
+  pub entry : Entry
+  pub there : slice_get es n ≡ Some entry
+  pub is : is_at k entry.0 ≡ true
 
 -- the list has a free place: one more takes no memory
 abbrev pub is_roomy : Vec ℕ Global → Bool

@@ -1,6 +1,6 @@
 //! An index of records by key.
 
-ghost use Rattle.std.specs.Prelude.{◌≡◌, ◌≢◌, ◌≤◌, ◌<◌, ℕ, List, [], ◌∷◌, ◌&&◌, not, length, None, true, false, cond, IfOk, OnOk};
+ghost use Rattle.std.specs.Prelude.{◌≡◌, ◌≢◌, ◌≤◌, ◌<◌, ℕ, List, [], ◌∷◌, ◌&&◌, not, length, None, true, false, cond, IfOk, IfSome, IfNone, OnOk};
 ghost use Rattle.std.specs.Map.{lookup};
 ghost use Rattle.std.specs.Vec.{vec_len, vec_capacity};
 ghost use Rattle.ep_base.specs.Attributes.{same_list};
@@ -10,7 +10,7 @@ ghost use Rattle.ep_base.specs.Parts.{IsSecond};
 ghost use Rattle.ep_base.specs.Views.{touched};
 ghost use Rattle.std.specs.Option.{option_copied};
 ghost use Rattle.ep_base.specs.Places.{Has};
-ghost use Rattle.ep_space.specs.Index.{is_at, run, run_in, room_in, has_room, count_below, with_instance, without, brings, HasRuns, KeepsRoom, StandsUnder};
+ghost use Rattle.ep_space.specs.Index.{is_at, run, run_in, room_in, has_room, count_below, with_instance, without, brings, HasRuns, KeepsRoom, StandsAt, StandsUnder};
 ghost use Rattle.ep_space.specs.Keys.{index_keys, voted_keys, recorded_keys};
 
 use ep_base::{Command, CommandView, InstanceId, Touching};
@@ -22,11 +22,13 @@ use std::alloc::{AllocError, Global};
 /// two runs. A key whose last instance was taken out stays, with an empty run.
 type Runs = IndexMap<Vec<u8>, Vec<InstanceId>>;
 
-/// The instances of records by the keys of their commands. Seals, which name no key, stand apart, in rising order.
+/// The instances of records by the keys of their commands. Seals, which name no key, stand apart, in rising order. Where the run stands that
+/// was given room last is kept: an instance goes into that run next, mostly.
 #[derive(Drop)]
 pub(crate) struct Index {
     runs: Runs,
     seals: Vec<InstanceId>,
+    last: usize,
 }
 
 /// An index of no records.
@@ -36,6 +38,7 @@ pub(crate) fn new_index(alloc: Global) -> Index
     Index {
         runs: IndexMap::new(alloc),
         seals: Vec::new(alloc),
+        last: 0,
     }
 }
 
@@ -71,7 +74,11 @@ pub(crate) fn duplicate(index: &Index, alloc: Global) -> Result<Index, AllocErro
 {
     let runs = duplicate_runs(&index.runs, alloc)?;
     let seals = Vec::from_slice(alloc, &index.seals)?;
-    Ok(Index { runs, seals })
+    Ok(Index {
+        runs,
+        seals,
+        last: 0,
+    })
 }
 
 fn duplicate_runs(runs: &Runs, alloc: Global) -> Result<Runs, AllocError>
@@ -177,17 +184,68 @@ fn widen_key(index: &mut Index, key: &[u8]) -> Result<(), AllocError>
     if key.is_empty() {
         return widen_run(&mut index.seals);
     }
-    widen_under(&mut index.runs, key)
+    widen_under(&mut index.runs, &mut index.last, key)
 }
 
-fn widen_under(runs: &mut Runs, key: &[u8]) -> Result<(), AllocError>
+fn widen_under(runs: &mut Runs, last: &mut usize, key: &[u8]) -> Result<(), AllocError>
     ensures room { OnOk result (room_in runs.new.entries key.now ≡ true) }
     ensures same { (k : List ℕ) → run_in runs.new.entries k ≡ run_in runs.old.entries k }
     ensures keeps { (k : List ℕ) → room_in runs.old.entries k ≡ true → room_in runs.new.entries k ≡ true }
 {
-    match runs.get_mut(key) {
+    match place_of(runs, key) {
+        Some(at) => {
+            *last = at;
+            widen_at(runs, at, key)
+        }
+        None => {
+            *last = runs.len();
+            add_run(runs, key)
+        }
+    }
+}
+
+// Where the key's run stands, if it has one.
+fn place_of(runs: &Runs, key: &[u8]) -> Option<usize>
+    ensures some { IfSome result (λ n. StandsAt runs.now.entries n key.now) }
+    ensures none { IfNone result (lookup (is_at key.now) runs.now.entries ≡ None) }
+{
+    match runs.get_full(key) {
+        Some((at, _, _)) => Some(at),
+        None => None,
+    }
+}
+
+// The same, looked for here first.
+fn place_from(runs: &Runs, last: usize, key: &[u8]) -> Option<usize>
+    ensures some { IfSome result (λ n. StandsAt runs.now.entries n key.now) }
+    ensures none { IfNone result (lookup (is_at key.now) runs.now.entries ≡ None) }
+{
+    if stands_at(runs, last, key) {
+        return Some(last);
+    }
+    place_of(runs, key)
+}
+
+// Whether the key's run stands here.
+fn stands_at(runs: &Runs, at: usize, key: &[u8]) -> bool
+    ensures { result ≡ true → StandsAt runs.now.entries at key.now }
+{
+    match runs.get_index(at) {
+        None => false,
+        Some((own, _)) => key == own.as_slice(),
+    }
+}
+
+// Makes room for one instance more in the run that stands here.
+fn widen_at(runs: &mut Runs, at: usize, _key: &[u8]) -> Result<(), AllocError>
+    requires there { StandsAt runs.old.entries at _key.now }
+    ensures room { OnOk result (room_in runs.new.entries _key.now ≡ true) }
+    ensures same { (k : List ℕ) → run_in runs.new.entries k ≡ run_in runs.old.entries k }
+    ensures keeps { (k : List ℕ) → room_in runs.old.entries k ≡ true → room_in runs.new.entries k ≡ true }
+{
+    match runs.get_index_mut(at) {
         Some(run) => widen_run(run),
-        None => add_run(runs, key),
+        None => unreachable!(),
     }
 }
 
@@ -444,7 +502,7 @@ fn add(index: &mut Index, key: &[u8], id: InstanceId)
     if key.is_empty() {
         return insert(&mut index.seals, id);
     }
-    add_under(&mut index.runs, key, id)
+    add_under(&mut index.runs, index.last, key, id)
 }
 
 fn remove(index: &mut Index, key: &[u8], id: InstanceId)
@@ -458,13 +516,27 @@ fn remove(index: &mut Index, key: &[u8], id: InstanceId)
     remove_under(&mut index.runs, key, id)
 }
 
-fn add_under(runs: &mut Runs, key: &[u8], id: InstanceId)
+fn add_under(runs: &mut Runs, last: usize, key: &[u8], id: InstanceId)
     requires rising { IsRising (run_in runs.old.entries key.now) }
     requires room { room_in runs.old.entries key.now ≡ true }
     ensures runs { (k : List ℕ) → run_in runs.new.entries k ≡ cond (same_list k key.now) (with_instance id (run_in runs.old.entries k)) (run_in runs.old.entries k) }
     ensures others { (k : List ℕ) → same_list k key.now ≡ false → room_in runs.new.entries k ≡ room_in runs.old.entries k }
 {
-    match runs.get_mut(key) {
+    match place_from(runs, last, key) {
+        Some(at) => add_at(runs, at, key, id),
+        None => unreachable!(),
+    }
+}
+
+// Puts the instance into the run that stands here.
+fn add_at(runs: &mut Runs, at: usize, _key: &[u8], id: InstanceId)
+    requires there { StandsAt runs.old.entries at _key.now }
+    requires rising { IsRising (run_in runs.old.entries _key.now) }
+    requires room { room_in runs.old.entries _key.now ≡ true }
+    ensures runs { (k : List ℕ) → run_in runs.new.entries k ≡ cond (same_list k _key.now) (with_instance id (run_in runs.old.entries k)) (run_in runs.old.entries k) }
+    ensures others { (k : List ℕ) → same_list k _key.now ≡ false → room_in runs.new.entries k ≡ room_in runs.old.entries k }
+{
+    match runs.get_index_mut(at) {
         Some(run) => insert(run, id),
         None => unreachable!(),
     }

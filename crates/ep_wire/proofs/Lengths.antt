@@ -10,7 +10,7 @@ use Rattle.ep_bundle.proofs.Readings.{cut, fails, goes_on, numbered, same_readin
 use Rattle.ep_base.specs.declared.version.Version.{Version}
 use Rattle.ep_wire.specs.Front.{Gathers}
 use Rattle.ep_wire.specs.Requests.{is_length, next_request, size_field, sized, some, unless_over}
-use Rattle.ep_wire.specs.declared.dialect.Dialect.{Dialect}
+use Rattle.ep_bundle.specs.declared.dialect.Dialect.{Dialect}
 use Rattle.ep_wire.specs.declared.request.Request.{Request}
 use Rattle.std.specs.Prelude.{IsErr, IsErrAnd}
 

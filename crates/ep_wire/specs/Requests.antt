@@ -14,7 +14,7 @@ use Rattle.ep_bundle.specs.declared.bundle_fault.BundleFault.TheVariants.{BadBun
 use Rattle.ep_frame.specs.Faults.{fault_of}
 use Rattle.ep_frame.specs.declared.fault.FrameFault.{FrameFault}
 use Rattle.ep_journal.specs.declared.event.Event.TheVariants as event
-use Rattle.ep_wire.specs.declared.dialect.Dialect.{Dialect}
+use Rattle.ep_bundle.specs.declared.dialect.Dialect.{Dialect}
 use Rattle.ep_wire.specs.declared.request_field.RequestField.{RequestField}
 use Rattle.ep_wire.specs.declared.request_field.RequestField.TheVariants.{Kind, Client, ClientRequest, Seen, Op, KeyLength, ValueLength, Key, Value, Replica, Number, Rest, FirstLength, SecondLength, BodyLength, FirstKey, SecondKey, Body, After, Most}
 use Rattle.ep_wire.specs.declared.request.Request.{Request}

@@ -11,7 +11,6 @@
 
 mod answers;
 mod bodies;
-mod dialect;
 mod front;
 mod lead_progress;
 mod malformed;
@@ -29,7 +28,7 @@ pub use answers::{
     write_malformed, write_no_value, write_refused, write_state, write_synced, write_taken,
     write_value,
 };
-pub use dialect::Dialect;
+pub use ep_bundle::Dialect;
 pub use lead_progress::LeadProgress;
 pub use malformed::Malformed;
 pub use node_state::NodeState;

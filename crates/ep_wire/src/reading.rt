@@ -6,13 +6,12 @@ ghost use Rattle.ep_bundle.specs.Reading.{is_read_failed as has_read_failed, Rea
 ghost use Rattle.ep_wire.specs.Requests.{is_length, is_read_failed, most_length, next_request, request_of, size_field, sized, unless_over, ReadsRequest};
 
 use crate::bodies::request_in;
-use crate::dialect::Dialect;
 use crate::front::gather;
 use crate::request::Request;
 use crate::request_fault::RequestFault;
 use byteorder::{BigEndian, ByteOrder};
 use ep_base::{Source, Version, VersionKind};
-use ep_bundle::{BundleFault, field_u8, read_run};
+use ep_bundle::{BundleFault, Dialect, field_u8, read_run};
 use std::alloc::Global;
 
 /// How many bytes a request of the version has at most: in version 3 a frame may have 200,000.

@@ -24,10 +24,10 @@ returns-in-Some-clause-refused c =
     let g = graph_in c.args.space.now.records in
     let skipped : List ℕ = c.args.skipped.now.list in
     let executed : List ℕ = c.args.executed.now.list in
-    let cs = lists c.in_ok-found.found.items in
+    let cs = lists c.in_ok-components.components.items in
     let left : ¬ Has executed c.args.root = (λ h. false≢true (sym c.if-contains.false ∙ c.contains.ensures.1 h)) in
     let all : c.deref-2.result.now ≡ flat_map (λ c. c) cs = c.deref-2.ensures.value ∙ c.in_ok-members.ensures ∙ ap (λ (vs : List (Vec ℕ Global)). flat_map (λ c. c) (lists vs)) c.deref.ensures.value in
-    blocked_up g skipped c.requires.closed executed c.requires.within c.args.root left cs c.in_ok-found.ensures c.deref-2.result.now all c.in-Some.instance
+    blocked_up g skipped c.requires.closed executed c.requires.within c.args.root left cs c.in_ok-components.ensures c.deref-2.result.now all c.in-Some.instance
     (subst (λ o. IsLeast (λ i. g i ≡ None) c.deref-2.result.now o) c.in-Some.is c.least_missing.ensures)
 
 pub returns-clause-order : goal.returns-clause-order
@@ -35,9 +35,9 @@ returns-clause-order c =
     let g = graph_in c.args.space.now.records in
     let skipped : List ℕ = c.args.skipped.now.list in
     let executed : List ℕ = c.args.executed.now.list in
-    let cs = lists c.in_ok-found.found.items in
+    let cs = lists c.in_ok-components.components.items in
     let left : ¬ Has executed c.args.root = (λ h. false≢true (sym c.if-contains.false ∙ c.contains.ensures.1 h)) in
     let all : c.deref-2.result.now ≡ flat_map (λ c. c) cs = c.deref-2.ensures.value ∙ c.in_ok-members.ensures ∙ ap (λ (vs : List (Vec ℕ Global)). flat_map (λ c. c) (lists vs)) c.deref.ensures.value in
-    plan_up g skipped c.requires.closed executed c.requires.within c.args.root left cs c.in_ok-found.ensures c.deref-2.result.now all c.in_ok-order_of.field-0.items
+    plan_up g skipped c.requires.closed executed c.requires.within c.args.root left cs c.in_ok-components.ensures c.deref-2.result.now all c.in_ok-order_of.field-0.items
     (subst (λ o. IsLeast (λ i. g i ≡ None) c.deref-2.result.now o) c.in_default.is c.least_missing.ensures)
     c.in_ok-order_of.ensures

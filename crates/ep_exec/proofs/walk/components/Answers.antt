@@ -15,7 +15,7 @@ pub loop-top-init : goal.loop-top-init
 loop-top-init c =
     let m = c.args.space.now.records in
     let g = left_in m c.args.skipped.now.list in
-    rw (c.new-closed.ensures, c.new-found.ensures.items, c.in_ok-push.ensures, c.new-seen.ensures, c.in_ok-enter.ensures, c.new-path.ensures.items) (record {
+    rw (c.new.ensures, c.new-found.ensures.items, c.in_ok-push.ensures, c.new-2.ensures, c.in_ok-enter.ensures, c.new-3.ensures.items) (record {
       walk = walk_first g c.args.root (universe m) (λ i x a e h. left_within m c.args.skipped.now.list i x a e h);
       seen = sees_fresh g [] [] [] c.args.root sees_none;
     })
@@ -23,8 +23,8 @@ loop-top-init c =
 pub follow-requires : goal.follow-requires
 follow-requires c =
     let top = c.in-Some.top in
-    let opened : stack c.loop-top.path.items ≡ flat top ∷ stack c.pop.new.self.items = stack_pop c.loop-top.path.items c.pop.new.self.items top c.in-Some.ensures.items in
-    subst (Sees c.loop-top.seen c.loop-top.closed) opened c.loop-top.invariant.seen
+    let opened : stack c.loop-top.walk.path.items ≡ flat top ∷ stack c.pop.new.self.items = stack_pop c.loop-top.walk.path.items c.pop.new.self.items top c.in-Some.ensures.items in
+    subst (Sees c.loop-top.walk.seen c.loop-top.walk.closed) opened c.loop-top.invariant.seen
 
 pub loop-top-preserved-in-None-1 : goal.loop-top-preserved-in-None-1
 loop-top-preserved-in-None-1 c =
@@ -32,20 +32,20 @@ loop-top-preserved-in-None-1 c =
     let us = universe c.args.space.now.records in
     let top = c.in-Some.top in
     let rest = stack c.pop.new.self.items in
-    let closed = c.loop-top.closed in
+    let closed = c.loop-top.walk.closed in
     let cs = lists c.loop-top.found.items in
     let shut : Flat = record { members = top.members; edges = [] } in
     let none : top.edges.items ≡ [] = nil_from_length top.edges.items (omega (arith, c.in-None.ensures.cases.0, top.edges.ok.0)) in
-    let opened : stack c.loop-top.path.items ≡ shut ∷ rest =
-    stack_pop c.loop-top.path.items c.pop.new.self.items top c.in-Some.ensures.items ∙ ap (λ (es : List ℕ). record { members = top.members; edges = es } ∷ rest) none
+    let opened : stack c.loop-top.walk.path.items ≡ shut ∷ rest =
+    stack_pop c.loop-top.walk.path.items c.pop.new.self.items top c.in-Some.ensures.items ∙ ap (λ (es : List ℕ). record { members = top.members; edges = es } ∷ rest) none
     in
     let w : IsWalk g c.args.root us closed cs (shut ∷ rest) = subst (IsWalk g c.args.root us closed cs) opened c.loop-top.invariant.walk in
-    let s : Sees c.loop-top.seen closed (shut ∷ rest) = subst (Sees c.loop-top.seen closed) opened c.loop-top.invariant.seen in
+    let s : Sees c.loop-top.walk.seen closed (shut ∷ rest) = subst (Sees c.loop-top.walk.seen closed) opened c.loop-top.invariant.seen in
     let done = c.in_ok-close-in-None.ensures.closed in
     let found = c.in_ok-close-in-None.ensures.found in
     rw (done, found) (record {
       walk = walk_close g c.args.root us closed cs top.members rest w;
-      seen = sees_closed c.loop-top.seen closed shut rest s;
+      seen = sees_closed c.loop-top.walk.seen closed shut rest s;
     })
 
 pub loop-top-smaller : goal.loop-top-smaller
@@ -55,18 +55,18 @@ loop-top-smaller c =
     let top = c.in-Some.top in
     let d = c.in-Some-pop.instance in
     let rest = stack c.pop.new.self.items in
-    let closed = c.loop-top.closed in
+    let closed = c.loop-top.walk.closed in
     let cs = lists c.loop-top.found.items in
     let t : Flat = record { members = top.members; edges = c.pop-in-Some.new.self.items } in
-    let opened : stack c.loop-top.path.items ≡ plus t d ∷ rest =
-    stack_pop c.loop-top.path.items c.pop.new.self.items top c.in-Some.ensures.items ∙ ap (λ (es : List ℕ). record { members = top.members; edges = es } ∷ rest) c.in-Some-pop.ensures.items
+    let opened : stack c.loop-top.walk.path.items ≡ plus t d ∷ rest =
+    stack_pop c.loop-top.walk.path.items c.pop.new.self.items top c.in-Some.ensures.items ∙ ap (λ (es : List ℕ). record { members = top.members; edges = es } ∷ rest) c.in-Some-pop.ensures.items
     in
     let w : IsWalk g c.args.root us closed cs (plus t d ∷ rest) = subst (IsWalk g c.args.root us closed cs) opened c.loop-top.invariant.walk in
-    let f : Follows g closed t rest d (stack c.follow.new.path.items) = c.in_ok-follow-in-Some-pop.ensures.path in
-    let less : size g us closed (stack c.follow.new.path.items) < size g us closed (plus t d ∷ rest) =
-    follow_smaller g us closed t rest d (stack c.follow.new.path.items) (w.known d (has_left (plus t d).edges (edges_of rest) d (has_right t.edges (d ∷ []) d (single_has d)))) f
+    let f : Follows g closed t rest d (stack c.follow.new.walk.path.items) = c.in_ok-follow-in-Some-pop.ensures.path in
+    let less : size g us closed (stack c.follow.new.walk.path.items) < size g us closed (plus t d ∷ rest) =
+    follow_smaller g us closed t rest d (stack c.follow.new.walk.path.items) (w.known d (has_left (plus t d).edges (edges_of rest) d (has_right t.edges (d ∷ []) d (single_has d)))) f
     in
-    subst (λ s. size g us closed (stack c.follow.new.path.items) < size g us closed s) (sym opened) less
+    rw c.in_ok-follow-in-Some-pop.ensures.closed (subst (λ s. size g us closed (stack c.follow.new.walk.path.items) < size g us closed s) (sym opened) less)
 
 pub loop-top-preserved : goal.loop-top-preserved
 loop-top-preserved c =
@@ -76,23 +76,23 @@ loop-top-preserved c =
     let top = c.in-Some.top in
     let d = c.in-Some-pop.instance in
     let rest = stack c.pop.new.self.items in
-    let closed = c.loop-top.closed in
+    let closed = c.loop-top.walk.closed in
     let cs = lists c.loop-top.found.items in
     let t : Flat = record { members = top.members; edges = c.pop-in-Some.new.self.items } in
-    let opened : stack c.loop-top.path.items ≡ plus t d ∷ rest =
-    stack_pop c.loop-top.path.items c.pop.new.self.items top c.in-Some.ensures.items ∙ ap (λ (es : List ℕ). record { members = top.members; edges = es } ∷ rest) c.in-Some-pop.ensures.items
+    let opened : stack c.loop-top.walk.path.items ≡ plus t d ∷ rest =
+    stack_pop c.loop-top.walk.path.items c.pop.new.self.items top c.in-Some.ensures.items ∙ ap (λ (es : List ℕ). record { members = top.members; edges = es } ∷ rest) c.in-Some-pop.ensures.items
     in
     let w : IsWalk g c.args.root us closed cs (plus t d ∷ rest) = subst (IsWalk g c.args.root us closed cs) opened c.loop-top.invariant.walk in
-    let f : Follows g closed t rest d (stack c.follow.new.path.items) = c.in_ok-follow-in-Some-pop.ensures.path in
-    record {
-      walk = walk_follow g c.args.root us closed cs t rest d (stack c.follow.new.path.items) (λ i x a e h. left_within m c.args.skipped.now.list i x a e h) w f;
+    let f : Follows g closed t rest d (stack c.follow.new.walk.path.items) = c.in_ok-follow-in-Some-pop.ensures.path in
+    rw c.in_ok-follow-in-Some-pop.ensures.closed (record {
+      walk = walk_follow g c.args.root us closed cs t rest d (stack c.follow.new.walk.path.items) (λ i x a e h. left_within m c.args.skipped.now.list i x a e h) w f;
       seen = c.in_ok-follow-in-Some-pop.ensures.seen;
-    }
+    })
 
 pub returns : goal.returns
 returns c =
     let g = left_in c.args.space.now.records c.args.skipped.now.list in
     let us = universe c.args.space.now.records in
-    let none : c.loop-top.path.items ≡ [] = nil_from_length c.loop-top.path.items (omega (arith, c.in_default.ensures.cases.0, c.loop-top.path.ok.0)) in
-    let w : IsWalk g c.args.root us c.loop-top.closed (lists c.loop-top.found.items) [] = subst (λ ls. IsWalk g c.args.root us c.loop-top.closed (lists c.loop-top.found.items) (stack ls)) none c.loop-top.invariant.walk in
-    walk_all g c.args.root us c.loop-top.closed (lists c.loop-top.found.items) w
+    let none : c.loop-top.walk.path.items ≡ [] = nil_from_length c.loop-top.walk.path.items (omega (arith, c.in_default.ensures.cases.0, c.loop-top.walk.path.ok.0)) in
+    let w : IsWalk g c.args.root us c.loop-top.walk.closed (lists c.loop-top.found.items) [] = subst (λ ls. IsWalk g c.args.root us c.loop-top.walk.closed (lists c.loop-top.found.items) (stack ls)) none c.loop-top.invariant.walk in
+    walk_all g c.args.root us c.loop-top.walk.closed (lists c.loop-top.found.items) w

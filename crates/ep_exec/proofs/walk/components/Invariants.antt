@@ -7,9 +7,9 @@ use Rattle.ep_exec.proofs.walk.components.Given as goal
 
 abbrev pub invariant-loop-top : goal.invariant-loop-top
 invariant-loop-top l = record {
-  walk : IsWalk (left_in l.space.records l.skipped.list) l.fn.root (universe l.space.records) l.closed (lists l.found.items) (stack l.path.items);
-  seen : Sees l.seen l.closed (stack l.path.items);
+  walk : IsWalk (left_in l.space.records l.skipped.list) l.fn.root (universe l.space.records) l.walk.closed (lists l.found.items) (stack l.walk.path.items);
+  seen : Sees l.walk.seen l.walk.closed (stack l.walk.path.items);
 }
 
 abbrev pub decreases-loop-top : goal.decreases-loop-top
-decreases-loop-top l = size (left_in l.space.records l.skipped.list) (universe l.space.records) l.closed (stack l.path.items)
+decreases-loop-top l = size (left_in l.space.records l.skipped.list) (universe l.space.records) l.walk.closed (stack l.walk.path.items)

@@ -15,13 +15,13 @@ insert-requires-clause-room c = room_of_seals c.args.index.now (subst (λ k. has
 pub returns-then-is_empty-clause-runs : goal.returns-then-is_empty-clause-runs
 returns-then-is_empty-clause-runs c = λ k.
     let x = c.args.index.now in
-    run-of_seals (with_instance c.args.id) x (record { runs = x.runs; seals = c.insert.new.run }) c.insert.ensures refl k
+    run-of_seals (with_instance c.args.id) x (record { last = x.last; runs = x.runs; seals = c.insert.new.run }) c.insert.ensures refl k
     ∙ ap (λ (z : List ℕ). cond (same_list k z) (with_instance c.args.id (run x k)) (run x k)) (sym (empty_of c.args.key.now c.if-is_empty.ensures))
 
 pub returns-then-is_empty-clause-others : goal.returns-then-is_empty-clause-others
 returns-then-is_empty-clause-others c = λ k other.
     let x = c.args.index.now in
-    others_seals x (record { runs = x.runs; seals = c.insert.new.run }) refl k (subst (λ (z : List ℕ). same_list k z ≡ false) (empty_of c.args.key.now c.if-is_empty.ensures) other)
+    others_seals x (record { last = x.last; runs = x.runs; seals = c.insert.new.run }) refl k (subst (λ (z : List ℕ). same_list k z ≡ false) (empty_of c.args.key.now c.if-is_empty.ensures) other)
 
 pub add_under-requires-clause-rising : goal.add_under-requires-clause-rising
 add_under-requires-clause-rising c = subst IsRising (run-of_some c.args.index.now c.args.key.now c.if-is_empty.ensures) c.requires.rising
@@ -32,9 +32,9 @@ add_under-requires-clause-room c = sym (has_room-some c.args.index.now c.args.ke
 pub returns-clause-runs : goal.returns-clause-runs
 returns-clause-runs c =
     let x = c.args.index.now in
-    run-of_key (with_instance c.args.id) x (record { runs = c.add_under.new.runs; seals = x.seals }) c.args.key.now (some_of c.args.key.now c.if-is_empty.ensures) refl c.add_under.ensures.runs
+    run-of_key (with_instance c.args.id) x (record { last = x.last; runs = c.add_under.new.runs; seals = x.seals }) c.args.key.now (some_of c.args.key.now c.if-is_empty.ensures) refl c.add_under.ensures.runs
 
 pub returns-clause-others : goal.returns-clause-others
 returns-clause-others c =
     let x = c.args.index.now in
-    others_runs x (record { runs = c.add_under.new.runs; seals = x.seals }) c.args.key.now refl c.add_under.ensures.others
+    others_runs x (record { last = x.last; runs = c.add_under.new.runs; seals = x.seals }) c.args.key.now refl c.add_under.ensures.others

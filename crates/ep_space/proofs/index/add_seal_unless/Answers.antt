@@ -14,5 +14,5 @@ insert-requires-clause-room c = room_of_seals c.args.index.now (c.requires.room 
 
 pub returns : goal.returns
 returns c = λ k.
-    run-of_seals (with_instance c.args.id) c.args.index.now (record { runs = c.args.index.now.runs; seals = c.insert.new.run }) c.insert.ensures refl k
+    run-of_seals (with_instance c.args.id) c.args.index.now (record { last = c.args.index.now.last; runs = c.args.index.now.runs; seals = c.insert.new.run }) c.insert.ensures refl k
     ∙ unless_goes (same_list k []) c.args.stays (with_instance c.args.id) (run c.args.index.now k) c.if-stays.false

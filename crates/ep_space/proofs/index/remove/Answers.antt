@@ -15,7 +15,7 @@ take-requires-clause-there c = subst (λ k. Has (run c.args.index.now k) c.args.
 pub returns-then-is_empty : goal.returns-then-is_empty
 returns-then-is_empty c = λ k.
     let x = c.args.index.now in
-    run-of_seals (without c.args.id) x (record { runs = x.runs; seals = c.take.new.run }) c.take.ensures refl k
+    run-of_seals (without c.args.id) x (record { last = x.last; runs = x.runs; seals = c.take.new.run }) c.take.ensures refl k
     ∙ ap (λ (z : List ℕ). cond (same_list k z) (without c.args.id (run x k)) (run x k)) (sym (empty_of c.args.key.now c.if-is_empty.ensures))
 
 pub remove_under-requires-clause-rising : goal.remove_under-requires-clause-rising
@@ -27,4 +27,4 @@ remove_under-requires-clause-there c = subst (λ xs. Has xs c.args.id) (run-of_s
 pub returns : goal.returns
 returns c =
     let x = c.args.index.now in
-    run-of_key (without c.args.id) x (record { runs = c.remove_under.new.runs; seals = x.seals }) c.args.key.now (some_of c.args.key.now c.if-is_empty.ensures) refl c.remove_under.ensures
+    run-of_key (without c.args.id) x (record { last = x.last; runs = c.remove_under.new.runs; seals = x.seals }) c.args.key.now (some_of c.args.key.now c.if-is_empty.ensures) refl c.remove_under.ensures

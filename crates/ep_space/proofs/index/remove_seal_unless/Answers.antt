@@ -9,4 +9,4 @@ pub returns-then-stays : goal.returns-then-stays
 returns-then-stays c = λ k. unless_stays (same_list k []) c.args.stays (without c.args.id) (run c.args.index.now k) c.if-stays.true
 
 pub returns : goal.returns
-returns c = λ k. run-of_seals (without c.args.id) c.args.index.now (record { runs = c.args.index.now.runs; seals = c.take.new.run }) c.take.ensures refl k ∙ unless_goes (same_list k []) c.args.stays (without c.args.id) (run c.args.index.now k) c.if-stays.false
+returns c = λ k. run-of_seals (without c.args.id) c.args.index.now (record { last = c.args.index.now.last; runs = c.args.index.now.runs; seals = c.take.new.run }) c.take.ensures refl k ∙ unless_goes (same_list k []) c.args.stays (without c.args.id) (run c.args.index.now k) c.if-stays.false

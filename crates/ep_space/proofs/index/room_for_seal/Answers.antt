@@ -14,10 +14,10 @@ returns-then-is_sealed-clause-room c = room_none c.args.index.now (recorded_keys
 
 pub returns-clause-room : goal.returns-clause-room
 returns-clause-room c =
-    let y : Index = record { runs = c.args.index.now.runs; seals = c.widen_run.new.run } in
+    let y : Index = record { last = c.args.index.now.last; runs = c.args.index.now.runs; seals = c.widen_run.new.run } in
     on_ok c.widen_run.result (λ h. room_one y (recorded_keys (option_copied c.args.there)) [] (lt-ltb (vec_len y.seals) (vec_capacity y.seals) h)) c.widen_run.ensures.room
 
 pub returns-clause-same : goal.returns-clause-same
 returns-clause-same c =
     let x = c.args.index.now in
-    run-same x (record { runs = x.runs; seals = c.widen_run.new.run }) c.widen_run.ensures.same (λ k. refl)
+    run-same x (record { last = x.last; runs = x.runs; seals = c.widen_run.new.run }) c.widen_run.ensures.same (λ k. refl)

@@ -1,6 +1,6 @@
 use Rattle.std.proofs.Common.{◌≡◌, ◌∙◌, ◌++◌, ◌∷◌, [], None, List, ℕ, suc, ◌<◌, sym, ap, subst, slice_index_or, slice_set, length, arith}
 use Rattle.std.specs.Map.{keys_of}
-use Rattle.ep_space.specs.Entries.{slot, spot, AreSpots}
+use Rattle.ep_space.specs.Entries.{slot, AreSpots}
 use Rattle.ep_space.proofs.Spots.{spot-told, placed-there, placed-new, spots-same, spots-push, keys-push, length-keys, length-push}
 use Rattle.ep_space.proofs.table.add_place.Goals as goal
 

@@ -1,6 +1,4 @@
-use Rattle.std.proofs.Common.{◌≡◌, ◌<◌, ◌∙◌, ◌-◌, ℕ, List, Some, ap, sym, arith, length, slice_set}
-use Rattle.std.specs.Map.{keys_of}
-use Rattle.ep_space.specs.Entries.{spot}
+use Rattle.std.proofs.Common.{◌∙◌, ◌-◌, Some, ap, arith, slice_set}
 use Rattle.ep_space.proofs.Spots.{spot-inside, spot-value, spot-set}
 use Rattle.ep_space.proofs.table.replace.Goals as goal
 

@@ -1,4 +1,4 @@
-use Rattle.std.proofs.Common.{◌≡◌, ◌∙◌, ◌-◌, ap, arith, slice_set}
+use Rattle.std.proofs.Common.{◌∙◌, ◌-◌, ap, arith, slice_set}
 use Rattle.std.specs.Map.{set_value}
 use Rattle.ep_space.specs.Entries.{flat, same}
 use Rattle.ep_space.specs.Settled.{as_settled}

@@ -1,4 +1,4 @@
-use Rattle.std.proofs.Common.{◌≡◌, ◌<◌, ◌-◌, ◌∙◌, Some, sym, ap, arith, length}
+use Rattle.std.proofs.Common.{◌<◌, ◌-◌, ◌∙◌, Some, sym, ap, arith, length}
 use Rattle.ep_space.specs.Entries.{flat}
 use Rattle.ep_space.proofs.Spots.{value-here, value-or}
 use Rattle.ep_space.proofs.table.value_at.Goals as goal

@@ -1,6 +1,6 @@
 use Rattle.std.proofs.Common.{◌∙◌, ap, subst}
 use Rattle.ep_serve.specs.Serving.{dialect_of}
-use Rattle.ep_wire.specs.declared.dialect.Dialect.{Dialect}
+use Rattle.ep_bundle.specs.declared.dialect.Dialect.{Dialect}
 use Rattle.ep_hosted.specs.Asking.{IsUnread}
 use Rattle.ep_hosted.specs.Hosting.{Hosting}
 use Rattle.ep_hosted.proofs.Requests.{unasked}

@@ -1,4 +1,4 @@
-use Rattle.std.proofs.Common.{◌∙◌, ap, take, arith, sym, length}
+use Rattle.std.proofs.Common.{take, arith}
 use Rattle.ep_space.proofs.Opening.{next_found, least_whole}
 use Rattle.ep_space.proofs.Spots.{take-item}
 use Rattle.ep_space.proofs.space.Space.next_open.Goals as goal

@@ -1,4 +1,4 @@
-use Rattle.std.proofs.Common.{◌≡◌, ◌∙◌, true, Option, is_some, sym, ap, subst}
+use Rattle.std.proofs.Common.{◌∙◌, Option, sym, ap, subst}
 use Rattle.std.specs.FinSet as set
 use Rattle.std.specs.Map.{keys_of, lookup}
 use Rattle.std.proofs.lemmas.Map.{keys-set_value}

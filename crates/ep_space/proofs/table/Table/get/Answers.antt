@@ -1,4 +1,4 @@
-use Rattle.std.proofs.Common.{◌≡◌, ◌≤◌, ◌∙◌, ℕ, List, sym, ap, subst, length, arith}
+use Rattle.std.proofs.Common.{◌≡◌, ◌∙◌, ℕ, List, sym, ap, arith}
 use Rattle.std.specs.Map.{keys_of}
 use Rattle.ep_rules.specs.Maps.{get}
 use Rattle.ep_space.specs.Entries.{flat, spot, value_at}
