@@ -42,7 +42,7 @@ pub struct Parts {
     pub store: Store,
 }
 
-/// The next instance for the command: `SpaceFull` where the least free number is above the highest that the version has for it.
+/// The next instance for the command: `SpaceFull` if the least free number is above the highest that the version has for it.
 #[inline(always)]
 fn instance_for(space: &Space, me: ReplicaId, command: &Command) -> Result<InstanceId, SpaceFull>
     ensures ok { IfOk result (λ i. (n : ℕ) × (free_number space.now.records me ≡ Some n) × (n < highest_for space.now.version command.now) × (i ≡ instance_of me (n + 1))) }
@@ -91,7 +91,8 @@ impl Parts {
         })
     }
 
-    /// Takes the step of an event, so marked: what came of it; or why it is refused. Where there is no mark, it is past its limits.
+    /// Takes the step of an event with this mark: what came of it; or why it is refused. `None` as the mark says that the
+    /// number or the stamp would pass its limit.
     #[inline(always)]
     pub fn step(
         &mut self,
@@ -194,7 +195,7 @@ impl Parts {
         })
     }
 
-    /// Does what is asked of the instance, where there is a mark.
+    /// Does what is asked of the instance, if there is a mark.
     #[inline(always)]
     fn ask(
         &mut self,
