@@ -74,7 +74,7 @@ fn wake_one(
     false
 }
 
-/// What the instance blocks at these numbers is due. Answers where other blockers are left.
+/// What the instance blocks at these numbers is due. Returns a span with all of them that still have a blocker.
 fn wake_within(
     items: &mut Vec<Option<InstanceId>>,
     span: Span,
@@ -149,7 +149,7 @@ impl Blockers {
         *self.items.get(number as usize)?
     }
 
-    /// Sets what blocks the own instance of this number, where it has a place, and answers whether it has one.
+    /// Sets what blocks the own instance of this number, if it has a place, and returns whether it has one.
     pub(crate) fn set(&mut self, number: u16, blocker: Option<InstanceId>) -> bool
         requires { number ≤ highest_number }
         ensures here { IsTrue result → blocker_of self.new number ≡ blocker }

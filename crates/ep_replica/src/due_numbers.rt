@@ -8,7 +8,7 @@ use crate::span::Span;
 use std::alloc::{AllocError, Global};
 use std::marker::Model;
 
-/// The least number from this one on whose flag is set, where it is before the end; else 2,001.
+/// The least number from this one on whose flag is set, if it is before the end; else 2,001.
 fn first_set(flags: &[bool], first: u16, end: u16) -> u16
     requires { first ≤ 2001 }
     ensures range { (first ≤ result) × (result ≤ 2001) }
@@ -95,7 +95,7 @@ impl DueNumbers {
         self.flags[number as usize] = true;
     }
 
-    /// The number is due no longer.
+    /// The number isn't due any more.
     pub(crate) fn remove(&mut self, number: u16)
         ensures { (n : ℕ) → n ≢ number → is_due self.old n ≡ true → is_due self.new n ≡ true }
     {
@@ -105,7 +105,7 @@ impl DueNumbers {
         }
     }
 
-    /// The least due number that isn't below this one; 2,001 where there is none.
+    /// The least due number that isn't below this one; 2,001 if there is none.
     pub(crate) fn next(&mut self, from: u16) -> u16
         requires { from ≤ 2001 }
         ensures range { (from ≤ result) × (result ≤ 2001) }
