@@ -32,9 +32,8 @@ extern "C" {
 
 /* tools/c-header writes what follows, from crates/ep_library/src. */
 
-/* A node on the heap, or none, as one pointer. C begins it with a null pointer, and changes nothing in it. So a
-   handle that has no node, that was freed before, or that has one already, is seen as such, and no call is undefined
-   at it. */
+/* A node on the heap, or none, as one pointer. C begins it with a null pointer, and changes nothing in it. So each
+   call sees whether a handle has no node, was freed, or has one already, and none is undefined. */
 struct ep_replica {
     void *at;
 };
