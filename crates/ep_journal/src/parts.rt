@@ -79,9 +79,21 @@ impl Parts {
         ensures { IfOk result (λ p. standing_of p ≡ standing_of self.now) }
     {
         let executed = self.executed.duplicate(alloc)?;
-        let store = self.store.copy()?;
-        let lead = self.lead.duplicate(alloc)?;
-        let space = self.space.duplicate(alloc)?;
+        let Ok(store) = self.store.copy() else {
+            drop(executed);
+            return Err(AllocError);
+        };
+        let Ok(lead) = self.lead.duplicate(alloc) else {
+            drop(executed);
+            drop(store);
+            return Err(AllocError);
+        };
+        let Ok(space) = self.space.duplicate(alloc) else {
+            drop(executed);
+            drop(store);
+            drop(lead);
+            return Err(AllocError);
+        };
         Ok(Parts {
             me: self.me,
             space,
