@@ -78,10 +78,22 @@ impl Parts {
     pub fn copy(&self, alloc: Global) -> Result<Parts, AllocError>
         ensures { IfOk result (λ p. standing_of p ≡ standing_of self.now) }
     {
-        let space = self.space.duplicate(alloc)?;
-        let lead = self.lead.duplicate(alloc)?;
         let executed = self.executed.duplicate(alloc)?;
-        let store = self.store.copy()?;
+        let Ok(store) = self.store.copy() else {
+            drop(executed);
+            return Err(AllocError);
+        };
+        let Ok(lead) = self.lead.duplicate(alloc) else {
+            drop(executed);
+            drop(store);
+            return Err(AllocError);
+        };
+        let Ok(space) = self.space.duplicate(alloc) else {
+            drop(executed);
+            drop(store);
+            drop(lead);
+            return Err(AllocError);
+        };
         Ok(Parts {
             me: self.me,
             space,
@@ -232,8 +244,15 @@ impl Parts {
     {
         let cell = Cell::of(&self.space, &self.lead, self.me, id);
         let change = decide(alloc, &cell, input)?;
-        let frames = written(alloc, &cell, self.space.version(), mark, &change)?;
-        change.reserve(&mut self.space, &mut self.lead, id)?;
+        let Ok(frames) = written(alloc, &cell, self.space.version(), mark, &change) else {
+            drop(change);
+            return Err(StepFault::Memory);
+        };
+        let Ok(()) = change.reserve(&mut self.space, &mut self.lead, id) else {
+            drop(change);
+            drop(frames);
+            return Err(StepFault::Memory);
+        };
         change.install(&mut self.space, &mut self.lead, id)?;
         Ok(Taken {
             frames,

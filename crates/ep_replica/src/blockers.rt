@@ -7,6 +7,7 @@ ghost use Rattle.ep_space.specs.Entries.{slot};
 ghost use Rattle.ep_replica.specs.Spans.{IsWithin};
 
 use crate::due_numbers::DueNumbers;
+use crate::flags::widen;
 use crate::span::Span;
 use ep_base::InstanceId;
 use std::alloc::{AllocError, Global};
@@ -18,16 +19,6 @@ fn slot_of(instance: InstanceId) -> usize
     ensures small { result < 16008 }
 {
     usize::from(instance.number()) * 8 + usize::from(instance.replica().index())
-}
-
-/// Makes so many flags. What is set stays so.
-fn widen(awaited: &mut Vec<bool>, count: usize) -> Result<(), AllocError>
-    ensures { (place : ℕ) → slice_index_or awaited.new.items place false ≡ slice_index_or awaited.old.items place false }
-{
-    if count <= awaited.len() {
-        return Ok(());
-    }
-    awaited.resize(count, false)
 }
 
 /// Whether the instance was ever a blocker.

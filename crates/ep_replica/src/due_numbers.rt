@@ -4,6 +4,7 @@ ghost use Rattle.std.specs.Prelude.{◌≡◌, ◌≢◌, ◌≤◌, ◌<◌, �
 ghost use Rattle.ep_base.specs.Instances.{highest_number};
 ghost use Rattle.ep_replica.specs.Blockers.{is_due};
 
+use crate::flags::widen;
 use crate::span::Span;
 use std::alloc::{AllocError, Global};
 use std::marker::Model;
@@ -77,10 +78,7 @@ impl DueNumbers {
         ensures room { OnOk result (highest_number < length self.new) }
         ensures same { (n : ℕ) → is_due self.new n ≡ is_due self.old n }
     {
-        for _ in self.flags.len()..2001 {
-            self.flags.push(false)?;
-        }
-        Ok(())
+        widen(&mut self.flags, 2001)
     }
 
     /// The number is due. It takes no memory.
