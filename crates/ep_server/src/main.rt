@@ -1,12 +1,12 @@
 //! `epaxos node`: a replica with its log in a file, which serves requests on standard input. `epaxos collect`: the bundle of
 //! logs and receipts. `epaxos contents`: the map of a folder. `epaxos upgrade --log`: the opening that the logs of version 2 give.
 //!
-//! `main` hands the words to `read_words`, in `command_line.rt`; the commands are tables, in `commands.rt`. For a node of version 2 it opens the log, and hands it and the standard
-//! streams to `serve_log`, in `program.rt`, which is all of the node: over any device, source and sinks, so that its contract can
-//! say what the bytes and the status mean. It does no more than call `Node::opened` and `ep_serve`'s `serve`. `serve_folder`, in
-//! `in_folder.rt`, does the same in the folder of a replica that lives through generations: `staging.rt` says which generation is opened,
-//! by `ep_folder`'s plan, and a generation that is closed is gone on from at once. `collect_named`, in `collecting.rt`, reads the files of
-//! `epaxos collect`, and prints what `ep_assemble`'s `collect_files` makes of them; so do `collect_of`, `show_named` and `upgrade_named` of the
+//! `main` hands the words to `read_words`, in `command_line.rt`; the commands are tables, in `commands.rt`. For a node of version 2 it opens the
+//! log, and hands it and the standard streams to `serve_log`, in `program.rt`, which is all of the node: over any device, source and sinks, so
+//! that its contract can say what the bytes and the status mean. It does no more than call `Node::opened` and `ep_serve`'s `serve`.
+//! `serve_folder`, in `in_folder.rt`, does the same in the folder of a replica that lives through generations: `staging.rt` says which generation
+//! is opened, by `ep_folder`'s plan, and a generation that is closed is gone on from at once. `collect_named`, in `collecting.rt`, reads the files
+//! of `epaxos collect`, and prints what `ep_assemble`'s `collect_files` makes of them; so do `collect_of`, `show_named` and `upgrade_named` of the
 //! files that their commands name.
 //!
 //! Start with `program.rt` and specs/Served.antt, `collecting.rt` and specs/NamedFiles.antt. A fault has one line on the fault
