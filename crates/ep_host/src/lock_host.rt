@@ -17,7 +17,7 @@ use crate::start::Start;
 use crate::tended::Tended;
 use crate::turn::Turn;
 use crate::weather::{Weather, is_weather};
-use ep_base::{Command, Generation, InstanceId, ReplicaId, Size, Version};
+use ep_base::{Command, InstanceId, ReplicaId, Size, Version};
 use ep_journal::{Journal, Opening};
 use ep_rules::Receipt;
 use std::alloc::{AllocError, Global};
@@ -54,63 +54,39 @@ fn journals_of<S: Start>(alloc: Global, seats: Vec<Seat<S>>) -> Result<Vec<Journ
 impl<S: Start> LockHost<S> {
     ghost use Rattle.std.specs.Prelude.{◌≡◌, ◌≤◌, ◌<◌, IfOk, IfErr, IfSome, OnOk};
     ghost use Rattle.ep_base.specs.Quorums.{size};
-    ghost use Rattle.ep_base.specs.declared.version_kind.VersionKind.TheVariants.{V2, V3};
-    ghost use Rattle.ep_journal.specs.Openings.{no_opening};
     ghost use Rattle.ep_journal.specs.declared.event.Event.TheVariants.{Propose};
     ghost use Rattle.ep_host.specs.Asking.{IsTaken, IsSubmitted, IsPumped, IsRefused, IsUntold, AreTold, IsOutcomeIn};
     ghost use Rattle.ep_host.specs.Finishing.{IsFinished};
     ghost use Rattle.ep_host.specs.Setting.{IsUnset};
+    ghost use Rattle.ep_host.specs.Starts.{CanStart};
     ghost use Rattle.ep_host.specs.Tending.{event_of};
     ghost use Rattle.ep_host.specs.Weathers.{IsWeather};
     ghost use Rattle.ep_host.specs.declared.host_fault.HostFault.TheVariants.{OutOfRange};
 
-    /// The replicas of a cluster of this size, of version 2, before any event, each with an inbox for so many frames.
-    pub fn new(alloc: Global, cluster: Size, capacity: usize) -> Result<LockHost<S>, AllocError>
-        requires capacity { (1 ≤ capacity) × (capacity ≤ 4096) }
-        requires start { S.start ≡ (V2, no_opening) }
-        ensures cluster { IfOk result (λ host. host.cluster ≡ cluster) }
-        ensures version { IfOk result (λ host. host.version ≡ V2) }
-        ensures opening { IfOk result (λ host. host.opening ≡ no_opening) }
-    {
-        let inboxes = inboxes_of(alloc, cluster, capacity)?;
-        let mut seats = Vec::new(alloc);
-        for index in 0..cluster.count() {
-            let replica = making::second(alloc, cluster, index);
-            seats.push(Seat::new(alloc, replica, &inboxes)?)?;
-        }
-        Ok(LockHost {
-            cluster,
-            version: Version::V2,
-            opening: Opening::none(alloc),
-            seats,
-            alloc,
-        })
-    }
-
-    /// The replicas of a cluster of this size, of version 3 and this generation, all with this opening, before any event, each with an inbox for so
-    /// many frames.
-    pub fn opened(
+    /// The replicas of a cluster of this size, of this version and with this opening, before any event, each with an inbox for so many frames.
+    pub fn new(
         alloc: Global,
         cluster: Size,
         capacity: usize,
-        generation: Generation,
+        version: Version,
         opening: &Opening,
     ) -> Result<LockHost<S>, AllocError>
         requires capacity { (1 ≤ capacity) × (capacity ≤ 4096) }
-        requires start { S.start ≡ (V3 generation, opening.now) }
+        requires can_start { CanStart version opening.now }
+        requires start { S.start ≡ (version, opening.now) }
         ensures cluster { IfOk result (λ host. host.cluster ≡ cluster) }
-        ensures version { IfOk result (λ host. host.version ≡ V3 generation) }
+        ensures version { IfOk result (λ host. host.version ≡ version) }
         ensures opening { IfOk result (λ host. host.opening ≡ opening.now) }
     {
         let inboxes = inboxes_of(alloc, cluster, capacity)?;
         let mut seats = Vec::new(alloc);
         for number in 0..cluster.count() {
-            let replica = making::opened(alloc, cluster, number, generation, opening)?;
+            let replica = making::replica(alloc, cluster, number, version, opening)?;
             seats.push(Seat::new(alloc, replica, &inboxes)?)?;
         }
         Ok(LockHost {
             cluster,
-            version: Version::of_generation(generation),
+            version,
             opening: opening.copy(alloc)?,
             seats,
             alloc,

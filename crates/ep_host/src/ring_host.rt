@@ -2,8 +2,6 @@
 
 ghost use Rattle.std.specs.Prelude.{◌≡◌, ◌≤◌, ◌<◌, IfOk, OnOk};
 ghost use Rattle.ep_base.specs.Quorums.{size};
-ghost use Rattle.ep_base.specs.declared.version_kind.VersionKind.TheVariants.{V2, V3};
-ghost use Rattle.ep_journal.specs.Openings.{no_opening};
 ghost use Rattle.ep_host.specs.Joins.{Joins, CanJoin};
 
 use crate::held_frames::HeldFrames;
@@ -13,7 +11,7 @@ use crate::making;
 use crate::ring_node::RingNode;
 use crate::task::Task;
 use crate::weather::Weather;
-use ep_base::{Generation, Size};
+use ep_base::{Size, Version};
 use ep_journal::Opening;
 use rtrb::RingBuffer;
 use std::alloc::{AllocError, Global};
@@ -56,43 +54,27 @@ impl RingHost {
     ghost use Rattle.ep_host.specs.Host.{IsHost, IsFresh, StartsAs};
     ghost use Rattle.ep_host.specs.Pointwise.{Each};
     ghost use Rattle.ep_host.specs.Setting.{SetsWeatherAt, IsUnsetAt, IsReleased};
+    ghost use Rattle.ep_host.specs.Starts.{CanStart};
     ghost use Rattle.ep_host.specs.Turns.{AssignsAt};
 
-    /// The nodes of a cluster of this size, of version 2, before any event and without tasks. Each ring has room for so many frames.
-    pub fn new(alloc: Global, cluster: Size, capacity: usize) -> Result<Vec<RingNode>, AllocError>
-        requires { (1 ≤ capacity) × (capacity ≤ 4096) }
-        ensures host { IfOk result (λ nodes. IsHost cluster nodes.items) }
-        ensures fresh { IfOk result (λ nodes. All (IsFresh capacity) nodes.items) }
-        ensures start { IfOk result (λ nodes. All (StartsAs V2 no_opening) nodes.items) }
-    {
-        let mut nodes = Vec::new(alloc);
-        for index in 0..cluster.count() {
-            let mut node = RingNode::new(alloc, making::second(alloc, cluster, index));
-            for place in 0..nodes.len() {
-                join_nodes(alloc, &mut nodes[place], &mut node, capacity)?;
-            }
-            nodes.push(node)?;
-        }
-        Ok(nodes)
-    }
-
-    /// The nodes of a cluster of this size, of version 3 and this generation, all with this opening, before any event and without tasks. Each ring has
-    /// room for so many frames.
-    pub fn opened(
+    /// The nodes of a cluster of this size, of this version and with this opening, before any event and without tasks. Each ring has room for so many
+    /// frames.
+    pub fn new(
         alloc: Global,
         cluster: Size,
         capacity: usize,
-        generation: Generation,
+        version: Version,
         opening: &Opening,
     ) -> Result<Vec<RingNode>, AllocError>
-        requires { (1 ≤ capacity) × (capacity ≤ 4096) }
+        requires capacity { (1 ≤ capacity) × (capacity ≤ 4096) }
+        requires start { CanStart version opening.now }
         ensures host { IfOk result (λ nodes. IsHost cluster nodes.items) }
         ensures fresh { IfOk result (λ nodes. All (IsFresh capacity) nodes.items) }
-        ensures start { IfOk result (λ nodes. All (StartsAs (V3 generation) opening.now) nodes.items) }
+        ensures start { IfOk result (λ nodes. All (StartsAs version opening.now) nodes.items) }
     {
         let mut nodes = Vec::new(alloc);
         for number in 0..cluster.count() {
-            let replica = making::opened(alloc, cluster, number, generation, opening)?;
+            let replica = making::replica(alloc, cluster, number, version, opening)?;
             let mut node = RingNode::new(alloc, replica);
             for place in 0..nodes.len() {
                 join_nodes(alloc, &mut nodes[place], &mut node, capacity)?;

@@ -1,7 +1,7 @@
 //! What the weather does to a frame.
 
 /// What the weather does to a frame.
-#[derive(Clone, Copy, Debug, PartialEq, Eq)]
+#[derive(Clone, Copy)]
 pub enum WeatherKind {
     /// It is not put.
     Drop,

@@ -11,7 +11,6 @@ ghost use Rattle.ep_run.specs.Asking.{asked_by as asks_of, asked_of, proposers_a
 ghost use Rattle.ep_run.specs.Rings.{AreAssigned, Begins, SettlesReleased, Turns, Collects, HasRun};
 ghost use Rattle.ep_host.specs.Host.{IsFresh, StartsAs};
 ghost use Rattle.ep_replay.specs.Heads.{opening_of};
-ghost use Rattle.ep_base.specs.declared.version_kind.VersionKind.TheVariants.{V3};
 ghost use Rattle.ep_run.specs.Lines.{AreDone};
 ghost use Rattle.ep_run.specs.Weathers.{weather_in, HasOwn};
 
@@ -20,7 +19,6 @@ use crate::collecting::{last_entry, none_collected, note_last};
 use crate::ran::Ran;
 use crate::refusals::refused_lines;
 use crate::ring_weather::set_weather;
-use ep_base::{Generation, VersionKind};
 use ep_host::{Finished, Gate, RingHost, RingNode, finish_with, section as turn_all, settle};
 use ep_replay::{Clients, opening_of};
 use ep_rules::Receipt;
@@ -138,31 +136,8 @@ fn nodes_of(alloc: Global, head: &Head, capacity: usize) -> Result<Vec<RingNode>
     ensures fresh { IfOk result (λ nodes. All (IsFresh capacity) nodes.items) }
     ensures start { IfOk result (λ nodes. All (StartsAs head.now.version (opening_of head.now.opening)) nodes.items) }
 {
-    match head.version().kind() {
-        VersionKind::V1 => unreachable!(),
-        VersionKind::V2 => RingHost::new(alloc, head.size(), capacity),
-        VersionKind::V3(number) => nodes_in(alloc, head, number, capacity),
-    }
-}
-
-/// The nodes of this generation, which open as the head says.
-fn nodes_in(
-    alloc: Global,
-    head: &Head,
-    number: u32,
-    capacity: usize,
-) -> Result<Vec<RingNode>, AllocError>
-    requires number { 1 ≤ number }
-    requires capacity { (1 ≤ capacity) × (capacity ≤ 4096) }
-    ensures host { IfOk result (λ nodes. IsHost head.now.faults nodes.items) }
-    ensures fresh { IfOk result (λ nodes. All (IsFresh capacity) nodes.items) }
-    ensures start { IfOk result (λ nodes. All (StartsAs (V3 number) (opening_of head.now.opening)) nodes.items) }
-{
-    let Ok(generation) = Generation::new(number) else {
-        unreachable!()
-    };
     let opening = opening_of(alloc, head.opening())?;
-    RingHost::opened(alloc, head.size(), capacity, generation, &opening)
+    RingHost::new(alloc, head.size(), capacity, head.version(), &opening)
 }
 
 impl RingRun {
@@ -179,8 +154,8 @@ impl RingRun {
         requires { (1 ≤ capacity) × (capacity ≤ 4096) }
         ensures { IfOk result (λ s. (turns : ℕ) → HasRun (begun_of head.now) turns [] s) }
     {
+        let collected = none_collected(alloc, head.size().count() as usize)?;
         let nodes = nodes_of(alloc, head, capacity)?;
-        let collected = none_collected(alloc, nodes.len())?;
         Ok(RingRun {
             nodes,
             clients: Clients::new(alloc),

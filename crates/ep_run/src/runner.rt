@@ -1,8 +1,7 @@
 //! Runs.
 
-ghost use Rattle.std.specs.Prelude.{◌≡◌, ◌≤◌, ℕ, List, IfOk, OnOk};
+ghost use Rattle.std.specs.Prelude.{◌≡◌, ℕ, List, IfOk, OnOk};
 ghost use Rattle.ep_base.specs.Quorums.{size as size_with};
-ghost use Rattle.ep_base.specs.declared.version_kind.VersionKind.TheVariants.{V3};
 ghost use Rattle.ep_host.specs.Finishing.{IsFinished};
 ghost use Rattle.ep_replay.specs.Tables.{AreCounted};
 ghost use Rattle.ep_rules.specs.declared.receipt.Receipt.{Receipt as Told};
@@ -13,13 +12,13 @@ ghost use Rattle.ep_run.specs.Locks.{HasBegun, IsOfHost};
 ghost use Rattle.ep_run.specs.Rings.{IsBegun, begun_of};
 
 use crate::collecting::{last_entry, none_collected, note_last};
-use crate::lane::{lanes, run_lanes};
+use crate::lane::run_threads;
 use crate::limits::Limits;
 use crate::ran::Ran;
 use crate::run_fault::RunFault;
 use crate::submission::Submission;
 use crate::weather::{want_of_memory, weather_in};
-use ep_base::{Generation, ReplicaId, VersionKind};
+use ep_base::ReplicaId;
 use ep_host::{LockHost, Start, Turn};
 use ep_replay::{Clients, opening_of};
 use ep_report::EventFault;
@@ -63,33 +62,14 @@ fn host_of<S: Start>(alloc: Global, head: &Head, limits: &Limits) -> Result<Lock
     requires { S.start ≡ (head.now.version, opening_of head.now.opening) }
     ensures { IfOk result (λ host. HasBegun head.now host.cluster host.version host.opening) }
 {
-    let capacity = limits.capacity;
-    match head.version().kind() {
-        VersionKind::V1 => unreachable!(),
-        VersionKind::V2 => LockHost::new(alloc, head.size(), capacity),
-        VersionKind::V3(number) => host_in(alloc, head, number, capacity),
-    }
-}
-
-/// The replicas of this generation, which open as the head says.
-fn host_in<S: Start>(
-    alloc: Global,
-    head: &Head,
-    number: u32,
-    capacity: usize,
-) -> Result<LockHost<S>, AllocError>
-    requires start { S.start ≡ (V3 number, opening_of head.now.opening) }
-    requires number { 1 ≤ number }
-    requires capacity { (1 ≤ capacity) × (capacity ≤ 4096) }
-    ensures cluster { IfOk result (λ host. host.cluster ≡ head.now.faults) }
-    ensures version { IfOk result (λ host. host.version ≡ V3 number) }
-    ensures opening { IfOk result (λ host. host.opening ≡ opening_of head.now.opening) }
-{
-    let Ok(generation) = Generation::new(number) else {
-        unreachable!()
-    };
     let opening = opening_of(alloc, head.opening())?;
-    LockHost::opened(alloc, head.size(), capacity, generation, &opening)
+    LockHost::new(
+        alloc,
+        head.size(),
+        limits.capacity,
+        head.version(),
+        &opening,
+    )
 }
 
 impl<S: Start + Send + Sync> Runner<S> {
@@ -120,15 +100,25 @@ impl<S: Start + Send + Sync> Runner<S> {
         requires fits { FitsSection (size_with self.old.host.cluster) section.now }
         ensures { self.new.host ≡ self.old.host }
     {
-        let tasks = submissions_of(self.alloc, &mut self.clients, section)?;
-        let lanes = lanes(self.alloc, self.host.size())?;
         self.set_weather(rt, section)?;
-        run_lanes(rt, &self.host, &tasks, &lanes, turns)?;
+        let tasks = submissions_of(self.alloc, &mut self.clients, section)?;
+        self.run_tasks(rt, &tasks, turns)
+    }
+
+    /// Runs tasks in threads, has the held frames put, settles, and collects what came of it.
+    fn run_tasks<R: Threads + Wait + Sync>(
+        &mut self,
+        rt: &R,
+        tasks: &Vec<Submission>,
+        turns: u32,
+    ) -> Result<(), RunFault>
+        ensures { self.new.host ≡ self.old.host }
+    {
+        run_threads(rt, &self.host, tasks, turns)?;
         self.host.release(rt);
         self.settle(rt, turns);
-        self.list(rt, &tasks)?;
-        self.collect_all(rt)?;
-        Ok(())
+        self.list(rt, tasks.as_slice())?;
+        self.collect_all(rt)
     }
 
     /// Sets the host's weather: the section's.
