@@ -7,7 +7,7 @@ use ep_base::InstanceId;
 use ep_journal::Event;
 
 /// What a replica is told to do with an instance.
-#[derive(Clone, Copy)]
+#[derive(Clone, Copy, Debug, PartialEq, Eq)]
 pub enum Act {
     /// Its leader waits no longer for its fast quorum.
     GiveUp(InstanceId),

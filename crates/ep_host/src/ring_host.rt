@@ -1,8 +1,9 @@
 //! How the nodes of a host are made.
 
-ghost use Rattle.std.specs.Prelude.{◌≡◌, ◌≤◌, ◌<◌, IfOk, OnOk};
-ghost use Rattle.ep_base.specs.Quorums.{size};
+ghost use Rattle.std.specs.Prelude.{◌≡◌, [], All, OnOk};
+ghost use Rattle.ep_host.specs.Host.{IsHost, IsFresh, StartsAs};
 ghost use Rattle.ep_host.specs.Joins.{Joins, CanJoin};
+ghost use Rattle.ep_host.specs.Starts.{CanStart};
 
 use crate::held_frames::HeldFrames;
 use crate::host_fault::HostFault;
@@ -46,6 +47,38 @@ fn join_nodes(
     Ok(())
 }
 
+/// Adds the nodes of a cluster, of which there is none yet, each joined to those before it.
+fn add_nodes(
+    nodes: &mut Vec<RingNode>,
+    cluster: Size,
+    capacity: usize,
+    version: Version,
+    opening: &Opening,
+) -> Result<(), AllocError>
+    requires none { nodes.old.items ≡ [] }
+    requires start { CanStart version opening.now }
+    ensures host { OnOk result (IsHost cluster nodes.new.items) }
+    ensures fresh { OnOk result (All (IsFresh capacity) nodes.new.items) }
+    ensures start { OnOk result (All (StartsAs version opening.now) nodes.new.items) }
+{
+    let alloc = *nodes.allocator();
+    for number in 0..cluster.count() {
+        let replica = making::replica(alloc, cluster, number, version, opening)?;
+        let mut node = RingNode::new(alloc, replica);
+        for place in 0..nodes.len() {
+            match join_nodes(alloc, &mut nodes[place], &mut node, capacity) {
+                Ok(()) => {}
+                Err(fault) => {
+                    drop(node);
+                    return Err(fault);
+                }
+            }
+        }
+        nodes.push(node)?;
+    }
+    Ok(())
+}
+
 /// Nodes, each with its replica, that hand frames to one another through rings: one for each ordered pair.
 pub struct RingHost;
 
@@ -73,15 +106,13 @@ impl RingHost {
         ensures start { IfOk result (λ nodes. All (StartsAs version opening.now) nodes.items) }
     {
         let mut nodes = Vec::new(alloc);
-        for number in 0..cluster.count() {
-            let replica = making::replica(alloc, cluster, number, version, opening)?;
-            let mut node = RingNode::new(alloc, replica);
-            for place in 0..nodes.len() {
-                join_nodes(alloc, &mut nodes[place], &mut node, capacity)?;
+        match add_nodes(&mut nodes, cluster, capacity, version, opening) {
+            Ok(()) => Ok(nodes),
+            Err(fault) => {
+                drop(nodes);
+                Err(fault)
             }
-            nodes.push(node)?;
         }
-        Ok(nodes)
     }
 
     /// Assigns a task to one of the nodes of a host, which stays one. At want of memory the node is as it was.
@@ -107,6 +138,11 @@ impl RingHost {
         ensures host { (f : ℕ) → IsHost f nodes.old → IsHost f nodes.new }
     {
         nodes[node].set_weather(weather)
+    }
+
+    /// Drops the nodes. Whoever does it by this call needs no proof of how their parts are dropped.
+    pub fn discard(nodes: Vec<RingNode>) {
+        drop(nodes);
     }
 
     /// Puts the held frames of each node of a host, which stays one, into their rings, as `RingNode::release` does.

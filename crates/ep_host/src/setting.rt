@@ -13,7 +13,7 @@ use std::alloc::AllocError;
 pub fn holds(weather: &[Weather], to: usize) -> usize {
     let mut count = 0usize;
     for it in weather {
-        if it.to.index() as usize == to && matches!(it.kind, WeatherKind::Hold) {
+        if it.to.index() as usize == to && it.kind == WeatherKind::Hold {
             count = count.saturating_add(1);
         }
     }

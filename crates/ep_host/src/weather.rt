@@ -9,7 +9,7 @@ use ep_base::{ReplicaId, Size};
 use std::alloc::{AllocError, Global};
 
 /// What is to become of one frame: the one that this replica puts for that one as its `count`-th, from 1, since the weather was set.
-#[derive(Clone, Copy)]
+#[derive(Clone, Copy, Debug, PartialEq, Eq)]
 pub struct Weather {
     pub from: ReplicaId,
     pub to: ReplicaId,

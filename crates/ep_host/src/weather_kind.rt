@@ -1,7 +1,7 @@
 //! What the weather does to a frame.
 
 /// What the weather does to a frame.
-#[derive(Clone, Copy)]
+#[derive(Clone, Copy, Debug, PartialEq, Eq)]
 pub enum WeatherKind {
     /// It is not put.
     Drop,

@@ -22,7 +22,7 @@ use crate::ring_weather::set_weather;
 use ep_host::{Finished, Gate, RingHost, RingNode, finish_with, section as turn_all, settle};
 use ep_replay::{Clients, opening_of};
 use ep_rules::Receipt;
-use ep_script::{AgendaLine, Head, ScriptSection};
+use ep_script::{AgendaLine, Head, RunScript, ScriptSection};
 use std::alloc::{AllocError, Global};
 use std::marker::Sync;
 use std::mem;
@@ -42,7 +42,6 @@ impl Gate for Open {
 }
 
 /// How far a run over nodes with rings has come.
-#[derive(Drop)]
 pub(crate) struct RingRun {
     nodes: Vec<RingNode>,
     clients: Clients,
@@ -137,11 +136,14 @@ fn nodes_of(alloc: Global, head: &Head, capacity: usize) -> Result<Vec<RingNode>
     ensures start { IfOk result (λ nodes. All (StartsAs head.now.version (opening_of head.now.opening)) nodes.items) }
 {
     let opening = opening_of(alloc, head.opening())?;
-    RingHost::new(alloc, head.size(), capacity, head.version(), &opening)
+    let nodes = RingHost::new(alloc, head.size(), capacity, head.version(), &opening);
+    drop(opening);
+    nodes
 }
 
 impl RingRun {
     ghost use Rattle.std.specs.Prelude.{◌≡◌, ◌++◌, ◌∷◌, [], ◌≤◌, ◌<◌, length, ℕ, List, All, IfOk, OnOk, IsOk};
+    ghost use Rattle.ep_base.specs.Quorums.{size as size_with};
     ghost use Rattle.ep_host.specs.Finishing.{IsFinished};
     ghost use Rattle.ep_script.specs.Fits.{FitsSection};
     ghost use Rattle.ep_script.specs.Plan.{SectionPlan};
@@ -165,6 +167,23 @@ impl RingRun {
         })
     }
 
+    /// Runs the sections of a script.
+    pub(crate) fn run_all<R: Threads + Sync>(
+        &mut self,
+        rt: &R,
+        script: &RunScript,
+        turns: u32,
+    ) -> Result<(), AllocError>
+        requires run { (b : Begun) × HasRun b turns [] self.old }
+        requires size { length self.old.nodes.items ≡ size_with script.now.head.faults }
+        ensures { OnOk result ((b : Begun) → HasRun b turns [] self.old → HasRun b turns script.now.sections self.new) }
+    {
+        for section in script.sections() {
+            self.run(rt, section, turns)?;
+        }
+        Ok(())
+    }
+
     /// Runs a section in threads and in its own weather, puts the held frames, settles, and collects the receipts.
     pub(crate) fn run<R: Threads + Sync>(
         &mut self,
@@ -185,7 +204,8 @@ impl RingRun {
         )?;
         let none = Vec::new(self.alloc);
         let nodes = mem::replace(&mut self.nodes, none);
-        self.nodes = turned(rt, nodes, turns);
+        let emptied = mem::replace(&mut self.nodes, turned(rt, nodes, turns));
+        RingHost::discard(emptied);
         self.collect_all()?;
         Ok(())
     }
@@ -219,6 +239,21 @@ impl RingRun {
         Ok(())
     }
 
+    /// Drops all of it.
+    pub(crate) fn discard(self) {
+        let RingRun {
+            nodes,
+            clients,
+            receipts,
+            collected,
+            alloc: _,
+        } = self;
+        RingHost::discard(nodes);
+        drop(clients);
+        drop(receipts);
+        drop(collected);
+    }
+
     /// What the run leaves, of these sections.
     pub(crate) fn end(self, sections: &[ScriptSection]) -> Result<Ran, AllocError>
         requires { (b : Begun) × (turns : ℕ) × HasRun b turns sections.now self }
@@ -229,20 +264,35 @@ impl RingRun {
     {
         let RingRun {
             nodes,
-            clients: _,
+            clients,
             receipts,
-            collected: _,
+            collected,
             alloc,
         } = self;
-        let refused = refused_lines(alloc, sections, &nodes)?;
+        drop(clients);
+        drop(collected);
+        let refused = match refused_lines(alloc, sections, &nodes) {
+            Ok(refused) => refused,
+            Err(fault) => {
+                RingHost::discard(nodes);
+                drop(receipts);
+                return Err(fault);
+            }
+        };
         let lost = lost_of(&nodes);
-        let finished = finish_with(alloc, nodes, &receipts)?;
-        Ok(Ran {
-            finished,
-            receipts,
-            refused,
-            lost,
-        })
+        match finish_with(alloc, nodes, &receipts) {
+            Ok(finished) => Ok(Ran {
+                finished,
+                receipts,
+                refused,
+                lost,
+            }),
+            Err(fault) => {
+                drop(receipts);
+                drop(refused);
+                Err(fault)
+            }
+        }
     }
 }
 

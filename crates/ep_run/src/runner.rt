@@ -30,7 +30,6 @@ use std::sync::Wait;
 use std::thread::Threads;
 
 /// Runs the sections of a script.
-#[derive(Drop)]
 struct Runner<S: Start> {
     host: LockHost<S>,
     clients: Clients,
@@ -63,13 +62,15 @@ fn host_of<S: Start>(alloc: Global, head: &Head, limits: &Limits) -> Result<Lock
     ensures { IfOk result (λ host. HasBegun head.now host.cluster host.version host.opening) }
 {
     let opening = opening_of(alloc, head.opening())?;
-    LockHost::new(
+    let host = LockHost::new(
         alloc,
         head.size(),
         limits.capacity,
         head.version(),
         &opening,
-    )
+    );
+    drop(opening);
+    host
 }
 
 impl<S: Start + Send + Sync> Runner<S> {
@@ -90,6 +91,22 @@ impl<S: Start + Send + Sync> Runner<S> {
         })
     }
 
+    /// Runs the sections of a script.
+    fn run_all<R: Threads + Wait + Sync>(
+        &mut self,
+        rt: &R,
+        script: &RunScript,
+        turns: u32,
+    ) -> Result<(), RunFault>
+        requires { self.old.host.cluster ≡ script.now.head.faults }
+        ensures { self.new.host ≡ self.old.host }
+    {
+        for section in script.sections() {
+            self.run(rt, section, turns)?;
+        }
+        Ok(())
+    }
+
     /// Runs a section in threads and in its own weather, has the held frames put, settles, and collects what came of it.
     fn run<R: Threads + Wait + Sync>(
         &mut self,
@@ -102,7 +119,9 @@ impl<S: Start + Send + Sync> Runner<S> {
     {
         self.set_weather(rt, section)?;
         let tasks = submissions_of(self.alloc, &mut self.clients, section)?;
-        self.run_tasks(rt, &tasks, turns)
+        let done = self.run_tasks(rt, &tasks, turns);
+        drop(tasks);
+        done
     }
 
     /// Runs tasks in threads, has the held frames put, settles, and collects what came of it.
@@ -198,6 +217,23 @@ impl<S: Start + Send + Sync> Runner<S> {
         Ok(())
     }
 
+    /// Drops all of it.
+    fn discard(self) {
+        let Runner {
+            host,
+            clients,
+            receipts,
+            refused,
+            collected,
+            alloc: _,
+        } = self;
+        host.discard();
+        drop(clients);
+        drop(receipts);
+        drop(refused);
+        drop(collected);
+    }
+
     /// What the run leaves.
     fn end<R: Wait>(self, rt: &R) -> Result<Ran, AllocError>
         ensures finished { IfOk result (λ r. IsFinished r.receipts.items r.finished) }
@@ -205,20 +241,28 @@ impl<S: Start + Send + Sync> Runner<S> {
     {
         let Runner {
             host,
-            clients: _,
+            clients,
             receipts,
             refused,
-            collected: _,
+            collected,
             alloc: _,
         } = self;
+        drop(clients);
+        drop(collected);
         let lost = host.lost(rt);
-        let finished = host.finish(&receipts)?;
-        Ok(Ran {
-            finished,
-            receipts,
-            refused,
-            lost,
-        })
+        match host.finish(&receipts) {
+            Ok(finished) => Ok(Ran {
+                finished,
+                receipts,
+                refused,
+                lost,
+            }),
+            Err(fault) => {
+                drop(receipts);
+                drop(refused);
+                Err(fault)
+            }
+        }
     }
 }
 
@@ -234,11 +278,13 @@ fn run_as<S: Start + Send + Sync, R: Threads + Wait + Sync>(
     ensures begun { IfOk result (λ r. IsBegun (begun_of script.now.head) r.finished.journals) }
 {
     let mut runner = Runner::<S>::new(alloc, script.head(), limits)?;
-    for section in script.sections() {
-        runner.run(rt, section, limits.turns)?;
+    match runner.run_all(rt, script, limits.turns) {
+        Ok(()) => Ok(runner.end(rt)?),
+        Err(fault) => {
+            runner.discard();
+            Err(fault)
+        }
     }
-    let ran = runner.end(rt)?;
-    Ok(ran)
 }
 
 /// Runs the script in threads, over replicas behind locks.

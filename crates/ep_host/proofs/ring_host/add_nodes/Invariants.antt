@@ -1,6 +1,6 @@
 use Rattle.std.proofs.Common.{◌≡◌, length}
 use Rattle.ep_host.proofs.Hosting.{AreLinked, AreJoined}
-use Rattle.ep_host.proofs.ring_host.RingHost.new.Given as goal
+use Rattle.ep_host.proofs.ring_host.add_nodes.Given as goal
 
 abbrev pub invariant-loop-number : goal.invariant-loop-number
 invariant-loop-number l = record { linked : AreLinked l.capacity l.cluster (l.version, l.opening) l.nodes.items; count : length l.nodes.items ≡ l.number }

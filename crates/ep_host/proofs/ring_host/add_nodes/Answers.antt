@@ -6,13 +6,13 @@ use Rattle.ep_replica.specs.Kept.{Kept, start_of}
 use Rattle.ep_host.specs.Joins.{CanJoin, Joins}
 use Rattle.ep_host.specs.Node.{Node}
 use Rattle.ep_host.proofs.Hosting.{linked_none, joined_none, can_join, joined_more, linked_more, linked_host, linked_fresh, linked_start}
-use Rattle.ep_host.proofs.ring_host.RingHost.new.Goals as goal
+use Rattle.ep_host.proofs.ring_host.add_nodes.Goals as goal
 
 abbrev start : Version → Opening → Version × Opening
 start v o = (v, o)
 
 pub loop-number-init : goal.loop-number-init
-loop-number-init c = record { linked = rw c.new-nodes.ensures.items (linked_none c.args.capacity c.args.cluster (start c.args.version c.args.opening.now)); count = search rules }
+loop-number-init c = record { linked = rw c.requires.none (linked_none c.args.capacity c.args.cluster (start c.args.version c.args.opening.now)); count = search rules }
 
 pub loop-place-init : goal.loop-place-init
 loop-place-init c =
@@ -36,7 +36,7 @@ pub loop-place-preserved : goal.loop-place-preserved
 loop-place-preserved c =
     let h = c.loop-place.invariant in let nodes = c.loop-place.nodes.items in let k = c.loop-place.place in
     let was = c.index_mut.result.now in let a = c.join_nodes.new.a in let b = c.join_nodes.new.b in
-    let joins : Joins c.args.capacity (get_or nodes k was) c.loop-place.node a b = subst (λ (n : Node). Joins c.args.capacity n c.loop-place.node a b) c.index_mut.ensures.value c.in_ok-join_nodes.ensures in record {
+    let joins : Joins c.args.capacity (get_or nodes k was) c.loop-place.node a b = subst (λ (n : Node). Joins c.args.capacity n c.loop-place.node a b) c.index_mut.ensures.value c.in-Ok.ensures in record {
       joined = joined_more c.args.capacity c.args.cluster (start c.args.version c.args.opening.now) k nodes c.loop-place.node was a b h.joined (omega (arith, h.end)) joins;
       count = length-set nodes k a ∙ h.count;
       end = h.end ∙ sym (length-set nodes k a);
