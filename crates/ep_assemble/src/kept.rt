@@ -53,6 +53,7 @@ fn read_opened(
     let origin = origin_beside(alloc, cluster, &one.opening)?;
     let log = read_one(alloc, place, &one.log, &origin)?;
     if !is_of_size(cluster, &log) {
+        drop(log);
         return Err(GenerationFault::LogSize(place));
     }
     Ok(log)
