@@ -20,7 +20,7 @@ use crate::start::Start;
 use crate::tended::Tended;
 use crate::turn::Turn;
 use crate::weather::{Weather, is_weather};
-use ep_base::{Command, InstanceId, ReplicaId, Size, Version};
+use ep_base::{Command, Generation, InstanceId, ReplicaId, Size, Version};
 use ep_inbox::Port;
 use ep_journal::{Journal, Opening};
 use ep_rules::Receipt;
@@ -96,6 +96,8 @@ fn add_seats<S: Start>(
 impl<S: Start> LockHost<S> {
     ghost use Rattle.std.specs.Prelude.{◌≡◌, ◌≤◌, ◌<◌, IfOk, IfErr, IfSome, OnOk};
     ghost use Rattle.ep_base.specs.Quorums.{size};
+    ghost use Rattle.ep_base.specs.declared.version_kind.VersionKind.TheVariants.{V2, V3};
+    ghost use Rattle.ep_journal.specs.Openings.{no_opening};
     ghost use Rattle.ep_journal.specs.declared.event.Event.TheVariants.{Propose};
     ghost use Rattle.ep_host.specs.Asking.{IsTaken, IsSubmitted, IsPumped, IsRefused, IsUntold, AreTold, IsOutcomeIn};
     ghost use Rattle.ep_host.specs.Finishing.{IsFinished};
@@ -105,8 +107,41 @@ impl<S: Start> LockHost<S> {
     ghost use Rattle.ep_host.specs.Weathers.{IsWeather};
     ghost use Rattle.ep_host.specs.declared.host_fault.HostFault.TheVariants.{OutOfRange};
 
-    /// The replicas of a cluster of this size, of this version and with this opening, before any event, each with an inbox for so many frames.
-    pub fn new(
+    /// The replicas of a cluster of this size, of version 2, before any event, each with an inbox for so many frames.
+    pub fn new(alloc: Global, cluster: Size, capacity: usize) -> Result<LockHost<S>, AllocError>
+        requires capacity { (1 ≤ capacity) × (capacity ≤ 4096) }
+        requires start { S.start ≡ (V2, no_opening) }
+        ensures cluster { IfOk result (λ host. host.cluster ≡ cluster) }
+        ensures version { IfOk result (λ host. host.version ≡ V2) }
+        ensures opening { IfOk result (λ host. host.opening ≡ no_opening) }
+    {
+        let opening = Opening::none(alloc);
+        let made = LockHost::of(alloc, cluster, capacity, Version::V2, &opening);
+        drop(opening);
+        made
+    }
+
+    /// The replicas of a cluster of this size, of version 3 and this generation, all with this opening, before any event, each with an inbox for so
+    /// many frames.
+    pub fn opened(
+        alloc: Global,
+        cluster: Size,
+        capacity: usize,
+        generation: Generation,
+        opening: &Opening,
+    ) -> Result<LockHost<S>, AllocError>
+        requires capacity { (1 ≤ capacity) × (capacity ≤ 4096) }
+        requires start { S.start ≡ (V3 generation, opening.now) }
+        ensures cluster { IfOk result (λ host. host.cluster ≡ cluster) }
+        ensures version { IfOk result (λ host. host.version ≡ V3 generation) }
+        ensures opening { IfOk result (λ host. host.opening ≡ opening.now) }
+    {
+        let version = Version::of_generation(generation);
+        LockHost::of(alloc, cluster, capacity, version, opening)
+    }
+
+    /// The same, of this version, which is 2 or 3, and with this opening, which is none in version 2.
+    pub fn of(
         alloc: Global,
         cluster: Size,
         capacity: usize,

@@ -12,7 +12,7 @@ use crate::making;
 use crate::ring_node::RingNode;
 use crate::task::Task;
 use crate::weather::Weather;
-use ep_base::{Size, Version};
+use ep_base::{Generation, Size, Version};
 use ep_journal::Opening;
 use rtrb::RingBuffer;
 use std::alloc::{AllocError, Global};
@@ -84,15 +84,47 @@ pub struct RingHost;
 
 impl RingHost {
     ghost use Rattle.std.specs.Prelude.{◌≤◌, ◌<◌, ◌≡◌, ℕ, length, IfOk, IfErr, OnOk, OnErr, All};
+    ghost use Rattle.ep_base.specs.declared.version_kind.VersionKind.TheVariants.{V2, V3};
+    ghost use Rattle.ep_journal.specs.Openings.{no_opening};
     ghost use Rattle.ep_host.specs.Host.{IsHost, IsFresh, StartsAs};
     ghost use Rattle.ep_host.specs.Pointwise.{Each};
     ghost use Rattle.ep_host.specs.Setting.{SetsWeatherAt, IsUnsetAt, IsReleased};
     ghost use Rattle.ep_host.specs.Starts.{CanStart};
     ghost use Rattle.ep_host.specs.Turns.{AssignsAt};
 
-    /// The nodes of a cluster of this size, of this version and with this opening, before any event and without tasks. Each ring has room for so many
-    /// frames.
-    pub fn new(
+    /// The nodes of a cluster of this size, of version 2, before any event and without tasks. Each ring has room for so many frames.
+    pub fn new(alloc: Global, cluster: Size, capacity: usize) -> Result<Vec<RingNode>, AllocError>
+        requires { (1 ≤ capacity) × (capacity ≤ 4096) }
+        ensures host { IfOk result (λ nodes. IsHost cluster nodes.items) }
+        ensures fresh { IfOk result (λ nodes. All (IsFresh capacity) nodes.items) }
+        ensures start { IfOk result (λ nodes. All (StartsAs V2 no_opening) nodes.items) }
+    {
+        let opening = Opening::none(alloc);
+        let made = RingHost::of(alloc, cluster, capacity, Version::V2, &opening);
+        drop(opening);
+        made
+    }
+
+    /// The nodes of a cluster of this size, of version 3 and this generation, all with this opening, before any event and without tasks. Each ring has
+    /// room for so many frames.
+    pub fn opened(
+        alloc: Global,
+        cluster: Size,
+        capacity: usize,
+        generation: Generation,
+        opening: &Opening,
+    ) -> Result<Vec<RingNode>, AllocError>
+        requires { (1 ≤ capacity) × (capacity ≤ 4096) }
+        ensures host { IfOk result (λ nodes. IsHost cluster nodes.items) }
+        ensures fresh { IfOk result (λ nodes. All (IsFresh capacity) nodes.items) }
+        ensures start { IfOk result (λ nodes. All (StartsAs (V3 generation) opening.now) nodes.items) }
+    {
+        let version = Version::of_generation(generation);
+        RingHost::of(alloc, cluster, capacity, version, opening)
+    }
+
+    /// The same, of this version, which is 2 or 3, and with this opening, which is none in version 2.
+    pub fn of(
         alloc: Global,
         cluster: Size,
         capacity: usize,
