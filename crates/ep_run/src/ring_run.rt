@@ -136,7 +136,7 @@ fn nodes_of(alloc: Global, head: &Head, capacity: usize) -> Result<Vec<RingNode>
     ensures start { IfOk result (λ nodes. All (StartsAs head.now.version (opening_of head.now.opening)) nodes.items) }
 {
     let opening = opening_of(alloc, head.opening())?;
-    let nodes = RingHost::new(alloc, head.size(), capacity, head.version(), &opening);
+    let nodes = RingHost::of(alloc, head.size(), capacity, head.version(), &opening);
     drop(opening);
     nodes
 }

@@ -62,7 +62,7 @@ fn host_of<S: Start>(alloc: Global, head: &Head, limits: &Limits) -> Result<Lock
     ensures { IfOk result (λ host. HasBegun head.now host.cluster host.version host.opening) }
 {
     let opening = opening_of(alloc, head.opening())?;
-    let host = LockHost::new(
+    let host = LockHost::of(
         alloc,
         head.size(),
         limits.capacity,

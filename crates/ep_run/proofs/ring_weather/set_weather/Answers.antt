@@ -1,11 +1,11 @@
 use Rattle.std.proofs.Common.{◌≡◌, ◌∙◌, ℕ, List, subst, sym, ap}
 use Rattle.ep_base.specs.Quorums.{size}
 use Rattle.ep_host.specs.Setting.{SetsWeatherAt}
-use Rattle.ep_host.specs.Weathers.{IsWeather}
+use Rattle.ep_host.specs.Weathers.{IsWeather, own_of}
 use Rattle.ep_host.specs.declared.weather.Weather.{Weather}
 use Rattle.ep_host.proofs.Places.{firsts_none, firsts_all}
 use Rattle.ep_script.specs.Fits.{FitsSection}
-use Rattle.ep_run.specs.Weathers.{weather_in, own_of, SetsOwn}
+use Rattle.ep_run.specs.Weathers.{weather_in, SetsOwn}
 use Rattle.ep_run.proofs.Weathering.{section_weather, set_more}
 use Rattle.ep_run.proofs.ring_weather.set_weather.Goals as goal
 

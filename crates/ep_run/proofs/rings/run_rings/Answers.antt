@@ -19,16 +19,16 @@ end-requires g c =
     let h = subst (λ (h : Head). HasRun (begun_of h) turns [] c.in_ok-run.run') c.head.ensures (c.in_ok-run.ensures turns) in
     (b, turns, subst (λ (ss : List SectionPlan). HasRun b turns ss c.run_all.new.self) (sym c.sections.ensures.value) (c.in-Ok.ensures b h))
 
-pub returns-in-Ok-clause-lines : goal.returns-in-Ok-clause-lines
-returns-in-Ok-clause-lines g c =
+pub returns-in_ok-end-in-Ok-clause-lines : goal.returns-in_ok-end-in-Ok-clause-lines
+returns-in_ok-end-in-Ok-clause-lines g c =
     let b = begun_of c.args.script.now.head in
     let turns = c.args.limits.now.turns in
     let h = subst (λ (h : Head). HasRun (begun_of h) turns [] c.in_ok-run.run') c.head.ensures (c.in_ok-run.ensures turns) in
     let e : HasRun b turns c.sections.result.now c.run_all.new.self = subst (λ (ss : List SectionPlan). HasRun b turns ss c.run_all.new.self) (sym c.sections.ensures.value) (c.in-Ok.ensures b h) in
     subst (λ (ss : List SectionPlan). AreDone turns ss c.in_ok-end-in-Ok.field-0) c.sections.ensures.value (c.in_ok-end-in-Ok.ensures.lines b turns e)
 
-pub returns-in-Ok-clause-begun : goal.returns-in-Ok-clause-begun
-returns-in-Ok-clause-begun g c =
+pub returns-in_ok-end-in-Ok-clause-begun : goal.returns-in_ok-end-in-Ok-clause-begun
+returns-in_ok-end-in-Ok-clause-begun g c =
     let b = begun_of c.args.script.now.head in
     let turns = c.args.limits.now.turns in
     let h = subst (λ (h : Head). HasRun (begun_of h) turns [] c.in_ok-run.run') c.head.ensures (c.in_ok-run.ensures turns) in

@@ -44,8 +44,9 @@ returns-clause-run g c = λ b done h.
     let each : Each (Passes turns) begins.assigned new.nodes.items = passes_section turns ws begins.assigned middle new.nodes.items begins.sets turned in
     let host : IsHost f new.nodes.items =
     subst (λ (l : List Node). IsHost f l) (sym kept) (c.turned.ensures.host f (subst (λ (l : List Node). IsHost f l) (sym is) (c.begin.ensures.host f (subst (λ (l : List Node). IsHost f l) (sym start) h.host)))) in
+    let still : new.nodes.items ≡ c.replace-emptied.new.dest.items = (let n = c.in_ok-collect_all.ensures.nodes in cc) in
     let collects : Collects new.nodes.items clients ts new.clients new.receipts.items =
-    subst (λ (l : List Node). Collects l clients ts new.clients new.receipts.items) (sym kept) c.in_ok-collect_all.ensures.receipts in
+    subst (λ (l : List Node). Collects l clients ts new.clients new.receipts.items) (sym still) c.in_ok-collect_all.ensures.receipts in
     has_run b turns done plan old new begins.assigned clients h c.requires.fits.agendas begins.assigns counted each host collects
 
 pub returns-clause-weather : goal.returns-clause-weather
