@@ -1,7 +1,7 @@
 -- What is told of bytes, by what is read of them and which faults are found.
-use Rattle.std.proofs.Common.{◌≡◌, ℕ, ◌+◌, ◌<◌, List, [], ◌∷◌, ◌++◌, length, take, get_or, append-nil, append_assoc, Option, Result, Ok, Err, IfOk, sym, ap, subst, ◌∙◌}
+use Rattle.std.proofs.Common.{◌≡◌, ℕ, ◌+◌, ◌<◌, List, [], ◌∷◌, ◌++◌, length, take, get_or, append-nil, append_assoc, Option, Result, Ok, Err, IfOk, refl, sym, ap, subst, ◌∙◌}
 use Rattle.std.proofs.lemmas.List.{take_more}
-use Rattle.std.specs.Prelude.{Bool, ◌||◌, IfErr, None, Some}
+use Rattle.std.specs.Prelude.{Bool, false, ◌||◌, IfErr, None, Some}
 use Rattle.std.specs.Io.KnownBytes.{Keeps}
 use Rattle.ep_explain.specs.Kept.{is_read_failed}
 use Rattle.ep_explain.specs.declared.explain_fault.ExplainFault.{ExplainFault}
@@ -14,6 +14,9 @@ use Rattle.ep_bundle.specs.declared.bundle_fault.BundleFault.{BundleFault}
 use Rattle.ep_bundle.specs.declared.bundle_fault.BundleFault.TheVariants.{Memory, ReadFailed, BadBundle, NotARun}
 use Rattle.ep_report.specs.Reports.{text_of}
 use Rattle.ep_audit.specs.declared.audit_fault.AuditFault.{AuditFault}
+use Rattle.ep_explain.specs.Advice.{IsAdvice, at_line, script_refused}
+use Rattle.ep_explain.specs.Reasons.{section}
+use Rattle.ep_explain.specs.declared.subcommand.Subcommand.{Subcommand}
 use Rattle.ep_explain.specs.Explained.{IsNoBundle, IsRefusalTold, IsJudged, IsExplained, unreadable, read, unread}
 use Rattle.ep_explain.specs.Sections.{AreTold, none, more, fault_section}
 use Rattle.ep_explain.specs.declared.explained.Explained.{Explained}
@@ -68,3 +71,12 @@ told_more k xs x old mid new lt is p w =
     let next : take (k + 1) xs ≡ take k xs ++ x ∷ [] = take_more xs k x lt ∙ ap (λ y. take k xs ++ y ∷ []) (sym is) in
     let added : List ℕ = text_of (fault_section x w.0) in
     (p.0 ++ added, subst (λ ys. AreTold ys (p.0 ++ added)) (sym next) (more (take k xs) p.0 x w.0 p.1), w.1 ∙ ap (λ m. m ++ added) p.2 ∙ append_assoc old p.0 added)
+
+-- a refused line, and its first reason, which names the line
+pub led_by : (sub : Subcommand) (line : ℕ) (t t0 r f : List ℕ) (rest : List (List ℕ)) → t ≡ t0 ++ text_of (section r (f ∷ rest)) → t0 ≡ [] → r ≡ script_refused line → (words : List ℕ) × (f ≡ at_line line words) → IsAdvice sub (Some line) false t
+led_by sub line t t0 r f rest told empty is first = (
+  refl,
+  first.0,
+  rest,
+  told ∙ ap (λ x. x ++ text_of (section r (f ∷ rest))) empty ∙ ap (λ x. text_of (section x (f ∷ rest))) is ∙ ap (λ x. text_of (section (script_refused line) (x ∷ rest))) first.1,
+)

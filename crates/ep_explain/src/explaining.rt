@@ -11,17 +11,17 @@ ghost use Rattle.ep_report.specs.Reports.{text_of};
 ghost use Rattle.ep_view.specs.Editions.{edition_line};
 
 use crate::advice::Advice;
-use crate::claims::{order_reasons, unknown_reasons};
+use crate::claims::{add_misordered, add_unknown};
 use crate::explain_fault::ExplainFault;
 use crate::explained::Explained;
 use crate::finding::Finding;
-use crate::grammar::field_reasons;
+use crate::grammar::add_field;
 use crate::guess::subcommand_of;
-use crate::handled::handling_reasons;
+use crate::handled::add_handling;
 use crate::kept::Kept;
 use crate::reasons::{Reasons, push_section};
 use crate::scripts::explain_script;
-use crate::stepping::step_reasons;
+use crate::stepping::add_step;
 use crate::subcommand::Subcommand;
 use ep_audit::{AuditFault, faults};
 use ep_base::Source;
@@ -87,7 +87,11 @@ fn explain_bytes<S: Source>(alloc: Global, source: &mut Kept<S>) -> Result<Expla
     ensures failed { FailsAsTold is_read_failed result (S.has_failed source.old.source) (S.has_failed source.new.source) }
 {
     match read_bundle(alloc, source) {
-        Ok(bundle) => explain_bundle(alloc, &bundle),
+        Ok(bundle) => {
+            let told = explain_bundle(alloc, &bundle);
+            drop(bundle);
+            told
+        }
         Err(fault) => explain_refusal(alloc, source.bytes(), fault),
     }
 }
@@ -117,29 +121,34 @@ fn tell_refusal(
 ) -> Result<Explained, AllocError>
     ensures { IfOk result (λ told. IsRefusalTold fault told.finding told.text.items) }
 {
-    let reasons = refusal_reasons(alloc, bytes, fault)?;
     let line = fault.to_string(alloc)?;
+    let reasons = refusal_reasons(alloc, bytes, fault);
     let mut text = Vec::new(alloc);
-    push_section(&mut text, line.as_bytes(), &reasons)?;
+    let told = push_section(&mut text, line.as_bytes(), &reasons);
+    drop(reasons);
+    told?;
     Ok(Explained {
         finding: Finding::Unreadable,
         text,
     })
 }
 
-/// Why the reader refuses the bytes. Memory and reading aren't told as reasons.
-fn refusal_reasons(
-    alloc: Global,
-    bytes: Option<&[u8]>,
-    fault: BundleFault,
-) -> Result<Reasons, AllocError> {
-    let Some(bytes) = bytes else {
-        return Err(AllocError);
-    };
+/// Why the reader refuses the bytes.
+fn refusal_reasons(alloc: Global, bytes: Option<&[u8]>, fault: BundleFault) -> Reasons {
+    let mut reasons = Reasons::new(alloc);
+    match bytes {
+        Some(bytes) => add_refusal(alloc, bytes, fault, &mut reasons),
+        None => reasons.cut(),
+    }
+    reasons
+}
+
+/// Memory and reading aren't told as reasons.
+fn add_refusal(alloc: Global, bytes: &[u8], fault: BundleFault, reasons: &mut Reasons) {
     match fault {
-        BundleFault::Memory | BundleFault::ReadFailed => Err(AllocError),
-        BundleFault::BadBundle(place) => field_reasons(alloc, bytes, place),
-        BundleFault::NotARun(replica, entry) => step_reasons(alloc, bytes, replica, entry),
+        BundleFault::Memory | BundleFault::ReadFailed => reasons.cut(),
+        BundleFault::BadBundle(place) => add_field(bytes, place, reasons),
+        BundleFault::NotARun(replica, entry) => add_step(alloc, bytes, replica, entry, reasons),
     }
 }
 
@@ -209,22 +218,26 @@ fn push_fault(
 ) -> Result<(), AllocError>
     ensures { OnOk result ((reasons : List (List ℕ)) × (text.new.items ≡ text.old.items ++ text_of (fault_section fault reasons))) }
 {
-    let reasons = reasons_of(alloc, bundle, fault)?;
     let line = fault.to_string(alloc)?;
-    push_section(text, line.as_bytes(), &reasons)
+    let reasons = reasons_of(alloc, bundle, fault);
+    let told = push_section(text, line.as_bytes(), &reasons);
+    drop(reasons);
+    told
 }
 
 /// The reasons of a fault of the bundle.
-fn reasons_of(alloc: Global, bundle: &Bundle, fault: AuditFault) -> Result<Reasons, AllocError> {
+fn reasons_of(alloc: Global, bundle: &Bundle, fault: AuditFault) -> Reasons {
     let journals = &bundle.journals;
     let receipts = bundle.receipts.as_slice();
+    let mut reasons = Reasons::new(alloc);
     match fault {
         AuditFault::UnsentFrame(replica, number)
         | AuditFault::ChangedFrame(replica, number)
         | AuditFault::StampOrder(replica, number) => {
-            handling_reasons(alloc, journals, replica, number)
+            add_handling(journals, replica, number, &mut reasons);
         }
-        AuditFault::UnknownReceipt(place) => unknown_reasons(alloc, journals, receipts, place),
-        AuditFault::CallerOrder(place) => order_reasons(alloc, journals, receipts, place),
+        AuditFault::UnknownReceipt(place) => add_unknown(journals, receipts, place, &mut reasons),
+        AuditFault::CallerOrder(place) => add_misordered(journals, receipts, place, &mut reasons),
     }
+    reasons
 }

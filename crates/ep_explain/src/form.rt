@@ -1,7 +1,7 @@
 //! The forms of fields.
 
 /// What a field's bytes are.
-#[derive(Clone, Copy)]
+#[derive(Drop)]
 pub(crate) enum Form {
     /// A number, the highest byte first.
     Number,

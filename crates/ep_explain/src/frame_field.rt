@@ -1,82 +1,82 @@
 //! The fields of frames.
 
+use crate::allowed::number_of;
 use crate::form::Form;
-use crate::front::push_front;
-use crate::walk::number_of;
+use crate::wording::Wording;
 use ep_base::{InstanceId, ReplicaId};
-use ep_report::{push_instance, push_number};
-use std::alloc::AllocError;
 
 /// How many bytes of a key, a value or a body are told.
 const SHOWN: usize = 1024;
 
-/// A field of a frame: its name, where it begins, and how many bytes it has.
-#[derive(Clone, Copy)]
-pub(crate) struct FrameField<'a> {
-    pub name: &'a [u8],
+/// The fields of a header, by docs/FORMATS.md, section 1.2: their names, and where they end. Versions 1 and 2 have no more than 40 bytes of them.
+const HEADER: [(&[u8], usize); 22] = [
+    (b"magic", 2),
+    (b"version", 3),
+    (b"kind", 4),
+    (b"sender", 5),
+    (b"receiver", 6),
+    (b"out number", 8),
+    (b"entry number", 12),
+    (b"stamp", 20),
+    (b"instance's replica", 21),
+    (b"instance's number", 23),
+    (b"ballot's counter", 25),
+    (b"ballot's replica", 26),
+    (b"status", 27),
+    (b"voted or promised ballot's counter", 29),
+    (b"voted or promised ballot's replica", 30),
+    (b"seq", 34),
+    (b"op", 35),
+    (b"length of the key", 36),
+    (b"length of the value", 38),
+    (b"number of dependencies", 40),
+    (b"generation", 44),
+    (b"length of the body", 48),
+];
+
+/// The names of the kinds of messages, by their codes from 1 on.
+const KINDS: [&[u8]; 8] = [
+    b"PreAccept",
+    b"PreAcceptOK",
+    b"Accept",
+    b"AcceptOK",
+    b"Commit",
+    b"Prepare",
+    b"PrepareOK",
+    b"Nack",
+];
+
+/// A field of a frame: its name, where it begins and ends, and its form.
+#[derive(Drop)]
+pub(crate) struct FrameField {
+    pub name: &'static [u8],
     pub start: usize,
-    pub len: usize,
-    pub form: Form,
+    end: usize,
+    form: Form,
 }
 
-/// A field of the header, which is a number.
-fn number(name: &[u8], start: usize, len: usize) -> FrameField<'_> {
-    FrameField {
-        name,
-        start,
-        len,
+/// The field of a header that has the byte at this place.
+fn header_field(is_late: bool, place: usize) -> FrameField {
+    let mut field = FrameField {
+        name: b"",
+        start: 0,
+        end: 0,
         form: Form::Number,
+    };
+    for (name, end) in &HEADER {
+        if field.end <= place {
+            field.name = name;
+            field.start = field.end;
+            field.end = *end;
+        }
     }
-}
-
-/// The field of a header of any version that has the byte at this place, by docs/FORMATS.md, section 1.2.
-fn header_field(place: usize) -> FrameField<'static> {
-    match place {
-        0..=1 => number(b"magic", 0, 2),
-        2 => number(b"version", 2, 1),
-        3 => FrameField {
-            name: b"kind",
-            start: 3,
-            len: 1,
-            form: Form::Kind,
-        },
-        4 => number(b"sender", 4, 1),
-        5 => number(b"receiver", 5, 1),
-        6..=7 => number(b"out number", 6, 2),
-        8..=11 => number(b"entry number", 8, 4),
-        12..=19 => number(b"stamp", 12, 8),
-        20 => number(b"instance's replica", 20, 1),
-        21..=22 => number(b"instance's number", 21, 2),
-        23..=24 => number(b"ballot's counter", 23, 2),
-        25 => number(b"ballot's replica", 25, 1),
-        26 => number(b"status", 26, 1),
-        27..=28 => number(b"voted or promised ballot's counter", 27, 2),
-        29 => number(b"voted or promised ballot's replica", 29, 1),
-        30..=33 => number(b"seq", 30, 4),
-        34 => number(b"op", 34, 1),
-        35 => number(b"length of the key", 35, 1),
-        36..=37 => number(b"length of the value", 36, 2),
-        _ => number(b"number of dependencies", 38, 2),
+    if field.start == 3 {
+        field.form = Form::Kind;
     }
-}
-
-/// The field of a header of version 3 that has the byte at this place.
-fn late_header_field(place: usize) -> FrameField<'static> {
-    match place {
-        36..=37 => number(b"length of the second key", 36, 2),
-        40..=43 => number(b"generation", 40, 4),
-        44..=47 => number(b"length of the body", 44, 4),
-        _ => header_field(place),
+    if is_late && field.start == 36 {
+        field.name = b"length of the second key";
     }
-}
-
-/// Where the parts behind a header begin, as its lengths tell it.
-#[derive(Clone, Copy)]
-struct Begins {
-    key: usize,
-    second: usize,
-    body: usize,
-    deps: usize,
+    field
 }
 
 /// The number that so many bytes spell from this place on; 0 where they aren't all there.
@@ -87,99 +87,79 @@ fn number_in(bytes: &[u8], place: usize, len: usize) -> usize {
     }
 }
 
-/// Where the parts behind a header of version 3 begin. In one of the others a value or a second key has the place of a body.
-fn begins_of(bytes: &[u8]) -> Begins {
-    let is_late = is_late(bytes);
-    let key = if is_late { 48 } else { 40 };
-    let second = number_in(bytes, 35, 1).saturating_add(key);
-    let body = if is_late {
-        second.saturating_add(number_in(bytes, 36, 2))
-    } else {
-        second
-    };
-    let len = if is_late {
-        number_in(bytes, 44, 4)
-    } else {
-        number_in(bytes, 36, 2)
-    };
-    Begins {
-        key,
-        second,
-        body,
-        deps: body.saturating_add(len),
+/// The field behind the header that has the byte at this place, where the parts begin at `key`, as the lengths in the header tell them: a key, a
+/// second key, a body and dependencies. In versions 1 and 2 a value or a second key has the place of a body.
+fn body_field(bytes: &[u8], is_late: bool, key: usize, place: usize) -> FrameField {
+    let second = key.saturating_add(number_in(bytes, 35, 1));
+    if place < second {
+        return word(b"key", key, second);
     }
-}
-
-/// Whether the bytes say that they are of version 3.
-fn is_late(bytes: &[u8]) -> bool {
-    number_in(bytes, 2, 1) == 3
+    if !is_late {
+        let deps = second.saturating_add(number_in(bytes, 36, 2));
+        return last_field(b"value or second key", second, deps, place);
+    }
+    let body = second.saturating_add(number_in(bytes, 36, 2));
+    if place < body {
+        return word(b"second key", second, body);
+    }
+    let deps = body.saturating_add(number_in(bytes, 44, 4));
+    last_field(b"body", body, deps, place)
 }
 
 /// A field that is a word, between these places.
-fn word(name: &[u8], start: usize, end: usize) -> FrameField<'_> {
+fn word(name: &'static [u8], start: usize, end: usize) -> FrameField {
     FrameField {
         name,
         start,
-        len: end.saturating_sub(start),
+        end,
         form: Form::Word,
     }
 }
 
-/// The field behind the header that has the byte at this place, where its parts begin so.
-fn body_field<'a>(bytes: &[u8], begins: Begins, place: usize) -> FrameField<'a> {
-    if place < begins.second {
-        return word(b"key", begins.key, begins.second);
+/// The last field of this name, or the dependency behind it, that has the byte at this place.
+fn last_field(name: &'static [u8], start: usize, deps: usize, place: usize) -> FrameField {
+    if place < deps {
+        return word(name, start, deps);
     }
-    if place < begins.body {
-        return word(b"second key", begins.second, begins.body);
-    }
-    if place < begins.deps {
-        let name: &[u8] = if is_late(bytes) {
-            b"body"
-        } else {
-            b"value or second key"
-        };
-        return word(name, begins.body, begins.deps);
-    }
+    let start = place - (place - deps) % 3;
     FrameField {
         name: b"dependency",
-        start: place - (place - begins.deps) % 3,
-        len: 3,
+        start,
+        end: start.saturating_add(3),
         form: Form::Instance,
     }
 }
 
 /// The field that has the byte at this place, in a frame of the version and with the lengths that these bytes tell.
-pub(crate) fn field_at<'a>(bytes: &[u8], place: usize) -> FrameField<'a> {
-    let begins = begins_of(bytes);
-    if begins.key <= place {
-        body_field(bytes, begins, place)
-    } else if is_late(bytes) {
-        late_header_field(place)
+pub(crate) fn field_at(bytes: &[u8], place: usize) -> FrameField {
+    let is_late = number_in(bytes, 2, 1) == 3;
+    let key = if is_late { 48 } else { 40 };
+    if place < key {
+        header_field(is_late, place)
     } else {
-        header_field(place)
+        body_field(bytes, is_late, key, place)
     }
 }
 
-/// The bytes of the field, as far as there are any.
-fn bytes_of<'a>(bytes: &'a [u8], field: &FrameField<'_>) -> &'a [u8] {
-    let start = field.start.min(bytes.len());
-    let end = field.start.saturating_add(field.len).min(bytes.len());
-    &bytes[start..end]
+impl FrameField {
+    /// Appends the value that the field has in these bytes, as far as there are any.
+    pub(crate) fn tell_value(&self, line: &mut Wording, bytes: &[u8]) {
+        let end = self.end.min(bytes.len());
+        let bytes = bytes.get(self.start..end).unwrap_or(&[]);
+        match self.form {
+            Form::Number => line.number(number_of(bytes)),
+            Form::Kind => tell_kind(line, number_of(bytes)),
+            Form::Word => line.front(bytes, SHOWN),
+            Form::Instance => tell_dependency(line, bytes),
+        }
+    }
 }
 
-/// Appends the name of the kind of this code.
-fn push_kind(text: &mut Vec<u8>, code: u64) -> Result<(), AllocError> {
-    match code {
-        1 => text.extend_from_slice(b"PreAccept"),
-        2 => text.extend_from_slice(b"PreAcceptOK"),
-        3 => text.extend_from_slice(b"Accept"),
-        4 => text.extend_from_slice(b"AcceptOK"),
-        5 => text.extend_from_slice(b"Commit"),
-        6 => text.extend_from_slice(b"Prepare"),
-        7 => text.extend_from_slice(b"PrepareOK"),
-        8 => text.extend_from_slice(b"Nack"),
-        _ => push_number(text, code),
+/// Appends the name of the kind of this code, or else the code.
+fn tell_kind(line: &mut Wording, code: u64) {
+    match KINDS.get((code as usize).wrapping_sub(1)) {
+        Some(name) => line.say(name),
+        None => line.number(code),
     }
 }
 
@@ -192,24 +172,9 @@ fn instance_of(bytes: &[u8]) -> Option<InstanceId> {
     InstanceId::new(replica, u16::from_be_bytes([*high, *low])).ok()
 }
 
-fn push_dependency(text: &mut Vec<u8>, bytes: &[u8]) -> Result<(), AllocError> {
+fn tell_dependency(line: &mut Wording, bytes: &[u8]) {
     match instance_of(bytes) {
-        Some(instance) => push_instance(text, instance),
-        None => text.extend_from_slice(b"none"),
-    }
-}
-
-/// Appends the value that the field has in these bytes.
-pub(crate) fn push_value(
-    text: &mut Vec<u8>,
-    field: &FrameField<'_>,
-    bytes: &[u8],
-) -> Result<(), AllocError> {
-    let bytes = bytes_of(bytes, field);
-    match field.form {
-        Form::Number => push_number(text, number_of(bytes)),
-        Form::Kind => push_kind(text, number_of(bytes)),
-        Form::Word => push_front(text, bytes, SHOWN),
-        Form::Instance => push_dependency(text, bytes),
+        Some(instance) => line.instance(instance),
+        None => line.say(b"none"),
     }
 }

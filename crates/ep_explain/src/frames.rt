@@ -1,50 +1,43 @@
 //! Frames in words, and how two of them differ.
 
-use crate::frame_field::{field_at, push_value};
+use crate::frame_field::{FrameField, field_at};
+use crate::reasons::Reasons;
 use crate::side::Side;
+use crate::wording::Wording;
 use bytes::Bytes;
 use ep_frame::{Frame, FrameFault};
-use ep_report::push_number;
-use ep_view::{push_message, push_origin};
 use std::alloc::AllocError;
 
-/// Appends a frame: which one it is, to whom it goes, its stamp and its message.
-pub(crate) fn push_frame(text: &mut Vec<u8>, frame: &Frame) -> Result<(), AllocError> {
-    let origin = frame.origin();
-    push_origin(text, frame)?;
-    text.extend_from_slice(b" to ")?;
-    push_number(text, u64::from(origin.to.index()))?;
-    text.extend_from_slice(b" stamp ")?;
-    push_number(text, origin.stamp.ticks())?;
-    text.extend_from_slice(b" ")?;
-    push_message(text, frame)
+/// Appends the frame that the bytes are, or why they are none.
+pub(crate) fn tell_bytes(line: &mut Wording, bytes: &Bytes) {
+    match bytes.clone() {
+        Ok(shared) => {
+            let read = Frame::read(shared);
+            tell_read(line, bytes.as_slice(), &read);
+            drop(read);
+        }
+        Err(_) => line.note(Err(AllocError)),
+    }
 }
 
-/// Appends the frame that the bytes are, or why they are none.
-pub(crate) fn push_told(text: &mut Vec<u8>, bytes: &Bytes) -> Result<(), AllocError> {
-    match Frame::read(bytes.clone()?) {
-        Ok(frame) => push_frame(text, &frame),
+fn tell_read(line: &mut Wording, bytes: &[u8], read: &Result<Frame, FrameFault>) {
+    match read {
+        Ok(frame) => line.frame(frame),
         Err(fault) => {
-            text.extend_from_slice(b"no frame: ")?;
-            push_frame_fault(text, bytes.as_slice(), fault)
+            line.say(b"no frame: ");
+            tell_fault(line, bytes, *fault);
         }
     }
 }
 
 /// Appends why bytes are no frame, of which some begin so: with their version, if they have one.
-pub(crate) fn push_frame_fault(
-    text: &mut Vec<u8>,
-    bytes: &[u8],
-    fault: FrameFault,
-) -> Result<(), AllocError> {
-    let alloc = *text.allocator();
-    text.extend_from_slice(fault.to_string(alloc)?.as_bytes())?;
+pub(crate) fn tell_fault(line: &mut Wording, bytes: &[u8], fault: FrameFault) {
+    line.text(fault.to_string(line.allocator()));
     if let FrameFault::Field(place) = fault {
-        text.extend_from_slice(b" (")?;
-        text.extend_from_slice(field_at(bytes, place as usize).name)?;
-        text.push(b')')?;
+        line.say(b" (");
+        line.say(field_at(bytes, place as usize).name);
+        line.say(b")");
     }
-    Ok(())
 }
 
 /// The first place at which the two differ; the length of the shorter one, where it is how the other one begins.
@@ -58,24 +51,20 @@ fn first_difference(one: &[u8], other: &[u8]) -> usize {
     common
 }
 
-/// Appends the first field in which two frames differ, and what each has there.
-pub(crate) fn push_difference(
-    text: &mut Vec<u8>,
-    one: Side<'_>,
-    other: Side<'_>,
-) -> Result<(), AllocError> {
-    let place = first_difference(one.bytes, other.bytes);
-    let field = field_at(one.bytes, place);
-    text.extend_from_slice(b"first difference: ")?;
-    text.extend_from_slice(field.name)?;
-    text.extend_from_slice(b" (byte ")?;
-    push_number(text, field.start as u64)?;
-    text.extend_from_slice(b"), ")?;
-    text.extend_from_slice(one.name)?;
-    text.push(b' ')?;
-    push_value(text, &field, one.bytes)?;
-    text.extend_from_slice(b", ")?;
-    text.extend_from_slice(other.name)?;
-    text.push(b' ')?;
-    push_value(text, &field, other.bytes)
+/// Adds the first field in which two frames differ, and what each has there.
+pub(crate) fn add_difference(one: &Side<'_>, other: &Side<'_>, reasons: &mut Reasons) {
+    let field = field_at(one.bytes, first_difference(one.bytes, other.bytes));
+    let mut line = reasons.line(b"first difference: ");
+    line.say(field.name);
+    line.tell(b" (byte #), ", &[field.start as u64]);
+    tell_side(&mut line, &field, one);
+    line.say(b", ");
+    tell_side(&mut line, &field, other);
+    reasons.add(line);
+}
+
+fn tell_side(line: &mut Wording, field: &FrameField, side: &Side<'_>) {
+    line.say(side.name);
+    line.say(b" ");
+    field.tell_value(line, side.bytes);
 }

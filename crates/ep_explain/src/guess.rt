@@ -10,7 +10,7 @@ const SEEN: usize = 64;
 const LINES: usize = 70_000;
 
 /// What the first word of a line tells of its script.
-#[derive(Clone, Copy)]
+#[derive(Drop)]
 enum Hint {
     /// It is of this subcommand's scripts alone.
     Of(Subcommand),

@@ -6,7 +6,7 @@ use std::alloc::{AllocError, Global};
 const WORDS: usize = 5000;
 
 /// The lines of some bytes that aren't passed yet.
-#[derive(Clone, Copy)]
+#[derive(Drop)]
 pub(crate) struct Lines<'a> {
     rest: &'a [u8],
 }

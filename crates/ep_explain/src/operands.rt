@@ -1,38 +1,280 @@
 //! What is wrong with a word of a line.
 
-use crate::bounds::{Bounds, replica_below};
-use ep_report::push_number;
+use crate::bounds::Bounds;
+use crate::operand::Operand;
+use crate::wording::Wording;
 use ep_script::{long_number, number, read_word};
 use std::alloc::{AllocError, Global};
 
 /// How much of a word is told.
 const SHOWN: usize = 60;
 
-/// The words of a line, and what is told of the first one at fault, if some is.
+/// The numbers of instances.
+const NUMBERS: Bounds = Bounds {
+    name: b"the number behind its dot",
+    least: 1,
+    most: 2000,
+};
+
+/// The words of a line, and what is told of the first one at fault, if some is. Once one is told, no other is.
 #[derive(Drop)]
 pub(crate) struct Operands<'a> {
     words: Vec<&'a [u8]>,
-    text: Vec<u8>,
+    line: Wording,
+    has_told: bool,
 }
 
 /// A byte as it is told: a question mark where it isn't printed.
 fn shown(byte: u8) -> u8 {
-    if byte > b' ' && byte <= b'~' {
-        byte
-    } else {
-        b'?'
+    if is_printed(byte) { byte } else { b'?' }
+}
+
+fn is_printed(byte: u8) -> bool {
+    byte > b' ' && byte <= b'~'
+}
+
+fn is_hexadecimal(byte: u8) -> bool {
+    matches!(byte, b'0'..=b'9' | b'a'..=b'f' | b'A'..=b'F')
+}
+
+/// Whether two hexadecimal digits come behind the first byte.
+fn is_escape(rest: &[u8]) -> bool {
+    match rest {
+        [_, high, low, ..] => is_hexadecimal(*high) && is_hexadecimal(*low),
+        _ => false,
     }
 }
 
-/// Appends a word as it is told.
-fn push_shown(text: &mut Vec<u8>, word: &[u8]) -> Result<(), AllocError> {
-    for byte in word.iter().take(SHOWN) {
-        text.push(shown(*byte))?;
+impl<'a> Operands<'a> {
+    /// Nothing is told yet.
+    pub(crate) fn new(alloc: Global, words: Vec<&'a [u8]>) -> Operands<'a> {
+        Operands {
+            words,
+            line: Wording::new(alloc),
+            has_told: false,
+        }
     }
-    if word.len() > SHOWN {
-        text.extend_from_slice(b"...")?;
+
+    /// What is told, or where no word is at fault, these words.
+    pub(crate) fn into_line(self, other: &[u8]) -> Wording {
+        let Operands {
+            words,
+            mut line,
+            has_told,
+        } = self;
+        drop(words);
+        if !has_told {
+            line.say(other);
+        }
+        line
     }
-    Ok(())
+
+    /// How many words there are.
+    pub(crate) fn len(&self) -> usize {
+        self.words.len()
+    }
+
+    /// The word at this place, from 1.
+    pub(crate) fn word(&self, place: usize) -> &'a [u8] {
+        match self.words.get(place.wrapping_sub(1)) {
+            Some(word) => word,
+            None => b"",
+        }
+    }
+
+    /// Appends a word as it is told.
+    fn show(&mut self, word: &[u8]) {
+        for byte in word.iter().take(SHOWN) {
+            self.line.say(&[shown(*byte)]);
+        }
+        if word.len() > SHOWN {
+            self.line.say(b"...");
+        }
+    }
+
+    /// Begins to tell of the word at this place.
+    fn begin(&mut self, place: usize) {
+        self.has_told = true;
+        self.line.tell(b", word #: ", &[place as u64]);
+    }
+
+    /// Tells of the word at this place that it is or has something: words with `#` for each of these numbers.
+    fn tell(&mut self, place: usize, form: &[u8], numbers: &[u64]) {
+        self.begin(place);
+        self.show(self.word(place));
+        self.line.say(b" ");
+        self.line.tell(form, numbers);
+    }
+
+    /// Tells of the word at this place what it is, if nothing is told yet.
+    pub(crate) fn fault(&mut self, place: usize, form: &[u8], numbers: &[u64]) {
+        if !self.has_told {
+            self.tell(place, form, numbers);
+        }
+    }
+
+    /// Begins to tell that no word stands there.
+    fn begin_none(&mut self, place: usize) {
+        self.begin(place);
+        self.line.say(b"nothing stands here: ");
+    }
+
+    /// Tells where no word stands there, with what may.
+    pub(crate) fn lacks(&mut self, place: usize, allowed: &[u8]) {
+        if !self.has_told && place > self.len() {
+            self.begin_none(place);
+            self.line.say(allowed);
+        }
+    }
+
+    /// Tells where a word stands there, with the line as it may be.
+    pub(crate) fn exceeds(&mut self, place: usize, form: &[u8]) {
+        if !self.has_told && place <= self.len() {
+            self.tell(place, b"is one word more than the line has: ", &[]);
+            self.line.say(form);
+        }
+    }
+
+    /// Tells where the words from this place on aren't these operands, or are more, with the line as it may be.
+    pub(crate) fn are(&mut self, place: usize, operands: &[Operand], form: &[u8]) {
+        let mut place = place;
+        for operand in operands {
+            self.is(place, operand);
+            place = place.wrapping_add(1);
+        }
+        self.exceeds(place, form);
+    }
+
+    /// Tells where the word at this place isn't what it may be.
+    pub(crate) fn is(&mut self, place: usize, operand: &Operand) {
+        if self.has_told {
+            return;
+        }
+        let word = self.word(place);
+        match operand {
+            Operand::Number(bounds) if place > self.len() => {
+                self.begin_none(place);
+                bounds.tell(&mut self.line);
+            }
+            Operand::Number(bounds) => self.is_number(place, word, bounds),
+            Operand::Instance(leaders) => self.is_instance(place, word, leaders),
+            Operand::Bytes(bounds) => self.is_bytes(place, word, bounds),
+            Operand::Option(bounds) => {
+                if word != b"%!".as_slice() {
+                    self.is_bytes(place, word, bounds);
+                }
+            }
+        }
+    }
+
+    /// Tells where this word, or part of one, isn't a number in these bounds.
+    fn is_number(&mut self, place: usize, word: &[u8], bounds: &Bounds) {
+        if let Some(why) = number_fault(word, bounds) {
+            self.tell(place, why, &[]);
+            bounds.tell(&mut self.line);
+        }
+    }
+
+    /// Tells where the word isn't an instance, whose leader is in these bounds.
+    fn is_instance(&mut self, place: usize, word: &[u8], leaders: &Bounds) {
+        self.lacks(
+            place,
+            b"an instance R.I, of a replica R and a number I, 1 to 2000",
+        );
+        match split_dot(word) {
+            None => self.fault(
+                place,
+                b"is no instance: R.I, a replica R, a dot and a number I, 1 to 2000",
+                &[],
+            ),
+            Some((leader, number)) => {
+                self.is_number(place, leader, leaders);
+                if !self.has_told {
+                    self.is_number(place, number, &NUMBERS);
+                }
+            }
+        }
+    }
+
+    /// Tells where the word isn't one of bytes with a length in these bounds.
+    fn is_bytes(&mut self, place: usize, word: &[u8], bounds: &Bounds) {
+        self.lacks(place, bounds.name);
+        self.is_spelled(place, word);
+        match self.length(word) {
+            Some(len) if !self.has_told && !bounds.has(len) => {
+                self.tell(place, b"spells # bytes: the length of ", &[len]);
+                bounds.tell(&mut self.line);
+            }
+            _ => {}
+        }
+    }
+
+    /// The bytes that the word at this place spells, if it spells some.
+    pub(crate) fn read(&mut self, place: usize) -> Option<Vec<u8>> {
+        self.spelled(self.word(place))
+    }
+
+    fn spelled(&mut self, word: &[u8]) -> Option<Vec<u8>> {
+        match read_word(self.line.allocator(), word) {
+            Ok(bytes) => bytes,
+            Err(_) => {
+                self.line.note(Err(AllocError));
+                None
+            }
+        }
+    }
+
+    /// How many bytes the word spells, if it spells some.
+    fn length(&mut self, word: &[u8]) -> Option<u64> {
+        let bytes = self.spelled(word)?;
+        let len = bytes.len() as u64;
+        drop(bytes);
+        Some(len)
+    }
+
+    /// Tells where the word spells no bytes.
+    fn is_spelled(&mut self, place: usize, word: &[u8]) {
+        if self.has_told || word == b"%-".as_slice() {
+            return;
+        }
+        for (at, byte) in word.iter().enumerate() {
+            if !is_printed(*byte) {
+                self.no_byte(place, *byte);
+                return;
+            }
+            let rest = word.get(at..).unwrap_or(&[]);
+            if *byte == b'%' && !is_escape(rest) {
+                self.no_escape(place, rest);
+                return;
+            }
+        }
+    }
+
+    fn no_escape(&mut self, place: usize, rest: &[u8]) {
+        self.tell(place, b"has ", &[]);
+        self.show(&rest[..rest.len().min(3)]);
+        self.line.say(
+            b", which is no escape: % and two hexadecimal digits; %- stands alone, for no bytes",
+        );
+    }
+
+    fn no_byte(&mut self, place: usize, byte: u8) {
+        let digits = [digit(byte / 16), digit(byte % 16)];
+        self.tell(place, b"has the byte ", &[]);
+        self.line.say(&digits);
+        self.line
+            .say(b": bytes outside 21 to 7e (hexadecimal) are written %");
+        self.line.say(&digits);
+    }
+
+    /// Tells where the words there spell the same bytes, by these words.
+    pub(crate) fn differ(&mut self, one: usize, other: usize, form: &[u8]) {
+        let first = self.read(one);
+        let second = self.read(other);
+        if is_same(&first, &second) {
+            self.fault(other, form, &[]);
+        }
+    }
 }
 
 fn digit(value: u8) -> u8 {
@@ -43,283 +285,6 @@ fn digit(value: u8) -> u8 {
     }
 }
 
-fn is_hexadecimal(byte: u8) -> bool {
-    matches!(byte, b'0'..=b'9' | b'a'..=b'f' | b'A'..=b'F')
-}
-
-fn is_printed(byte: u8) -> bool {
-    byte > b' ' && byte <= b'~'
-}
-
-/// Whether two hexadecimal digits come first.
-fn is_escape(rest: &[u8]) -> bool {
-    match rest {
-        [high, low, ..] => is_hexadecimal(*high) && is_hexadecimal(*low),
-        _ => false,
-    }
-}
-
-impl<'a> Operands<'a> {
-    /// Nothing is told yet.
-    pub(crate) fn new(alloc: Global, words: Vec<&'a [u8]>) -> Operands<'a> {
-        Operands {
-            words,
-            text: Vec::new(alloc),
-        }
-    }
-
-    /// What is told.
-    pub(crate) fn into_text(self) -> Vec<u8> {
-        let Operands { words: _, text } = self;
-        text
-    }
-
-    /// How many words there are.
-    pub(crate) fn len(&self) -> usize {
-        self.words.len()
-    }
-
-    /// The word at this place, from 1.
-    pub(crate) fn word(&self, place: usize) -> &'a [u8] {
-        match self.words.get(place.saturating_sub(1)) {
-            Some(word) => *word,
-            None => b"",
-        }
-    }
-
-    /// Whether this word stands at the place.
-    pub(crate) fn is(&self, place: usize, word: &[u8]) -> bool {
-        self.word(place) == word
-    }
-
-    /// Appends more of what is told.
-    pub(crate) fn say(&mut self, words: &[u8]) -> Result<(), AllocError> {
-        self.text.extend_from_slice(words)
-    }
-
-    pub(crate) fn say_number(&mut self, value: u64) -> Result<(), AllocError> {
-        push_number(&mut self.text, value)
-    }
-
-    /// Begins to tell of a word.
-    fn begin(&mut self, place: usize) -> Result<(), AllocError> {
-        self.say(b", word ")?;
-        self.say_number(place as u64)?;
-        self.say(b": ")
-    }
-
-    /// Tells of the word at this place that it is or has something.
-    pub(crate) fn tell(&mut self, place: usize, words: &[u8]) -> Result<(), AllocError> {
-        let word = self.word(place);
-        self.begin(place)?;
-        push_shown(&mut self.text, word)?;
-        self.say(b" ")?;
-        self.say(words)
-    }
-
-    /// Whether no word stands there, which is told with what may.
-    pub(crate) fn lacks(&mut self, place: usize, allowed: &[u8]) -> Result<bool, AllocError> {
-        if place <= self.len() {
-            return Ok(false);
-        }
-        self.begin(place)?;
-        self.say(b"nothing stands here: ")?;
-        self.say(allowed)?;
-        Ok(true)
-    }
-
-    /// Whether a word stands there, which is told with the line as it may be.
-    pub(crate) fn exceeds(&mut self, place: usize, form: &[u8]) -> Result<bool, AllocError> {
-        if place > self.len() {
-            return Ok(false);
-        }
-        self.tell(place, b"is one word more than the line has: ")?;
-        self.say(form)?;
-        Ok(true)
-    }
-
-    /// Tells what a number may be, behind why the word is none.
-    fn bound(&mut self, place: usize, why: &[u8], bounds: Bounds) -> Result<bool, AllocError> {
-        self.tell(place, why)?;
-        bounds.push(&mut self.text)?;
-        Ok(true)
-    }
-
-    /// Whether no number in these bounds stands there, which is told.
-    pub(crate) fn misses(&mut self, place: usize, bounds: Bounds) -> Result<bool, AllocError> {
-        if place > self.len() {
-            self.begin(place)?;
-            self.say(b"nothing stands here: ")?;
-            bounds.push(&mut self.text)?;
-            return Ok(true);
-        }
-        self.is_wrong(place, self.word(place), bounds)
-    }
-
-    /// Whether this word, or part of one, is no number in these bounds, which is told.
-    fn is_wrong(&mut self, place: usize, word: &[u8], bounds: Bounds) -> Result<bool, AllocError> {
-        if bounds.most > 9_999_999_999 {
-            return self.is_wrong_stamp(place, word, bounds);
-        }
-        match number(word) {
-            None if word.len() > 10 => {
-                self.bound(place, b"has no number of 1 to 10 digits: ", bounds)
-            }
-            None => self.bound(place, b"is no number: ", bounds),
-            Some(value) if value < bounds.least || value > bounds.most => {
-                self.bound(place, b"is out of range: ", bounds)
-            }
-            Some(_) => Ok(false),
-        }
-    }
-
-    /// The same of a stamp.
-    fn is_wrong_stamp(
-        &mut self,
-        place: usize,
-        word: &[u8],
-        bounds: Bounds,
-    ) -> Result<bool, AllocError> {
-        match long_number(word) {
-            None if word.len() > 15 => {
-                self.bound(place, b"has no number of 1 to 15 digits: ", bounds)
-            }
-            None => self.bound(place, b"is no number: ", bounds),
-            Some(value) if value < bounds.least || value > bounds.most => {
-                self.bound(place, b"is out of range: ", bounds)
-            }
-            Some(_) => Ok(false),
-        }
-    }
-
-    /// Whether no instance of a cluster of so many replicas stands there, which is told.
-    pub(crate) fn no_instance(&mut self, place: usize, count: u64) -> Result<bool, AllocError> {
-        if self.lacks(
-            place,
-            b"an instance R.I, of a replica R and a number I, 1 to 2000",
-        )? {
-            return Ok(true);
-        }
-        let word = self.word(place);
-        let Some((leader, number)) = split_dot(word) else {
-            self.tell(
-                place,
-                b"is no instance: R.I, a replica R, a dot and a number I, 1 to 2000",
-            )?;
-            return Ok(true);
-        };
-        let numbers = Bounds {
-            name: b"the number behind its dot",
-            least: 1,
-            most: 2000,
-        };
-        Ok(self.is_wrong(place, leader, leaders(count))? || self.is_wrong(place, number, numbers)?)
-    }
-
-    /// Whether the word spells no bytes, which is told.
-    fn no_bytes(&mut self, place: usize) -> Result<bool, AllocError> {
-        let word = self.word(place);
-        if word == b"%-".as_slice() {
-            return Ok(false);
-        }
-        for (at, byte) in word.iter().enumerate() {
-            if *byte == b'%' && !self.is_spelled(word, at) {
-                return self.no_escape(place, word, at);
-            }
-            if !is_printed(*byte) {
-                return self.no_byte(place, *byte);
-            }
-        }
-        Ok(false)
-    }
-
-    /// Whether a sign at this place begins an escape.
-    fn is_spelled(&self, word: &[u8], at: usize) -> bool {
-        is_escape(word.get(at..).and_then(|rest| rest.get(1..)).unwrap_or(&[]))
-    }
-
-    fn no_escape(&mut self, place: usize, word: &[u8], at: usize) -> Result<bool, AllocError> {
-        let rest = word.get(at..).unwrap_or(&[]);
-        let escape = rest.get(..rest.len().min(3)).unwrap_or(rest);
-        self.tell(place, b"has ")?;
-        push_shown(&mut self.text, escape)?;
-        self.say(
-            b", which is no escape: % and two hexadecimal digits; %- stands alone, for no bytes",
-        )?;
-        Ok(true)
-    }
-
-    fn no_byte(&mut self, place: usize, byte: u8) -> Result<bool, AllocError> {
-        self.tell(place, b"has the byte ")?;
-        self.hexadecimal(byte)?;
-        self.say(b": bytes outside 21 to 7e (hexadecimal) are written %")?;
-        self.hexadecimal(byte)?;
-        Ok(true)
-    }
-
-    fn hexadecimal(&mut self, byte: u8) -> Result<(), AllocError> {
-        self.text.push(digit(byte / 16))?;
-        self.text.push(digit(byte % 16))?;
-        Ok(())
-    }
-
-    /// Whether no word of bytes with a length in these bounds stands there, which is told.
-    pub(crate) fn no_word(
-        &mut self,
-        alloc: Global,
-        place: usize,
-        bounds: Bounds,
-    ) -> Result<bool, AllocError> {
-        if self.lacks(place, bounds.name)? || self.no_bytes(place)? {
-            return Ok(true);
-        }
-        let Some(bytes) = read_word(alloc, self.word(place))? else {
-            return Ok(false);
-        };
-        let len = bytes.len() as u64;
-        if len >= bounds.least && len <= bounds.most {
-            return Ok(false);
-        }
-        self.tell(place, b"spells ")?;
-        self.say_number(len)?;
-        self.say(b" bytes: the length of ")?;
-        bounds.push(&mut self.text)?;
-        Ok(true)
-    }
-
-    /// Whether neither a word of bytes with a length in these bounds nor `%!` stands there, which is told.
-    pub(crate) fn no_option(
-        &mut self,
-        alloc: Global,
-        place: usize,
-        bounds: Bounds,
-    ) -> Result<bool, AllocError> {
-        if self.is(place, b"%!") {
-            return Ok(false);
-        }
-        self.no_word(alloc, place, bounds)
-    }
-
-    /// Whether the words there spell the same bytes, which is told, with the form that has two keys.
-    pub(crate) fn are_same(
-        &mut self,
-        alloc: Global,
-        one: usize,
-        other: usize,
-        form: &[u8],
-    ) -> Result<bool, AllocError> {
-        let first = read_word(alloc, self.word(one))?;
-        let second = read_word(alloc, self.word(other))?;
-        if !is_same(&first, &second) {
-            return Ok(false);
-        }
-        self.tell(other, b"spells the bytes of the first key: ")?;
-        self.say(form)?;
-        self.say(b" has two different keys")?;
-        Ok(true)
-    }
-}
-
 fn is_same(one: &Option<Vec<u8>>, other: &Option<Vec<u8>>) -> bool {
     match (one, other) {
         (Some(one), Some(other)) => one.as_slice() == other.as_slice(),
@@ -327,11 +292,20 @@ fn is_same(one: &Option<Vec<u8>>, other: &Option<Vec<u8>>) -> bool {
     }
 }
 
-fn leaders(count: u64) -> Bounds {
-    Bounds {
-        name: b"the replica before its dot",
-        least: 0,
-        most: replica_below(count).most,
+/// Why the word isn't a number in these bounds, which is a stamp where they reach so far.
+fn number_fault(word: &[u8], bounds: &Bounds) -> Option<&'static [u8]> {
+    let is_long = bounds.most > 9_999_999_999;
+    let value = if is_long {
+        long_number(word)
+    } else {
+        number(word)
+    };
+    match value {
+        Some(value) if bounds.has(value) => None,
+        Some(_) => Some(b"is out of range: "),
+        None if is_long && word.len() > 15 => Some(b"has no number of 1 to 15 digits: "),
+        None if !is_long && word.len() > 10 => Some(b"has no number of 1 to 10 digits: "),
+        None => Some(b"is no number: "),
     }
 }
 

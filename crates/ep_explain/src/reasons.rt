@@ -1,38 +1,18 @@
 //! Reasons: lines of words.
 
-ghost use Rattle.std.specs.Prelude.{◌≡◌, ◌++◌, ◌∷◌, [], OnOk, OnErr, codes, filter, map};
+ghost use Rattle.std.specs.Prelude.{◌≡◌, ◌++◌, ◌∷◌, [], OnOk, codes, filter, map};
 ghost use Rattle.ep_explain.specs.Reasons.{is_plain, reason_line, section};
 ghost use Rattle.ep_report.specs.Reports.{text_of};
 
+use crate::wording::Wording;
 use std::alloc::{AllocError, Global};
 use std::marker::Model;
 
-/// The words of a line.
+/// Why something is refused: lines of words, in order. Where memory is refused for one of them they are cut, and aren't told.
 #[derive(Drop)]
-struct Reason {
-    words: Vec<u8>,
-}
-
-impl Model for Reason {
-    ghost use Rattle.std.specs.Prelude.{List, ℕ};
-
-    ghost Value = { List ℕ };
-
-    ghost view = { λ r. r.words.items };
-}
-
-impl Reason {
-    fn as_slice(&self) -> &[u8]
-        ensures { result.now ≡ self.now }
-    {
-        self.words.as_slice()
-    }
-}
-
-/// Why something is refused: lines of words, in order.
-#[derive(Drop)]
-pub struct Reasons {
-    lines: Vec<Reason>,
+pub(crate) struct Reasons {
+    lines: Vec<Wording>,
+    is_cut: bool,
 }
 
 impl Model for Reasons {
@@ -45,32 +25,37 @@ impl Model for Reasons {
 
 impl Reasons {
     /// No reasons yet.
-    pub fn new(alloc: Global) -> Reasons
-        ensures { result ≡ [] }
-    {
+    pub(crate) fn new(alloc: Global) -> Reasons {
         Reasons {
             lines: Vec::new(alloc),
+            is_cut: false,
         }
     }
 
-    /// Adds a line of these words at the end. At an `Err` nothing has changed.
-    pub fn add(&mut self, words: Vec<u8>) -> Result<(), AllocError>
-        ensures ok { OnOk result (self.new ≡ self.old ++ words.items ∷ []) }
-        ensures err { OnErr result (self.new ≡ self.old) }
-    {
-        self.lines.push(Reason { words })?;
-        Ok(())
+    /// A line that begins so, and isn't added yet.
+    pub(crate) fn line(&self, words: &[u8]) -> Wording {
+        let mut line = Wording::new(*self.lines.allocator());
+        line.say(words);
+        line
     }
 
-    /// Adds a line of this text.
-    pub fn tell(&mut self, text: String) -> Result<(), AllocError> {
-        self.add(text.into_bytes())
+    /// Adds a line at the end.
+    pub(crate) fn add(&mut self, line: Wording) {
+        if self.lines.push(line).is_err() {
+            self.cut();
+        }
     }
 
-    /// Adds a line of these words.
-    pub fn say(&mut self, words: &[u8]) -> Result<(), AllocError> {
-        let alloc = *self.lines.allocator();
-        self.add(Vec::from_slice(alloc, words)?)
+    /// Adds a line of these words, with these numbers in the places of `#`.
+    pub(crate) fn tell(&mut self, form: &[u8], numbers: &[u64]) {
+        let mut line = Wording::new(*self.lines.allocator());
+        line.tell(form, numbers);
+        self.add(line);
+    }
+
+    /// Notes that memory was refused.
+    pub(crate) fn cut(&mut self) {
+        self.is_cut = true;
     }
 }
 
@@ -95,16 +80,20 @@ fn push_reason(text: &mut Vec<u8>, words: &[u8]) -> Result<(), AllocError>
     Ok(())
 }
 
-fn push_reasons(text: &mut Vec<u8>, reasons: &Reasons) -> Result<(), AllocError>
+/// Appends the reasons, each of which is an indented line.
+pub(crate) fn push_reasons(text: &mut Vec<u8>, reasons: &Reasons) -> Result<(), AllocError>
     ensures { OnOk result (text.new.items ≡ text.old.items ++ text_of (map reason_line reasons.now)) }
 {
+    if reasons.is_cut {
+        return Err(AllocError);
+    }
     for reason in &reasons.lines {
-        push_reason(text, reason.as_slice())?;
+        push_reason(text, reason.words()?)?;
     }
     Ok(())
 }
 
-/// Appends a line, and under it the reasons, each of which is an indented line.
+/// Appends a line, and under it the reasons.
 pub(crate) fn push_section(
     text: &mut Vec<u8>,
     line: &[u8],
@@ -114,5 +103,20 @@ pub(crate) fn push_section(
 {
     text.extend_from_slice(line)?;
     text.push(b'\n')?;
+    push_reasons(text, reasons)
+}
+
+/// The same with one reason more, as the first one.
+pub(crate) fn push_led(
+    text: &mut Vec<u8>,
+    line: &[u8],
+    first: &[u8],
+    reasons: &Reasons,
+) -> Result<(), AllocError>
+    ensures { OnOk result (text.new.items ≡ text.old.items ++ text_of (section line.now (first.now ∷ reasons.now))) }
+{
+    text.extend_from_slice(line)?;
+    text.push(b'\n')?;
+    push_reason(text, first)?;
     push_reasons(text, reasons)
 }

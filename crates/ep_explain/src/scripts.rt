@@ -1,6 +1,6 @@
 //! What is told of a script.
 
-ghost use Rattle.std.specs.Prelude.{◌≡◌, ◌++◌, ◌∷◌, ℕ, List, Some, IfOk, OnOk};
+ghost use Rattle.std.specs.Prelude.{◌≡◌, ◌++◌, ◌∷◌, ℕ, List, Some, false, IfOk, OnOk};
 ghost use Rattle.ep_base.specs.Devices.{FailsAsTold};
 ghost use Rattle.ep_script.specs.Plan.{script_of, run_of};
 ghost use Rattle.ep_explain.specs.Advice.{IsAdvice, at_line, line_refused, refused_at, script_read, script_refused};
@@ -10,9 +10,12 @@ use crate::advice::Advice;
 use crate::explain_fault::ExplainFault;
 use crate::guess::deciding_line;
 use crate::kept::Kept;
-use crate::reasons::{Reasons, push_section};
-use crate::script_grammar::{line_fault, size_line};
+use crate::lines::Lines;
+use crate::reasons::{Reasons, push_led};
+use crate::script_grammar::{add_size, line_fault};
 use crate::subcommand::Subcommand;
+use crate::weathers::Before;
+use crate::wording::Wording;
 use ep_base::Source;
 use ep_report::push_number;
 use ep_script::{ScriptFault, read_run, read_script};
@@ -47,7 +50,10 @@ fn replay_refused<S: Source>(
     ensures failed { FailsAsTold is_read_failed result (S.has_failed source.old.source) (S.has_failed source.new.source) }
 {
     match read_script(alloc, source) {
-        Ok(_) => Ok(None),
+        Ok(script) => {
+            drop(script);
+            Ok(None)
+        }
         Err(ScriptFault::Refused(line)) => Ok(Some(line)),
         Err(ScriptFault::Memory) => Err(ExplainFault::Memory),
         Err(ScriptFault::ReadFailed) => Err(ExplainFault::ReadFailed),
@@ -60,7 +66,10 @@ fn run_refused<S: Source>(alloc: Global, source: &mut Kept<S>) -> Result<Option<
     ensures failed { FailsAsTold is_read_failed result (S.has_failed source.old.source) (S.has_failed source.new.source) }
 {
     match read_run(alloc, source) {
-        Ok(_) => Ok(None),
+        Ok(script) => {
+            drop(script);
+            Ok(None)
+        }
         Err(ScriptFault::Refused(line)) => Ok(Some(line)),
         Err(ScriptFault::Memory) => Err(ExplainFault::Memory),
         Err(ScriptFault::ReadFailed) => Err(ExplainFault::ReadFailed),
@@ -105,65 +114,85 @@ fn declined(
     let Some(bytes) = bytes else {
         return Err(AllocError);
     };
-    let reasons = reasons_of(alloc, subcommand, bytes, line)?;
-    let mut refused = Vec::from_slice(alloc, b"script refused at line ")?;
-    push_number(&mut refused, u64::from(line))?;
-    let mut text = Vec::new(alloc);
-    push_section(&mut text, &refused, &reasons)?;
+    let text = refused(alloc, subcommand, bytes, line)?;
     Ok(Advice {
         is_read: false,
         text,
     })
 }
 
-// The word at fault, what stands there and what may; and what the lines before say that matters.
-fn reasons_of(
-    alloc: Global,
-    subcommand: Subcommand,
-    bytes: &[u8],
-    line: u32,
-) -> Result<Reasons, AllocError>
-    ensures { IfOk result (λ reasons. (words : List ℕ) × (more : List (List ℕ)) × (reasons ≡ at_line line words ∷ more)) }
-{
-    let mut reasons = Reasons::new(alloc);
-    reasons.add(fault_at(alloc, subcommand, bytes, line)?)?;
-    if let Some(words) = size_line(alloc, bytes, u64::from(line))? {
-        reasons.add(words)?;
-    }
-    reasons.add(taken_for(alloc, subcommand, bytes)?)?;
-    Ok(reasons)
-}
-
-fn fault_at(
+// The reader's line; under it the word at fault, what stands there and what may; and what the lines before say that matters.
+fn refused(
     alloc: Global,
     subcommand: Subcommand,
     bytes: &[u8],
     line: u32,
 ) -> Result<Vec<u8>, AllocError>
+    ensures { IfOk result (λ text. IsAdvice subcommand (Some line) false text.items) }
+{
+    let mut reasons = Reasons::new(alloc);
+    let text = refused_for(alloc, subcommand, bytes, line, &mut reasons);
+    drop(reasons);
+    text
+}
+
+fn refused_for(
+    alloc: Global,
+    subcommand: Subcommand,
+    bytes: &[u8],
+    line: u32,
+    reasons: &mut Reasons,
+) -> Result<Vec<u8>, AllocError>
+    ensures { IfOk result (λ text. IsAdvice subcommand (Some line) false text.items) }
+{
+    let first = first_reason(alloc, subcommand, bytes, line, reasons)?;
+    add_taken_for(subcommand, bytes, reasons);
+    let mut refused = Vec::from_slice(alloc, b"script refused at line ")?;
+    push_number(&mut refused, u64::from(line))?;
+    let mut text = Vec::new(alloc);
+    push_led(&mut text, &refused, &first, reasons)?;
+    Ok(text)
+}
+
+// The first reason; and where the cluster's size stands, which is added.
+fn first_reason(
+    alloc: Global,
+    subcommand: Subcommand,
+    bytes: &[u8],
+    line: u32,
+    reasons: &mut Reasons,
+) -> Result<Vec<u8>, AllocError>
     ensures { IfOk result (λ text. (words : List ℕ) × (text.items ≡ at_line line words)) }
 {
-    let words = line_fault(alloc, subcommand, bytes, u64::from(line))?;
+    let number = u64::from(line);
+    let mut lines = Lines::new(bytes);
+    let before = Before::read(alloc, &mut lines, number.saturating_sub(1))?;
+    add_size(&before, reasons);
+    let fault = line_fault(alloc, subcommand, &before, lines.next_line(), number);
+    drop(before);
+    led(alloc, line, &fault?)
+}
+
+fn led(alloc: Global, line: u32, fault: &Wording) -> Result<Vec<u8>, AllocError>
+    ensures { IfOk result (λ text. text.items ≡ at_line line fault.now) }
+{
     let mut text = Vec::from_slice(alloc, b"line ")?;
     push_number(&mut text, u64::from(line))?;
-    text.extend_from_slice(&words)?;
+    text.extend_from_slice(fault.words()?)?;
     Ok(text)
 }
 
 // For which subcommand the script is taken, and why.
-fn taken_for(alloc: Global, subcommand: Subcommand, bytes: &[u8]) -> Result<Vec<u8>, AllocError> {
-    let name = match subcommand {
+fn add_taken_for(subcommand: Subcommand, bytes: &[u8], reasons: &mut Reasons) {
+    let mut told = reasons.line(b"it is taken for a script for ");
+    told.say(match subcommand {
         Subcommand::Replay => b"replay".as_slice(),
         Subcommand::Run => b"run".as_slice(),
-    };
-    let mut text = Vec::from_slice(alloc, b"it is taken for a script for ")?;
-    text.extend_from_slice(name)?;
+    });
     match deciding_line(bytes) {
-        Some((line, other)) if other == subcommand => {
-            text.extend_from_slice(b", by line ")?;
-            push_number(&mut text, line)?;
-        }
-        _ => text.extend_from_slice(b", as no line near its beginning is one of run alone")?,
+        Some((line, other)) if other == subcommand => told.tell(b", by line #", &[line]),
+        _ => told.say(b", as no line near its beginning is one of run alone"),
     }
-    text.extend_from_slice(b"; docs/FORMATS.md, section 4, has all lines")?;
-    Ok(text)
+    told.say(b"; docs/FORMATS.md, section 4, has all lines");
+    reasons.add(told);
 }

@@ -1,7 +1,7 @@
 //! One of two frames that differ.
 
 /// The bytes of a frame, and what they are called.
-#[derive(Clone, Copy)]
+#[derive(Drop)]
 pub(crate) struct Side<'a> {
     pub name: &'a [u8],
     pub bytes: &'a [u8],

@@ -3,97 +3,95 @@
 ghost use Rattle.std.specs.Prelude.{IfSome};
 ghost use Rattle.ep_journal.specs.Leaving.{MarksNext};
 
-use crate::entry_told::EntryTold;
-use crate::frames::{push_difference, push_frame, push_frame_fault, push_told};
+use crate::frames::{add_difference, tell_bytes, tell_fault};
 use crate::reasons::Reasons;
 use crate::side::Side;
 use bytes::Bytes;
 use ep_base::{Answer, InstanceId, Stamp, Version};
-use ep_bundle::Draft;
-use ep_frame::{Frame, FrameFault};
-use ep_journal::{Entry, Event, Journal, Mark, StepFault};
-use ep_report::{push_answer, push_instance};
-use ep_view::push_event;
-use std::alloc::{AllocError, Global};
+use ep_bundle::{Draft, DraftEvent};
+use ep_frame::Frame;
+use ep_journal::{Event, Journal, Mark, StepFault};
+use std::alloc::Global;
 
 /// The most entries that a journal has.
 pub(crate) const MOST_ENTRIES: usize = 4_294_967_295;
 
-/// What is wrong with the draft as the journal's next entry.
-pub(crate) fn add_draft(
-    alloc: Global,
-    journal: &mut Journal,
-    draft: Draft,
-    reasons: &mut Reasons,
-) -> Result<(), AllocError> {
+/// Adds what is wrong with the draft as the journal's next entry.
+pub(crate) fn add_draft(alloc: Global, journal: &mut Journal, draft: Draft, reasons: &mut Reasons) {
     let Draft {
         stamp,
         event,
         frames,
         done,
     } = draft;
-    let told = EntryTold {
-        stamp,
-        frames: frames.as_slice(),
-        done: done.as_slice(),
-    };
+    if take(alloc, journal, event, stamp, reasons) {
+        add_differences(journal, frames.as_slice(), done.as_slice(), reasons);
+    }
+    drop(frames);
+    drop(done);
+}
+
+/// Takes the event as the journal's next one, with this stamp; tells where that can't be.
+fn take(
+    alloc: Global,
+    journal: &mut Journal,
+    event: DraftEvent,
+    stamp: Stamp,
+    reasons: &mut Reasons,
+) -> bool {
     match event.checked() {
-        Err(fault) => add_no_frame(alloc, journal.version(), fault, reasons),
-        Ok(event) => add_event(alloc, journal, event, &told, reasons),
+        Err(fault) => {
+            // (the bytes that are handled are taken for bytes of the journal's version)
+            let mut line = reasons.line(b"cause: the bytes that are handled are no frame: ");
+            tell_fault(&mut line, &[0, 0, journal.version().number()], fault);
+            reasons.add(line);
+            false
+        }
+        Ok(event) => {
+            add_event(journal.version(), &event, reasons);
+            take_event(alloc, journal, event, stamp, reasons)
+        }
     }
 }
 
-/// The bytes that are handled are no frame. They are taken for bytes of the journal's version.
-fn add_no_frame(
-    alloc: Global,
-    version: Version,
-    fault: FrameFault,
-    reasons: &mut Reasons,
-) -> Result<(), AllocError> {
-    let mut line = Vec::from_slice(alloc, b"cause: the bytes that are handled are no frame: ")?;
-    push_frame_fault(&mut line, &[0, 0, version.number()], fault)?;
-    reasons.add(line)
+/// The event in words; and the generation of the frame that is handled, where it is another one than the bundle's.
+fn add_event(version: Version, event: &Event, reasons: &mut Reasons) {
+    let mut line = reasons.line(b"event: ");
+    line.event(event);
+    reasons.add(line);
+    if let Event::Handle(frame) = event {
+        add_generations(frame.version().generation(), version.generation(), reasons);
+    }
 }
 
-/// What is wrong with the event as the journal's next one, or with what the entry says beside it.
-fn add_event(
+fn add_generations(found: u32, own: u32, reasons: &mut Reasons) {
+    if found != own && found != 0 && own != 0 {
+        reasons.tell(
+            b"generations: the frame's is #, the bundle's is #",
+            &[found as u64, own as u64],
+        );
+    }
+}
+
+fn take_event(
     alloc: Global,
     journal: &mut Journal,
     event: Event,
-    told: &EntryTold<'_>,
+    stamp: Stamp,
     reasons: &mut Reasons,
-) -> Result<(), AllocError> {
-    add_words(alloc, &event, reasons)?;
-    add_generations(alloc, journal.version(), &event, reasons)?;
-    let Some(mark) = next_mark(journal, told.stamp) else {
-        return add_stamps(alloc, journal, told.stamp, reasons);
+) -> bool {
+    let Some(mark) = next_mark(journal, stamp) else {
+        drop(event);
+        add_stamps(journal, stamp, reasons);
+        return false;
     };
-    let taken = journal.take(alloc, event, Some(mark));
-    add_taken(alloc, taken, journal.entries(), told, reasons)
-}
-
-/// The event in words.
-fn add_words(alloc: Global, event: &Event, reasons: &mut Reasons) -> Result<(), AllocError> {
-    let mut line = Vec::from_slice(alloc, b"event: ")?;
-    push_event(&mut line, event)?;
-    reasons.add(line)
-}
-
-/// The generation of the frame that is handled, where it is another one than the bundle's.
-fn add_generations(
-    alloc: Global,
-    version: Version,
-    event: &Event,
-    reasons: &mut Reasons,
-) -> Result<(), AllocError> {
-    let Event::Handle(frame) = event else {
-        return Ok(());
-    };
-    let (found, own) = (frame.version().generation(), version.generation());
-    if found == own || found == 0 || own == 0 {
-        return Ok(());
+    match journal.take(alloc, event, Some(mark)) {
+        Ok(()) => true,
+        Err(fault) => {
+            add_refused(fault, reasons);
+            false
+        }
     }
-    reasons.tell(format!(in alloc; "generations: the frame's is {found}, the bundle's is {own}")?)
 }
 
 /// The number and the stamp of the journal's next entry; none where the stamp doesn't rise.
@@ -111,188 +109,148 @@ fn next_mark(journal: &Journal, stamp: Stamp) -> Option<Mark>
 }
 
 /// The stamp doesn't rise.
-fn add_stamps(
-    alloc: Global,
-    journal: &Journal,
-    stamp: Stamp,
-    reasons: &mut Reasons,
-) -> Result<(), AllocError> {
-    let (stamp, last) = (stamp.ticks(), journal.last_stamp());
-    if journal.entries().is_empty() {
-        return reasons.tell(format!(in alloc;
-            "cause: its stamp {stamp} isn't above the stamp that the clocks go on from, {last}"
-        )?);
-    }
-    reasons.tell(format!(in alloc;
-        "cause: its stamp {stamp} isn't above the stamp of the entry before it, {last}"
-    )?)
-}
-
-/// The event was refused; or it led to this last entry, with other frames or executions.
-fn add_taken(
-    alloc: Global,
-    taken: Result<(), StepFault>,
-    entries: &[Entry],
-    told: &EntryTold<'_>,
-    reasons: &mut Reasons,
-) -> Result<(), AllocError> {
-    match taken {
-        Ok(()) => add_differences(alloc, entries, told, reasons),
-        Err(StepFault::Memory) => Err(AllocError),
-        Err(fault) => add_refused(alloc, fault, reasons),
-    }
+fn add_stamps(journal: &Journal, stamp: Stamp, reasons: &mut Reasons) {
+    let form = if journal.entries().is_empty() {
+        b"cause: its stamp # isn't above the stamp that the clocks go on from, #".as_slice()
+    } else {
+        b"cause: its stamp # isn't above the stamp of the entry before it, #".as_slice()
+    };
+    reasons.tell(form, &[stamp.ticks(), journal.last_stamp()]);
 }
 
 /// The event is refused.
-fn add_refused(alloc: Global, fault: StepFault, reasons: &mut Reasons) -> Result<(), AllocError> {
-    let mut line = format!(in alloc; "cause: the event is refused: {fault}")?.into_bytes();
-    if let StepFault::NotCommitted(instance) = fault {
-        line.push(b' ')?;
-        push_instance(&mut line, instance)?;
+fn add_refused(fault: StepFault, reasons: &mut Reasons) {
+    let mut line = reasons.line(b"cause: the event is refused: ");
+    line.text(fault.to_string(line.allocator()));
+    match fault {
+        StepFault::Memory => reasons.cut(),
+        StepFault::NotCommitted(instance) => {
+            line.say(b" ");
+            line.instance(instance);
+        }
+        _ => {}
     }
-    line.extend_from_slice(b": ")?;
-    line.extend_from_slice(meaning_of(fault).as_bytes())?;
-    reasons.add(line)
+    line.say(meaning_of(fault));
+    reasons.add(line);
 }
 
 /// What the refusal says.
-fn meaning_of(fault: StepFault) -> &'static str {
+fn meaning_of(fault: StepFault) -> &'static [u8] {
     match fault {
-        StepFault::Memory => "there is no memory",
-        StepFault::OtherVersion => "the frame is of another version than the bundle",
-        StepFault::OtherGeneration => "the frame is of another generation than the bundle",
-        StepFault::OutOfRange => "a replica or an instance in it isn't one of the cluster",
-        StepFault::NotMine => "the frame is for another replica",
-        StepFault::StampFull => "the stamp or the entry's number is past its limit",
+        StepFault::Memory => b": there is no memory",
+        StepFault::OtherVersion => b": the frame is of another version than the bundle",
+        StepFault::OtherGeneration => b": the frame is of another generation than the bundle",
+        StepFault::OutOfRange => b": a replica or an instance in it isn't one of the cluster",
+        StepFault::NotMine => b": the frame is for another replica",
+        StepFault::StampFull => b": the stamp or the entry's number is past its limit",
         StepFault::SpaceFull => {
-            "the replica has no number left for the command: in version 3 the last ten are for seals"
+            b": the replica has no number left for the command: in version 3 the last ten are for seals"
         }
-        StepFault::SeqExhausted => "the command's seq would pass its limit",
-        StepFault::NotLeading => "there is nothing to give up",
-        StepFault::TooFewAnswers => "too few replicas have answered",
-        StepFault::AlreadyCommitted => "there is nothing to recover",
-        StepFault::BallotsExhausted => "the ballot's counter would pass its limit",
-        StepFault::NotCommitted(_) => "it has to be committed here before the execution",
+        StepFault::SeqExhausted => b": the command's seq would pass its limit",
+        StepFault::NotLeading => b": there is nothing to give up",
+        StepFault::TooFewAnswers => b": too few replicas have answered",
+        StepFault::AlreadyCommitted => b": there is nothing to recover",
+        StepFault::BallotsExhausted => b": the ballot's counter would pass its limit",
+        StepFault::NotCommitted(_) => b": it has to be committed here before the execution",
     }
 }
 
-/// The step sends other frames, or executes otherwise.
+/// The step, which is the journal's last entry, sends other frames, or executes otherwise.
 fn add_differences(
-    alloc: Global,
-    entries: &[Entry],
-    told: &EntryTold<'_>,
+    journal: &Journal,
+    frames: &[Bytes],
+    done: &[(InstanceId, Answer)],
     reasons: &mut Reasons,
-) -> Result<(), AllocError> {
-    let Some(step) = entries.last() else {
-        return Ok(());
-    };
-    let frames = step.frames.as_slice();
-    match first_other_frame(frames, told.frames) {
-        Some(place) => add_frames(alloc, frames, told.frames, place, reasons),
-        None => add_executions(alloc, step.done.as_slice(), told.done, reasons),
+) {
+    if let Some(step) = journal.entries().last() {
+        let expected = step.frames.as_slice();
+        match first_other_frame(expected, frames) {
+            Some(place) => add_frames(expected, frames, place, reasons),
+            None => add_executions(step.done.as_slice(), done, reasons),
+        }
     }
 }
 
 /// The first place at which the frames differ.
 fn first_other_frame(expected: &[Frame], found: &[Bytes]) -> Option<usize> {
     for place in 0..expected.len().max(found.len()) {
-        if !has_frame(expected, found, place) {
+        if !has_frame(expected.get(place), found.get(place)) {
             return Some(place);
         }
     }
     None
 }
 
-/// Whether both have the same frame at this place.
-fn has_frame(expected: &[Frame], found: &[Bytes], place: usize) -> bool {
-    match (expected.get(place), found.get(place)) {
+/// Whether both are the same frame.
+fn has_frame(expected: Option<&Frame>, found: Option<&Bytes>) -> bool {
+    match (expected, found) {
         (Some(expected), Some(found)) => expected.as_slice() == found.as_slice(),
         _ => false,
     }
 }
 
 /// The frames differ, first at this place.
-fn add_frames(
-    alloc: Global,
-    expected: &[Frame],
-    found: &[Bytes],
-    place: usize,
-    reasons: &mut Reasons,
-) -> Result<(), AllocError> {
-    let (many, others) = (expected.len(), found.len());
-    reasons.tell(format!(in alloc;
-        "cause: its frames aren't those of the step: expected {many}, found {others}; the first that differs is at place {place}, counted from 0"
-    )?)?;
-    add_expected(alloc, expected.get(place), reasons)?;
-    add_found(alloc, found.get(place), reasons)?;
-    match (expected.get(place), found.get(place)) {
-        (Some(expected), Some(found)) => add_field(alloc, expected, found, reasons),
-        _ => Ok(()),
+fn add_frames(expected: &[Frame], found: &[Bytes], place: usize, reasons: &mut Reasons) {
+    reasons.tell(
+        b"cause: its frames aren't those of the step: expected #, found #; the first that differs is at place #, counted from 0",
+        &[expected.len() as u64, found.len() as u64, place as u64],
+    );
+    let (expected, found) = (expected.get(place), found.get(place));
+    add_expected(expected, reasons);
+    add_found(found, reasons);
+    if let Some(expected) = expected {
+        add_field(expected, found, reasons);
     }
 }
 
 /// The frame that the step sends.
-fn add_expected(
-    alloc: Global,
-    expected: Option<&Frame>,
-    reasons: &mut Reasons,
-) -> Result<(), AllocError> {
-    let mut line = Vec::from_slice(alloc, b"expected: ")?;
+fn add_expected(expected: Option<&Frame>, reasons: &mut Reasons) {
+    let mut line = reasons.line(b"expected: ");
     match expected {
-        Some(frame) => push_frame(&mut line, frame)?,
-        None => line.extend_from_slice(b"none")?,
+        Some(frame) => line.frame(frame),
+        None => line.say(b"none"),
     }
-    reasons.add(line)
+    reasons.add(line);
 }
 
 /// The bytes that the entry sends.
-fn add_found(
-    alloc: Global,
-    found: Option<&Bytes>,
-    reasons: &mut Reasons,
-) -> Result<(), AllocError> {
-    let mut line = Vec::from_slice(alloc, b"found: ")?;
+fn add_found(found: Option<&Bytes>, reasons: &mut Reasons) {
+    let mut line = reasons.line(b"found: ");
     match found {
-        Some(bytes) => push_told(&mut line, bytes)?,
-        None => line.extend_from_slice(b"none")?,
+        Some(bytes) => tell_bytes(&mut line, bytes),
+        None => line.say(b"none"),
     }
-    reasons.add(line)
+    reasons.add(line);
 }
 
-/// The field in which the two frames differ.
-fn add_field(
-    alloc: Global,
-    expected: &Frame,
-    found: &Bytes,
-    reasons: &mut Reasons,
-) -> Result<(), AllocError> {
-    let one = Side {
-        name: b"expected",
-        bytes: expected.as_slice(),
-    };
-    let other = Side {
-        name: b"found",
-        bytes: found.as_slice(),
-    };
-    let mut line = Vec::new(alloc);
-    push_difference(&mut line, one, other)?;
-    reasons.add(line)
+/// The field in which the two frames differ, if there are two.
+fn add_field(expected: &Frame, found: Option<&Bytes>, reasons: &mut Reasons) {
+    if let Some(found) = found {
+        let one = Side {
+            name: b"expected",
+            bytes: expected.as_slice(),
+        };
+        let other = Side {
+            name: b"found",
+            bytes: found.as_slice(),
+        };
+        add_difference(&one, &other, reasons);
+    }
 }
 
 /// The executions differ.
 fn add_executions(
-    alloc: Global,
     expected: &[(InstanceId, Answer)],
     found: &[(InstanceId, Answer)],
     reasons: &mut Reasons,
-) -> Result<(), AllocError> {
+) {
     let place = first_other_execution(expected, found);
-    let (many, others) = (expected.len(), found.len());
-    reasons.tell(format!(in alloc;
-        "cause: its executions aren't those of the step: expected {many}, found {others}; the first that differs is at place {place}, counted from 0"
-    )?)?;
-    add_execution(alloc, b"expected: ", expected.get(place), reasons)?;
-    add_execution(alloc, b"found: ", found.get(place), reasons)
+    reasons.tell(
+        b"cause: its executions aren't those of the step: expected #, found #; the first that differs is at place #, counted from 0",
+        &[expected.len() as u64, found.len() as u64, place as u64],
+    );
+    add_execution(b"expected: ", expected.get(place), reasons);
+    add_execution(b"found: ", found.get(place), reasons);
 }
 
 /// The first place at which the executions differ.
@@ -314,26 +272,15 @@ fn is_same_execution(one: &(InstanceId, Answer), other: &(InstanceId, Answer)) -
 }
 
 /// An execution, under this name.
-fn add_execution(
-    alloc: Global,
-    name: &[u8],
-    execution: Option<&(InstanceId, Answer)>,
-    reasons: &mut Reasons,
-) -> Result<(), AllocError> {
-    let mut line = Vec::from_slice(alloc, name)?;
+fn add_execution(name: &[u8], execution: Option<&(InstanceId, Answer)>, reasons: &mut Reasons) {
+    let mut line = reasons.line(name);
     match execution {
-        Some((instance, answer)) => push_answered(&mut line, *instance, answer)?,
-        None => line.extend_from_slice(b"none")?,
+        Some((instance, answer)) => {
+            line.instance(*instance);
+            line.say(b" ");
+            line.answer(answer);
+        }
+        None => line.say(b"none"),
     }
-    reasons.add(line)
-}
-
-fn push_answered(
-    line: &mut Vec<u8>,
-    instance: InstanceId,
-    answer: &Answer,
-) -> Result<(), AllocError> {
-    push_instance(line, instance)?;
-    line.push(b' ')?;
-    push_answer(line, answer)
+    reasons.add(line);
 }

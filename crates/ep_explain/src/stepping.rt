@@ -13,38 +13,41 @@ use ep_bundle::{
 use ep_journal::Journal;
 use std::alloc::{AllocError, Global};
 
-/// Why the replica's entry of this number, in these bytes, isn't its next step.
-pub(crate) fn step_reasons(
-    alloc: Global,
-    bytes: &[u8],
-    replica: ReplicaId,
-    number: u32,
-) -> Result<Reasons, AllocError> {
-    let mut reasons = Reasons::new(alloc);
-    reasons.say(
-        b"do: make the bundle anew from the logs by `epaxos collect`, which names a log that is at fault",
-    )?;
-    reasons.say(
-        b"likely: this entry, or one before it, was changed after it was written, or one before it is missing",
-    )?;
-    match add_step(alloc, bytes, replica, number, &mut reasons) {
-        Err(BundleFault::Memory) => Err(AllocError),
-        _ => Ok(reasons),
-    }
-}
-
-/// Reads up to the entry, and tells what is wrong with it.
-fn add_step(
+/// Adds why the replica's entry of this number, in these bytes, isn't its next step.
+pub(crate) fn add_step(
     alloc: Global,
     bytes: &[u8],
     replica: ReplicaId,
     number: u32,
     reasons: &mut Reasons,
+) {
+    reasons.tell(
+        b"do: make the bundle anew from the logs by `epaxos collect`, which names a log that is at fault",
+        &[],
+    );
+    reasons.tell(
+        b"likely: this entry, or one before it, was changed after it was written, or one before it is missing",
+        &[],
+    );
+    let told = add_entry(alloc, &mut Noted::new(bytes), replica, number, reasons);
+    if let Err(BundleFault::Memory) = told {
+        reasons.cut();
+    }
+}
+
+/// Reads up to the entry, and tells what is wrong with it.
+fn add_entry<S: Source>(
+    alloc: Global,
+    source: &mut S,
+    replica: ReplicaId,
+    number: u32,
+    reasons: &mut Reasons,
 ) -> Result<(), BundleFault> {
-    let mut source = Noted::new(bytes);
     let mut place = 0;
-    let mut journal = read_up_to(alloc, &mut source, &mut place, replica, number)?;
-    add_next(alloc, &mut source, &mut place, &mut journal, reasons)
+    let mut journal = read_up_to(alloc, source, &mut place, replica, number)?;
+    let told = add_next(alloc, source, &mut place, &mut journal, reasons);
+    drop(journal);
+    told
 }
 
 /// Reads the entry, and tells what is wrong with it as the journal's next one.
@@ -56,7 +59,7 @@ fn add_next<S: Source>(
     reasons: &mut Reasons,
 ) -> Result<(), BundleFault> {
     let draft = read_draft(alloc, source, place, journal.version(), journal.size())?;
-    add_draft(alloc, journal, draft, reasons)?;
+    add_draft(alloc, journal, draft, reasons);
     Ok(())
 }
 
@@ -69,16 +72,36 @@ fn read_up_to<S: Source>(
     number: u32,
 ) -> Result<Journal, BundleFault> {
     let header = read_header(alloc, source, place)?;
+    let begun = begin_journal(alloc, source, place, &header, replica);
+    drop(header);
+    let mut journal = begun?;
+    match pass_entries(alloc, source, place, &mut journal, number) {
+        Ok(()) => Ok(journal),
+        Err(fault) => {
+            drop(journal);
+            Err(fault)
+        }
+    }
+}
+
+/// Reads the journals of lower replicas, and gives the replica's journal before its first entry.
+fn begin_journal<S: Source>(
+    alloc: Global,
+    source: &mut S,
+    place: &mut u64,
+    header: &BundleHeader,
+    replica: ReplicaId,
+) -> Result<Journal, BundleFault>
+    requires { OpensIn header.now.version header.now.opening }
+{
     if replica.index() >= header.cluster.count() {
         return Err(BundleFault::BadBundle(*place));
     }
     for lower in 0..replica.index() {
-        pass_journal(alloc, source, place, &header, lower)?;
+        pass_journal(alloc, source, place, header, lower)?;
     }
     read_count(source, place, replica)?;
-    let mut journal = header.journal(alloc, replica)?;
-    pass_entries(alloc, source, place, &mut journal, number)?;
-    Ok(journal)
+    Ok(header.journal(alloc, replica)?)
 }
 
 /// Reads the journal of the replica of this number.
@@ -96,7 +119,9 @@ fn pass_journal<S: Source>(
         return Err(BundleFault::BadBundle(*place));
     };
     let mut journal = header.journal(alloc, replica)?;
-    read_journal(alloc, source, place, &mut journal)
+    let read = read_journal(alloc, source, place, &mut journal);
+    drop(journal);
+    read
 }
 
 /// Reads the journal's entries before the one of this number.

@@ -1,27 +1,21 @@
 //! A walk over the fields of a bundle, up to a given place.
 
-use crate::allowed::Allowed;
-use crate::bundle_field::BundleField;
-use crate::field_place::FieldPlace;
-use crate::region::Region;
-use crate::stop::Stop;
+use crate::allowed::{Allowed, number_of};
+use crate::spot::Spot;
+use crate::wording::Wording;
 
-/// The bytes that aren't passed yet, and the offset of the first of them.
+/// The bytes that aren't passed yet, and the offset of the first of them. The walk is over at the field that begins at the wanted place, or
+/// where the bytes end within a field; nothing is passed from then on.
 #[derive(Drop)]
 pub(crate) struct Walk<'a> {
     rest: &'a [u8],
     at: u64,
     wanted: u64,
-    region: Region,
-}
-
-/// The number that these bytes spell, the highest first.
-pub(crate) fn number_of(bytes: &[u8]) -> u64 {
-    let mut number: u64 = 0;
-    for byte in bytes {
-        number = number.wrapping_mul(256).wrapping_add(u64::from(*byte));
-    }
-    number
+    /// The part of the bundle: words with `#` for each of its numbers.
+    region: &'static [u8],
+    numbers: [u64; 2],
+    is_over: bool,
+    spot: Option<Spot>,
 }
 
 impl<'a> Walk<'a> {
@@ -31,7 +25,10 @@ impl<'a> Walk<'a> {
             rest: bytes,
             at: 0,
             wanted,
-            region: Region::Header,
+            region: b"the header",
+            numbers: [0, 0],
+            is_over: false,
+            spot: None,
         }
     }
 
@@ -40,42 +37,51 @@ impl<'a> Walk<'a> {
         self.rest
     }
 
-    /// Goes into this region.
-    pub(crate) fn enter(&mut self, region: Region) {
-        self.region = region;
+    /// Whether nothing is passed any more.
+    pub(crate) fn is_over(&self) -> bool {
+        self.is_over
     }
 
-    /// Passes a field of so many bytes, and gives them; ends where it is the one that is looked for.
-    pub(crate) fn run(
-        &mut self,
-        field: BundleField,
-        len: usize,
-        allowed: Allowed,
-    ) -> Result<&'a [u8], Stop> {
+    /// The field that begins at the wanted place, if it was met.
+    pub(crate) fn spot(&self) -> Option<&Spot> {
+        self.spot.as_ref()
+    }
+
+    /// Goes into this part of the bundle.
+    pub(crate) fn enter(&mut self, region: &'static [u8], one: u64, other: u64) {
+        if !self.is_over {
+            self.region = region;
+            self.numbers = [one, other];
+        }
+    }
+
+    /// Appends in which part of the bundle it is.
+    pub(crate) fn tell_region(&self, line: &mut Wording) {
+        line.tell(self.region, &self.numbers);
+    }
+
+    /// Passes a field of so many bytes, and gives them; none where the walk is over.
+    pub(crate) fn run(&mut self, name: &'static [u8], len: usize, allowed: Allowed) -> &'a [u8] {
+        if self.is_over {
+            return &[];
+        }
         if self.at == self.wanted && len > 0 {
-            return Err(Stop::At(FieldPlace {
-                field,
-                region: self.region,
-                len,
-                allowed,
-            }));
+            self.is_over = true;
+            self.spot = Some(Spot { name, len, allowed });
+            return &[];
         }
         if self.rest.len() < len {
-            return Err(Stop::Past);
+            self.is_over = true;
+            return &[];
         }
         let (front, rest) = self.rest.split_at(len);
         self.rest = rest;
         self.at = self.at.saturating_add(len as u64);
-        Ok(front)
+        front
     }
 
-    /// Passes a number of so many bytes, and gives it; ends where it is the one that is looked for.
-    pub(crate) fn number(
-        &mut self,
-        field: BundleField,
-        len: usize,
-        allowed: Allowed,
-    ) -> Result<u64, Stop> {
-        Ok(number_of(self.run(field, len, allowed)?))
+    /// Passes a number of so many bytes, and gives it; 0 where the walk is over.
+    pub(crate) fn number(&mut self, name: &'static [u8], len: usize, allowed: Allowed) -> u64 {
+        number_of(self.run(name, len, allowed))
     }
 }

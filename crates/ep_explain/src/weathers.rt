@@ -5,10 +5,10 @@ use ep_script::{number, read_word};
 use std::alloc::{AllocError, Global};
 
 /// A frame that a line of a weather is for, and the line.
-#[derive(Clone, Copy)]
-pub(crate) struct WeatherFrame {
-    pub frame: (u64, u64, u64),
-    pub line: u64,
+#[derive(Drop)]
+struct WeatherFrame {
+    frame: (u64, u64, u64),
+    line: u64,
 }
 
 /// A key that the replicas open with, and its line.
@@ -80,90 +80,89 @@ impl Before {
             openings: Vec::new(alloc),
             weather: Vec::new(alloc),
         };
-        for place in 0..count {
-            if let Some(line) = lines.next_line() {
-                before.note(alloc, place.saturating_add(1), line)?;
+        match before.note_all(alloc, lines, count) {
+            Ok(()) => Ok(before),
+            Err(fault) => {
+                drop(before);
+                Err(fault)
             }
         }
-        Ok(before)
     }
 
-    fn note(&mut self, alloc: Global, number: u64, line: &[u8]) -> Result<(), AllocError> {
-        let words = words_of(alloc, line)?;
+    fn note_all(
+        &mut self,
+        alloc: Global,
+        lines: &mut Lines<'_>,
+        count: u64,
+    ) -> Result<(), AllocError> {
+        for place in 0..count {
+            if let Some(line) = lines.next_line() {
+                self.note(alloc, place.saturating_add(1), line)?;
+            }
+        }
+        Ok(())
+    }
+
+    fn note(&mut self, alloc: Global, line: u64, bytes: &[u8]) -> Result<(), AllocError> {
+        let words = words_of(alloc, bytes)?;
         match words.first() {
-            Some(first) if !is_comment(first) => self.note_words(alloc, number, &words),
+            Some(first) if !is_comment(first) => self.note_words(alloc, line, first, &words),
             _ => Ok(()),
         }
     }
 
-    fn note_words(&mut self, alloc: Global, line: u64, words: &[&[u8]]) -> Result<(), AllocError> {
-        let [first, rest @ ..] = words else {
-            return Ok(());
-        };
+    /// Notes what a line says that begins with this word.
+    fn note_words(
+        &mut self,
+        alloc: Global,
+        line: u64,
+        first: &[u8],
+        words: &[&[u8]],
+    ) -> Result<(), AllocError> {
         if self.replicas.is_none() {
             self.replicas = Some(number_at(words, 1));
             self.line = line;
             return Ok(());
         }
-        match *first {
-            b"generation" => {
-                self.is_late = true;
-                Ok(())
-            }
-            b"since" => {
-                self.since = Some(line);
-                Ok(())
-            }
-            b"opening" => self.note_opening(alloc, line, rest),
-            _ => {
-                self.is_within = true;
-                self.note_weather(alloc, line, words)
-            }
+        match first {
+            b"generation" => self.is_late = true,
+            b"since" => self.since = Some(line),
+            b"opening" => return self.note_opening(alloc, line, words),
+            _ => return self.note_within(line, first, words),
         }
+        Ok(())
     }
 
     fn note_opening(
         &mut self,
         alloc: Global,
         line: u64,
-        operands: &[&[u8]],
-    ) -> Result<(), AllocError> {
-        let [word, ..] = operands else {
-            return Ok(());
-        };
-        let Some(key) = read_word(alloc, word)? else {
-            return Ok(());
-        };
-        self.openings.push(OpeningKey { key, line })?;
-        Ok(())
-    }
-
-    fn note_weather(
-        &mut self,
-        alloc: Global,
-        line: u64,
         words: &[&[u8]],
     ) -> Result<(), AllocError> {
-        let [first, ..] = words else {
+        let [_, word, ..] = words else {
             return Ok(());
         };
-        if *first == b"section".as_slice() {
-            self.weather = Vec::new(alloc);
-        } else if is_weather(first) {
-            self.weather.push(WeatherFrame {
-                frame: frame_of(words),
-                line,
-            })?;
+        match read_word(alloc, word)? {
+            Some(key) => self.openings.push(OpeningKey { key, line })?,
+            None => {}
         }
         Ok(())
     }
 
-    /// The line of the key that the word spells, if the replicas open with it.
-    pub(crate) fn opening_of(&self, alloc: Global, word: &[u8]) -> Result<Option<u64>, AllocError> {
-        let Some(key) = read_word(alloc, word)? else {
-            return Ok(None);
-        };
-        Ok(self.line_of(key.as_slice()))
+    fn note_within(&mut self, line: u64, first: &[u8], words: &[&[u8]]) -> Result<(), AllocError> {
+        self.is_within = true;
+        if first == b"section".as_slice() {
+            self.weather.clear();
+        } else if is_weather(first) {
+            let frame = frame_of(words);
+            self.weather.push(WeatherFrame { frame, line })?;
+        }
+        Ok(())
+    }
+
+    /// The line of the key, if it is one that the replicas open with.
+    pub(crate) fn opening_of(&self, key: Option<Vec<u8>>) -> Option<u64> {
+        self.line_of(key?.as_slice())
     }
 
     fn line_of(&self, key: &[u8]) -> Option<u64> {
