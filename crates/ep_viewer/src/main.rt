@@ -10,6 +10,7 @@
 #![tactic(auto)]
 
 mod command_line;
+mod commands;
 mod explaining;
 mod program;
 mod telling;
