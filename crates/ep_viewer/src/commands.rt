@@ -92,6 +92,88 @@ Exit status:
   3  memory was refused
   4  reading or writing failed";
 
+/// The option of `show`.
+const SHOW: &[ArgRow] = &[ArgRow {
+    name: "columns",
+    kind: ArgKind::Flag,
+    action: ArgAction::SetTrue,
+    is_required: false,
+    help: "A column a replica, 32 wide each",
+}];
+
+/// The options of `draw`.
+const DRAW: &[ArgRow] = &[
+    ArgRow {
+        name: "graph",
+        kind: ArgKind::Flag,
+        action: ArgAction::SetTrue,
+        is_required: false,
+        help: "Draws the dependency graph of what is committed, of all journals, in place of the diagram",
+    },
+    ArgRow {
+        name: "page",
+        kind: ArgKind::Flag,
+        action: ArgAction::SetTrue,
+        is_required: false,
+        help: "Makes a page for a browser, one HTML file, in place of the picture",
+    },
+];
+
+/// The option of `replay`.
+const REPLAY: &[ArgRow] = &[ArgRow {
+    name: "emit",
+    kind: ArgKind::Valued("WHAT"),
+    action: ArgAction::Set,
+    is_required: false,
+    help: "What to print: report (the default), bundle or trace",
+}];
+
+/// The options that keep a part.
+const PARTS: &[ArgRow] = &[
+    ArgRow {
+        name: "instance",
+        kind: ArgKind::Valued("R.N"),
+        action: ArgAction::Set,
+        is_required: false,
+        help: "Keeps the entries that name, send or execute this instance",
+    },
+    ArgRow {
+        name: "key",
+        kind: ArgKind::Valued("KEY"),
+        action: ArgAction::Set,
+        is_required: false,
+        help: "Keeps those about the instances that commands on this key took",
+    },
+    ArgRow {
+        name: "client",
+        kind: ArgKind::Valued("C"),
+        action: ArgAction::Set,
+        is_required: false,
+        help: "Keeps those about the instances that commands of this client took; with --key, on that key",
+    },
+    ArgRow {
+        name: "replica",
+        kind: ArgKind::Valued("R"),
+        action: ArgAction::Set,
+        is_required: false,
+        help: "Keeps those of this replica",
+    },
+    ArgRow {
+        name: "from",
+        kind: ArgKind::Valued("STAMP"),
+        action: ArgAction::Set,
+        is_required: false,
+        help: "Keeps those of this stamp and greater ones",
+    },
+    ArgRow {
+        name: "to",
+        kind: ArgKind::Valued("STAMP"),
+        action: ArgAction::Set,
+        is_required: false,
+        help: "Keeps those of this stamp and lesser ones",
+    },
+];
+
 /// The program, as its command line has it.
 pub(crate) fn program<'a>(alloc: Global) -> Result<Command<'a>, AllocError> {
     ep_cli::program(alloc, &[show(), explain(), draw(), events(), replay()])
@@ -102,13 +184,7 @@ fn show() -> CommandRow {
         name: "show",
         about: "Reads a bundle on standard input, and prints the entries of its journals in words",
         after_help: AFTER_SHOW,
-        args: &[ArgRow {
-            name: "columns",
-            kind: ArgKind::Flag,
-            action: ArgAction::SetTrue,
-            is_required: false,
-            help: "A column a replica, 32 wide each",
-        }],
+        args: SHOW,
         more: parts(),
     }
 }
@@ -128,22 +204,7 @@ fn draw() -> CommandRow {
         name: "draw",
         about: "Reads a bundle on standard input, and prints the space-time diagram of its journals, an SVG file",
         after_help: AFTER_DRAW,
-        args: &[
-            ArgRow {
-                name: "graph",
-                kind: ArgKind::Flag,
-                action: ArgAction::SetTrue,
-                is_required: false,
-                help: "Draws the dependency graph of what is committed, of all journals, in place of the diagram",
-            },
-            ArgRow {
-                name: "page",
-                kind: ArgKind::Flag,
-                action: ArgAction::SetTrue,
-                is_required: false,
-                help: "Makes a page for a browser, one HTML file, in place of the picture",
-            },
-        ],
+        args: DRAW,
         more: parts(),
     }
 }
@@ -163,61 +224,11 @@ fn replay() -> CommandRow {
         name: "replay",
         about: "Reads a script on standard input, plays it in one thread, audits what it leaves, and prints a report, a bundle or a trace",
         after_help: AFTER_REPLAY,
-        args: &[ArgRow {
-            name: "emit",
-            kind: ArgKind::Valued("WHAT"),
-            action: ArgAction::Set,
-            is_required: false,
-            help: "What to print: report (the default), bundle or trace",
-        }],
+        args: REPLAY,
         more: &[],
     }
 }
 
-/// The options that keep a part.
 fn parts() -> &'static [ArgRow] {
-    &[
-        ArgRow {
-            name: "instance",
-            kind: ArgKind::Valued("R.N"),
-            action: ArgAction::Set,
-            is_required: false,
-            help: "Keeps the entries that name, send or execute this instance",
-        },
-        ArgRow {
-            name: "key",
-            kind: ArgKind::Valued("KEY"),
-            action: ArgAction::Set,
-            is_required: false,
-            help: "Keeps those about the instances that commands on this key took",
-        },
-        ArgRow {
-            name: "client",
-            kind: ArgKind::Valued("C"),
-            action: ArgAction::Set,
-            is_required: false,
-            help: "Keeps those about the instances that commands of this client took; with --key, on that key",
-        },
-        ArgRow {
-            name: "replica",
-            kind: ArgKind::Valued("R"),
-            action: ArgAction::Set,
-            is_required: false,
-            help: "Keeps those of this replica",
-        },
-        ArgRow {
-            name: "from",
-            kind: ArgKind::Valued("STAMP"),
-            action: ArgAction::Set,
-            is_required: false,
-            help: "Keeps those of this stamp and greater ones",
-        },
-        ArgRow {
-            name: "to",
-            kind: ArgKind::Valued("STAMP"),
-            action: ArgAction::Set,
-            is_required: false,
-            help: "Keeps those of this stamp and lesser ones",
-        },
-    ]
+    PARTS
 }
