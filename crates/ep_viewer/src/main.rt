@@ -1,7 +1,7 @@
 //! `epaxos show`, `explain`, `draw`, `trace-events` and `replay --emit trace`: runs in words and pictures, for people who look at them.
 //!
-//! `main` hands the words to `read_words`, in `command_line.rt`, and what they ask for with the standard streams to `perform`, in
-//! `program.rt`, which is all of the program: over any source and sinks, so that its contract can say what the bytes and the
+//! `main` hands the words to `read_words`, in `command_line.rt` (the commands stand in `commands.rt`), and what they ask for with the standard
+//! streams to `perform`, in `program.rt`, which is all of the program: over any source and sinks, so that its contract can say what the bytes and the
 //! status mean. It does no more than read a bundle and call `ep_view`,
 //! `ep_explain`, `ep_draw` or `ep_browser`, or read a script and call `ep_trace`.
 //!
@@ -10,6 +10,7 @@
 #![tactic(auto)]
 
 mod command_line;
+mod commands;
 mod explaining;
 mod program;
 mod telling;
