@@ -4,8 +4,8 @@ use Rattle.ep_script.specs.Fits.{AllFit, FitsSection}
 use Rattle.ep_script.specs.Plan.{SectionPlan}
 use Rattle.ep_run.proofs.runner.Runner.run_all.Goals as goal
 
-pub run-requires : goal.run-requires
-run-requires g c =
+pub run-requires-clause-fits : goal.run-requires-clause-fits
+run-requires-clause-fits g c = λ lifetimes lives.
     let f = c.args.script.now.head.faults in
     let all : List SectionPlan = c.sections-section-items.result.now in
     let s : SectionPlan = c.section-item.result in
