@@ -98,7 +98,7 @@ impl<S: Start + Send + Sync> Runner<S> {
         script: &RunScript,
         turns: u32,
     ) -> Result<(), RunFault>
-        requires { self.old.host.cluster ≡ script.now.head.faults }
+        requires cluster { self.old.host.cluster ≡ script.now.head.faults }
         ensures { self.new.host ≡ self.old.host }
     {
         for section in script.sections() {

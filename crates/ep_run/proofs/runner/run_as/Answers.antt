@@ -3,8 +3,8 @@ use Rattle.ep_script.specs.Heads.{Head}
 use Rattle.ep_run.specs.Locks.{HasBegun}
 use Rattle.ep_run.proofs.runner.run_as.Goals as goal
 
-pub run_all-requires : goal.run_all-requires
-run_all-requires g c =
+pub run_all-requires-clause-cluster : goal.run_all-requires-clause-cluster
+run_all-requires-clause-cluster g c = λ lifetimes lives.
     let h = subst (λ (h : Head). HasBegun h c.in_ok-runner.runner.host.cluster c.in_ok-runner.runner.host.version c.in_ok-runner.runner.host.opening) c.head.ensures c.in_ok-runner.ensures in h.cluster_is
 
 pub returns-in_ok-end-in-Ok-clause-begun : goal.returns-in_ok-end-in-Ok-clause-begun
