@@ -11,4 +11,4 @@ run-requires-clause-fits g c = λ lifetimes lives.
     let s : SectionPlan = c.section-item.result in
     let fit : AllFit (size f) all = subst (λ (ss : List SectionPlan). AllFit (size f) ss) (sym (c.sections-section-items.ensures.value)) c.sections-section-items.ensures.fit in
     let fits : FitsSection (size f) s = subst (FitsSection (size f)) (sym c.section-item.is) (fit c.loop-section.section-index s c.loop-section-test.true) in
-    subst (λ host. FitsSection (size host.cluster) s) (sym c.loop-section.invariant) (subst (λ (n : ℕ). FitsSection (size n) s) (sym c.requires) fits)
+    subst (λ host. FitsSection (size host.cluster) s) (sym c.loop-section.invariant) (subst (λ (n : ℕ). FitsSection (size n) s) (sym c.requires.cluster) fits)
