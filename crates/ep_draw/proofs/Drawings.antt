@@ -1,5 +1,5 @@
 -- What a drawn file is, and when there is none.
-use Rattle.std.proofs.Common.{◌≡◌, ◌≤◌, ◌<◌, ℕ, List, ◌++◌, length, refl, ap, ◌∙◌, append_assoc}
+use Rattle.std.proofs.Common.{◌≡◌, ◌≤◌, ◌<◌, ℕ, List, length, refl}
 use Rattle.ep_rules.specs.Journals.{AreLocalRuns}
 use Rattle.ep_journal.specs.Openings.{opens}
 use Rattle.ep_journal.specs.Entries.{Collected, journals_of}
@@ -8,10 +8,11 @@ use Rattle.ep_view.specs.Shown.{IsInOrder}
 use Rattle.ep_draw.specs.Drawn.{kept, file_text, IsFile, AreKept, IsDrawn, IsTooMany}
 use Rattle.ep_draw.specs.Ranges.{ranges_text}
 use Rattle.ep_draw.proofs.Fitting.{few_enough}
+use Rattle.ep_draw.specs.declared.arrow.Arrow.{Arrow}
 use Rattle.ep_draw.specs.declared.picture.Picture.{Picture}
 
-pub is_file : (c : Collected) (rows : List (ℕ × ℕ)) (picture : Picture) (svg : List ℕ) → svg ≡ file_text c rows picture → IsFile c rows svg
-is_file c rows picture svg e = record { picture = picture; text = e }
+pub is_file : (c : Collected) (rows : List (ℕ × ℕ)) (picture : Picture) (arrows : List Arrow) (svg : List ℕ) → svg ≡ file_text c rows picture arrows → IsFile c rows svg
+is_file c rows picture arrows svg e = record { picture = picture; arrows = arrows; text = e }
 
 pub are_kept : (c : Collected) (part : Selection) (all rows : List (ℕ × ℕ)) → IsInOrder c all → rows ≡ kept c part all → AreKept c part rows
 are_kept c part all rows ordered e = record { all = all; ordered = ordered; are = e }
@@ -23,6 +24,3 @@ pub is_too_many : (c : Collected) (part : Selection) (rows : List (ℕ × ℕ)) 
     → lines ≡ ranges_text c rows → IsTooMany c part (length rows) lines
 is_too_many c part rows lines runs k many told =
     record { rows = rows; are_kept = k; so_many = refl; many = many; told = told; example = few_enough c part rows runs k }
-
-pub joined : (t a b e n : List ℕ) → e ≡ t ++ a → n ≡ e ++ b → n ≡ t ++ (a ++ b)
-joined t a b e n p h = h ∙ ap (λ (z : List ℕ). z ++ b) p ∙ append_assoc t a b

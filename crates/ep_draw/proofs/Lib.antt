@@ -1,4 +1,3 @@
 pub mod Drawings
 pub mod Fitting
-pub mod Joining
 pub mod ReadBack

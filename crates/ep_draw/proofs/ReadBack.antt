@@ -2,7 +2,7 @@
 use Rattle.std.proofs.Common.{◌≡◌, ℕ, Bool, true, false, ◌&&◌, cond, List, [], ◌∷◌, ◌++◌, codes, refl, sym, subst}
 use Rattle.std.specs.Prelude.{eqb, nat_le}
 use Rattle.std.proofs.lemmas.Bool.{eqb-true}
-use Rattle.ep_draw.specs.Escaping.{printed_byte, printed, escaped_byte, escaped, is_plain, Reads, nothing, plain, ampersand, less, greater, double_quote, single_quote, IsReadBack}
+use Rattle.ep_draw.specs.Escaping.{printed_byte, printed, reference_or, escaped_byte, escaped, is_plain, Reads, nothing, plain, ampersand, less, greater, double_quote, single_quote, IsReadBack}
 
 is_plain-is : (b : ℕ) → eqb b 38 ≡ false → eqb b 60 ≡ false → eqb b 62 ≡ false → eqb b 34 ≡ false → eqb b 39 ≡ false → is_plain b ≡ true
 is_plain-is b e38 e60 e62 e34 e39 = rw (e38, e60, e62, e34, e39) refl
@@ -13,6 +13,7 @@ still_plain b true e = e
 still_plain b false e = refl
 
 read_one : (b : ℕ) (bs ws : List ℕ) → Reads bs ws → Reads (escaped_byte b ++ bs) (printed_byte b ∷ ws)
+unfolding reference_or
 read_one b bs ws r = at38 (eqb b 38) refl
   where
     at39 : (t : Bool) → eqb b 38 ≡ false → eqb b 60 ≡ false → eqb b 62 ≡ false → eqb b 34 ≡ false → eqb b 39 ≡ t →

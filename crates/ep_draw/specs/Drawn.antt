@@ -9,11 +9,12 @@ use Rattle.ep_audit.specs.Lookups.{entry_at}
 use Rattle.ep_view.specs.Shown.{IsInOrder}
 use Rattle.ep_view.specs.Kept.{keeps}
 use Rattle.ep_view.specs.declared.selection.Selection.{Selection}
-use Rattle.ep_draw.specs.Escaping.{escaped}
+use Rattle.ep_draw.specs.Escaping.{title_text}
 use Rattle.ep_draw.specs.Layout.{column, row}
 use Rattle.ep_draw.specs.Ranges.{first_left, ranges_text}
-use Rattle.ep_draw.specs.Shapes.{attribute, shapes_text, arrows_text}
-use Rattle.ep_draw.specs.declared.style.TheConstants.{KEY, STYLE}
+use Rattle.ep_draw.specs.Shapes.{pair, picture_text, arrows_text}
+use Rattle.ep_draw.specs.declared.arrow.Arrow.{Arrow}
+use Rattle.ep_draw.specs.declared.style.TheConstants.{STYLE}
 use Rattle.ep_draw.specs.declared.draw_fault.DrawFault.{DrawFault}
 use Rattle.ep_draw.specs.declared.draw_fault.DrawFault.TheVariants.{Memory, TooMany}
 use Rattle.ep_draw.specs.declared.picture.Picture.{Picture}
@@ -50,15 +51,12 @@ told_text r e = place_text r e.number ++ happening_text e
 abbrev pub classed : Event → List ℕ
 classed event = codes "<circle class='dot " ++ class_of event
 
-abbrev pub spot : ℕ → ℕ → List ℕ
-spot x y = attribute (codes "' cx='") x ++ attribute (codes " cy='") y
-
 abbrev pub titled : ℕ → Entry → List ℕ
-titled r e = codes " r='6'><title>" ++ escaped (told_text r e) ++ codes "</title></circle>\n"
+titled r e = codes "' r='6" ++ title_text (told_text r e) ++ codes "</circle>\n"
 
 -- the dot of an entry of replica r, here, with the entry in words
 abbrev pub circle_text : ℕ → ℕ → ℕ → Entry → List ℕ
-circle_text x y r e = classed e.event ++ spot x y ++ titled r e
+circle_text x y r e = classed e.event ++ pair (codes "' cx='") (codes "' cy='") (record { x = x; y = y }) ++ titled r e
 
 -- the dot of an entry in the row k: on its replica's line
 abbrev pub dot_text : Collected → ℕ → ℕ × ℕ → Option Entry → List ℕ
@@ -72,30 +70,19 @@ dots_from c k (p ∷ ps) = dot_text c k p (entry_at (entries_at c p.0) p.1) ++ d
 
 -- Files.
 
-abbrev pub measured : ℕ → ℕ → List ℕ
-measured width height = attribute (codes "<svg xmlns='http://www.w3.org/2000/svg' width='") width ++ attribute (codes " height='") height
-
-abbrev pub viewed : ℕ → ℕ → List ℕ
-viewed width height = codes " viewBox='0 0 " ++ decimal width ++ attribute (codes " ") height
-
 -- the title, the styles and the key, which are the same in each file
 unfoldable pub front : List ℕ
-front = STYLE.now ++ KEY.now
+front = STYLE.now
 
-abbrev pub opening : Picture → List ℕ
-opening p = measured p.width p.height ++ viewed p.width p.height ++ front
-
-abbrev pub body : Picture → List ℕ
-body p = shapes_text p.shapes.items ++ arrows_text p.arrows.items
-
--- the picture, and over it a dot for each of these places
-abbrev pub file_text : Collected → List (ℕ × ℕ) → Picture → List ℕ
-file_text c rows p = opening p ++ body p ++ dots_from c 0 rows ++ codes "</svg>\n"
+-- the picture, over it arrows, and over them a dot for each of these places
+abbrev pub file_text : Collected → List (ℕ × ℕ) → Picture → List Arrow → List ℕ
+file_text c rows p arrows = picture_text front p ++ arrows_text arrows ++ dots_from c 0 rows ++ codes "</svg>\n"
 
 -- a file with a dot for each of these places
 pub record IsFile (c : Collected) (rows : List (ℕ × ℕ)) (svg : List ℕ) : Type 0 where
   pub picture : Picture
-  pub text : svg ≡ file_text c rows picture
+  pub arrows : List Arrow
+  pub text : svg ≡ file_text c rows picture arrows
 
 -- these are the entries that the part keeps, of all entries by stamp and then by replica
 pub record AreKept (c : Collected) (part : Selection) (rows : List (ℕ × ℕ)) : Type 0 where
@@ -103,7 +90,7 @@ pub record AreKept (c : Collected) (part : Selection) (rows : List (ℕ × ℕ))
   pub ordered : IsInOrder c all
   pub are : rows ≡ kept c part all
 
--- The file has a dot for each entry that the part keeps, 2,000 at most, in rows by stamp and then by replica. No shape and no arrow of its picture
+-- The file has a dot for each entry that the part keeps, 2,000 at most, in rows by stamp and then by replica. No shape of its picture and no arrow
 -- is a dot, and whatever words they and the dots bear stand there escaped.
 pub record IsDrawn (c : Collected) (part : Selection) (svg : List ℕ) : Type 0 where
   pub rows : List (ℕ × ℕ)

@@ -9,14 +9,17 @@ abbrev pub printed : List ℕ → List ℕ
 printed [] = []
 printed (b ∷ bs) = printed_byte b ∷ printed bs
 
--- a byte of markup as a character reference
-abbrev pub escaped_byte : ℕ → List ℕ
-escaped_byte b =
+-- a byte of markup as a character reference, and any other byte as this
+unfoldable pub reference_or : ℕ → List ℕ → List ℕ
+reference_or b plain =
     cond (eqb b 38) (codes "&amp;")
     (cond (eqb b 60) (codes "&lt;")
     (cond (eqb b 62) (codes "&gt;")
     (cond (eqb b 34) (codes "&quot;")
-    (cond (eqb b 39) (codes "&#39;") (printed_byte b ∷ [])))))
+    (cond (eqb b 39) (codes "&#39;") plain))))
+
+abbrev pub escaped_byte : ℕ → List ℕ
+escaped_byte b = reference_or b (printed_byte b ∷ [])
 
 abbrev pub escaped : List ℕ → List ℕ
 escaped [] = []
@@ -40,3 +43,7 @@ pub data Reads : List ℕ → List ℕ → Type 0 where
 -- what is written for words is read as the words, as they are printed
 abbrev pub IsReadBack : List ℕ → Type 0
 IsReadBack ws = Reads (escaped ws) (printed ws)
+
+-- the end of a tag, and the title of what it begins
+abbrev pub title_text : List ℕ → List ℕ
+title_text words = codes "'><title>" ++ escaped words ++ codes "</title>"

@@ -1,41 +1,21 @@
 -- What stands in the file for shapes and arrows.
 use Rattle.std.specs.Prelude.{ℕ, Bool, true, false, List, [], ◌∷◌, ◌++◌, codes, decimal}
-use Rattle.ep_draw.specs.Escaping.{escaped}
+use Rattle.ep_draw.specs.Escaping.{escaped, title_text}
 use Rattle.ep_draw.specs.declared.arrow.Arrow.{Arrow}
 use Rattle.ep_draw.specs.declared.fate.Fate.{Fate}
 use Rattle.ep_draw.specs.declared.fate.Fate.TheVariants.{Handled, Lost, Leaves, Enters, Changed}
 use Rattle.ep_draw.specs.declared.arrow_kind.ArrowKind.{ArrowKind}
 use Rattle.ep_draw.specs.declared.arrow_kind.ArrowKind.TheVariants.{PreAccept, PreAcceptOk, Accept, AcceptOk, Commit, Prepare, PrepareOk, Nack}
+use Rattle.ep_draw.specs.declared.picture.Picture.{Picture}
 use Rattle.ep_draw.specs.declared.point.Point.{Point}
 use Rattle.ep_draw.specs.declared.look.Look.{Look}
 use Rattle.ep_draw.specs.declared.look.Look.TheVariants.{Life, Guide, Title, Plain, Head, Stamp, Alarm, Alone, Together, Missing, Needs, Fast, Slow, Recovered, Seal, Closed}
 use Rattle.ep_draw.specs.declared.shape.Shape.{Shape}
 use Rattle.ep_draw.specs.declared.shape.Shape.TheVariants.{Line, Words, Rect, Ring}
 
--- from the start of an attribute, its space, its name and its first quote, to its last quote
-abbrev pub attribute : List ℕ → ℕ → List ℕ
-attribute start n = start ++ decimal n ++ codes "'"
-
-abbrev pub ends : Point → Point → List ℕ
-ends from to = attribute (codes " x1='") from.x ++ attribute (codes " y1='") from.y ++ attribute (codes " x2='") to.x ++ attribute (codes " y2='") to.y
-
-abbrev pub corner : Point → List ℕ
-corner at = attribute (codes " x='") at.x ++ attribute (codes " y='") at.y
-
-abbrev pub point_text : List ℕ → Point → List ℕ
-point_text start p = start ++ decimal p.x ++ codes " " ++ decimal p.y
-
--- the way from a point to another one, which bends towards the one between
-abbrev pub curve : Point → Point → Point → List ℕ
-curve from via to = point_text (codes " d='M") from ++ point_text (codes "Q") via ++ point_text (codes " ") to ++ codes "'"
-
--- how wide and how high
-abbrev pub measures : Point → List ℕ
-measures extent = attribute (codes " width='") extent.x ++ attribute (codes " height='") extent.y
-
--- where words stand, up to the end of their tag
-abbrev pub standing : Point → List ℕ
-standing at = corner at ++ codes ">"
+-- a point: the first text, its x, the second text, and its y
+abbrev pub pair : List ℕ → List ℕ → Point → List ℕ
+pair first second p = first ++ decimal p.x ++ second ++ decimal p.y
 
 -- Shapes.
 
@@ -58,17 +38,25 @@ look_class Seal = codes "seal"
 look_class Closed = codes "closed"
 
 abbrev pub look_text : List ℕ → Look → List ℕ
-look_text start look = start ++ look_class look ++ codes "'"
+look_text start look = start ++ look_class look
 
 abbrev pub shape_text : Shape → List ℕ
-shape_text (Line look from to) = look_text (codes "<line class='") look ++ ends from to ++ codes "/>\n"
-shape_text (Words look at words) = look_text (codes "<text class='") look ++ standing at ++ escaped words.items ++ codes "</text>\n"
-shape_text (Rect look at extent) = look_text (codes "<rect class='") look ++ corner at ++ measures extent ++ codes " rx='6'/>\n"
-shape_text (Ring at) = attribute (codes "<circle class='ring' cx='") at.x ++ attribute (codes " cy='") at.y ++ codes " r='11'/>\n"
+shape_text (Line look from to) =
+    look_text (codes "<line class='") look ++ pair (codes "' x1='") (codes "' y1='") from ++ pair (codes "' x2='") (codes "' y2='") to ++ codes "'/>\n"
+shape_text (Words look at words) =
+    look_text (codes "<text class='") look ++ pair (codes "' x='") (codes "' y='") at ++ codes "'>" ++ escaped words.items ++ codes "</text>\n"
+shape_text (Rect look at extent) =
+    look_text (codes "<rect class='") look ++ pair (codes "' x='") (codes "' y='") at ++ pair (codes "' width='") (codes "' height='") extent ++ codes "' rx='6'/>\n"
+shape_text (Ring at) = pair (codes "<circle class='ring' cx='") (codes "' cy='") at ++ codes "' r='11'/>\n"
 
 abbrev pub shapes_text : List Shape → List ℕ
 shapes_text [] = []
 shapes_text (s ∷ ss) = shape_text s ++ shapes_text ss
+
+-- the beginning of the file of a picture with these styles, all of which is seen, and its shapes
+abbrev pub picture_text : List ℕ → Picture → List ℕ
+picture_text style p =
+    pair (codes "<svg xmlns='http://www.w3.org/2000/svg' width='") (codes "' height='") p.extent ++ pair (codes "' viewBox='0 0 ") (codes " ") p.extent ++ style ++ shapes_text p.shapes.items
 
 -- Arrows.
 
@@ -93,38 +81,29 @@ abbrev pub alarm_class : Bool → List ℕ
 alarm_class true = codes " fault"
 alarm_class false = []
 
-abbrev pub end_class : Arrow → List ℕ
-end_class a = fate_class a.fate ++ alarm_class a.is_fault
+-- the start of a group of an arrow, and its classes
+abbrev pub classes_text : List ℕ → Arrow → List ℕ → List ℕ
+classes_text start a fate = start ++ kind_class a.kind ++ fate ++ alarm_class a.is_fault
 
-abbrev pub arrow_class : Arrow → List ℕ
-arrow_class a = codes "<g class='frame " ++ kind_class a.kind ++ end_class a
-
-abbrev pub arrow_title : Arrow → List ℕ
-arrow_title a = codes "'><title>" ++ escaped a.words.items ++ codes "</title>"
-
-abbrev pub arrow_path : Arrow → List ℕ
-arrow_path a = codes "<path" ++ curve a.from a.via a.to ++ codes "/></g>\n"
+abbrev pub group_text : List ℕ → Arrow → List ℕ → List ℕ
+group_text start a fate = classes_text start a fate ++ title_text a.words.items
 
 -- the line of an arrow
 abbrev pub way_text : Arrow → List ℕ
-way_text a = arrow_class a ++ arrow_title a ++ arrow_path a
+way_text a =
+    group_text (codes "<g class='frame ") a (fate_class a.fate) ++ pair (codes "<path d='M") (codes " ") a.from ++ pair (codes "Q") (codes " ") a.via ++ pair (codes " ") (codes " ") a.to
+    ++ codes "'/></g>\n"
 
 abbrev pub ways_text : List Arrow → List ℕ
 ways_text [] = []
 ways_text (a ∷ more) = way_text a ++ ways_text more
 
-abbrev pub label_kind : Arrow → List ℕ
-label_kind a = kind_class a.kind ++ alarm_class a.is_fault
-
-abbrev pub label_class : Arrow → List ℕ
-label_class a = codes "<g class='label " ++ label_kind a
-
 abbrev pub label_words : Arrow → List ℕ
-label_words a = codes "<text" ++ standing a.at ++ escaped a.label.items ++ codes "</text></g>\n"
+label_words a = pair (codes "<text x='") (codes "' y='") a.at ++ codes "'>" ++ escaped a.label.items ++ codes "</text></g>\n"
 
 -- the label of an arrow
 abbrev pub label_text : Arrow → List ℕ
-label_text a = label_class a ++ arrow_title a ++ label_words a
+label_text a = group_text (codes "<g class='label ") a [] ++ label_words a
 
 abbrev pub labels_text : List Arrow → List ℕ
 labels_text [] = []

@@ -1,13 +1,12 @@
 //! Arrows.
 
 ghost use Rattle.std.specs.Prelude.{◌≡◌, ◌++◌, OnOk};
-ghost use Rattle.ep_draw.specs.Shapes.{kind_class, fate_class, alarm_class, end_class, arrow_class, arrow_title, arrow_path, way_text, ways_text, label_kind, label_class, label_words, label_text, labels_text, arrows_text};
+ghost use Rattle.ep_draw.specs.Shapes.{kind_class, fate_class, alarm_class, classes_text, group_text, way_text, ways_text, label_words, label_text, labels_text, arrows_text};
 
 use crate::arrow_kind::ArrowKind;
-use crate::attributes::{push_curve, push_standing};
-use crate::escaping::push_escaped;
+use crate::escaping::{push_escaped, push_title};
 use crate::fate::Fate;
-use crate::point::Point;
+use crate::point::{Point, push_pair};
 use std::alloc::AllocError;
 
 /// A frame, from where it was sent towards where it was handled.
@@ -64,45 +63,43 @@ fn alarm_class(is_fault: bool) -> &'static [u8]
     if is_fault { b" fault" } else { b"" }
 }
 
-// Appends the classes of its end.
-fn push_end(text: &mut Vec<u8>, arrow: &Arrow) -> Result<(), AllocError>
-    ensures { OnOk result (text.new.items ≡ text.old.items ++ end_class arrow.now) }
+// Appends the start of a group, and its classes.
+fn push_classes(
+    text: &mut Vec<u8>,
+    start: &[u8],
+    arrow: &Arrow,
+    fate: &[u8],
+) -> Result<(), AllocError>
+    ensures { OnOk result (text.new.items ≡ text.old.items ++ classes_text start.now arrow.now fate.now) }
 {
-    text.extend_from_slice(fate_class(arrow.fate))?;
+    text.extend_from_slice(start)?;
+    text.extend_from_slice(kind_class(arrow.kind))?;
+    text.extend_from_slice(fate)?;
     text.extend_from_slice(alarm_class(arrow.is_fault))
 }
 
-fn push_class(text: &mut Vec<u8>, arrow: &Arrow) -> Result<(), AllocError>
-    ensures { OnOk result (text.new.items ≡ text.old.items ++ arrow_class arrow.now) }
+// Appends the start of a group, its classes and its title.
+fn push_group(
+    text: &mut Vec<u8>,
+    start: &[u8],
+    arrow: &Arrow,
+    fate: &[u8],
+) -> Result<(), AllocError>
+    ensures { OnOk result (text.new.items ≡ text.old.items ++ group_text start.now arrow.now fate.now) }
 {
-    text.extend_from_slice(b"<g class='frame ")?;
-    text.extend_from_slice(kind_class(arrow.kind))?;
-    push_end(text, arrow)
-}
-
-fn push_title(text: &mut Vec<u8>, arrow: &Arrow) -> Result<(), AllocError>
-    ensures { OnOk result (text.new.items ≡ text.old.items ++ arrow_title arrow.now) }
-{
-    text.extend_from_slice(b"'><title>")?;
-    push_escaped(text, &arrow.words)?;
-    text.extend_from_slice(b"</title>")
-}
-
-fn push_path(text: &mut Vec<u8>, arrow: &Arrow) -> Result<(), AllocError>
-    ensures { OnOk result (text.new.items ≡ text.old.items ++ arrow_path arrow.now) }
-{
-    text.extend_from_slice(b"<path")?;
-    push_curve(text, arrow.from, arrow.via, arrow.to)?;
-    text.extend_from_slice(b"/></g>\n")
+    push_classes(text, start, arrow, fate)?;
+    push_title(text, &arrow.words)
 }
 
 // Appends its line.
 fn push_way(text: &mut Vec<u8>, arrow: &Arrow) -> Result<(), AllocError>
     ensures { OnOk result (text.new.items ≡ text.old.items ++ way_text arrow.now) }
 {
-    push_class(text, arrow)?;
-    push_title(text, arrow)?;
-    push_path(text, arrow)
+    push_group(text, b"<g class='frame ", arrow, fate_class(arrow.fate))?;
+    push_pair(text, b"<path d='M", b" ", arrow.from)?;
+    push_pair(text, b"Q", b" ", arrow.via)?;
+    push_pair(text, b" ", b" ", arrow.to)?;
+    text.extend_from_slice(b"'/></g>\n")
 }
 
 fn push_ways(text: &mut Vec<u8>, arrows: &[Arrow]) -> Result<(), AllocError>
@@ -114,36 +111,21 @@ fn push_ways(text: &mut Vec<u8>, arrows: &[Arrow]) -> Result<(), AllocError>
     Ok(())
 }
 
-// Appends the classes of its label, by which it has its colour.
-fn push_label_kind(text: &mut Vec<u8>, arrow: &Arrow) -> Result<(), AllocError>
-    ensures { OnOk result (text.new.items ≡ text.old.items ++ label_kind arrow.now) }
-{
-    text.extend_from_slice(kind_class(arrow.kind))?;
-    text.extend_from_slice(alarm_class(arrow.is_fault))
-}
-
-fn push_label_class(text: &mut Vec<u8>, arrow: &Arrow) -> Result<(), AllocError>
-    ensures { OnOk result (text.new.items ≡ text.old.items ++ label_class arrow.now) }
-{
-    text.extend_from_slice(b"<g class='label ")?;
-    push_label_kind(text, arrow)
-}
-
+// Appends the words of its label.
 fn push_label_words(text: &mut Vec<u8>, arrow: &Arrow) -> Result<(), AllocError>
     ensures { OnOk result (text.new.items ≡ text.old.items ++ label_words arrow.now) }
 {
-    text.extend_from_slice(b"<text")?;
-    push_standing(text, arrow.at)?;
+    push_pair(text, b"<text x='", b"' y='", arrow.at)?;
+    text.extend_from_slice(b"'>")?;
     push_escaped(text, &arrow.label)?;
     text.extend_from_slice(b"</text></g>\n")
 }
 
-// Appends its label.
+// Appends its label, whose classes are those of its colour.
 fn push_label(text: &mut Vec<u8>, arrow: &Arrow) -> Result<(), AllocError>
     ensures { OnOk result (text.new.items ≡ text.old.items ++ label_text arrow.now) }
 {
-    push_label_class(text, arrow)?;
-    push_title(text, arrow)?;
+    push_group(text, b"<g class='label ", arrow, b"")?;
     push_label_words(text, arrow)
 }
 

@@ -1,7 +1,7 @@
 //! Kinds of messages, as they are drawn.
 
 /// A kind of message.
-#[derive(Clone, Copy, Debug, PartialEq, Eq)]
+#[derive(Clone, Copy)]
 pub enum ArrowKind {
     PreAccept,
     PreAcceptOk,
@@ -14,17 +14,17 @@ pub enum ArrowKind {
 }
 
 impl ArrowKind {
-    /// The letters that its arrows bear.
+    /// The letters that its arrows bear, and a space.
     pub fn letters(self) -> &'static [u8] {
         match self {
-            ArrowKind::PreAccept => b"PA",
-            ArrowKind::PreAcceptOk => b"PAok",
-            ArrowKind::Accept => b"A",
-            ArrowKind::AcceptOk => b"Aok",
-            ArrowKind::Commit => b"C",
-            ArrowKind::Prepare => b"P",
-            ArrowKind::PrepareOk => b"Pok",
-            ArrowKind::Nack => b"N",
+            ArrowKind::PreAccept => b"PA ",
+            ArrowKind::PreAcceptOk => b"PAok ",
+            ArrowKind::Accept => b"A ",
+            ArrowKind::AcceptOk => b"Aok ",
+            ArrowKind::Commit => b"C ",
+            ArrowKind::Prepare => b"P ",
+            ArrowKind::PrepareOk => b"Pok ",
+            ArrowKind::Nack => b"N ",
         }
     }
 }

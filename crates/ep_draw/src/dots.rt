@@ -3,11 +3,10 @@
 ghost use Rattle.std.specs.Prelude.{◌≡◌, ◌≤◌, ◌<◌, ◌^◌, ◌++◌, OnOk, length};
 ghost use Rattle.ep_journal.specs.Entries.{entries_at};
 ghost use Rattle.ep_audit.specs.Lookups.{entry_at};
-ghost use Rattle.ep_draw.specs.Drawn.{class_of, classed, spot, titled, circle_text, dot_text, dots_from};
+ghost use Rattle.ep_draw.specs.Drawn.{class_of, classed, titled, circle_text, dot_text, dots_from};
 
-use crate::attributes::push_attribute;
-use crate::escaping::push_escaped;
-use crate::point::Point;
+use crate::escaping::push_title;
+use crate::point::{Point, push_pair};
 use crate::scene::Scene;
 use crate::words::told;
 use ep_base::ReplicaId;
@@ -32,15 +31,7 @@ fn push_class(text: &mut Vec<u8>, event: &Event) -> Result<(), AllocError>
     ensures { OnOk result (text.new.items ≡ text.old.items ++ classed event.now) }
 {
     text.extend_from_slice(b"<circle class='dot ")?;
-    text.extend_from_slice(class_of(event))?;
-    Ok(())
-}
-
-fn push_spot(text: &mut Vec<u8>, at: Point) -> Result<(), AllocError>
-    ensures { OnOk result (text.new.items ≡ text.old.items ++ spot at.x at.y) }
-{
-    push_attribute(text, b"' cx='", at.x)?;
-    push_attribute(text, b" cy='", at.y)
+    text.extend_from_slice(class_of(event))
 }
 
 // Appends the entry in words, and ends its dot.
@@ -48,9 +39,9 @@ fn push_titled(text: &mut Vec<u8>, replica: ReplicaId, entry: &Entry) -> Result<
     ensures { OnOk result (text.new.items ≡ text.old.items ++ titled replica entry.now) }
 {
     let words = told(*text.allocator(), replica, entry)?;
-    text.extend_from_slice(b" r='6'><title>")?;
-    push_escaped(text, &words)?;
-    text.extend_from_slice(b"</title></circle>\n")
+    text.extend_from_slice(b"' r='6")?;
+    push_title(text, &words)?;
+    text.extend_from_slice(b"</circle>\n")
 }
 
 // Appends the dot of an entry, here.
@@ -63,7 +54,7 @@ fn push_dot(
     ensures { OnOk result (text.new.items ≡ text.old.items ++ circle_text at.x at.y replica entry.now) }
 {
     push_class(text, &entry.event)?;
-    push_spot(text, at)?;
+    push_pair(text, b"' cx='", b"' cy='", at)?;
     push_titled(text, replica, entry)
 }
 
@@ -81,7 +72,7 @@ fn push_row(
     match scene.entry((*replica, *number)) {
         None => Ok(()),
         Some(entry) => {
-            let at = scene.layout().dot(*replica, place);
+            let at = scene.dot(*replica, place);
             push_dot(text, at, *replica, entry)
         }
     }

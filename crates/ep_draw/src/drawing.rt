@@ -3,21 +3,20 @@
 ghost use Rattle.std.specs.Prelude.{◌≡◌, ◌≤◌, ◌<◌, ◌++◌, IfOk, IfErr, OnOk, length};
 ghost use Rattle.ep_journal.specs.Entries.{AreJournals, entries_at};
 ghost use Rattle.ep_audit.specs.Lookups.{entry_at};
-ghost use Rattle.ep_draw.specs.Drawn.{keeps_some, kept, measured, viewed, front, opening, body, file_text, IsFile, AreKept, IsDrawn, IsRefused};
+ghost use Rattle.ep_draw.specs.Drawn.{keeps_some, kept, file_text, IsFile, AreKept, IsDrawn, IsRefused};
 
-use crate::arrow::push_arrows;
-use crate::attributes::push_attribute;
+use crate::arrow::{Arrow, push_arrows};
 use crate::dots::push_dots;
 use crate::draw_fault::DrawFault;
-use crate::picture::Picture;
+use crate::frames::arrows_of;
+use crate::labels::picture_of;
+use crate::picture::{Picture, push_picture};
 use crate::ranges::ranges;
 use crate::scene::Scene;
-use crate::shape::push_shapes;
-use crate::style::{KEY, STYLE};
+use crate::style::front;
 use ep_audit::{AuditFault, entry_at, first_fault};
 use ep_base::ReplicaId;
 use ep_journal::Journals;
-use ep_report::push_number;
 use ep_view::{Handled, Selection, schedule};
 use std::alloc::{AllocError, Global};
 
@@ -65,60 +64,46 @@ fn place_of(fault: &Option<AuditFault>) -> Option<(ReplicaId, u32)> {
     }
 }
 
-// Appends how wide and how high the picture is.
-fn push_measured(text: &mut Vec<u8>, width: u64, height: u64) -> Result<(), AllocError>
-    ensures { OnOk result (text.new.items ≡ text.old.items ++ measured width height) }
-{
-    push_attribute(
-        text,
-        b"<svg xmlns='http://www.w3.org/2000/svg' width='",
-        width,
-    )?;
-    push_attribute(text, b" height='", height)
-}
-
-// Appends that all of the picture is seen.
-fn push_viewed(text: &mut Vec<u8>, width: u64, height: u64) -> Result<(), AllocError>
-    ensures { OnOk result (text.new.items ≡ text.old.items ++ viewed width height) }
-{
-    text.extend_from_slice(b" viewBox='0 0 ")?;
-    push_number(text, width)?;
-    push_attribute(text, b" ", height)
-}
-
-// Appends the title, the styles and the key.
-#[tactic(auto, unfolding(crate::specs::Drawn::front))]
-fn push_front(text: &mut Vec<u8>) -> Result<(), AllocError>
-    ensures { OnOk result (text.new.items ≡ text.old.items ++ front) }
-{
-    text.extend_from_slice(STYLE)?;
-    text.extend_from_slice(KEY)
-}
-
-fn push_opening(text: &mut Vec<u8>, picture: &Picture) -> Result<(), AllocError>
-    ensures { OnOk result (text.new.items ≡ text.old.items ++ opening picture.now) }
-{
-    push_measured(text, picture.width, picture.height)?;
-    push_viewed(text, picture.width, picture.height)?;
-    push_front(text)
-}
-
-fn push_body(text: &mut Vec<u8>, picture: &Picture) -> Result<(), AllocError>
-    ensures { OnOk result (text.new.items ≡ text.old.items ++ body picture.now) }
-{
-    push_shapes(text, &picture.shapes)?;
-    push_arrows(text, &picture.arrows)
-}
-
 // Appends the file.
-fn push_file(text: &mut Vec<u8>, scene: &Scene<'_>, picture: &Picture) -> Result<(), AllocError>
+fn push_file(
+    text: &mut Vec<u8>,
+    scene: &Scene<'_>,
+    picture: &Picture,
+    arrows: &[Arrow],
+) -> Result<(), AllocError>
     requires { length scene.now.rows.now ≤ 2000 }
-    ensures { OnOk result (text.new.items ≡ text.old.items ++ file_text scene.now.journals.now scene.now.rows.now picture.now) }
+    ensures { OnOk result (text.new.items ≡ text.old.items ++ file_text scene.now.journals.now scene.now.rows.now picture.now arrows.now) }
 {
-    push_opening(text, picture)?;
-    push_body(text, picture)?;
+    push_picture(text, front(), picture)?;
+    push_arrows(text, arrows)?;
     push_dots(text, scene)?;
     text.extend_from_slice(b"</svg>\n")
+}
+
+// The file of a picture and its arrows.
+fn file_of(
+    alloc: Global,
+    scene: &Scene<'_>,
+    picture: &Picture,
+    arrows: &[Arrow],
+) -> Result<Vec<u8>, AllocError>
+    requires { length scene.now.rows.now ≤ 2000 }
+    ensures { IfOk result (λ text. IsFile scene.now.journals.now scene.now.rows.now text.items) }
+{
+    let mut text = Vec::new(alloc);
+    push_file(&mut text, scene, picture, arrows)?;
+    Ok(text)
+}
+
+// Draws arrows over a picture.
+fn drawn_over(alloc: Global, scene: &Scene<'_>, picture: &Picture) -> Result<Vec<u8>, AllocError>
+    requires { length scene.now.rows.now ≤ 2000 }
+    ensures { IfOk result (λ text. IsFile scene.now.journals.now scene.now.rows.now text.items) }
+{
+    let arrows = arrows_of(alloc, scene)?;
+    let text = file_of(alloc, scene, picture, &arrows);
+    drop(arrows);
+    text
 }
 
 // Draws a scene.
@@ -130,10 +115,10 @@ fn drawn(
     requires { length scene.now.rows.now ≤ 2000 }
     ensures { IfOk result (λ text. IsFile scene.now.journals.now scene.now.rows.now text.items) }
 {
-    let picture = Picture::of(alloc, scene, fault)?;
-    let mut text = Vec::new(alloc);
-    push_file(&mut text, scene, &picture)?;
-    Ok(text)
+    let picture = picture_of(alloc, scene, fault)?;
+    let text = drawn_over(alloc, scene, &picture);
+    drop(picture);
+    text
 }
 
 // Draws the entries at these places, in rows.
@@ -153,7 +138,9 @@ fn draw_rows<'a>(
         handled: &handled,
         fault: place_of(&fault),
     };
-    drawn(alloc, &scene, &fault)
+    let text = drawn(alloc, &scene, &fault);
+    drop(handled);
+    text
 }
 
 // The entries that the part keeps, by stamp and then by replica.

@@ -1,7 +1,7 @@
 //! Text of journals in SVG files.
 
 ghost use Rattle.std.specs.Prelude.{◌≡◌, ◌++◌, OnOk};
-ghost use Rattle.ep_draw.specs.Escaping.{printed_byte, escaped_byte, escaped, IsReadBack};
+ghost use Rattle.ep_draw.specs.Escaping.{printed_byte, reference_or, escaped_byte, escaped, title_text, IsReadBack};
 
 use std::alloc::AllocError;
 
@@ -16,21 +16,27 @@ fn printed(byte: u8) -> u8
     }
 }
 
+// What is written for a byte of markup, a character reference, and for any other byte what is given for it.
+#[tactic(auto, unfolding(crate::specs::Escaping::reference_or))]
+fn reference_or(byte: u8, plain: &[u8]) -> &[u8]
+    ensures { result.now ≡ reference_or byte plain.now }
+{
+    match byte {
+        b'&' => b"&amp;",
+        b'<' => b"&lt;",
+        b'>' => b"&gt;",
+        b'"' => b"&quot;",
+        b'\'' => b"&#39;",
+        _ => plain,
+    }
+}
+
 // Appends a byte, as it is printed: markup's own bytes as character references.
 fn push_escaped_byte(text: &mut Vec<u8>, byte: u8) -> Result<(), AllocError>
     ensures { OnOk result (text.new.items ≡ text.old.items ++ escaped_byte byte) }
 {
-    match byte {
-        b'&' => text.extend_from_slice(b"&amp;"),
-        b'<' => text.extend_from_slice(b"&lt;"),
-        b'>' => text.extend_from_slice(b"&gt;"),
-        b'"' => text.extend_from_slice(b"&quot;"),
-        b'\'' => text.extend_from_slice(b"&#39;"),
-        _ => {
-            text.push(printed(byte))?;
-            Ok(())
-        }
-    }
+    let plain = [printed(byte)];
+    text.extend_from_slice(reference_or(byte, &plain))
 }
 
 // What is written for words is read as the words.
@@ -53,4 +59,13 @@ pub fn push_escaped(text: &mut Vec<u8>, words: &[u8]) -> Result<(), AllocError>
         push_escaped_byte(text, *byte)?;
     }
     Ok(())
+}
+
+/// Appends the title of what a tag begins that is still open, and before it that tag's end.
+pub(crate) fn push_title(text: &mut Vec<u8>, words: &[u8]) -> Result<(), AllocError>
+    ensures { OnOk result (text.new.items ≡ text.old.items ++ title_text words.now) }
+{
+    text.extend_from_slice(b"'><title>")?;
+    push_escaped(text, words)?;
+    text.extend_from_slice(b"</title>")
 }

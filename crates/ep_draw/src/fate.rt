@@ -1,7 +1,7 @@
 //! What becomes of frames.
 
 /// What became of a frame.
-#[derive(Clone, Copy, Debug, PartialEq, Eq)]
+#[derive(Clone, Copy)]
 pub enum Fate {
     /// An entry that is drawn handled it.
     Handled,

@@ -1,7 +1,7 @@
 //! The ways of frames, from a sender's place towards a receiver's.
 
 use crate::fate::Fate;
-use crate::point::Point;
+use crate::point::{Point, towards};
 use crate::scene::Scene;
 
 /// How near to a dot a line may come that neither begins nor ends there.
@@ -21,59 +21,40 @@ fn is_between(number: u64, one: u64, other: u64) -> bool {
     one.min(other) < number && number < one.max(other)
 }
 
-/// A point so much nearer to this number.
-fn towards(number: u64, goal: u64, by: u64) -> u64 {
-    if goal < number {
-        number.saturating_sub(by)
-    } else {
-        number.saturating_add(by)
-    }
-}
-
 impl FramePath {
-    /// How wide it is.
-    fn width(self) -> u64 {
-        self.from.x.abs_diff(self.to.x)
-    }
-
-    /// How high it is.
-    fn height(self) -> u64 {
-        self.from.y.abs_diff(self.to.y)
+    /// How wide and how high it is.
+    fn extent(self) -> Point {
+        Point {
+            x: self.from.x.abs_diff(self.to.x),
+            y: self.from.y.abs_diff(self.to.y),
+        }
     }
 
     /// Whether its straight line would run through this dot.
     fn meets(self, dot: Point) -> bool {
-        let across = self.width().saturating_mul(self.from.y.abs_diff(dot.y));
-        let along = self.height().saturating_mul(self.from.x.abs_diff(dot.x));
-        let most = self.width().max(self.height()).saturating_mul(NEAR);
+        let extent = self.extent();
+        let across = extent.x.saturating_mul(self.from.y.abs_diff(dot.y));
+        let along = extent.y.saturating_mul(self.from.x.abs_diff(dot.x));
         is_between(dot.x, self.from.x, self.to.x)
             && is_between(dot.y, self.from.y, self.to.y)
-            && across.abs_diff(along) < most
+            && across.abs_diff(along) < extent.x.max(extent.y).saturating_mul(NEAR)
     }
 
     /// Whether its straight line would run through the dot of some entry.
     fn meets_some(self, scene: &Scene<'_>) -> bool {
         for (row, (replica, _)) in scene.rows.iter().enumerate() {
-            if self.meets(scene.layout().dot(*replica, row)) {
+            if self.meets(scene.dot(*replica, row)) {
                 return true;
             }
         }
         false
     }
 
-    /// The point halfway.
-    fn middle(self) -> Point {
-        Point {
-            x: self.from.x.saturating_add(self.to.x) / 2,
-            y: self.from.y.saturating_add(self.to.y) / 2,
-        }
-    }
-
     /// A point beside its middle: above it, or where it is steep in front of it.
-    fn aside(self) -> Point {
-        let middle = self.middle();
-        let by = (self.width() / 20).saturating_add(16);
-        if self.height() < self.width() {
+    fn aside(self, middle: Point) -> Point {
+        let extent = self.extent();
+        let by = (extent.x / 20).saturating_add(16);
+        if extent.y < extent.x {
             Point {
                 x: middle.x,
                 y: middle.y.saturating_sub(by),
@@ -89,10 +70,30 @@ impl FramePath {
     /// What its line bends towards: its middle, or where it would run through the dot of another entry a point beside that, so that it
     /// passes the dot.
     pub fn via(self, scene: &Scene<'_>) -> Point {
+        let middle = Point {
+            x: self.from.x.saturating_add(self.to.x) / 2,
+            y: self.from.y.saturating_add(self.to.y) / 2,
+        };
         if self.meets_some(scene) {
-            self.aside()
+            self.aside(middle)
         } else {
-            self.middle()
+            middle
         }
+    }
+
+    /// Where a label of so many bytes stands: on the line, near its end; where the line is steep, no more than 8 above or below that.
+    pub fn label_at(self, length: usize) -> Point {
+        let extent = self.extent();
+        let by = ((length as u64).saturating_mul(10) / 3).saturating_add(28);
+        let end = if extent.x == 0 {
+            self.to
+        } else {
+            let rise = (extent.y.saturating_mul(by) / extent.x).min(8);
+            Point {
+                x: towards(self.to.x, self.from.x, by),
+                y: towards(self.to.y, self.from.y, rise),
+            }
+        };
+        end.plus(0, 4)
     }
 }

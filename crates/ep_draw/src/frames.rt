@@ -4,11 +4,11 @@ use crate::arrow::Arrow;
 use crate::arrow_kind::ArrowKind;
 use crate::fate::Fate;
 use crate::frame_path::FramePath;
-use crate::point::Point;
-use crate::scene::{Scene, handles};
+use crate::point::{Point, towards};
+use crate::scene::{Scene, handled};
 use ep_base::ReplicaId;
 use ep_frame::Frame;
-use ep_journal::{Entry, Event};
+use ep_journal::Entry;
 use ep_report::{push_instance, push_number};
 use ep_view::{push_message, push_origin};
 use std::alloc::{AllocError, Global};
@@ -56,96 +56,87 @@ fn kind_of(frame: &Frame) -> ArrowKind {
 }
 
 // The letters of its kind, and its instance.
-fn label_of(alloc: Global, frame: &Frame) -> Result<Vec<u8>, AllocError> {
-    let mut label = Vec::from_slice(alloc, kind_of(frame).letters())?;
-    label.push(b' ')?;
+fn label_of(alloc: Global, frame: &Frame, kind: ArrowKind) -> Result<Vec<u8>, AllocError> {
+    let mut label = Vec::from_slice(alloc, kind.letters())?;
     push_instance(&mut label, frame.instance())?;
     Ok(label)
 }
 
-// Where the label stands: on the line, near its end.
-fn label_at(way: FramePath, label: &[u8]) -> Point {
-    let half = (label.len() as u64).saturating_mul(10) / 3;
-    let middle = way.to.back_to(way.from, half.saturating_add(28));
-    Point {
-        x: middle.x,
-        y: middle.y.saturating_add(4),
-    }
-}
-
-fn arrow_of(
-    alloc: Global,
-    scene: &Scene<'_>,
-    frame: &Frame,
-    way: FramePath,
-) -> Result<Arrow, AllocError> {
-    let label = label_of(alloc, frame)?;
-    let words = words_of(alloc, frame, way.fate)?;
-    Ok(Arrow {
-        kind: kind_of(frame),
-        fate: way.fate,
-        is_fault: way.is_fault,
-        from: way.from,
-        to: way.to,
-        via: way.via(scene),
-        at: label_at(way, &label),
-        label,
-        words,
-    })
-}
-
+// Draws a frame on this way.
 fn add_way(
     arrows: &mut Vec<Arrow>,
     scene: &Scene<'_>,
     frame: &Frame,
     way: FramePath,
 ) -> Result<(), AllocError> {
-    let arrow = arrow_of(*arrows.allocator(), scene, frame, way)?;
-    arrows.push(arrow)?;
+    let kind = kind_of(frame);
+    let label = label_of(*arrows.allocator(), frame, kind)?;
+    let words = words_of(*arrows.allocator(), frame, way.fate)?;
+    arrows.push(Arrow {
+        kind,
+        fate: way.fate,
+        is_fault: way.is_fault,
+        from: way.from,
+        to: way.to,
+        via: way.via(scene),
+        at: way.label_at(label.len()),
+        label,
+        words,
+    })?;
     Ok(())
 }
 
-// The way to the entry in this row, if it handles the frame.
-fn way_to(scene: &Scene<'_>, row: usize, frame: &Frame) -> Option<FramePath> {
+// Whether the entry handles this frame.
+fn handles(entry: &Entry, frame: &Frame) -> bool {
+    match handled(entry) {
+        Some(handled) => handled.as_slice() == frame.as_slice(),
+        None => false,
+    }
+}
+
+// The way from here to the entry in this row, if it handles the frame.
+fn way_to(scene: &Scene<'_>, row: usize, frame: &Frame, from: Point) -> Option<FramePath> {
     let place = scene.rows.get(row)?;
-    let entry = scene.entry(*place)?;
-    if !handles(entry, frame) {
+    if !handles(scene.entry(*place)?, frame) {
         return None;
     }
-    let (replica, _) = place;
     Some(FramePath {
-        from: scene.sender(frame)?,
-        to: scene.layout().dot(*replica, row),
+        from,
+        to: scene.dot(place.0, row),
         fate: Fate::Handled,
         is_fault: scene.is_fault(*place),
     })
 }
 
-// The way of a frame that no entry of the picture handles.
-fn way_out(scene: &Scene<'_>, frame: &Frame) -> Option<FramePath> {
-    let from = scene.sender(frame)?;
+// The way from here of a frame that no entry of the picture handles.
+fn way_out(scene: &Scene<'_>, frame: &Frame, from: Point) -> FramePath {
     let fate = if scene.handled.has(frame) {
         Fate::Leaves
     } else {
         Fate::Lost
     };
-    let receiver = Point {
-        x: scene.layout().column(frame.origin().to),
+    let to = Point {
+        x: towards(scene.column(frame.origin().to), from.x, BESIDE),
         y: from.y.saturating_add(fall_of(frame)),
     };
-    Some(FramePath {
+    FramePath {
         from,
-        to: receiver.short_of(from, BESIDE, 0),
+        to,
         fate,
         is_fault: false,
-    })
+    }
 }
 
-// Draws a frame that an entry of the picture sent.
-fn add_sent(arrows: &mut Vec<Arrow>, scene: &Scene<'_>, frame: &Frame) -> Result<(), AllocError> {
+// Draws a frame that an entry of the picture sent from here.
+fn add_sent(
+    arrows: &mut Vec<Arrow>,
+    scene: &Scene<'_>,
+    frame: &Frame,
+    from: Point,
+) -> Result<(), AllocError> {
     let mut met = false;
     for row in 0..scene.rows.len() {
-        if let Some(way) = way_to(scene, row, frame) {
+        if let Some(way) = way_to(scene, row, frame, from) {
             add_way(arrows, scene, frame, way)?;
             met = true;
         }
@@ -153,77 +144,85 @@ fn add_sent(arrows: &mut Vec<Arrow>, scene: &Scene<'_>, frame: &Frame) -> Result
     if met {
         return Ok(());
     }
-    match way_out(scene, frame) {
-        Some(way) => add_way(arrows, scene, frame, way),
-        None => Ok(()),
-    }
+    add_way(arrows, scene, frame, way_out(scene, frame, from))
 }
 
-// Whether this very frame was sent by an entry of the picture, which then draws it.
-fn is_drawn(scene: &Scene<'_>, frame: &Frame) -> bool {
-    match scene.sent(frame) {
-        Some(sent) => sent.as_slice() == frame.as_slice() && scene.sender(frame).is_some(),
-        None => false,
-    }
-}
-
-// The way of a frame that is handled in this row, and that no entry of the picture sent.
-fn way_in(scene: &Scene<'_>, row: usize, place: &(ReplicaId, u32), frame: &Frame) -> FramePath {
-    let (replica, _) = place;
-    let to = scene.layout().dot(*replica, row);
-    let line = Point {
-        x: scene.layout().column(frame.from()),
-        y: to.y,
-    };
+// The way to here of a frame that no entry of the picture sent, though one may stand where it says.
+fn way_in(scene: &Scene<'_>, frame: &Frame, to: Point, is_fault: bool) -> FramePath {
     let (from, fate) = match scene.sender(frame) {
         Some(sender) => (sender, Fate::Changed),
-        None => (line.short_of(to, BESIDE, fall_of(frame)), Fate::Enters),
+        None => {
+            let from = Point {
+                x: towards(scene.column(frame.from()), to.x, BESIDE),
+                y: to.y.saturating_sub(fall_of(frame)),
+            };
+            (from, Fate::Enters)
+        }
     };
     FramePath {
         from,
         to,
         fate,
-        is_fault: scene.is_fault(*place),
+        is_fault,
     }
 }
 
-// Draws a handled frame that no entry of the picture sent.
+// Draws a frame that the entry at this place, in this row, handles, unless an entry of the picture sent it, which then draws it.
 fn add_met(
     arrows: &mut Vec<Arrow>,
     scene: &Scene<'_>,
     row: usize,
+    place: (ReplicaId, u32),
     frame: &Frame,
 ) -> Result<(), AllocError> {
-    if is_drawn(scene, frame) {
+    if scene.has_sent(frame) && scene.sender(frame).is_some() {
         return Ok(());
     }
-    match scene.rows.get(row) {
-        Some(place) => add_way(arrows, scene, frame, way_in(scene, row, place, frame)),
-        None => Ok(()),
-    }
+    let to = scene.dot(place.0, row);
+    add_way(
+        arrows,
+        scene,
+        frame,
+        way_in(scene, frame, to, scene.is_fault(place)),
+    )
 }
 
+// Draws what an entry sent, and what it handled of others.
 fn add_frames(
     arrows: &mut Vec<Arrow>,
     scene: &Scene<'_>,
     row: usize,
+    place: (ReplicaId, u32),
     entry: &Entry,
 ) -> Result<(), AllocError> {
+    let from = scene.dot(place.0, row);
     for frame in entry.frames.as_slice() {
-        add_sent(arrows, scene, frame)?;
+        add_sent(arrows, scene, frame, from)?;
     }
-    match &entry.event {
-        Event::Handle(frame) => add_met(arrows, scene, row, frame),
-        Event::Propose { .. } | Event::GiveUp(_) | Event::Recover(_) | Event::Execute(_) => Ok(()),
+    match handled(entry) {
+        Some(frame) => add_met(arrows, scene, row, place, frame),
+        None => Ok(()),
     }
 }
 
-/// The frames of all entries: what they sent, and what they handled of others.
-pub(crate) fn add_arrows(arrows: &mut Vec<Arrow>, scene: &Scene<'_>) -> Result<(), AllocError> {
+// Draws what all entries sent, and what they handled of others.
+fn add_arrows(arrows: &mut Vec<Arrow>, scene: &Scene<'_>) -> Result<(), AllocError> {
     for (row, place) in scene.rows.iter().enumerate() {
         if let Some(entry) = scene.entry(*place) {
-            add_frames(arrows, scene, row, entry)?;
+            add_frames(arrows, scene, row, *place, entry)?;
         }
     }
     Ok(())
+}
+
+/// The frames of all entries: what they sent, and what they handled of others.
+pub(crate) fn arrows_of(alloc: Global, scene: &Scene<'_>) -> Result<Vec<Arrow>, AllocError> {
+    let mut arrows = Vec::new(alloc);
+    match add_arrows(&mut arrows, scene) {
+        Ok(()) => Ok(arrows),
+        Err(fault) => {
+            drop(arrows);
+            Err(fault)
+        }
+    }
 }

@@ -3,7 +3,7 @@
 ghost use Rattle.std.specs.Prelude.{◌≡◌};
 ghost use Rattle.ep_draw.specs.declared.graph_fault.GraphFault.TheVariants.{Memory};
 
-use std::alloc::{AllocError, AllocFailed};
+use std::alloc::AllocError;
 use thiserror::Error;
 
 /// Why a graph isn't drawn.
@@ -21,14 +21,6 @@ impl From<AllocError> for GraphFault {
     ghost from_gives = { λ _ e. e ≡ Memory };
 
     fn from(_fault: AllocError) -> GraphFault {
-        GraphFault::Memory
-    }
-}
-
-impl<T: Drop> From<AllocFailed<T>> for GraphFault {
-    ghost from_gives = { λ _ e. e ≡ Memory };
-
-    fn from(_fault: AllocFailed<T>) -> GraphFault {
         GraphFault::Memory
     }
 }

@@ -1,19 +1,20 @@
 //! Dependency graphs.
 
-ghost use Rattle.std.specs.Prelude.{◌≡◌, ◌++◌, IfOk, IfErr, OnOk};
-ghost use Rattle.ep_draw.specs.Shapes.{shapes_text};
-ghost use Rattle.ep_draw.specs.Graphs.{measured, viewed, front, opening, IsGraphFile, IsMore};
+ghost use Rattle.std.specs.Prelude.{◌≡◌, ◌++◌, IfOk, IfErr, OnOk, codes};
+ghost use Rattle.ep_draw.specs.Shapes.{picture_text};
+ghost use Rattle.ep_draw.specs.Graphs.{front, IsGraphFile, IsMore};
 
-use crate::attributes::push_attribute;
+use crate::band::EDGE;
+use crate::box_place::{BoxPlace, GAP, LANE, LINE};
 use crate::graph_fault::GraphFault;
-use crate::graph_plan::{GraphPlan, closed_in, sealed_in};
-use crate::graph_style::STYLE;
-use crate::layers::Layers;
+use crate::graph_plan::GraphPlan;
+use crate::graph_style::front;
 use crate::look::Look;
+use crate::picture::{Picture, push_picture};
 use crate::point::Point;
 use crate::reach::Reach;
-use crate::rects::{BoxPlace, EDGE, FIRST, GAP, LANE, LINE, place_boxes};
-use crate::shape::{Shape, push_shapes};
+use crate::rects::place_boxes;
+use crate::shape::{Shape, add, add_words};
 use ep_audit::Verdict;
 use ep_journal::Journals;
 use ep_report::push_number;
@@ -23,32 +24,15 @@ use std::alloc::{AllocError, Global};
 const MOST: usize = 2000;
 /// How wide a graph is at least.
 const WIDTH: u64 = 860;
+/// How far below a box's upper edge its first line stands.
+const FIRST: u64 = 13;
+/// How far the mark of a seal stands within its box.
+const INSET: u64 = 2;
+/// How high the key's line is.
+const KEY: u64 = 22;
 
-/// What is drawn.
-#[derive(Drop)]
-pub struct Picture {
-    width: u64,
-    height: u64,
-    shapes: Vec<Shape>,
-}
-
-fn add_words(
-    shapes: &mut Vec<Shape>,
-    look: Look,
-    at: Point,
-    words: Vec<u8>,
-) -> Result<(), AllocError> {
-    shapes.push(Shape::Words { look, at, words })?;
-    Ok(())
-}
-
-fn add_plain(shapes: &mut Vec<Shape>, y: u64, words: &[u8]) -> Result<(), AllocError> {
-    let words = Vec::from_slice(*shapes.allocator(), words)?;
-    add_words(shapes, Look::Plain, Point { x: EDGE, y }, words)
-}
-
-fn title_of(alloc: Global, count: usize) -> Result<Vec<u8>, AllocError> {
-    let mut words = Vec::new(alloc);
+fn add_title(shapes: &mut Vec<Shape>, count: usize) -> Result<(), AllocError> {
+    let mut words = Vec::new(*shapes.allocator());
     push_number(&mut words, count as u64)?;
     let instances = if count == 1 {
         b" committed instance".as_slice()
@@ -56,13 +40,16 @@ fn title_of(alloc: Global, count: usize) -> Result<Vec<u8>, AllocError> {
         b" committed instances".as_slice()
     };
     words.extend_from_slice(instances)?;
-    Ok(words)
+    add_words(shapes, Look::Title, Point { x: EDGE, y: 26 }, &words)
+}
+
+fn add_plain(shapes: &mut Vec<Shape>, y: u64, words: &[u8]) -> Result<(), AllocError> {
+    add_words(shapes, Look::Plain, Point { x: EDGE, y }, words)
 }
 
 // Says what the picture is.
 fn add_heading(shapes: &mut Vec<Shape>, count: usize) -> Result<(), AllocError> {
-    let title = title_of(*shapes.allocator(), count)?;
-    add_words(shapes, Look::Title, Point { x: EDGE, y: 26 }, title)?;
+    add_title(shapes, count)?;
     add_plain(
         shapes,
         45,
@@ -90,23 +77,24 @@ fn place_of(places: &[BoxPlace], node: usize) -> Option<BoxPlace> {
     None
 }
 
-// Draws a piece of an arrow, with its head or without.
-fn add_piece(
-    shapes: &mut Vec<Shape>,
-    look: Look,
-    from: Point,
-    to: Point,
-) -> Result<(), AllocError> {
-    shapes.push(Shape::Line { look, from, to })?;
+// Draws lines from one of these points to the next one.
+fn add_path(shapes: &mut Vec<Shape>, points: &[Point]) -> Result<(), AllocError> {
+    let [first, rest @ ..] = points else {
+        return Ok(());
+    };
+    let mut from = *first;
+    for to in rest {
+        let (look, to) = (Look::Life, *to);
+        add(shapes, Shape::Line { look, from, to })?;
+        from = to;
+    }
     Ok(())
 }
 
-/// The point in this box's middle on its row's upper edge.
-fn above(place: BoxPlace) -> Point {
-    Point {
-        x: place.top().x,
-        y: place.row,
-    }
+// Draws the head of an arrow, from here to the lower edge of a box.
+fn add_head(shapes: &mut Vec<Shape>, from: Point, place: BoxPlace) -> Result<(), AllocError> {
+    let (look, to) = (Look::Needs, place.bottom());
+    add(shapes, Shape::Line { look, from, to })
 }
 
 // Draws an arrow that passes rows of boxes, from here: up to the gap above, over to this lane, beside the boxes up to the gap below the other box,
@@ -117,49 +105,20 @@ fn add_way(
     to: BoxPlace,
     lane: u64,
 ) -> Result<(), AllocError> {
-    let end = to.bottom();
-    let out = Point {
-        x: from.x,
-        y: from.y.saturating_sub(GAP / 2),
-    };
-    let low = Point { x: lane, y: out.y };
-    let high = Point {
-        x: lane,
-        y: end.y.saturating_add(GAP / 2),
-    };
-    let below = Point {
-        x: end.x,
-        y: high.y,
-    };
-    add_piece(shapes, Look::Life, from, out)?;
-    add_piece(shapes, Look::Life, out, low)?;
-    add_piece(shapes, Look::Life, low, high)?;
-    add_piece(shapes, Look::Life, high, below)?;
-    add_piece(shapes, Look::Needs, below, end)
-}
-
-// Draws an arrow from a box to another one above it, where it passes rows in this one of the lanes. It runs between rows and beside boxes, and so
-// through none.
-fn add_arrow(
-    shapes: &mut Vec<Shape>,
-    from: BoxPlace,
-    to: BoxPlace,
-    place: u64,
-) -> Result<(), AllocError> {
-    let start = above(from);
-    if from.top().y != start.y {
-        add_piece(shapes, Look::Life, from.top(), start)?;
-    }
-    if !passes(from, to) {
-        return add_piece(shapes, Look::Needs, start, to.bottom());
-    }
-    let lane = from.lane.saturating_add(LANE.saturating_mul(place));
-    add_way(shapes, start, to, lane)
-}
-
-/// Whether an arrow between them passes a row of boxes.
-fn passes(from: BoxPlace, to: BoxPlace) -> bool {
-    from.layer > to.layer.saturating_add(1)
+    let low = from.y.saturating_sub(GAP / 2);
+    let below = to.bottom().plus(0, GAP / 2);
+    let points = [
+        from,
+        Point { x: from.x, y: low },
+        Point { x: lane, y: low },
+        Point {
+            x: lane,
+            y: below.y,
+        },
+        below,
+    ];
+    add_path(shapes, &points)?;
+    add_head(shapes, below, to)
 }
 
 /// The lane of the next arrow that passes a row of this box's part: one after the other, and then again from the first one.
@@ -169,7 +128,30 @@ fn next_lane(taken: &mut [u64], from: BoxPlace) -> u64 {
     };
     let lane = *next % from.lanes.max(1);
     *next = lane.saturating_add(1);
-    lane
+    from.lane.saturating_add(LANE.saturating_mul(lane))
+}
+
+// Draws an arrow from a box to another one above it. It runs between rows and beside boxes, and so through none.
+fn add_arrow(
+    shapes: &mut Vec<Shape>,
+    plan: &GraphPlan<'_>,
+    taken: &mut [u64],
+    from: BoxPlace,
+    to: BoxPlace,
+) -> Result<(), AllocError> {
+    let top = from.top();
+    let start = Point {
+        x: top.x,
+        y: from.row,
+    };
+    if top.y != start.y {
+        add_path(shapes, &[top, start])?;
+    }
+    if plan.layers.passes(from.first, to.first) {
+        add_way(shapes, start, to, next_lane(taken, from))
+    } else {
+        add_head(shapes, start, to)
+    }
 }
 
 // Draws the arrow between the components of these first nodes, if it is one that is drawn.
@@ -178,21 +160,15 @@ fn add_edge(
     plan: &GraphPlan<'_>,
     places: &[BoxPlace],
     taken: &mut [u64],
-    edge: &(usize, usize),
+    (from, to): (usize, usize),
 ) -> Result<(), AllocError> {
-    let (from, to) = edge;
-    if !plan.is_drawn(*from, *to) {
+    if !plan.is_drawn(from, to) {
         return Ok(());
     }
-    let (Some(from), Some(to)) = (place_of(places, *from), place_of(places, *to)) else {
-        return Ok(());
-    };
-    let lane = if passes(from, to) {
-        next_lane(taken, from)
-    } else {
-        0
-    };
-    add_arrow(shapes, from, to, lane)
+    match (place_of(places, from), place_of(places, to)) {
+        (Some(from), Some(to)) => add_arrow(shapes, plan, taken, from, to),
+        _ => Ok(()),
+    }
 }
 
 fn add_arrows(
@@ -202,120 +178,68 @@ fn add_arrows(
 ) -> Result<(), AllocError> {
     let mut taken = vec![in *shapes.allocator(); 0; plan.layers.layers.len()]?;
     for edge in &plan.layers.edges {
-        add_edge(shapes, plan, places, &mut taken, edge)?;
+        add_edge(shapes, plan, places, &mut taken, *edge)?;
     }
     Ok(())
 }
 
-/// What kind of box it is.
-fn look_of(plan: &GraphPlan<'_>, members: &[usize]) -> Look {
-    match members {
-        [one] => {
-            if plan.decree(*one).is_some() {
-                Look::Alone
-            } else {
-                Look::Missing
-            }
-        }
-        _ => Look::Together,
-    }
-}
-
-/// How far the mark of a seal stands within its box.
-const INSET: u64 = 2;
-
-// Draws the mark of a seal behind its line, at this height of its box.
-fn add_seal(shapes: &mut Vec<Shape>, place: BoxPlace, down: u64) -> Result<(), AllocError> {
-    shapes.push(Shape::Rect {
-        look: Look::Seal,
-        at: Point {
-            x: place.at.x.saturating_add(INSET),
-            y: place.at.y.saturating_add(down).saturating_add(INSET),
-        },
-        extent: Point {
-            x: place.extent.x.saturating_sub(2 * INSET),
-            y: LINE.saturating_add(1),
-        },
-    })?;
-    Ok(())
+// Draws the mark of a seal behind its line, so wide and from here on.
+fn add_seal(shapes: &mut Vec<Shape>, at: Point, width: u64) -> Result<(), AllocError> {
+    let extent = Point {
+        x: width,
+        y: LINE + 1,
+    };
+    let look = Look::Seal;
+    add(shapes, Shape::Rect { look, at, extent })
 }
 
 /// How the line of a node looks.
 fn line_look(plan: &GraphPlan<'_>, node: usize) -> Look {
-    if plan.closed.has(node) {
+    if plan.has_closed_at(node) {
         Look::Closed
     } else {
         Look::Plain
     }
 }
 
-// Writes the lines of a box.
-fn add_lines(
+// Writes the line of a node in a box of so many nodes, at this height of it.
+fn add_line(
     shapes: &mut Vec<Shape>,
     plan: &GraphPlan<'_>,
-    members: &[usize],
     place: BoxPlace,
+    down: u64,
+    (node, count): (usize, usize),
 ) -> Result<(), AllocError> {
-    for (line, node) in members.iter().enumerate() {
-        let down = LINE.saturating_mul(line as u64);
-        if plan.is_seal(*node) {
-            add_seal(shapes, place, down)?;
-        }
-        let words = plan.shown(*shapes.allocator(), *node, members.len())?;
-        let at = Point {
-            x: place.at.x.saturating_add(5),
-            y: place.at.y.saturating_add(down).saturating_add(FIRST),
-        };
-        add_words(shapes, line_look(plan, *node), at, words)?;
+    let at = place.at.plus(0, down);
+    if plan.is_seal(node) {
+        let width = place.extent.x.saturating_sub(2 * INSET);
+        add_seal(shapes, at.plus(INSET, INSET), width)?;
     }
-    Ok(())
+    let words = plan.shown(*shapes.allocator(), node, count)?;
+    add_words(shapes, line_look(plan, node), at.plus(5, FIRST), &words)
 }
 
-// Draws a box, without its lines.
-fn add_box(
+// Writes the lines of a box.
+fn add_lines(
     shapes: &mut Vec<Shape>,
     plan: &GraphPlan<'_>,
     place: BoxPlace,
 ) -> Result<(), AllocError> {
     let members = plan.members(*shapes.allocator(), place.first)?;
-    shapes.push(Shape::Rect {
-        look: look_of(plan, &members),
-        at: place.at,
-        extent: place.extent,
-    })?;
-    Ok(())
-}
-
-fn add_boxes(
-    shapes: &mut Vec<Shape>,
-    plan: &GraphPlan<'_>,
-    places: &[BoxPlace],
-) -> Result<(), AllocError> {
-    for place in places {
-        add_box(shapes, plan, *place)?;
+    for (line, node) in members.iter().enumerate() {
+        let down = LINE.saturating_mul(line as u64);
+        add_line(shapes, plan, place, down, (*node, members.len()))?;
     }
     Ok(())
 }
 
-fn add_all_lines(
-    shapes: &mut Vec<Shape>,
-    plan: &GraphPlan<'_>,
-    places: &[BoxPlace],
-) -> Result<(), AllocError> {
+// Draws the boxes, without their lines.
+fn add_boxes(shapes: &mut Vec<Shape>, places: &[BoxPlace]) -> Result<(), AllocError> {
     for place in places {
-        let members = plan.members(*shapes.allocator(), place.first)?;
-        add_lines(shapes, plan, &members, *place)?;
+        let (look, at, extent) = (place.look, place.at, place.extent);
+        add(shapes, Shape::Rect { look, at, extent })?;
     }
     Ok(())
-}
-
-// How wide the boxes and lanes reach.
-fn width_of(places: &[BoxPlace]) -> u64 {
-    let mut width = WIDTH;
-    for place in places {
-        width = place.right().saturating_add(EDGE).max(width);
-    }
-    width
 }
 
 fn add_graph(
@@ -324,64 +248,39 @@ fn add_graph(
     places: &[BoxPlace],
 ) -> Result<(), AllocError> {
     add_heading(shapes, plan.committed.len())?;
-    add_boxes(shapes, plan, places)?;
+    add_boxes(shapes, places)?;
     add_arrows(shapes, plan, places)?;
-    add_all_lines(shapes, plan, places)
-}
-
-/// How high the key's line is.
-const KEY: u64 = 22;
-
-/// Whether some node is committed as a seal.
-fn has_seal(plan: &GraphPlan<'_>) -> bool {
-    let mut has = false;
-    for node in 0..plan.reach.nodes().len() {
-        has = has || plan.is_seal(node);
+    for place in places {
+        add_lines(shapes, plan, *place)?;
     }
-    has
+    Ok(())
 }
 
-/// Whether some node was answered `closed`.
-fn has_closed(plan: &GraphPlan<'_>) -> bool {
-    let mut has = false;
-    for node in 0..plan.reach.nodes().len() {
-        has = has || plan.closed.has(node);
-    }
-    has
-}
-
-// Draws below the graph what the mark of a seal means.
+// Draws at this y what the mark of a seal means.
 fn add_seal_meaning(shapes: &mut Vec<Shape>, y: u64) -> Result<(), AllocError> {
-    shapes.push(Shape::Rect {
-        look: Look::Seal,
-        at: Point {
-            x: EDGE,
-            y: y.saturating_sub(11),
-        },
-        extent: Point {
-            x: 30,
-            y: LINE.saturating_add(1),
-        },
-    })?;
-    let words = Vec::from_slice(
-        *shapes.allocator(),
+    let top = y.saturating_sub(11);
+    add_seal(shapes, Point { x: EDGE, y: top }, 30)?;
+    add_words(
+        shapes,
+        Look::Plain,
+        Point { x: 54, y },
         b"a seal: it depends on all above it, and all below depends on it",
-    )?;
-    add_words(shapes, Look::Plain, Point { x: 54, y }, words)
+    )
 }
 
-// Draws below the graph what the line of what was answered `closed` means.
+// Writes at this y what the line of what was answered `closed` means.
 fn add_closed_meaning(shapes: &mut Vec<Shape>, y: u64) -> Result<(), AllocError> {
-    let words = Vec::from_slice(
-        *shapes.allocator(),
+    add_words(
+        shapes,
+        Look::Closed,
+        Point { x: 510, y },
         b"-> closed: a seal was executed before it",
-    )?;
-    add_words(shapes, Look::Closed, Point { x: 510, y }, words)
+    )
 }
 
 // Draws a key below the graph, which ends at this y, of the marks that occur, and answers where it ends.
 fn add_key(shapes: &mut Vec<Shape>, plan: &GraphPlan<'_>, y: u64) -> Result<u64, AllocError> {
-    let (seal, closed) = (has_seal(plan), has_closed(plan));
+    let (seal, closed) = (plan.has_seal(), plan.has_closed());
     if seal {
         add_seal_meaning(shapes, y.saturating_add(6))?;
     }
@@ -395,60 +294,47 @@ fn add_key(shapes: &mut Vec<Shape>, plan: &GraphPlan<'_>, y: u64) -> Result<u64,
     }
 }
 
-fn picture_of(alloc: Global, plan: &GraphPlan<'_>) -> Result<Picture, AllocError> {
-    let mut places = Vec::new(alloc);
-    let bottom = place_boxes(alloc, plan, &mut places)?;
+// Draws the graph, whose boxes end here, and its key, and answers how wide and how high it is.
+fn add_all(
+    shapes: &mut Vec<Shape>,
+    plan: &GraphPlan<'_>,
+    places: &[BoxPlace],
+    end: Point,
+) -> Result<Point, AllocError> {
+    add_graph(shapes, plan, places)?;
+    let y = add_key(shapes, plan, end.y.saturating_add(EDGE))?;
+    let x = end.x.saturating_add(EDGE).max(WIDTH);
+    Ok(Point { x, y })
+}
+
+// The picture of these boxes, which end here.
+fn picture_of(
+    alloc: Global,
+    plan: &GraphPlan<'_>,
+    places: &[BoxPlace],
+    end: Point,
+) -> Result<Picture, AllocError> {
     let mut shapes = Vec::new(alloc);
-    add_graph(&mut shapes, plan, &places)?;
-    let height = add_key(&mut shapes, plan, bottom)?;
-    Ok(Picture {
-        width: width_of(&places),
-        height,
-        shapes,
-    })
+    match add_all(&mut shapes, plan, places, end) {
+        Ok(extent) => Ok(Picture { extent, shapes }),
+        Err(fault) => {
+            drop(shapes);
+            Err(fault)
+        }
+    }
 }
 
-// Appends how wide and how high the picture is.
-fn push_measured(text: &mut Vec<u8>, width: u64, height: u64) -> Result<(), AllocError>
-    ensures { OnOk result (text.new.items ≡ text.old.items ++ measured width height) }
-{
-    push_attribute(
-        text,
-        b"<svg xmlns='http://www.w3.org/2000/svg' width='",
-        width,
-    )?;
-    push_attribute(text, b" height='", height)
+fn planned(alloc: Global, plan: &GraphPlan<'_>) -> Result<Picture, AllocError> {
+    let mut places = Vec::new(alloc);
+    let end = place_boxes(alloc, plan, &mut places)?;
+    picture_of(alloc, plan, &places, end)
 }
 
-// Appends that all of the picture is seen.
-fn push_viewed(text: &mut Vec<u8>, width: u64, height: u64) -> Result<(), AllocError>
-    ensures { OnOk result (text.new.items ≡ text.old.items ++ viewed width height) }
+fn push_file(text: &mut Vec<u8>, picture: &Picture) -> Result<(), AllocError>
+    ensures { OnOk result (text.new.items ≡ text.old.items ++ (picture_text front picture.now ++ codes "</svg>\n")) }
 {
-    text.extend_from_slice(b" viewBox='0 0 ")?;
-    push_number(text, width)?;
-    push_attribute(text, b" ", height)
-}
-
-// Appends the title and the styles.
-#[tactic(auto, unfolding(crate::specs::Graphs::front))]
-fn push_front(text: &mut Vec<u8>) -> Result<(), AllocError>
-    ensures { OnOk result (text.new.items ≡ text.old.items ++ front) }
-{
-    text.extend_from_slice(STYLE)
-}
-
-fn push_opening(text: &mut Vec<u8>, picture: &Picture) -> Result<(), AllocError>
-    ensures { OnOk result (text.new.items ≡ text.old.items ++ opening picture.now) }
-{
-    push_measured(text, picture.width, picture.height)?;
-    push_viewed(text, picture.width, picture.height)?;
-    push_front(text)
-}
-
-fn push_body(text: &mut Vec<u8>, picture: &Picture) -> Result<(), AllocError>
-    ensures { OnOk result (text.new.items ≡ text.old.items ++ shapes_text picture.now.shapes.items) }
-{
-    push_shapes(text, &picture.shapes)
+    push_picture(text, front(), picture)?;
+    text.extend_from_slice(b"</svg>\n")
 }
 
 // The file of a picture.
@@ -456,17 +342,42 @@ fn file_of(alloc: Global, picture: &Picture) -> Result<Vec<u8>, AllocError>
     ensures { IfOk result (λ text. IsGraphFile text.items) }
 {
     let mut text = Vec::new(alloc);
-    push_opening(&mut text, picture)?;
-    push_body(&mut text, picture)?;
-    text.extend_from_slice(b"</svg>\n")?;
+    push_file(&mut text, picture)?;
     Ok(text)
 }
 
+// Draws a plan.
 fn drawn(alloc: Global, plan: &GraphPlan<'_>) -> Result<Vec<u8>, AllocError>
     ensures { IfOk result (λ text. IsGraphFile text.items) }
 {
-    let picture = picture_of(alloc, plan)?;
-    file_of(alloc, &picture)
+    let picture = planned(alloc, plan)?;
+    let text = file_of(alloc, &picture);
+    drop(picture);
+    text
+}
+
+// Draws what this verdict commits, of which this is what reaches what.
+fn drawn_of(alloc: Global, verdict: &Verdict, reach: &Reach) -> Result<Vec<u8>, AllocError>
+    ensures { IfOk result (λ text. IsGraphFile text.items) }
+{
+    let plan = GraphPlan::of(alloc, verdict, reach)?;
+    let text = drawn(alloc, &plan);
+    drop(plan);
+    text
+}
+
+// Draws what this verdict commits.
+fn graph_of(alloc: Global, verdict: &Verdict) -> Result<Vec<u8>, GraphFault>
+    ensures drawn { IfOk result (λ text. IsGraphFile text.items) }
+    ensures refused { IfErr result (λ fault. IsMore 2000 fault) }
+{
+    let reach = Reach::of(alloc, &verdict.committed, MOST)?;
+    let text = drawn_of(alloc, verdict, &reach);
+    drop(reach);
+    match text {
+        Ok(text) => Ok(text),
+        Err(_) => Err(GraphFault::Memory),
+    }
 }
 
 /// Draws the dependency graph of what the journals commit, an SVG file: a box a component of instances that depend on each
@@ -479,17 +390,7 @@ pub fn graph(alloc: Global, journals: &Journals) -> Result<Vec<u8>, GraphFault>
     ensures refused { IfErr result (λ fault. IsMore 2000 fault) }
 {
     let verdict = Verdict::of(alloc, journals)?;
-    let reach = Reach::of(alloc, &verdict.committed, MOST)?;
-    let layers = Layers::of(alloc, &reach)?;
-    let closed = closed_in(alloc, &reach, &verdict.history)?;
-    let sealed = sealed_in(alloc, &reach, &verdict.committed)?;
-    let plan = GraphPlan {
-        committed: &verdict.committed,
-        reach,
-        layers,
-        closed,
-        sealed,
-    };
-    let text = drawn(alloc, &plan)?;
-    Ok(text)
+    let text = graph_of(alloc, &verdict);
+    drop(verdict);
+    text
 }

@@ -28,7 +28,7 @@ fn by_reach(alloc: Global, reach: &Reach) -> Result<Vec<(usize, usize)>, AllocEr
 fn layer_of(reach: &Reach, layers: &[usize], node: usize) -> usize {
     let mut layer = 0usize;
     for (other, below) in layers.iter().enumerate() {
-        if reach.has(node, other) && !reach.has(other, node) {
+        if reach.passes(node, other) {
             layer = below.saturating_add(1).max(layer);
         }
     }
@@ -62,8 +62,7 @@ fn add_edges(
 ) -> Result<(), AllocError> {
     let mut covered = Marks::none(alloc, order.len())?;
     for (_, other) in order.iter().rev() {
-        let is_below = reach.has(node, *other) && !reach.has(*other, node);
-        if is_below && !covered.has(*other) {
+        if reach.passes(node, *other) && !covered.has(*other) {
             edges.push((node, reach.first_of(*other)))?;
             if let Some(row) = reach.row(*other) {
                 covered.join(row);
@@ -87,12 +86,16 @@ impl Layers {
         Ok(Layers { layers, edges })
     }
 
-    /// How many layers there are.
-    pub fn count(&self) -> usize {
-        let mut count = 0usize;
-        for layer in &self.layers {
-            count = layer.saturating_add(1).max(count);
+    /// The layer of a node.
+    fn layer(&self, node: usize) -> usize {
+        match self.layers.get(node) {
+            Some(layer) => *layer,
+            None => 0,
         }
-        count
+    }
+
+    /// Whether an arrow from the one component to the other passes a layer between them.
+    pub fn passes(&self, from: usize, to: usize) -> bool {
+        self.layer(from) > self.layer(to).saturating_add(1)
     }
 }

@@ -9,7 +9,8 @@
 
 mod arrow;
 mod arrow_kind;
-mod attributes;
+mod band;
+mod box_place;
 mod commits;
 mod dots;
 mod draw_fault;

@@ -1,7 +1,7 @@
 //! How shapes look.
 
 /// How a shape looks.
-#[derive(Clone, Copy, Debug, PartialEq, Eq)]
+#[derive(Clone, Copy)]
 pub enum Look {
     /// The line of a replica.
     Life,

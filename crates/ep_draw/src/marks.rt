@@ -25,9 +25,8 @@ impl Marks {
 
     /// Takes the node in.
     pub fn add(&mut self, node: usize) {
-        let place = node / 64;
-        if place < self.words.len() {
-            self.words[place] |= 1 << (node % 64);
+        if let Some(word) = self.words.get_mut(node / 64) {
+            *word |= 1 << (node % 64);
         }
     }
 

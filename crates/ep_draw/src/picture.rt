@@ -1,40 +1,34 @@
-//! What is drawn around the dots of a diagram.
+//! Pictures of shapes.
 
-use crate::arrow::Arrow;
-use crate::frames::add_arrows;
-use crate::grid::row_y;
-use crate::labels::{add_labels, width_of};
-use crate::scene::Scene;
-use crate::shape::Shape;
-use crate::style::WIDTH;
-use ep_audit::AuditFault;
-use std::alloc::{AllocError, Global};
+ghost use Rattle.std.specs.Prelude.{◌≡◌, ◌++◌, OnOk};
+ghost use Rattle.ep_draw.specs.Shapes.{picture_text};
 
-/// What is drawn around the dots.
+use crate::point::{Point, push_pair};
+use crate::shape::{Shape, push_shapes};
+use std::alloc::AllocError;
+
+/// How wide and how high a picture is, and its shapes.
 #[derive(Drop)]
 pub struct Picture {
-    pub(crate) width: u64,
-    pub(crate) height: u64,
+    pub(crate) extent: Point,
     pub(crate) shapes: Vec<Shape>,
-    pub(crate) arrows: Vec<Arrow>,
 }
 
-impl Picture {
-    /// What is drawn around the dots of the scene.
-    pub(crate) fn of(
-        alloc: Global,
-        scene: &Scene<'_>,
-        fault: &Option<AuditFault>,
-    ) -> Result<Picture, AllocError> {
-        let mut picture = Picture {
-            width: WIDTH,
-            height: row_y(scene.rows.len()).saturating_add(24),
-            shapes: Vec::new(alloc),
-            arrows: Vec::new(alloc),
-        };
-        add_labels(&mut picture.shapes, scene, fault)?;
-        add_arrows(&mut picture.arrows, scene)?;
-        picture.width = width_of(&picture.shapes).saturating_add(24).max(WIDTH);
-        Ok(picture)
-    }
+/// Appends the beginning of a picture's file, with these styles, all of which is seen, and its shapes.
+pub(crate) fn push_picture(
+    text: &mut Vec<u8>,
+    style: &[u8],
+    picture: &Picture,
+) -> Result<(), AllocError>
+    ensures { OnOk result (text.new.items ≡ text.old.items ++ picture_text style.now picture.now) }
+{
+    push_pair(
+        text,
+        b"<svg xmlns='http://www.w3.org/2000/svg' width='",
+        b"' height='",
+        picture.extent,
+    )?;
+    push_pair(text, b"' viewBox='0 0 ", b" ", picture.extent)?;
+    text.extend_from_slice(style)?;
+    push_shapes(text, &picture.shapes)
 }

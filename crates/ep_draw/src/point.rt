@@ -1,41 +1,48 @@
 //! Places in a picture.
 
-/// A place, in pixels from a picture's upper left corner.
-#[derive(Clone, Copy, Debug, PartialEq, Eq)]
+ghost use Rattle.std.specs.Prelude.{◌≡◌, ◌++◌, OnOk};
+ghost use Rattle.ep_draw.specs.Shapes.{pair};
+
+use ep_report::push_number;
+use std::alloc::AllocError;
+
+/// A place, in pixels from a picture's upper left corner, or how wide and how high something is.
+#[derive(Clone, Copy)]
 pub struct Point {
     pub x: u64,
     pub y: u64,
 }
 
 impl Point {
-    /// A point before this one, on the way from another one: less by so much in x, and above by so much in y.
-    pub fn short_of(self, from: Point, by: u64, above: u64) -> Point {
-        let x = if from.x < self.x {
-            self.x.saturating_sub(by)
-        } else {
-            self.x.saturating_add(by)
-        };
+    /// The point so far to the right of this one and below it.
+    pub fn plus(self, x: u64, y: u64) -> Point {
         Point {
-            x,
-            y: self.y.saturating_sub(above),
+            x: self.x.saturating_add(x),
+            y: self.y.saturating_add(y),
         }
     }
+}
 
-    /// The point of the line to here from another one that is so far from here in x; where the line is steep, one that is no more
-    /// than 8 above or below.
-    pub fn back_to(self, from: Point, by: u64) -> Point {
-        let width = self.x.abs_diff(from.x);
-        let height = self.y.abs_diff(from.y);
-        if width == 0 {
-            return self;
-        }
-        let rise = (height.saturating_mul(by) / width).min(8);
-        let near = self.short_of(from, by, 0);
-        let y = if from.y < self.y {
-            self.y.saturating_sub(rise)
-        } else {
-            self.y.saturating_add(rise)
-        };
-        Point { x: near.x, y }
+/// A number so much nearer to another one.
+pub(crate) fn towards(number: u64, goal: u64, by: u64) -> u64 {
+    if goal < number {
+        number.saturating_sub(by)
+    } else {
+        number.saturating_add(by)
     }
+}
+
+/// Appends the first of these texts, a point's x, the second text, and its y.
+pub(crate) fn push_pair(
+    text: &mut Vec<u8>,
+    first: &[u8],
+    second: &[u8],
+    point: Point,
+) -> Result<(), AllocError>
+    ensures { OnOk result (text.new.items ≡ text.old.items ++ pair first.now second.now point) }
+{
+    text.extend_from_slice(first)?;
+    push_number(text, point.x)?;
+    text.extend_from_slice(second)?;
+    push_number(text, point.y)
 }

@@ -28,14 +28,104 @@ pub(crate) fn decree_of(
     }
 }
 
+// Takes in all instances that the table names.
+fn add_named(
+    alloc: Global,
+    committed: &[(InstanceId, Decree)],
+    nodes: &mut Deps,
+) -> Result<(), AllocError> {
+    for (instance, decree) in committed {
+        nodes.insert(alloc, *instance)?;
+        *nodes = nodes.joined(alloc, &decree.attrs.deps)?;
+    }
+    Ok(())
+}
+
 /// All instances that the table names.
 fn named(alloc: Global, committed: &[(InstanceId, Decree)]) -> Result<Deps, AllocError> {
     let mut nodes = Deps::new(alloc);
-    for (instance, decree) in committed {
-        nodes.insert(alloc, *instance)?;
-        nodes = nodes.joined(alloc, &decree.attrs.deps)?;
+    match add_named(alloc, committed, &mut nodes) {
+        Ok(()) => Ok(nodes),
+        Err(fault) => {
+            drop(nodes);
+            Err(fault)
+        }
     }
-    Ok(nodes)
+}
+
+// Takes in what the decree depends on of these nodes.
+fn add_deps(row: &mut Marks, nodes: &[InstanceId], decree: &Decree) {
+    for dep in decree.attrs.deps.as_slice() {
+        if let Ok(node) = nodes.binary_search(dep) {
+            row.add(node);
+        }
+    }
+}
+
+// A node itself, and what it depends on.
+fn row_of(
+    alloc: Global,
+    committed: &[(InstanceId, Decree)],
+    nodes: &[InstanceId],
+    node: usize,
+    instance: InstanceId,
+) -> Result<Marks, AllocError> {
+    let mut row = Marks::none(alloc, nodes.len())?;
+    row.add(node);
+    if let Some(decree) = decree_of(committed, instance) {
+        add_deps(&mut row, nodes, decree);
+    }
+    Ok(row)
+}
+
+// Each node that reaches this one reaches what it reaches.
+fn join_through(rows: &mut [Marks], through: usize, reached: &Marks) {
+    for row in rows.iter_mut() {
+        if row.has(through) {
+            row.join(reached);
+        }
+    }
+}
+
+// What is reached through a node, for one node after the other (Warshall, 1962).
+fn close(alloc: Global, rows: &mut [Marks]) -> Result<(), AllocError> {
+    for through in 0..rows.len() {
+        if let Some(row) = rows.get(through) {
+            let reached = row.copy(alloc)?;
+            join_through(rows, through, &reached);
+        }
+    }
+    Ok(())
+}
+
+// Adds for each of the nodes what it reaches.
+fn add_rows(
+    alloc: Global,
+    committed: &[(InstanceId, Decree)],
+    nodes: &[InstanceId],
+    rows: &mut Vec<Marks>,
+) -> Result<(), AllocError> {
+    for (node, instance) in nodes.iter().enumerate() {
+        let row = row_of(alloc, committed, nodes, node, *instance)?;
+        rows.push(row)?;
+    }
+    close(alloc, rows)
+}
+
+// What these nodes reach.
+fn rows_of(
+    alloc: Global,
+    committed: &[(InstanceId, Decree)],
+    nodes: &[InstanceId],
+) -> Result<Vec<Marks>, AllocError> {
+    let mut rows = Vec::new(alloc);
+    match add_rows(alloc, committed, nodes, &mut rows) {
+        Ok(()) => Ok(rows),
+        Err(fault) => {
+            drop(rows);
+            Err(fault)
+        }
+    }
 }
 
 impl Reach {
@@ -49,86 +139,23 @@ impl Reach {
         ensures { IfErr result (λ fault. IsMore most fault) }
     {
         let nodes = named(alloc, committed)?;
-        if nodes.len() > most {
-            return Err(GraphFault::TooMany(nodes.len()));
+        let count = nodes.len();
+        if count > most {
+            drop(nodes);
+            return Err(GraphFault::TooMany(count));
         }
-        let mut reach = Reach {
-            nodes,
-            rows: Vec::new(alloc),
-        };
-        reach.add_edges(alloc, committed)?;
-        reach.close(alloc)?;
-        Ok(reach)
+        match rows_of(alloc, committed, nodes.as_slice()) {
+            Ok(rows) => Ok(Reach { nodes, rows }),
+            Err(_) => {
+                drop(nodes);
+                Err(GraphFault::Memory)
+            }
+        }
     }
 
     /// The instances, in rising order.
     pub fn nodes(&self) -> &[InstanceId] {
         self.nodes.as_slice()
-    }
-
-    /// The place of the instance among them.
-    pub fn node(&self, instance: InstanceId) -> Option<usize> {
-        self.nodes().binary_search(&instance).ok()
-    }
-
-    // A node, and what it depends on.
-    fn edges_of(
-        &self,
-        alloc: Global,
-        committed: &[(InstanceId, Decree)],
-        node: usize,
-    ) -> Result<Marks, AllocError> {
-        let mut row = Marks::none(alloc, self.nodes.len())?;
-        row.add(node);
-        if let Some(instance) = self.nodes().get(node) {
-            self.add_deps(&mut row, decree_of(committed, *instance));
-        }
-        Ok(row)
-    }
-
-    // Takes in what the decree depends on.
-    fn add_deps(&self, row: &mut Marks, decree: Option<&Decree>) {
-        let Some(decree) = decree else {
-            return;
-        };
-        for dep in decree.attrs.deps.as_slice() {
-            if let Some(other) = self.node(*dep) {
-                row.add(other);
-            }
-        }
-    }
-
-    fn add_edges(
-        &mut self,
-        alloc: Global,
-        committed: &[(InstanceId, Decree)],
-    ) -> Result<(), AllocError> {
-        for node in 0..self.nodes.len() {
-            let row = self.edges_of(alloc, committed, node)?;
-            self.rows.push(row)?;
-        }
-        Ok(())
-    }
-
-    // What is reached through a node, for one node after the other (Warshall, 1962).
-    fn close(&mut self, alloc: Global) -> Result<(), AllocError> {
-        for through in 0..self.rows.len() {
-            let reached = match self.rows.get(through) {
-                Some(row) => row.copy(alloc)?,
-                None => Marks::none(alloc, 0)?,
-            };
-            self.join_through(through, &reached);
-        }
-        Ok(())
-    }
-
-    // Each node that reaches this one reaches what it reaches.
-    fn join_through(&mut self, through: usize, reached: &Marks) {
-        for row in self.rows.iter_mut() {
-            if row.has(through) {
-                row.join(reached);
-            }
-        }
     }
 
     /// What the node reaches.
@@ -147,6 +174,11 @@ impl Reach {
     /// Whether each of the two nodes reaches the other.
     pub fn are_together(&self, one: usize, other: usize) -> bool {
         self.has(one, other) && self.has(other, one)
+    }
+
+    /// Whether the one node reaches the other, which is outside of its component.
+    pub fn passes(&self, from: usize, to: usize) -> bool {
+        self.has(from, to) && !self.has(to, from)
     }
 
     /// How many nodes the node reaches.

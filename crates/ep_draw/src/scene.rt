@@ -1,10 +1,11 @@
 //! What is drawn in a diagram.
 
-ghost use Rattle.std.specs.Prelude.{◌≡◌, option_copied};
+ghost use Rattle.std.specs.Prelude.{◌≡◌, ◌<◌, ◌^◌, option_copied};
 ghost use Rattle.ep_journal.specs.Entries.{entries_at};
 ghost use Rattle.ep_audit.specs.Lookups.{entry_at};
+ghost use Rattle.ep_draw.specs.Layout.{column, row};
 
-use crate::grid::Grid;
+use crate::grid::{row_y, step};
 use crate::point::Point;
 use ep_audit::entry_at;
 use ep_base::ReplicaId;
@@ -13,7 +14,7 @@ use ep_journal::{Entry, Event, Journals};
 use ep_view::Handled;
 
 /// What is drawn: entries in rows, each as its replica with its number.
-#[derive(Drop)]
+#[derive(Clone, Copy)]
 pub(crate) struct Scene<'a> {
     pub journals: &'a Journals,
     pub rows: &'a [(ReplicaId, u32)],
@@ -23,12 +24,28 @@ pub(crate) struct Scene<'a> {
 }
 
 impl<'a> Scene<'a> {
-    /// Where the replicas' lines stand.
-    pub fn layout(&self) -> Grid
-        ensures { result.size ≡ self.now.journals.now.faults }
+    /// The x of a replica's line.
+    pub fn column(&self, replica: ReplicaId) -> u64
+        ensures { result ≡ column self.now.journals.now.faults replica }
     {
-        Grid {
-            size: self.journals.size(),
+        step(self.journals.size()) * u64::from(replica.index()) + 116
+    }
+
+    /// The x at which the words of a row begin.
+    pub fn words(&self) -> u64 {
+        let size = self.journals.size();
+        let lines = u64::from(size.count()) - 1;
+        step(size) * lines + 172
+    }
+
+    /// Where an entry of the replica is drawn in this row.
+    pub fn dot(&self, replica: ReplicaId, place: usize) -> Point
+        ensures x { result.x ≡ column self.now.journals.now.faults replica }
+        ensures y { place < 2 ^ 32 → result.y ≡ row place }
+    {
+        Point {
+            x: self.column(replica),
+            y: row_y(place),
         }
     }
 
@@ -53,14 +70,19 @@ impl<'a> Scene<'a> {
     /// Where the entry that the frame names as its own is drawn.
     pub fn sender(&self, frame: &Frame) -> Option<Point> {
         let row = self.row_of((frame.from(), frame.origin().entry))?;
-        Some(self.layout().dot(frame.from(), row))
+        Some(self.dot(frame.from(), row))
     }
 
-    /// The frame that stands where this one says that it was sent.
-    pub fn sent(&self, frame: &Frame) -> Option<&'a Frame> {
+    /// Whether this very frame was sent where it says.
+    pub fn has_sent(&self, frame: &Frame) -> bool {
         let origin = frame.origin();
-        let entry = self.entry((frame.from(), origin.entry))?;
-        entry.frames.as_slice().get(origin.out as usize)
+        let Some(entry) = self.entry((frame.from(), origin.entry)) else {
+            return false;
+        };
+        match entry.frames.as_slice().get(origin.out as usize) {
+            Some(sent) => sent.as_slice() == frame.as_slice(),
+            None => false,
+        }
     }
 
     /// Whether the audit's first fault names this entry.
@@ -69,10 +91,10 @@ impl<'a> Scene<'a> {
     }
 }
 
-/// Whether the entry handles this frame.
-pub(crate) fn handles(entry: &Entry, frame: &Frame) -> bool {
+/// The frame that the entry handles, if it handles one.
+pub(crate) fn handled(entry: &Entry) -> Option<&Frame> {
     match &entry.event {
-        Event::Handle(handled) => handled.as_slice() == frame.as_slice(),
-        Event::Propose { .. } | Event::GiveUp(_) | Event::Recover(_) | Event::Execute(_) => false,
+        Event::Handle(frame) => Some(frame),
+        Event::Propose { .. } | Event::GiveUp(_) | Event::Recover(_) | Event::Execute(_) => None,
     }
 }

@@ -1,12 +1,12 @@
 //! Where seals are, and what was answered `closed`.
 
+use crate::commits::commit_in;
 use crate::look::Look;
 use crate::point::Point;
 use crate::scene::Scene;
-use crate::shape::Shape;
+use crate::shape::{Shape, add_square, add_words};
 use ep_base::{Answer, InstanceId, ReplicaId, Reply};
-use ep_frame::Frame;
-use ep_journal::{Entry, Event};
+use ep_journal::{Entry, Event, Journal};
 use std::alloc::AllocError;
 
 /// How far the mark of a seal reaches from its dot. A commit's mark stands within it.
@@ -15,34 +15,24 @@ const SEAL: u64 = 15;
 /// How far the mark of what was answered `closed` reaches from its dot.
 const CLOSED: u64 = 11;
 
-/// Whether the frame is a Commit of a seal.
-fn commits_seal(frame: &Frame) -> bool {
-    let header = frame.view().header();
-    header.kind == 5 && header.op == 9
-}
-
-/// Whether the event proposes a seal, or handles the Commit of one.
-fn is_of_seal(event: &Event) -> bool {
+/// Whether the event proposes a seal.
+fn proposes_seal(event: &Event) -> bool {
     match event {
         Event::Propose { command, .. } => command.is_seal(),
-        Event::Handle(frame) => commits_seal(frame),
-        Event::GiveUp(_) | Event::Recover(_) | Event::Execute(_) => false,
+        Event::Handle(_) | Event::GiveUp(_) | Event::Recover(_) | Event::Execute(_) => false,
     }
 }
 
-/// Whether the first of these frames is a Commit of a seal.
-fn sends_seal(frames: &[Frame]) -> bool {
-    match frames.first() {
-        Some(frame) => commits_seal(frame),
+/// Whether the entry handles the Commit of a seal, or sends it.
+fn commits_seal(entry: &Entry) -> bool {
+    match commit_in(entry) {
+        Some(frame) => frame.view().header().op == 9,
         None => false,
     }
 }
 
 /// Whether the replica commits a seal in the instance.
-fn is_seal(scene: &Scene<'_>, replica: ReplicaId, instance: InstanceId) -> bool {
-    let Some(journal) = scene.journals.get(replica) else {
-        return false;
-    };
+fn is_seal(journal: &Journal, instance: InstanceId) -> bool {
     match journal.committed(instance) {
         Some(decree) => decree.command.is_seal(),
         None => false,
@@ -51,8 +41,11 @@ fn is_seal(scene: &Scene<'_>, replica: ReplicaId, instance: InstanceId) -> bool 
 
 /// Whether a seal is among what the replica executed.
 fn executes_seal(scene: &Scene<'_>, replica: ReplicaId, done: &[(InstanceId, Answer)]) -> bool {
+    let Some(journal) = scene.journals.get(replica) else {
+        return false;
+    };
     for (instance, _) in done {
-        if is_seal(scene, replica, *instance) {
+        if is_seal(journal, *instance) {
             return true;
         }
     }
@@ -60,9 +53,9 @@ fn executes_seal(scene: &Scene<'_>, replica: ReplicaId, done: &[(InstanceId, Ans
 }
 
 /// Whether the entry of this replica proposes, commits or executes a seal.
-pub(crate) fn has_seal(scene: &Scene<'_>, replica: ReplicaId, entry: &Entry) -> bool {
-    is_of_seal(&entry.event)
-        || sends_seal(entry.frames.as_slice())
+fn has_seal(scene: &Scene<'_>, replica: ReplicaId, entry: &Entry) -> bool {
+    proposes_seal(&entry.event)
+        || commits_seal(entry)
         || executes_seal(scene, replica, entry.done.as_slice())
 }
 
@@ -75,7 +68,7 @@ fn is_closed(answer: &Answer) -> bool {
 }
 
 /// Whether the entry answers `closed` to something.
-pub(crate) fn has_closed(entry: &Entry) -> bool {
+fn has_closed(entry: &Entry) -> bool {
     for (_, answer) in entry.done.as_slice() {
         if is_closed(answer) {
             return true;
@@ -84,36 +77,14 @@ pub(crate) fn has_closed(entry: &Entry) -> bool {
     false
 }
 
-/// Draws a square of this look around a point, which reaches so far.
-fn add_square(
-    shapes: &mut Vec<Shape>,
-    look: Look,
-    middle: Point,
-    reach: u64,
-) -> Result<(), AllocError> {
-    shapes.push(Shape::Rect {
-        look,
-        at: Point {
-            x: middle.x.saturating_sub(reach),
-            y: middle.y.saturating_sub(reach),
-        },
-        extent: Point {
-            x: reach.saturating_mul(2),
-            y: reach.saturating_mul(2),
-        },
-    })?;
-    Ok(())
-}
-
 /// Draws the marks of a seal, and of what was answered `closed`, behind the dot of this entry, if it has them.
 pub(crate) fn add_marks(
     shapes: &mut Vec<Shape>,
     scene: &Scene<'_>,
-    row: usize,
+    dot: Point,
     replica: ReplicaId,
     entry: &Entry,
 ) -> Result<(), AllocError> {
-    let dot = scene.layout().dot(replica, row);
     if has_seal(scene, replica, entry) {
         add_square(shapes, Look::Seal, dot, SEAL)?;
     }
@@ -127,21 +98,13 @@ pub(crate) fn add_marks(
 fn add_meaning(
     shapes: &mut Vec<Shape>,
     look: Look,
-    middle: Point,
+    y: u64,
     reach: u64,
     words: &[u8],
 ) -> Result<(), AllocError> {
+    let middle = Point { x: 722, y };
     add_square(shapes, look, middle, reach)?;
-    let words = Vec::from_slice(*shapes.allocator(), words)?;
-    shapes.push(Shape::Words {
-        look: Look::Plain,
-        at: Point {
-            x: middle.x.saturating_add(22),
-            y: middle.y.saturating_add(4),
-        },
-        words,
-    })?;
-    Ok(())
+    add_words(shapes, Look::Plain, middle.plus(22, 4), words)
 }
 
 /// Draws in the key what the marks mean that occur.
@@ -155,12 +118,10 @@ pub(crate) fn add_meanings(shapes: &mut Vec<Shape>, scene: &Scene<'_>) -> Result
         }
     }
     if closed {
-        let at = Point { x: 722, y: 148 };
-        add_meaning(shapes, Look::Closed, at, CLOSED, b"answered closed")?;
+        add_meaning(shapes, Look::Closed, 148, CLOSED, b"answered closed")?;
     }
     if seal {
-        let at = Point { x: 722, y: 202 };
-        add_meaning(shapes, Look::Seal, at, SEAL, b"a seal")?;
+        add_meaning(shapes, Look::Seal, 202, SEAL, b"a seal")?;
     }
     Ok(())
 }

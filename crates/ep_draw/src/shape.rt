@@ -4,10 +4,9 @@ ghost use Rattle.std.specs.Prelude.{◌≡◌, ◌++◌, OnOk};
 ghost use Rattle.ep_draw.specs.Shapes.{look_class, look_text, shape_text, shapes_text};
 ghost use Rattle.ep_draw.specs.declared.shape.Shape.TheVariants as shape;
 
-use crate::attributes::{push_attribute, push_corner, push_ends, push_extent, push_standing};
 use crate::escaping::push_escaped;
 use crate::look::Look;
-use crate::point::Point;
+use crate::point::{Point, push_pair};
 use std::alloc::AllocError;
 
 /// What is drawn besides arrows and dots.
@@ -64,24 +63,24 @@ fn push_look(text: &mut Vec<u8>, start: &[u8], look: Look) -> Result<(), AllocEr
     ensures { OnOk result (text.new.items ≡ text.old.items ++ look_text start.now look) }
 {
     text.extend_from_slice(start)?;
-    text.extend_from_slice(look_class(look))?;
-    text.push(b'\'')?;
-    Ok(())
+    text.extend_from_slice(look_class(look))
 }
 
 fn push_line(text: &mut Vec<u8>, look: Look, from: Point, to: Point) -> Result<(), AllocError>
     ensures { OnOk result (text.new.items ≡ text.old.items ++ shape_text (shape.Line look from to)) }
 {
     push_look(text, b"<line class='", look)?;
-    push_ends(text, from, to)?;
-    text.extend_from_slice(b"/>\n")
+    push_pair(text, b"' x1='", b"' y1='", from)?;
+    push_pair(text, b"' x2='", b"' y2='", to)?;
+    text.extend_from_slice(b"'/>\n")
 }
 
 fn push_words(text: &mut Vec<u8>, look: Look, at: Point, words: &Vec<u8>) -> Result<(), AllocError>
     ensures { OnOk result (text.new.items ≡ text.old.items ++ shape_text (shape.Words look at words.now)) }
 {
     push_look(text, b"<text class='", look)?;
-    push_standing(text, at)?;
+    push_pair(text, b"' x='", b"' y='", at)?;
+    text.extend_from_slice(b"'>")?;
     push_escaped(text, words)?;
     text.extend_from_slice(b"</text>\n")
 }
@@ -90,17 +89,16 @@ fn push_rect(text: &mut Vec<u8>, look: Look, at: Point, extent: Point) -> Result
     ensures { OnOk result (text.new.items ≡ text.old.items ++ shape_text (shape.Rect look at extent)) }
 {
     push_look(text, b"<rect class='", look)?;
-    push_corner(text, at)?;
-    push_extent(text, extent)?;
-    text.extend_from_slice(b" rx='6'/>\n")
+    push_pair(text, b"' x='", b"' y='", at)?;
+    push_pair(text, b"' width='", b"' height='", extent)?;
+    text.extend_from_slice(b"' rx='6'/>\n")
 }
 
 fn push_ring(text: &mut Vec<u8>, at: Point) -> Result<(), AllocError>
     ensures { OnOk result (text.new.items ≡ text.old.items ++ shape_text (shape.Ring at)) }
 {
-    push_attribute(text, b"<circle class='ring' cx='", at.x)?;
-    push_attribute(text, b" cy='", at.y)?;
-    text.extend_from_slice(b" r='11'/>\n")
+    push_pair(text, b"<circle class='ring' cx='", b"' cy='", at)?;
+    text.extend_from_slice(b"' r='11'/>\n")
 }
 
 fn push_shape(text: &mut Vec<u8>, shape: &Shape) -> Result<(), AllocError>
@@ -122,4 +120,39 @@ pub(crate) fn push_shapes(text: &mut Vec<u8>, shapes: &[Shape]) -> Result<(), Al
         push_shape(text, shape)?;
     }
     Ok(())
+}
+
+/// Draws a shape above all others.
+pub(crate) fn add(shapes: &mut Vec<Shape>, shape: Shape) -> Result<(), AllocError> {
+    shapes.push(shape)?;
+    Ok(())
+}
+
+/// Writes words, which begin or end here.
+pub(crate) fn add_words(
+    shapes: &mut Vec<Shape>,
+    look: Look,
+    at: Point,
+    words: &[u8],
+) -> Result<(), AllocError> {
+    let words = Vec::from_slice(*shapes.allocator(), words)?;
+    add(shapes, Shape::Words { look, at, words })
+}
+
+/// Draws a square around a point, which reaches so far.
+pub(crate) fn add_square(
+    shapes: &mut Vec<Shape>,
+    look: Look,
+    middle: Point,
+    reach: u64,
+) -> Result<(), AllocError> {
+    let at = Point {
+        x: middle.x.saturating_sub(reach),
+        y: middle.y.saturating_sub(reach),
+    };
+    let extent = Point {
+        x: reach.saturating_mul(2),
+        y: reach.saturating_mul(2),
+    };
+    add(shapes, Shape::Rect { look, at, extent })
 }

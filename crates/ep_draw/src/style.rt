@@ -1,10 +1,10 @@
 //! Colours, dashes and ends of lines, and what they mean.
 
-/// How wide the key is.
-pub(crate) const WIDTH: u64 = 900;
+ghost use Rattle.std.specs.Prelude.{◌≡◌};
+ghost use Rattle.ep_draw.specs.Drawn.{front};
 
-/// The end of the first tag, the title, the styles of classes, and the ends of lines.
-pub(crate) const STYLE: &[u8] = b">
+/// The end of the first tag, the title, the styles of classes, the ends of lines, and the key: what lines and dots mean.
+pub(crate) const STYLE: &[u8] = b"'>
 <title>Space-time diagram</title>
 <style>
 svg{max-width:100%;height:auto}
@@ -92,10 +92,7 @@ svg:not(:has(>.recovered)) .k18{display:none}
 <marker id='lost' markerUnits='userSpaceOnUse' markerWidth='14' markerHeight='14' refX='7' refY='7'><path d='M2 2L12 12M12 2L2 12' stroke='#222' stroke-width='2.4' stroke-dasharray='none'/></marker>
 </defs>
 <rect width='100%' height='100%' fill='#fff'/>
-";
-
-/// The key: what lines and dots mean.
-pub(crate) const KEY: &[u8] = b"<g>
+<g>
 <g class='k1'><g class='frame preaccept leaves'><path d='M24 96H98'/></g><g class='label preaccept'><text x='54' y='100'>PA</text></g><text x='108' y='100'>PreAccept</text></g>
 <g class='k2'><g class='frame preacceptok leaves'><path d='M236 96H310'/></g><g class='label preacceptok'><text x='266' y='100'>PAok</text></g><text x='320' y='100'>PreAcceptOK</text></g>
 <g class='k3'><g class='frame accept leaves'><path d='M448 96H522'/></g><g class='label accept'><text x='478' y='100'>A</text></g><text x='532' y='100'>Accept</text></g>
@@ -116,3 +113,11 @@ pub(crate) const KEY: &[u8] = b"<g>
 <g class='k18'><rect class='recovered' x='499' y='189' width='22' height='22' rx='6'/><circle class='dot handle' cx='510' cy='200' r='6'/><text x='532' y='204'>committed, recovered</text></g>
 </g>
 ";
+
+/// The same in each file: its styles and its key.
+#[tactic(auto, unfolding(crate::specs::Drawn::front))]
+pub(crate) fn front() -> &'static [u8]
+    ensures { result.now ≡ front }
+{
+    STYLE
+}

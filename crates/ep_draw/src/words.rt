@@ -36,3 +36,15 @@ pub(crate) fn told(alloc: Global, replica: ReplicaId, entry: &Entry) -> Result<V
     push_happening(&mut words, entry)?;
     Ok(words)
 }
+
+/// How many bytes of long words are shown.
+const SHOWN: usize = 120;
+
+/// Cuts words where they are long, and says so.
+pub(crate) fn cut(words: &mut Vec<u8>) -> Result<(), AllocError> {
+    if words.len() > SHOWN {
+        words.truncate(SHOWN);
+        words.extend_from_slice(b"...")?;
+    }
+    Ok(())
+}
