@@ -17,6 +17,14 @@ use Rattle.ep_draw.specs.declared.shape.Shape.TheVariants.{Line, Words, Rect, Ri
 abbrev pub pair : List ℕ → List ℕ → Point → List ℕ
 pair first second p = first ++ decimal p.x ++ second ++ decimal p.y
 
+-- a text element from its x on: words that stand there
+abbrev pub written : List ℕ → Point → List ℕ → List ℕ
+written first at words = pair first (codes "' y='") at ++ codes "'>" ++ escaped words ++ codes "</text>"
+
+-- the way from a point to another one, which bends towards the one between
+abbrev pub curve : Point → Point → Point → List ℕ
+curve from via to = pair (codes "<path d='M") (codes " ") from ++ pair (codes "Q") (codes " ") via ++ pair (codes " ") (codes " ") to
+
 -- Shapes.
 
 abbrev pub look_class : Look → List ℕ
@@ -43,8 +51,7 @@ look_text start look = start ++ look_class look
 abbrev pub shape_text : Shape → List ℕ
 shape_text (Line look from to) =
     look_text (codes "<line class='") look ++ pair (codes "' x1='") (codes "' y1='") from ++ pair (codes "' x2='") (codes "' y2='") to ++ codes "'/>\n"
-shape_text (Words look at words) =
-    look_text (codes "<text class='") look ++ pair (codes "' x='") (codes "' y='") at ++ codes "'>" ++ escaped words.items ++ codes "</text>\n"
+shape_text (Words look at words) = look_text (codes "<text class='") look ++ written (codes "' x='") at words.items ++ codes "\n"
 shape_text (Rect look at extent) =
     look_text (codes "<rect class='") look ++ pair (codes "' x='") (codes "' y='") at ++ pair (codes "' width='") (codes "' height='") extent ++ codes "' rx='6'/>\n"
 shape_text (Ring at) = pair (codes "<circle class='ring' cx='") (codes "' cy='") at ++ codes "' r='11'/>\n"
@@ -90,20 +97,15 @@ group_text start a fate = classes_text start a fate ++ title_text a.words.items
 
 -- the line of an arrow
 abbrev pub way_text : Arrow → List ℕ
-way_text a =
-    group_text (codes "<g class='frame ") a (fate_class a.fate) ++ pair (codes "<path d='M") (codes " ") a.from ++ pair (codes "Q") (codes " ") a.via ++ pair (codes " ") (codes " ") a.to
-    ++ codes "'/></g>\n"
+way_text a = group_text (codes "<g class='frame ") a (fate_class a.fate) ++ curve a.from a.via a.to ++ codes "'/></g>\n"
 
 abbrev pub ways_text : List Arrow → List ℕ
 ways_text [] = []
 ways_text (a ∷ more) = way_text a ++ ways_text more
 
-abbrev pub label_words : Arrow → List ℕ
-label_words a = pair (codes "<text x='") (codes "' y='") a.at ++ codes "'>" ++ escaped a.label.items ++ codes "</text></g>\n"
-
 -- the label of an arrow
 abbrev pub label_text : Arrow → List ℕ
-label_text a = group_text (codes "<g class='label ") a [] ++ label_words a
+label_text a = group_text (codes "<g class='label ") a [] ++ written (codes "<text x='") a.at a.label.items ++ codes "</g>\n"
 
 abbrev pub labels_text : List Arrow → List ℕ
 labels_text [] = []

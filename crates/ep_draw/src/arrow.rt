@@ -1,12 +1,13 @@
 //! Arrows.
 
 ghost use Rattle.std.specs.Prelude.{◌≡◌, ◌++◌, OnOk};
-ghost use Rattle.ep_draw.specs.Shapes.{kind_class, fate_class, alarm_class, classes_text, group_text, way_text, ways_text, label_words, label_text, labels_text, arrows_text};
+ghost use Rattle.ep_draw.specs.Shapes.{kind_class, fate_class, alarm_class, classes_text, group_text, curve, way_text, ways_text, label_text, labels_text, arrows_text};
 
 use crate::arrow_kind::ArrowKind;
-use crate::escaping::{push_escaped, push_title};
+use crate::escaping::push_title;
 use crate::fate::Fate;
 use crate::point::{Point, push_pair};
+use crate::words::push_written;
 use std::alloc::AllocError;
 
 /// A frame, from where it was sent towards where it was handled.
@@ -91,14 +92,21 @@ fn push_group(
     push_title(text, &arrow.words)
 }
 
+// Appends the way from a point to another one, which bends towards the one between.
+fn push_curve(text: &mut Vec<u8>, from: Point, via: Point, to: Point) -> Result<(), AllocError>
+    ensures { OnOk result (text.new.items ≡ text.old.items ++ curve from via to) }
+{
+    push_pair(text, b"<path d='M", b" ", from)?;
+    push_pair(text, b"Q", b" ", via)?;
+    push_pair(text, b" ", b" ", to)
+}
+
 // Appends its line.
 fn push_way(text: &mut Vec<u8>, arrow: &Arrow) -> Result<(), AllocError>
     ensures { OnOk result (text.new.items ≡ text.old.items ++ way_text arrow.now) }
 {
     push_group(text, b"<g class='frame ", arrow, fate_class(arrow.fate))?;
-    push_pair(text, b"<path d='M", b" ", arrow.from)?;
-    push_pair(text, b"Q", b" ", arrow.via)?;
-    push_pair(text, b" ", b" ", arrow.to)?;
+    push_curve(text, arrow.from, arrow.via, arrow.to)?;
     text.extend_from_slice(b"'/></g>\n")
 }
 
@@ -111,22 +119,13 @@ fn push_ways(text: &mut Vec<u8>, arrows: &[Arrow]) -> Result<(), AllocError>
     Ok(())
 }
 
-// Appends the words of its label.
-fn push_label_words(text: &mut Vec<u8>, arrow: &Arrow) -> Result<(), AllocError>
-    ensures { OnOk result (text.new.items ≡ text.old.items ++ label_words arrow.now) }
-{
-    push_pair(text, b"<text x='", b"' y='", arrow.at)?;
-    text.extend_from_slice(b"'>")?;
-    push_escaped(text, &arrow.label)?;
-    text.extend_from_slice(b"</text></g>\n")
-}
-
 // Appends its label, whose classes are those of its colour.
 fn push_label(text: &mut Vec<u8>, arrow: &Arrow) -> Result<(), AllocError>
     ensures { OnOk result (text.new.items ≡ text.old.items ++ label_text arrow.now) }
 {
     push_group(text, b"<g class='label ", arrow, b"")?;
-    push_label_words(text, arrow)
+    push_written(text, b"<text x='", arrow.at, &arrow.label)?;
+    text.extend_from_slice(b"</g>\n")
 }
 
 fn push_labels(text: &mut Vec<u8>, arrows: &[Arrow]) -> Result<(), AllocError>

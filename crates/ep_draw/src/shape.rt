@@ -4,9 +4,9 @@ ghost use Rattle.std.specs.Prelude.{◌≡◌, ◌++◌, OnOk};
 ghost use Rattle.ep_draw.specs.Shapes.{look_class, look_text, shape_text, shapes_text};
 ghost use Rattle.ep_draw.specs.declared.shape.Shape.TheVariants as shape;
 
-use crate::escaping::push_escaped;
 use crate::look::Look;
 use crate::point::{Point, push_pair};
+use crate::words::push_written;
 use std::alloc::AllocError;
 
 /// What is drawn besides arrows and dots.
@@ -79,10 +79,8 @@ fn push_words(text: &mut Vec<u8>, look: Look, at: Point, words: &Vec<u8>) -> Res
     ensures { OnOk result (text.new.items ≡ text.old.items ++ shape_text (shape.Words look at words.now)) }
 {
     push_look(text, b"<text class='", look)?;
-    push_pair(text, b"' x='", b"' y='", at)?;
-    text.extend_from_slice(b"'>")?;
-    push_escaped(text, words)?;
-    text.extend_from_slice(b"</text>\n")
+    push_written(text, b"' x='", at, words)?;
+    text.extend_from_slice(b"\n")
 }
 
 fn push_rect(text: &mut Vec<u8>, look: Look, at: Point, extent: Point) -> Result<(), AllocError>
