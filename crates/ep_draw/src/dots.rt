@@ -31,7 +31,8 @@ fn push_class(text: &mut Vec<u8>, event: &Event) -> Result<(), AllocError>
     ensures { OnOk result (text.new.items ≡ text.old.items ++ classed event.now) }
 {
     text.extend_from_slice(b"<circle class='dot ")?;
-    text.extend_from_slice(class_of(event))
+    text.extend_from_slice(class_of(event))?;
+    Ok(())
 }
 
 // Appends the entry in words, and ends its dot.
