@@ -32,9 +32,8 @@ extern "C" {
 
 /* tools/c-header writes what follows, from crates/ep_library/src. */
 
-/* A node on the heap, or none, as one pointer. C begins it with a null pointer, and changes nothing in it. So a
-   handle that has no node, that was freed before, or that has one already, is seen as such, and no call is undefined
-   at it. */
+/* A node on the heap, or none, as one pointer. C begins it with a null pointer, and changes nothing in it. So each
+   call sees whether a handle has no node, was freed, or has one already, and none is undefined. */
 struct ep_replica {
     void *at;
 };
@@ -49,7 +48,7 @@ struct ep_bytes {
 
 /* Whose command is proposed. */
 struct ep_call {
-    /* The greatest stamp of the receipts that the client has seen; 0 where it has seen none. */
+    /* The greatest stamp of the receipts that the client has seen; 0 if it has seen none. */
     uint64_t seen;
     /* The client, from 1. */
     uint32_t client;
@@ -64,9 +63,9 @@ struct ep_exchange {
     struct ep_bytes expected;
     /* The value that it then gets. */
     struct ep_bytes desired;
-    /* 0: the key has to have no value, and `expected` counts for nothing. */
+    /* 0: the key has to have no value, and `expected` is ignored. */
     uint8_t has_expected;
-    /* 0: the key then has no value, and `desired` counts for nothing. */
+    /* 0: the key then has no value, and `desired` is ignored. */
     uint8_t has_desired;
 };
 
@@ -94,7 +93,7 @@ struct ep_place {
     uint64_t by;
 };
 
-/* As what a replica is opened. */
+/* What a replica is opened as. */
 struct ep_setup {
     /* The file that its generation opens with, as ep_first_opening or ep_close gives it; of no bytes for a replica
        of version 2. */
@@ -116,7 +115,7 @@ struct ep_touching {
     struct ep_bytes first;
     /* A second one, which differs. */
     struct ep_bytes second;
-    /* 0: there is no second key, and `second` counts for nothing. */
+    /* 0: there is no second key, and `second` is ignored. */
     uint8_t has_second;
     /* 0: the command may change what belongs to the keys; else it only reads that. */
     uint8_t is_reading;
@@ -134,7 +133,7 @@ enum {
     EP_SPACE_FULL = 4,
     /* The numbers that order commands are used up. */
     EP_SEQ_EXHAUSTED = 5,
-    /* The replica doesn't lead the instance, or does no longer. */
+    /* The replica doesn't lead the instance, or doesn't any more. */
     EP_NOT_LEADING = 6,
     /* Fewer than a slow quorum has answered: wait on, and send the proposal's frames again. */
     EP_TOO_FEW_ANSWERS = 7,
@@ -152,7 +151,7 @@ enum {
     EP_NOT_MINE = 13,
     /* The bytes are no frame of this version and generation. */
     EP_BAD_FRAME = 14,
-    /* The seen stamp is out of reach, or the replica's stamps are used up. */
+    /* The seen stamp is too far ahead, or the replica's stamps are used up. */
     EP_STAMP_FULL = 15,
     /* There is no replica: none was opened, or it was freed. */
     EP_NO_REPLICA = 32,
@@ -198,7 +197,7 @@ enum {
     EP_BAD_ENTRY = 56,
     /* The entry of the log's record at byte `at` isn't the next one. */
     EP_NOT_NEXT = 57,
-    /* A byte of the log's record at byte `at` was turned: it was on the disk, by the record at byte `by`. */
+    /* The log's record at byte `at` was changed: it was on the disk, by the record at byte `by`. */
     EP_TURNED = 58,
     /* The log's entry of number `at` has a stamp that no clock gave it. */
     EP_NOT_CLOCKED = 59,
@@ -214,14 +213,14 @@ enum {
 
 /* ---- A replica's life ---- */
 
-/* Opens a replica, where there is none, of version 2 or of a generation: a new one, or one that goes on from its
-   log. The first thing to do then is `ep_ready`, which lends the whole log, written anew; nothing is taken or told
-   before that is on the disk. `ep_free` ends it. EP_HAS_REPLICA, EP_MEMORY; EP_OUT_OF_RANGE: `replicas` isn't 3, 5
-   or 7, or `replica` isn't below it; and from EP_NO_LOG on what the log or the opening is refused for: `place`
-   becomes where, by the numbers of which the status speaks. */
+/* Opens a replica, if there is none, of version 2 or of a generation: a new one, or one that goes on from its log.
+   The first thing to do then is `ep_ready`, which lends the whole log, written anew; nothing is taken or told before
+   that is on the disk. `ep_free` ends it. EP_HAS_REPLICA, EP_MEMORY; EP_OUT_OF_RANGE: `replicas` isn't 3, 5 or 7, or
+   `replica` isn't below it; and each status from EP_NO_LOG on, by which the log or the opening is refused: `place`
+   becomes the numbers that the status names. */
 uint8_t ep_open(struct ep_replica *replica, const struct ep_setup *setup, struct ep_place *place);
 
-/* Tells what was cut off the log's end as the replica was opened, where a crash had left bytes that are no whole
+/* Tells what was cut off the log's end as the replica was opened, if a crash had left bytes that are no whole
    record: from byte `at` on, `by` bytes. Pass it on to whoever runs the replica. EP_NO_REPLICA; EP_NONE: nothing was
    cut off. */
 uint8_t ep_cut(struct ep_replica *replica, struct ep_place *place);
@@ -233,11 +232,10 @@ uint8_t ep_free(struct ep_replica *replica);
 /* ---- What clients ask for ---- */
 
 /* A client asks for the value of a key. As any command it is put in order with all others that name the key, so it
-   sees all that was answered before. What is answered comes by `ep_answers`, as a receipt, once the command was
-   executed; so it is with each command. EP_NO_REPLICA, EP_LENT, EP_MEMORY; EP_OUT_OF_RANGE: a key has not 1 to 255
-   bytes, a value more than 65,535, two keys are one, a client or a request is 0, or the version hasn't the command
-   (version 2 has get, put, del and swap, and values of up to 1,024 bytes); EP_SPACE_FULL; EP_SEQ_EXHAUSTED;
-   EP_STAMP_FULL. */
+   sees all that was answered before. Its answer, like every command's, comes by `ep_answers`, as a receipt, once the
+   command was executed. EP_NO_REPLICA, EP_LENT, EP_MEMORY; EP_OUT_OF_RANGE: a key hasn't 1 to 255 bytes, a value has
+   more than 65,535, two keys are the same, a client or a request is 0, or the version hasn't the command (version 2
+   has get, put, del and swap, and values of up to 1,024 bytes); EP_SPACE_FULL; EP_SEQ_EXHAUSTED; EP_STAMP_FULL. */
 uint8_t ep_propose_get(struct ep_replica *replica, const struct ep_call *call, const uint8_t *key, size_t key_len);
 
 /* A client gives a key a value. The answer is what it had. Statuses are those of `ep_propose_get`. */
@@ -252,8 +250,8 @@ uint8_t ep_propose_del(struct ep_replica *replica, const struct ep_call *call, c
 uint8_t ep_propose_swap(struct ep_replica *replica, const struct ep_call *call, const uint8_t *first, size_t first_len,
                         const uint8_t *second, size_t second_len);
 
-/* A client compares and sets: where the key has what is expected, it gets what is desired. The answer is what it
-   had, so the client knows whether that was done. Statuses are those of `ep_propose_get`. */
+/* A client compares and sets: if the key has what is expected, it gets what is desired. The answer is what it had,
+   so the client knows whether that was done. Statuses are those of `ep_propose_get`. */
 uint8_t ep_propose_cas(struct ep_replica *replica, const struct ep_call *call, const uint8_t *key, size_t key_len,
                        const struct ep_exchange *exchange);
 
@@ -274,12 +272,12 @@ uint8_t ep_propose_seal(struct ep_replica *replica, const struct ep_call *call, 
    EP_STAMP_FULL. */
 uint8_t ep_handle(struct ep_replica *replica, const uint8_t *frame, size_t frame_len);
 
-/* The replica waits no longer for its whole fast quorum in an instance that it leads: it goes on by the slow path.
+/* The replica stops waiting for its whole fast quorum in an instance that it leads: it goes on by the slow path.
    EP_NO_REPLICA, EP_LENT, EP_MEMORY; EP_OUT_OF_RANGE: there is no such instance; EP_NOT_LEADING; EP_TOO_FEW_ANSWERS;
    EP_STAMP_FULL. */
 uint8_t ep_give_up(struct ep_replica *replica, struct ep_instance instance);
 
-/* The replica waits no longer for the one that leads the instance, and takes it over. EP_NO_REPLICA, EP_LENT,
+/* The replica stops waiting for the one that leads the instance, and takes it over. EP_NO_REPLICA, EP_LENT,
    EP_MEMORY; EP_OUT_OF_RANGE: there is no such instance; EP_ALREADY_COMMITTED; EP_BALLOTS_EXHAUSTED; EP_STAMP_FULL. */
 uint8_t ep_recover(struct ep_replica *replica, struct ep_instance instance);
 
@@ -288,8 +286,8 @@ uint8_t ep_recover(struct ep_replica *replica, struct ep_instance instance);
    call goes on. */
 uint8_t ep_advance(struct ep_replica *replica);
 
-/* Executes all instances that are ready, whoever leads them: before a local read, or where a machine of your own is
-   to keep up. EP_NO_REPLICA; EP_LENT; EP_MEMORY: some may have been executed, and the next call goes on. */
+/* Executes all instances that are ready, whoever leads them: before a local read, or if a machine of your own is to
+   keep up. EP_NO_REPLICA; EP_LENT; EP_MEMORY: some may have been executed, and the next call goes on. */
 uint8_t ep_execute_all(struct ep_replica *replica);
 
 /* ---- Executing an instance ---- */
@@ -302,23 +300,23 @@ uint8_t ep_execute(struct ep_replica *replica, struct ep_instance instance, stru
 /* ---- The log, and the answers that wait for it ---- */
 
 /* Lends the bytes that are to be written to the log: the records of all that was taken since the last `ep_synced`,
-   behind the log, or, where `is_anew` becomes 1, in place of all that was there, at once (write another file, sync
-   it, rename it). So it is first after an `ep_open`. Where all is on the disk, there are none. While bytes are lent,
-   nothing is taken (EP_LENT), and a second call lends the same, until `ep_synced` says that they are on the disk.
-   Where writing them fails, free the replica and open it from its log. EP_NO_REPLICA, EP_MEMORY. */
+   after the log, or, if `is_anew` becomes 1, in place of all that was there, at once (write another file, sync it,
+   rename it). The first call after `ep_open` is such a one. If all is on the disk, there are none. While bytes are
+   lent, nothing is taken (EP_LENT), and a second call lends the same, until `ep_synced` says that they are on the
+   disk. If writing them fails, free the replica and open it from its log. EP_NO_REPLICA, EP_MEMORY. */
 uint8_t ep_ready(struct ep_replica *replica, struct ep_bytes *log, uint8_t *is_anew);
 
-/* Says that what `ep_ready` lent is on the disk (fsync has returned): all of it, so many bytes; none, where nothing
-   is lent. From now on no crash takes what was taken before. EP_NO_REPLICA, EP_NOT_LENT, EP_NOT_ALL, EP_MEMORY. */
+/* Says that what `ep_ready` lent is on the disk (fsync has returned): all of it, `count` bytes; 0 if nothing is
+   lent. From now on no crash takes what was taken before. EP_NO_REPLICA, EP_NOT_LENT, EP_NOT_ALL, EP_MEMORY. */
 uint8_t ep_synced(struct ep_replica *replica, size_t count);
 
-/* Lends the answers of all that was asked by `ep_ask` since the last time, in that order, and behind them one of
-   kind 9: all frames, receipts, commits and executions of the entries after the first `told`, each once, and at most
+/* Lends the answers of all that was asked by `ep_ask` since the last time, in that order, and after them one of kind
+   9: all frames, receipts, commits and executions of the entries after the first `told`, each once, and at most
    `most` open instances. It says how many entries there are: hand that in as `told` the next time; at first 0. All
    that is told is on the disk. EP_NO_REPLICA; EP_UNSYNCED; EP_MEMORY: what was asked still waits for the next call. */
 uint8_t ep_answers(struct ep_replica *replica, uint32_t told, uint8_t most, struct ep_bytes *answers);
 
-/* Does what a request asks: the bytes of one, from its length on. What it is answered, also where it is refused or
+/* Does what a request asks: the bytes of one, from its length on. What it is answered, also if it is refused or
    malformed, comes by `ep_answers`. EP_NO_REPLICA, EP_LENT; EP_NOT_ONE; EP_MEMORY: nothing was done, but of kinds 6
    and 12, which execute several instances: some may have been executed, no answer comes, and asking again goes on. */
 uint8_t ep_ask(struct ep_replica *replica, const uint8_t *request, size_t request_len);
@@ -326,19 +324,19 @@ uint8_t ep_ask(struct ep_replica *replica, const uint8_t *request, size_t reques
 /* ---- What a replica knows ---- */
 
 /* Lends the value that the replica's own map has at the key, after all that it executed: a local read, which may be
-   old. EP_NO_REPLICA, EP_UNSYNCED, EP_MEMORY; EP_NONE: the map has none; EP_OUT_OF_RANGE: the key has not 1 to 255
+   old. EP_NO_REPLICA, EP_UNSYNCED, EP_MEMORY; EP_NONE: the map has none; EP_OUT_OF_RANGE: the key hasn't 1 to 255
    bytes. */
 uint8_t ep_get(struct ep_replica *replica, const uint8_t *key, size_t key_len, struct ep_bytes *value);
 
-/* Tells the least instance that the replica knows of and hasn't committed, above this one, or, where its number is
-   0, of all. EP_NO_REPLICA, EP_UNSYNCED; EP_NONE: there is none; EP_OUT_OF_RANGE: there is no such instance. */
+/* Tells the least instance that the replica knows of and hasn't committed, above this one, or, if its number is 0,
+   of all. EP_NO_REPLICA, EP_UNSYNCED; EP_NONE: there is none; EP_OUT_OF_RANGE: there is no such instance. */
 uint8_t ep_next_open(struct ep_replica *replica, struct ep_instance above, struct ep_instance *instance);
 
 /* Tells how far the replica leads the instance. EP_NO_REPLICA, EP_UNSYNCED; EP_NONE: it doesn't lead it;
    EP_OUT_OF_RANGE: there is no such instance. */
 uint8_t ep_leads(struct ep_replica *replica, struct ep_instance instance, struct ep_leading *leading);
 
-/* Lends the file that the next generation opens with, in a cluster of so many replicas, once a seal was executed
+/* Lends the file that the next generation opens with, in a cluster of this many replicas, once a seal was executed
    here. The replica goes on, and those that lag may still need it. EP_NO_REPLICA, EP_UNSYNCED, EP_MEMORY;
    EP_NOT_SEALED; EP_LAST_GENERATION; EP_OUT_OF_RANGE: a cluster has 3, 5 or 7 replicas. */
 uint8_t ep_close(struct ep_replica *replica, uint8_t replicas, struct ep_bytes *opening);
@@ -348,7 +346,7 @@ uint8_t ep_close(struct ep_replica *replica, uint8_t replicas, struct ep_bytes *
 /* Which library this is: EP_VERSION of the header that it was built with. Another number is another set of calls. */
 uint32_t ep_version(void);
 
-/* Copies the file that generation 1 opens with, in a cluster of so many replicas: no key has a value. `len` becomes
+/* Copies the file that generation 1 opens with, in a cluster of this many replicas; its map is empty. `len` becomes
    how many bytes it has. EP_TOO_SHORT: nothing was copied; EP_MEMORY; EP_OUT_OF_RANGE: a cluster has 3, 5 or 7
    replicas. */
 uint8_t ep_first_opening(uint8_t replicas, uint8_t *out, size_t out_len, size_t *len);

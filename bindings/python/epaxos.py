@@ -8,14 +8,14 @@
         output = ready.synced()                          # only then there is something to send
         for to, frame in output.frames: ..
         for receipt in output.receipts: ..
-        for to, frame in replica.report(told).frames: ..     # where a link stands again by which all of the first `told` entries had come
+        for to, frame in replica.report(told).frames: ..     # when a link is up again by which all of the first `told` entries had come
 
         replica.propose(client=1, request=1, command=put(b"x", b"1"))
         replica.handle(frame)                            # bytes from a peer
         replica.advance()                                # executes what can be executed
 
 The core is a library, libepaxos.so, or a process of each replica, `epaxos node`. `./epaxos --build` proves and builds both, and `./epaxos --build --unproved`
-builds both in minutes. It is a process of the program that EPAXOS names, where it does; else the library in the folder that EPAXOS_LIBRARY names, or in
+builds both in minutes. It is a process of the program that EPAXOS names, if it names one; else the library in the folder that EPAXOS_LIBRARY names, or in
 the repository that this file is in; else a process of the program of that repository, or of the one on the PATH. What is proved, and what you owe, stands in
 bindings/rust/epaxos/src/lib.rs; the bytes in docs/FORMATS.md, section 10. Nothing here is proved.
 """

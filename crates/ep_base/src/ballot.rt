@@ -7,7 +7,7 @@ use crate::out_of_range::OutOfRange;
 use crate::replica_id::ReplicaId;
 use std::marker::Model;
 
-/// A ballot of an instance, in the order of its counter and then of the replica that leads it.
+/// A ballot of an instance, ordered by its counter and then by the replica that leads it.
 #[derive(Clone, Copy, Debug, PartialEq, Eq, PartialOrd, Ord, Hash)]
 pub struct Ballot {
     counter: u16,
@@ -28,7 +28,7 @@ impl Model for Ballot {
 }
 
 impl Ballot {
-    /// The ballot of this counter and leader; `OutOfRange` where the counter is above 60,000.
+    /// The ballot of this counter and leader; `OutOfRange` if the counter is above 60,000.
     pub fn new(counter: u16, replica: ReplicaId) -> Result<Ballot, OutOfRange>
         ensures in_range { IsOk result ↔ (counter ≤ highest_counter) }
         ensures value { IfOk result (λ b. b ≡ ballot_of counter replica) }

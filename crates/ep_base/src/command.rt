@@ -87,8 +87,7 @@ impl Command {
         Command::of_parts(alloc, Op::Swap, first, second, [].as_slice())
     }
 
-    /// The comparison of the key with what is expected, and its exchange; `OutOfRange` unless the key has 1 to 255 bytes, and
-    /// each value at most 65,535.
+    /// A compare-and-set of the key; `OutOfRange` unless the key has 1 to 255 bytes, and each value at most 65,535.
     pub fn cas(
         alloc: Global,
         key: &[u8],
@@ -156,7 +155,7 @@ impl Command {
         Command::of_parts(alloc, op, touching.first, second, body)
     }
 
-    /// The command of these parts, which are copied into one run of bytes; `OutOfRange` where they are no command's.
+    /// The command of these parts, which are copied into one run of bytes; `OutOfRange` if they are no command's.
     pub fn of_parts(
         alloc: Global,
         op: Op,
@@ -181,7 +180,7 @@ impl Command {
         }
     }
 
-    /// The command of the op whose keys have so many bytes, and stand with its body in this run, which is shared. None where
+    /// The command of the op whose keys have this many bytes, and stand with its body in this run, which is shared. None if
     /// these are no command's parts.
     #[inline(always)]
     pub fn from_parts(op: Op, run: Bytes, first: u8, second: u8) -> Option<Command>
@@ -199,7 +198,7 @@ impl Command {
         })
     }
 
-    /// The same, where they are known to be a command's.
+    /// As `from_parts`, for parts that are known to be a command's.
     #[inline(always)]
     pub fn known(op: Op, run: Bytes, first: u8, second: u8) -> Command
         requires long { first + second ≤ length run }
@@ -238,7 +237,7 @@ impl Command {
         self.op
     }
 
-    /// The first key; no bytes where there is none.
+    /// The first key; no bytes if there is none.
     #[inline(always)]
     pub fn first(&self) -> &[u8]
         ensures value { result.now ≡ (parts_of self.now).first }
@@ -247,7 +246,7 @@ impl Command {
         &self.run.as_slice()[..self.first as usize]
     }
 
-    /// The second key; no bytes where there is none.
+    /// The second key; no bytes if there is none.
     #[inline(always)]
     pub fn second(&self) -> &[u8]
         ensures { result.now ≡ (parts_of self.now).second }
@@ -339,7 +338,8 @@ impl Command {
         matches!(self.op, Op::Swap)
     }
 
-    /// Whether neither version 1 nor version 2 has the command: it is a comparison, a seal, or a machine's outside.
+    /// Whether neither version 1 nor version 2 has the command: it is a comparison, a seal, or a command of a machine
+    /// outside.
     #[inline(always)]
     pub fn is_late(&self) -> bool
         ensures { result ≡ is_late self.now }

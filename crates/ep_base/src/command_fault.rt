@@ -8,7 +8,7 @@ pub enum CommandFault {
     /// Memory was refused.
     #[error("out of memory")]
     Memory,
-    /// A key has not 1 to 255 bytes, a value has more than 65,535, or two keys are one.
+    /// A key hasn't 1 to 255 bytes, a value has more than 65,535, or two keys are the same.
     #[error("out of range")]
     OutOfRange,
 }

@@ -24,10 +24,10 @@ pub enum CommandView<'a> {
     Del(&'a [u8]),
     /// Exchanges what two keys have.
     Swap(&'a [u8], &'a [u8]),
-    /// Gives the key the last one, exactly where it has the second, be either a value or none.
+    /// Gives the key the last value if it has the second; either may be absent.
     Cas(&'a [u8], Option<&'a [u8]>, Option<&'a [u8]>),
-    /// Closes the map. Its value is its proposer's.
+    /// Closes the map. The value means what its proposer likes.
     Seal(&'a [u8]),
-    /// Is a machine's outside: what it touches, and its body.
+    /// A command of a machine outside: what it touches, and its body.
     Opaque(Touching<'a>, &'a [u8]),
 }

@@ -1,4 +1,4 @@
-//! What a ballot is held on.
+//! What is voted on.
 
 ghost use Rattle.std.specs.Prelude.{◌≡◌, ◌↔◌, IsTrue, IfOk};
 ghost use Rattle.ep_base.specs.Sameness.{same_decree};

@@ -9,7 +9,7 @@ use crate::source::Source;
 use crate::write_failed::WriteFailed;
 use std::marker::Model;
 
-/// A source or a sink that fails at one call alone, the k-th one, counted from 1, and otherwise is what it wraps.
+/// A source or a sink that fails at its k-th call, counted from 1, and otherwise does what the one that it wraps does.
 #[derive(Drop)]
 pub struct FailAt<T> {
     inner: T,

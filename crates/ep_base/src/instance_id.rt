@@ -7,7 +7,7 @@ use crate::out_of_range::OutOfRange;
 use crate::replica_id::ReplicaId;
 use std::marker::Model;
 
-/// The instance of a number from 1 to 2,000 that a replica leads, in the order of replica and then number.
+/// An instance: the replica that leads it and a number from 1 to 2,000. Instances are ordered by replica, then by number.
 #[derive(Clone, Copy, Debug, PartialEq, Eq, PartialOrd, Ord, Hash)]
 pub struct InstanceId {
     place: u32,
@@ -54,7 +54,7 @@ impl InstanceId {
         })
     }
 
-    /// The instance of this place: 65,536 for each replica before its own, and its number; `OutOfRange` where there is none.
+    /// The instance at this place: its number, plus 65,536 for each replica before its own; `OutOfRange` if there is none.
     pub fn at(place: u32) -> Result<InstanceId, OutOfRange>
         ensures in_range { IsOk result ↔ IsInstance place }
         ensures value { IfOk result (λ i. i ≡ place) }
@@ -74,7 +74,7 @@ impl InstanceId {
         InstanceId { place }
     }
 
-    /// The instance's place: 65,536 for each replica before its own, and its number.
+    /// The instance's place: its number, plus 65,536 for each replica before its own.
     pub fn place(self) -> u32
         ensures value { result ≡ self }
         ensures in_range { IsInstance self }

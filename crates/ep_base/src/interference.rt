@@ -58,7 +58,7 @@ pub fn interference_law()
     ensures { InterferenceLaw }
 {}
 
-/// A command of a machine outside interferes by its footprint alone: with another one where they have a key in common and don't both only read, with a get of a key of its where it doesn't only read, with a put to a key of its.
+/// A command of a machine outside interferes by its footprint alone: with another one if they have a key in common and don't both only read, with a get of one of its keys if it doesn't only read, and with a put to one of its keys.
 pub fn footprint_law()
     ensures { FootprintLaw }
 {}

@@ -6,10 +6,10 @@
 //! Start with `command.rt` (what a replica may be asked, and which two commands interfere), `decree.rt` (what replicas vote
 //! on) and `message.rt`. `Source` and `Sink` are how crates read and write without knowing what.
 //!
-//! What each version of the formats has room for stands in `version.rt` alone.
+//! `version.rt` alone says what each version of the formats has room for.
 //!
-//! How instances and ballots are packed into numbers is known to specs/Instances.antt and specs/Ballots.antt alone. A change
-//! of a public type or clause here has all crates proved anew.
+//! specs/Instances.antt and specs/Ballots.antt alone say how instances and ballots are packed into numbers. After a change
+//! of a public type or clause here all crates are proved anew.
 #![tactic(auto)]
 
 mod attrs;

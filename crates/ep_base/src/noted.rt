@@ -9,7 +9,7 @@ use crate::write_failed::WriteFailed;
 use std::io::{Read, Write};
 use std::marker::Model;
 
-/// A reader or a writer, and whether it has failed. It tells the bytes that the reader or writer tells.
+/// A reader or a writer, and whether it has failed. Its bytes are those of the reader or writer.
 #[derive(Drop)]
 pub struct Noted<T> {
     inner: T,
@@ -42,7 +42,7 @@ impl<T> Noted<T> {
         &self.inner
     }
 
-    /// The reader or writer, and no longer whether it has failed.
+    /// The reader or writer alone.
     pub fn into_inner(self) -> T
         ensures { result ≡ self.inner }
     {

@@ -76,7 +76,7 @@ impl Op {
         matches!(self, Op::Get | Op::Ask)
     }
 
-    /// Whether the first key may have so many bytes: 1 to 255, or none of a no-op or a seal.
+    /// Whether the first key may have this many bytes: 1 to 255, or none of a no-op or a seal.
     #[inline(always)]
     pub fn first_fits(self, len: usize) -> bool
         ensures { result ≡ first_fits self len }
@@ -87,7 +87,7 @@ impl Op {
         }
     }
 
-    /// Whether the second key may have so many bytes: 1 to 255 of a swap, at most 255 of a machine's command, else none.
+    /// Whether the second key may have this many bytes: 1 to 255 of a swap, at most 255 of a machine's command, else none.
     #[inline(always)]
     pub fn second_fits(self, len: usize) -> bool
         ensures { result ≡ second_fits self len }
@@ -99,8 +99,8 @@ impl Op {
         }
     }
 
-    /// Whether the body may have so many bytes: at most 65,535 of a put, a seal or a machine's command, 2 to 131,080 of a
-    /// comparison, else none.
+    /// Whether the body may have this many bytes: at most 65,535 of a put, a seal or a machine's command, 2 to 131,080 of
+    /// a comparison, else none.
     #[inline(always)]
     pub fn body_fits(self, len: usize) -> bool
         ensures { result ≡ body_fits self len }
@@ -113,7 +113,7 @@ impl Op {
     }
 }
 
-/// Whether a key may have so many bytes: 1 to 255.
+/// Whether a key may have this many bytes: 1 to 255.
 #[inline(always)]
 pub(crate) fn is_key_len(len: usize) -> bool
     ensures { result ≡ is_key_len len }

@@ -15,7 +15,7 @@ pub enum Reply {
     Present(Value),
     /// A seal stands before the command, which changed nothing.
     Closed,
-    /// The command is a machine's outside, and has its place in the order.
+    /// The command is one of a machine outside, and has its place in the order.
     Ordered,
 }
 

@@ -43,7 +43,7 @@ impl RisingList {
         Ok(RisingList { items })
     }
 
-    /// Takes one more instance, which is above the last one. As it was at an `Err`.
+    /// Adds an instance, which is above the last one. At an `Err` the list is as it was.
     pub fn push(&mut self, instance: InstanceId) -> Result<(), AllocError>
         requires { IsRising (self.old ++ instance ∷ []) }
         ensures ok { OnOk result (self.new ≡ self.old ++ instance ∷ []) }

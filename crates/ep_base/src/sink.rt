@@ -7,7 +7,7 @@ use crate::write_failed::WriteFailed;
 
 /// Takes bytes. A fault sets `failed` for good.
 pub trait Sink {
-    /// The bytes that it holds, where they are known.
+    /// The bytes that it holds, if they are known.
     ghost held: { Self → Option (List ℕ) };
 
     /// Whether a put has failed.

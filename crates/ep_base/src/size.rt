@@ -62,8 +62,8 @@ impl Size {
     }
 }
 
-/// Whether the replica is of the fast quorum of the leader's instances: all replicas of the cluster are but one,
-/// the one below the leader (and the last one for leader 0). False where either is no replica of the cluster.
+/// Whether the replica is of the fast quorum of the leader's instances: all replicas of the cluster are members but the
+/// one below the leader (the last one, for leader 0). False if either is no replica of the cluster.
 pub fn fast_member(size: Size, leader: ReplicaId, replica: ReplicaId) -> bool
     ensures { result ≡ is_member size leader replica }
 {

@@ -7,7 +7,7 @@ use crate::read_failed::ReadFailed;
 
 /// Gives bytes. A fault sets `failed` for good.
 pub trait Source {
-    /// The bytes that are left, where they are known.
+    /// The bytes that are left, if they are known.
     ghost left: { Self → Option (List ℕ) };
 
     /// Whether a pull has failed.
@@ -17,7 +17,7 @@ pub trait Source {
     fn failed(&self) -> bool
         ensures { result ≡ has_failed self.now };
 
-    /// Fills the front of the slice with the next bytes, and tells how many. None, into a slice that isn't empty, is the end.
+    /// Fills the front of the slice with the next bytes, and returns how many. 0 for a slice that isn't empty is the end.
     fn pull(&mut self, buf: &mut [u8]) -> Result<usize, ReadFailed>
         ensures bound { IfOk result (λ n. n ≤ length buf.new) }
         ensures bytes { Pulls (left self.old) (left self.new) (has_failed self.old) (has_failed self.new) result buf.new };

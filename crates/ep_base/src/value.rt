@@ -32,7 +32,7 @@ impl Value {
     /// How many it has at most in versions 1 and 2.
     pub const LONGEST_EARLY: usize = 1_024;
 
-    /// The value of these bytes; `OutOfRange` where they are more than 65,535.
+    /// The value of these bytes; `OutOfRange` if they are more than 65,535.
     pub fn new(alloc: Global, bytes: &[u8]) -> Result<Value, CommandFault>
         ensures ok { IfOk result (λ v. v ≡ bytes.now) }
         ensures out_of_range { result ≡ Err CommandFault.OutOfRange ↔ (most_value < length bytes.now) }

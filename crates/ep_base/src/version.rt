@@ -48,8 +48,7 @@ impl Version {
         }
     }
 
-    /// The version of these numbers: version 1 of the number 1, version 3 of the number 3 and the generation, which is then
-    /// 1 or more, and else version 2.
+    /// The version with this number, and for 3 with this generation (1 or more): 1, 3, or else 2.
     pub fn known(number: u8, generation: u32) -> Version
         requires { number ≡ 3 → 1 ≤ generation }
         ensures { result ≡ version_of number generation }

@@ -1,12 +1,16 @@
-//! What the programs share: their words and files, the standard streams, the lines of their faults and how they end, and what contracts say of
-//! their outputs.
+//! What the programs share: their commands, words and files, the standard streams, the lines of their faults and how they end, and what contracts
+//! say of their outputs.
 //!
 //! Each program is its table of commands above it. Start with `streams.rt` and specs/Outputs.antt (what was written, and which device
 //! failed), and specs/Lines.antt, which says each line, as docs/FORMATS.md, section 6, lists them.
 #![tactic(auto)]
 
 mod ahead;
+mod arg_kind;
+mod arg_row;
 mod arguments;
+mod command_row;
+mod commands;
 mod endings;
 mod files;
 mod files_fault;
@@ -19,7 +23,11 @@ mod telling;
 mod words_fault;
 
 pub use ahead::{Ahead, read_ahead};
+pub use arg_kind::ArgKind;
+pub use arg_row::ArgRow;
 pub use arguments::words;
+pub use command_row::CommandRow;
+pub use commands::program;
 pub use endings::{decline, put_printout, told, turned_away};
 pub use files::{read_file, read_files, unread};
 pub use files_fault::FilesFault;

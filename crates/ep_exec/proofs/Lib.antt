@@ -16,3 +16,4 @@ pub mod Sealed
 pub mod Rising
 pub mod Sorting
 pub mod Filling
+pub mod Nexts

@@ -83,6 +83,21 @@ pub fn told(value: Option<Value>) -> Reply
     }
 }
 
+/// Gives the key this value again, or none.
+fn add(
+    alloc: Global,
+    table: &mut ValueTable,
+    key: &[u8],
+    value: Option<&Value>,
+) -> Result<(), AllocError>
+    ensures { OnOk result (contents_of table.new.entries ≡ with_key (contents_of table.old.entries) key.now (option_copied value.entry)) }
+{
+    let name = Vec::from_slice(alloc, key)?;
+    let value = copied(alloc, value)?;
+    done(set(table, name, value)?);
+    Ok(())
+}
+
 /// The same table again.
 pub fn copy(alloc: Global, table: &ValueTable) -> Result<ValueTable, AllocError>
     ensures { IfOk result (λ t. contents_of t.entries ≡ contents_of table.now.entries) }
@@ -90,9 +105,7 @@ pub fn copy(alloc: Global, table: &ValueTable) -> Result<ValueTable, AllocError>
     let mut copy = IndexMap::new(alloc);
     for index in (0..table.len()).rev() {
         let (key, value) = table.get_index(index).unwrap();
-        let name = Vec::from_slice(alloc, key.as_slice())?;
-        let value = copied(alloc, value.as_ref())?;
-        done(set(&mut copy, name, value)?);
+        add(alloc, &mut copy, key.as_slice(), value.as_ref())?;
     }
     Ok(copy)
 }
@@ -105,9 +118,7 @@ pub fn filled(alloc: Global, items: &[(Key, Value)]) -> Result<ValueTable, Alloc
 {
     let mut table = IndexMap::with_capacity(alloc, items.len())?;
     for (key, value) in items {
-        let name = Vec::from_slice(alloc, key.as_slice())?;
-        let value = value.copy(alloc)?;
-        done(set(&mut table, name, Some(value))?);
+        add(alloc, &mut table, key.as_slice(), Some(value))?;
     }
     Ok(table)
 }

@@ -14,8 +14,8 @@ use std::alloc::Global;
 use std::marker::{Model, Send};
 use std::ptr::null_mut;
 
-/// A node on the heap, or none, as one pointer. C begins it with a null pointer, and changes nothing in it. So a handle that has no node, that was freed
-/// before, or that has one already, is seen as such, and no call is undefined at it.
+/// A node on the heap, or none, as one pointer. C begins it with a null pointer, and changes nothing in it. So each call sees whether a handle has no
+/// node, was freed, or has one already, and none is undefined.
 #[repr(C)]
 #[derive(Drop)]
 pub struct Handle {
@@ -38,7 +38,7 @@ impl Handle {
         Handle { at: null_mut() }
     }
 
-    /// The node that is loose.
+    /// The node, as `Loose`.
     fn of_loose(node: Loose<Hosted, Global>) -> Handle
         ensures { result.value ≡ Some node.value }
     {
@@ -46,7 +46,7 @@ impl Handle {
         Handle { at: at as *mut u8 }
     }
 
-    /// The node, loose, if there is one.
+    /// The node as `Loose`, if there is one.
     fn into_loose(self, alloc: Global) -> Option<Loose<Hosted, Global>>
         ensures { option_map (λ l. l.value) result ≡ self.value }
     {

@@ -15,7 +15,7 @@ pub struct Blocked {
     missing: InstanceId,
 }
 
-/// The instance for which the root waits, where it is the one that was refused last, and is asked with a mark.
+/// The instance that the root waits for, if the root is the execution that was refused last and is asked for with a mark.
 pub fn known_missing(
     last: &Option<Blocked>,
     root: &Option<InstanceId>,

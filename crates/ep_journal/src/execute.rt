@@ -14,7 +14,7 @@ use ep_exec::{Executed, Store, Trial, plan_left};
 use ep_space::Space;
 use std::alloc::{AllocError, Global};
 
-/// Does what is committed in the instance: nothing where nothing is.
+/// Does what is committed in the instance: nothing if nothing is.
 fn try_one(space: &Space, trial: &mut Trial, id: InstanceId) -> Result<Answer, AllocError>
     ensures answer { IfOk result (λ a. a ≡ answer trial.old.current (command_in space.now.records id)) }
     ensures ok { OnOk result (trial.new ≡ tried trial.old (command_in space.now.records id)) }
@@ -70,7 +70,7 @@ fn do_several(
     }
 }
 
-/// Does the command on the map: a no-op answers lost. At want of memory the map stays as it was.
+/// Does the command on the map: a no-op answers lost. If memory runs out the map stays as it was.
 fn do_command(store: &mut Store, command: &Command) -> Result<Answer, AllocError>
     ensures answer { IfOk result (λ a. a ≡ answer store.old command.now) }
     ensures ok { OnOk result (store.new ≡ after store.old command.now) }
@@ -82,8 +82,8 @@ fn do_command(store: &mut Store, command: &Command) -> Result<Answer, AllocError
     Ok(Answer::Told(store.apply(command)?))
 }
 
-/// Does what is committed in one instance on the map, or nothing. Nothing is noted to be taken back, since no command follows that could
-/// be refused memory.
+/// Does what is committed in one instance on the map, or nothing. Nothing is kept for undoing it, since no later command could run out of
+/// memory.
 fn do_one(
     alloc: Global,
     space: &Space,
@@ -131,8 +131,8 @@ fn add_all(executed: &mut Executed, order: &[InstanceId])
     }
 }
 
-/// Executes the root and all that it waits for, or nothing: `NotCommitted` where the root reaches an instance that is not committed,
-/// with the least of them. At any refusal, want of memory among them, what is executed and the map are as they were.
+/// Executes the root and all that it waits for, or nothing: `NotCommitted` if the root reaches an instance that is not committed,
+/// with the least of them. At any refusal, also if memory runs out, what is executed and the map are as they were.
 #[tactic(auto, using(crate::proofs::Execution::unplanned))]
 pub(crate) fn execute(
     alloc: Global,

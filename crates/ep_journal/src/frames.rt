@@ -100,7 +100,7 @@ fn upgrade_each(alloc: Global, frames: &mut [Frame]) -> Result<(), AllocError>
     Ok(())
 }
 
-/// The frames of what the change sends, in this version, as those of the entry so marked.
+/// The frames of what the change sends, in this version, as those of the entry with this mark.
 pub(crate) fn written(
     alloc: Global,
     cell: &Cell<'_>,
@@ -221,7 +221,7 @@ fn is_receiver(cell: &Cell<'_>, to: Receivers, replica: u8) -> bool
     }
 }
 
-/// What an entry so marked tells, in this version, and whom.
+/// What an entry with this mark tells, in this version, and whom.
 #[derive(Drop)]
 struct Told<'a> {
     version: Version,

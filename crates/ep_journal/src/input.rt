@@ -10,7 +10,7 @@ pub enum Input<'a> {
     Start(&'a Command),
     /// Handle the frame's message.
     Message(&'a FrameView<'a>),
-    /// Wait no longer for the fast quorum.
+    /// Stop waiting for the fast quorum.
     GiveUp,
     /// Take the instance over.
     Recover,

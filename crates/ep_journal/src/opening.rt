@@ -43,7 +43,7 @@ impl Opening {
         }
     }
 
-    /// This map, with clocks that go on from this stamp; `OutOfRange` where the stamp is above 281,474,976,710,655, or more than 4,000,000,000
+    /// This map, with clocks that go on from this stamp; `OutOfRange` if the stamp is above 281,474,976,710,655, or more than 4,000,000,000
     /// keys have a value.
     pub fn new(contents: Contents, since: u64) -> Result<Opening, OutOfRange>
         ensures in_range { IsOk result ↔ ((since ≤ 281474976710655) × (length (entries contents) ≤ 4000000000)) }

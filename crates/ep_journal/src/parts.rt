@@ -42,7 +42,7 @@ pub struct Parts {
     pub store: Store,
 }
 
-/// The next instance for the command: `SpaceFull` where the least free number is above the highest that the version has for it.
+/// The next instance for the command: `SpaceFull` if the least free number is above the highest that the version has for it.
 #[inline(always)]
 fn instance_for(space: &Space, me: ReplicaId, command: &Command) -> Result<InstanceId, SpaceFull>
     ensures ok { IfOk result (λ i. (n : ℕ) × (free_number space.now.records me ≡ Some n) × (n < highest_for space.now.version command.now) × (i ≡ instance_of me (n + 1))) }
@@ -78,10 +78,22 @@ impl Parts {
     pub fn copy(&self, alloc: Global) -> Result<Parts, AllocError>
         ensures { IfOk result (λ p. standing_of p ≡ standing_of self.now) }
     {
-        let space = self.space.duplicate(alloc)?;
-        let lead = self.lead.duplicate(alloc)?;
         let executed = self.executed.duplicate(alloc)?;
-        let store = self.store.copy()?;
+        let Ok(store) = self.store.copy() else {
+            drop(executed);
+            return Err(AllocError);
+        };
+        let Ok(lead) = self.lead.duplicate(alloc) else {
+            drop(executed);
+            drop(store);
+            return Err(AllocError);
+        };
+        let Ok(space) = self.space.duplicate(alloc) else {
+            drop(executed);
+            drop(store);
+            drop(lead);
+            return Err(AllocError);
+        };
         Ok(Parts {
             me: self.me,
             space,
@@ -91,7 +103,8 @@ impl Parts {
         })
     }
 
-    /// Takes the step of an event, so marked: what came of it; or why it is refused. Where there is no mark, it is past its limits.
+    /// Takes the step of an event with this mark: what came of it; or why it is refused. `None` as the mark says that the
+    /// number or the stamp would pass its limit.
     #[inline(always)]
     pub fn step(
         &mut self,
@@ -194,7 +207,7 @@ impl Parts {
         })
     }
 
-    /// Does what is asked of the instance, where there is a mark.
+    /// Does what is asked of the instance, if there is a mark.
     #[inline(always)]
     fn ask(
         &mut self,
@@ -231,8 +244,15 @@ impl Parts {
     {
         let cell = Cell::of(&self.space, &self.lead, self.me, id);
         let change = decide(alloc, &cell, input)?;
-        let frames = written(alloc, &cell, self.space.version(), mark, &change)?;
-        change.reserve(&mut self.space, &mut self.lead, id)?;
+        let Ok(frames) = written(alloc, &cell, self.space.version(), mark, &change) else {
+            drop(change);
+            return Err(StepFault::Memory);
+        };
+        let Ok(()) = change.reserve(&mut self.space, &mut self.lead, id) else {
+            drop(change);
+            drop(frames);
+            return Err(StepFault::Memory);
+        };
         change.install(&mut self.space, &mut self.lead, id)?;
         Ok(Taken {
             frames,

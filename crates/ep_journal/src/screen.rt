@@ -22,8 +22,8 @@ pub(crate) fn screen_request(client: u32, request: u32, command: &Command) -> Re
     Ok(())
 }
 
-/// Why no state takes the frame: `OutOfRange` where its sender, its receiver or a replica that its message names is not of the cluster, then
-/// `NotMine` where it is for another replica.
+/// Why no state takes the frame: `OutOfRange` if its sender, its receiver or a replica that its message names is not of the cluster, then
+/// `NotMine` if it is for another replica.
 #[inline(always)]
 pub(crate) fn screen_frame(
     cluster: Size,

@@ -3,7 +3,7 @@
 use crate::executions::Executions;
 use crate::frames::Frames;
 
-/// What an event sends and executes: an entry, but for its mark and the event.
+/// What an event sends and executes: an entry without its mark and its event.
 #[derive(Drop)]
 pub struct Taken {
     /// The frames sent, by rising receiver.

@@ -1,4 +1,4 @@
-//! What a version has: a replica of it takes no other events.
+//! What a version has. A replica of that version takes no other events.
 
 ghost use Rattle.std.specs.Prelude.{◌≡◌, None, Some, IfErr, OnOk};
 ghost use Rattle.ep_frame.specs.Meaning.{version_at};

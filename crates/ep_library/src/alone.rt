@@ -26,7 +26,7 @@ pub extern "C" fn ep_version() -> u32
     1
 }
 
-/// Copies the text, where there is room, with this status.
+/// Copies the text, if there is room, with this status.
 fn copies(well: u8, text: &[u8], out: &mut [u8], len: &mut usize) -> u8
     ensures { Copies result well text.now out.old out.new len.new }
 {
@@ -54,7 +54,7 @@ fn first_opening(alloc: Global, size: Size) -> Result<Vec<u8>, AllocError>
     }
 }
 
-/// Copies the file that generation 1 opens with, in a cluster of so many replicas: no key has a value. `len` becomes how many bytes it has. EP_TOO_SHORT: nothing was
+/// Copies the file that generation 1 opens with, in a cluster of this many replicas; its map is empty. `len` becomes how many bytes it has. EP_TOO_SHORT: nothing was
 /// copied; EP_MEMORY; EP_OUT_OF_RANGE: a cluster has 3, 5 or 7 replicas.
 #[unsafe(no_mangle)]
 pub extern "C" fn ep_first_opening(

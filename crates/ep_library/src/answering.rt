@@ -18,7 +18,7 @@ use ep_phase::LeadPhase;
 use std::alloc::Global;
 use std::mem;
 
-/// The replica tells what its map has at the key.
+/// What the replica's map has at the key.
 fn looks(alloc: Global, hosted: &mut Hosted, key: &Key, value: &mut Lent) -> u8
     ensures told { Looks result hosted.old key.now hosted.new value.new }
     ensures untold { result ≢ 0 → value.new ≡ value.old }
@@ -50,7 +50,7 @@ fn look_up(alloc: Global, handle: &mut Handle, key: &Key, value: &mut Lent) -> u
 }
 
 /// Lends the value that the replica's own map has at the key, after all that it executed: a local read, which may be old. EP_NO_REPLICA, EP_UNSYNCED, EP_MEMORY; EP_NONE: the
-/// map has none; EP_OUT_OF_RANGE: the key has not 1 to 255 bytes.
+/// map has none; EP_OUT_OF_RANGE: the key hasn't 1 to 255 bytes.
 #[unsafe(no_mangle)]
 pub extern "C" fn ep_get(alloc: Global, handle: &mut Handle, key: &[u8], value: &mut Lent) -> u8
     ensures told { LooksUp result handle.old.value key.now handle.new.value value.new }
@@ -106,7 +106,7 @@ fn next_open(
     }
 }
 
-/// Tells the least instance that the replica knows of and hasn't committed, above this one, or, where its number is 0, of all. EP_NO_REPLICA, EP_UNSYNCED; EP_NONE: there is
+/// Tells the least instance that the replica knows of and hasn't committed, above this one, or, if its number is 0, of all. EP_NO_REPLICA, EP_UNSYNCED; EP_NONE: there is
 /// none; EP_OUT_OF_RANGE: there is no such instance.
 #[unsafe(no_mangle)]
 pub extern "C" fn ep_next_open(
@@ -203,7 +203,7 @@ fn closes(alloc: Global, hosted: &mut Hosted, next: Size, opening: &mut Lent) ->
     }
 }
 
-/// Lends the file that the next generation opens with, in a cluster of so many replicas, once a seal was executed here. The replica goes on, and those that lag may still
+/// Lends the file that the next generation opens with, in a cluster of this many replicas, once a seal was executed here. The replica goes on, and those that lag may still
 /// need it. EP_NO_REPLICA, EP_UNSYNCED, EP_MEMORY; EP_NOT_SEALED; EP_LAST_GENERATION; EP_OUT_OF_RANGE: a cluster has 3, 5 or 7 replicas.
 #[unsafe(no_mangle)]
 pub extern "C" fn ep_close(

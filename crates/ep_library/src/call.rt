@@ -3,7 +3,7 @@
 /// Whose command is proposed.
 #[repr(C)]
 pub struct Call {
-    /// The greatest stamp of the receipts that the client has seen; 0 where it has seen none.
+    /// The greatest stamp of the receipts that the client has seen; 0 if it has seen none.
     pub seen: u64,
     /// The client, from 1.
     pub client: u32,

@@ -67,7 +67,7 @@ pub extern "C" fn ep_handle(alloc: Global, handle: &mut Handle, frame: &[u8]) ->
     }
 }
 
-/// The replica waits no longer for its whole fast quorum in an instance that it leads: it goes on by the slow path. EP_NO_REPLICA, EP_LENT, EP_MEMORY; EP_OUT_OF_RANGE:
+/// The replica stops waiting for its whole fast quorum in an instance that it leads: it goes on by the slow path. EP_NO_REPLICA, EP_LENT, EP_MEMORY; EP_OUT_OF_RANGE:
 /// there is no such instance; EP_NOT_LEADING; EP_TOO_FEW_ANSWERS; EP_STAMP_FULL.
 #[unsafe(no_mangle)]
 pub extern "C" fn ep_give_up(alloc: Global, handle: &mut Handle, instance: Instance) -> u8
@@ -79,7 +79,7 @@ pub extern "C" fn ep_give_up(alloc: Global, handle: &mut Handle, instance: Insta
     }
 }
 
-/// The replica waits no longer for the one that leads the instance, and takes it over. EP_NO_REPLICA, EP_LENT, EP_MEMORY; EP_OUT_OF_RANGE: there is no such instance;
+/// The replica stops waiting for the one that leads the instance, and takes it over. EP_NO_REPLICA, EP_LENT, EP_MEMORY; EP_OUT_OF_RANGE: there is no such instance;
 /// EP_ALREADY_COMMITTED; EP_BALLOTS_EXHAUSTED; EP_STAMP_FULL.
 #[unsafe(no_mangle)]
 pub extern "C" fn ep_recover(alloc: Global, handle: &mut Handle, instance: Instance) -> u8
@@ -128,7 +128,7 @@ fn sweeps(hosted: &mut Hosted) -> u8
     }
 }
 
-/// Executes all instances that are ready, whoever leads them: before a local read, or where a machine of your own is to keep up. EP_NO_REPLICA; EP_LENT; EP_MEMORY: some
+/// Executes all instances that are ready, whoever leads them: before a local read, or if a machine of your own is to keep up. EP_NO_REPLICA; EP_LENT; EP_MEMORY: some
 /// may have been executed, and the next call goes on.
 #[unsafe(no_mangle)]
 pub extern "C" fn ep_execute_all(alloc: Global, handle: &mut Handle) -> u8

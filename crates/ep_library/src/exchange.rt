@@ -7,8 +7,8 @@ pub struct Exchange<'a> {
     pub expected: &'a [u8],
     /// The value that it then gets.
     pub desired: &'a [u8],
-    /// 0: the key has to have no value, and `expected` counts for nothing.
+    /// 0: the key has to have no value, and `expected` is ignored.
     pub has_expected: u8,
-    /// 0: the key then has no value, and `desired` counts for nothing.
+    /// 0: the key then has no value, and `desired` is ignored.
     pub has_desired: u8,
 }

@@ -17,7 +17,7 @@ use ep_node::Cut;
 use std::alloc::Global;
 use std::mem;
 
-/// The replica of this seat, by the bytes that are given.
+/// The replica at this place in a cluster, by the bytes that are given.
 fn begin(alloc: Global, seat: Seat, setup: &Setup<'_>) -> Result<Hosted, StartFault>
     ensures { Begins seat (given setup.now.opening.now) (log_given setup.now.is_new setup.now.log.now) result }
 {
@@ -58,7 +58,7 @@ fn seat(
     }
 }
 
-/// Opens a replica, where there is none.
+/// Opens a replica, if there is none.
 fn open_new(alloc: Global, handle: &mut Handle, setup: &Setup<'_>, place: &mut Place) -> u8
     requires { handle.old.value ≡ None }
     ensures { OpensNew result setup.now place.old handle.new.value place.new }
@@ -73,9 +73,9 @@ fn open_new(alloc: Global, handle: &mut Handle, setup: &Setup<'_>, place: &mut P
     seat(alloc, handle, begun, place)
 }
 
-/// Opens a replica, where there is none, of version 2 or of a generation: a new one, or one that goes on from its log. The first thing to do then is `ep_ready`, which lends the whole
+/// Opens a replica, if there is none, of version 2 or of a generation: a new one, or one that goes on from its log. The first thing to do then is `ep_ready`, which lends the whole
 /// log, written anew; nothing is taken or told before that is on the disk. `ep_free` ends it. EP_HAS_REPLICA, EP_MEMORY; EP_OUT_OF_RANGE: `replicas` isn't 3, 5 or 7, or `replica` isn't
-/// below it; and from EP_NO_LOG on what the log or the opening is refused for: `place` becomes where, by the numbers of which the status speaks.
+/// below it; and each status from EP_NO_LOG on, by which the log or the opening is refused: `place` becomes the numbers that the status names.
 #[unsafe(no_mangle)]
 pub extern "C" fn ep_open(
     alloc: Global,
@@ -111,7 +111,7 @@ fn show_cut(cut: Option<Cut>, place: &mut Place) -> u8
     }
 }
 
-/// Tells what was cut off the log's end as the replica was opened, where a crash had left bytes that are no whole record: from byte `at` on, `by` bytes. Pass it on to whoever
+/// Tells what was cut off the log's end as the replica was opened, if a crash had left bytes that are no whole record: from byte `at` on, `by` bytes. Pass it on to whoever
 /// runs the replica. EP_NO_REPLICA; EP_NONE: nothing was cut off.
 #[unsafe(no_mangle)]
 pub extern "C" fn ep_cut(alloc: Global, handle: &mut Handle, place: &mut Place) -> u8

@@ -9,7 +9,7 @@ use ep_base::{InstanceId, ReplicaId, Size};
 use ep_hosted::Seat;
 use std::alloc::{AllocError, Global};
 
-/// The seat of this replica among so many.
+/// The place of this replica in a cluster of this many.
 pub(crate) fn seat_of(replicas: u8, replica: u8) -> Option<Seat>
     ensures some { IfSome result (IsSeat replicas replica) }
     ensures none { IsNone result ↔ ¬ HasSeat replicas replica }

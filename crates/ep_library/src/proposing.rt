@@ -31,7 +31,7 @@ fn proposal(call: &Call, command: Command) -> Event
     }
 }
 
-/// The replica, if there is one, takes a client's proposal of the command, where that was made.
+/// The replica, if there is one, takes a client's proposal of the command, if that was made.
 fn propose(
     alloc: Global,
     handle: &mut Handle,
@@ -46,10 +46,10 @@ fn propose(
     }
 }
 
-/// A client asks for the value of a key. As any command it is put in order with all others that name the key, so it sees all that was answered before. What is answered
-/// comes by `ep_answers`, as a receipt, once the command was executed; so it is with each command. EP_NO_REPLICA, EP_LENT, EP_MEMORY; EP_OUT_OF_RANGE: a key has not 1 to 255
-/// bytes, a value more than 65,535, two keys are one, a client or a request is 0, or the version hasn't the command (version 2 has get, put, del and swap, and values of up to
-/// 1,024 bytes); EP_SPACE_FULL; EP_SEQ_EXHAUSTED; EP_STAMP_FULL.
+/// A client asks for the value of a key. As any command it is put in order with all others that name the key, so it sees all that was answered before. Its answer, like every
+/// command's, comes by `ep_answers`, as a receipt, once the command was executed. EP_NO_REPLICA, EP_LENT, EP_MEMORY; EP_OUT_OF_RANGE: a key hasn't 1 to 255 bytes, a value has
+/// more than 65,535, two keys are the same, a client or a request is 0, or the version hasn't the command (version 2 has get, put, del and swap, and values of up to 1,024
+/// bytes); EP_SPACE_FULL; EP_SEQ_EXHAUSTED; EP_STAMP_FULL.
 #[unsafe(no_mangle)]
 pub extern "C" fn ep_propose_get(alloc: Global, handle: &mut Handle, call: &Call, key: &[u8]) -> u8
     ensures { Proposes result handle.old.value call.now (Get key.now) handle.new.value }
@@ -57,7 +57,7 @@ pub extern "C" fn ep_propose_get(alloc: Global, handle: &mut Handle, call: &Call
     propose(alloc, handle, call, Command::get(alloc, key))
 }
 
-/// The replica takes a client's proposal of the command, where that was made.
+/// The replica takes a client's proposal of the command, if that was made.
 fn proposes(hosted: &mut Hosted, call: &Call, made: Result<Command, CommandFault>) -> u8
     ensures { Made result (Some hosted.old) call.now made (Some hosted.new) }
 {
@@ -119,7 +119,7 @@ pub extern "C" fn ep_propose_swap(
     propose(alloc, handle, call, Command::swap(alloc, first, second))
 }
 
-/// A client compares and sets: where the key has what is expected, it gets what is desired. The answer is what it had, so the client knows whether that was done. Statuses
+/// A client compares and sets: if the key has what is expected, it gets what is desired. The answer is what it had, so the client knows whether that was done. Statuses
 /// are those of `ep_propose_get`.
 #[unsafe(no_mangle)]
 pub extern "C" fn ep_propose_cas(

@@ -1,6 +1,6 @@
-//! As what a replica is opened.
+//! What a replica is opened as.
 
-/// As what a replica is opened.
+/// What a replica is opened as.
 #[repr(C)]
 pub struct Setup<'a> {
     /// The file that its generation opens with, as ep_first_opening or ep_close gives it; of no bytes for a replica of version 2.

@@ -10,7 +10,7 @@ pub(crate) const OUT_OF_RANGE: u8 = 3;
 pub(crate) const SPACE_FULL: u8 = 4;
 /// The numbers that order commands are used up.
 pub(crate) const SEQ_EXHAUSTED: u8 = 5;
-/// The replica doesn't lead the instance, or does no longer.
+/// The replica doesn't lead the instance, or doesn't any more.
 pub(crate) const NOT_LEADING: u8 = 6;
 /// Fewer than a slow quorum has answered: wait on, and send the proposal's frames again.
 pub(crate) const TOO_FEW_ANSWERS: u8 = 7;
@@ -28,7 +28,7 @@ pub(crate) const BAD_BUNDLE: u8 = 12;
 pub(crate) const NOT_MINE: u8 = 13;
 /// The bytes are no frame of this version and generation.
 pub(crate) const BAD_FRAME: u8 = 14;
-/// The seen stamp is out of reach, or the replica's stamps are used up.
+/// The seen stamp is too far ahead, or the replica's stamps are used up.
 pub(crate) const STAMP_FULL: u8 = 15;
 /// There is no replica: none was opened, or it was freed.
 pub(crate) const NO_REPLICA: u8 = 32;
@@ -74,7 +74,7 @@ pub(crate) const BAD_CHECKSUM: u8 = 55;
 pub(crate) const BAD_ENTRY: u8 = 56;
 /// The entry of the log's record at byte `at` isn't the next one.
 pub(crate) const NOT_NEXT: u8 = 57;
-/// A byte of the log's record at byte `at` was turned: it was on the disk, by the record at byte `by`.
+/// The log's record at byte `at` was changed: it was on the disk, by the record at byte `by`.
 pub(crate) const TURNED: u8 = 58;
 /// The log's entry of number `at` has a stamp that no clock gave it.
 pub(crate) const NOT_CLOCKED: u8 = 59;

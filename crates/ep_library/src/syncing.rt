@@ -53,9 +53,9 @@ fn lends(alloc: Global, hosted: &mut Hosted, log: &mut Lent, is_anew: &mut u8) -
     }
 }
 
-/// Lends the bytes that are to be written to the log: the records of all that was taken since the last `ep_synced`, behind the log, or, where `is_anew` becomes 1, in place of
-/// all that was there, at once (write another file, sync it, rename it). So it is first after an `ep_open`. Where all is on the disk, there are none. While bytes are lent, nothing is
-/// taken (EP_LENT), and a second call lends the same, until `ep_synced` says that they are on the disk. Where writing them fails, free the replica and open it from its log.
+/// Lends the bytes that are to be written to the log: the records of all that was taken since the last `ep_synced`, after the log, or, if `is_anew` becomes 1, in place of all that
+/// was there, at once (write another file, sync it, rename it). The first call after `ep_open` is such a one. If all is on the disk, there are none. While bytes are lent, nothing is
+/// taken (EP_LENT), and a second call lends the same, until `ep_synced` says that they are on the disk. If writing them fails, free the replica and open it from its log.
 /// EP_NO_REPLICA, EP_MEMORY.
 #[unsafe(no_mangle)]
 pub extern "C" fn ep_ready(
@@ -89,7 +89,7 @@ fn syncs(hosted: &mut Hosted, count: usize) -> u8
     }
 }
 
-/// Says that what `ep_ready` lent is on the disk (fsync has returned): all of it, so many bytes; none, where nothing is lent. From now on no crash takes what was taken before.
+/// Says that what `ep_ready` lent is on the disk (fsync has returned): all of it, `count` bytes; 0 if nothing is lent. From now on no crash takes what was taken before.
 /// EP_NO_REPLICA, EP_NOT_LENT, EP_NOT_ALL, EP_MEMORY.
 #[unsafe(no_mangle)]
 pub extern "C" fn ep_synced(alloc: Global, handle: &mut Handle, count: usize) -> u8
@@ -120,7 +120,7 @@ fn tells(alloc: Global, hosted: &mut Hosted, told: u32, most: u8, bytes: &mut Le
     }
 }
 
-/// Lends the answers of all that was asked by `ep_ask` since the last time, in that order, and behind them one of kind 9: all frames, receipts, commits and executions of the
+/// Lends the answers of all that was asked by `ep_ask` since the last time, in that order, and after them one of kind 9: all frames, receipts, commits and executions of the
 /// entries after the first `told`, each once, and at most `most` open instances. It says how many entries there are: hand that in as `told` the next time; at first 0. All that is
 /// told is on the disk. EP_NO_REPLICA; EP_UNSYNCED; EP_MEMORY: what was asked still waits for the next call.
 #[unsafe(no_mangle)]
@@ -155,7 +155,7 @@ fn asks(alloc: Global, hosted: &mut Hosted, request: &[u8]) -> u8
     }
 }
 
-/// Does what a request asks: the bytes of one, from its length on. What it is answered, also where it is refused or malformed, comes by `ep_answers`. EP_NO_REPLICA, EP_LENT;
+/// Does what a request asks: the bytes of one, from its length on. What it is answered, also if it is refused or malformed, comes by `ep_answers`. EP_NO_REPLICA, EP_LENT;
 /// EP_NOT_ONE; EP_MEMORY: nothing was done, but of kinds 6 and 12, which execute several instances: some may have been executed, no answer comes, and asking again goes on.
 #[unsafe(no_mangle)]
 pub extern "C" fn ep_ask(alloc: Global, handle: &mut Handle, request: &[u8]) -> u8

@@ -7,7 +7,7 @@ pub struct Touching<'a> {
     pub first: &'a [u8],
     /// A second one, which differs.
     pub second: &'a [u8],
-    /// 0: there is no second key, and `second` counts for nothing.
+    /// 0: there is no second key, and `second` is ignored.
     pub has_second: u8,
     /// 0: the command may change what belongs to the keys; else it only reads that.
     pub is_reading: u8,

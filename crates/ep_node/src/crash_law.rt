@@ -10,7 +10,7 @@ pub fn crashing_runs_are_runs()
     ensures { CrashingRunsAreRuns }
 {}
 
-/// What stands of a run with crashes, in the order in which it was taken, is a run without a crash, and linearizable.
+/// What is left of a run with crashes, in the order in which it was taken, is a run without a crash, and linearizable.
 pub fn crashing_runs_are_linearizable()
     ensures { CrashingRunsAreLinearizable }
 {}
@@ -40,8 +40,8 @@ pub fn crashes_keep_receipts()
     ensures { CrashesKeepReceipts }
 {}
 
-/// Generations whose nodes crash and come back, open the next one with the maps of one another, lose their disks and begin again there: what stands
-/// of them, in the order in which it was done, is one life without a crash. One history of one map explains each answer of each generation, and
+/// Let nodes crash and come back, open the next generation with one another's maps, lose their disks and begin again there. What is left, in the order
+/// in which it was done, is one life without a crash. One history of one map explains each answer of each generation, and
 /// keeps real time through all of them.
 pub fn crashing_lives_are_linearizable()
     ensures { CrashingLivesAreLinearizable }

@@ -42,9 +42,8 @@ impl<D: Device> Node<D> {
     ghost use Rattle.std.specs.Prelude.{◌≡◌, false, IfOk, IfErr};
     ghost use Rattle.ep_node.specs.Executing.{IsTried, IsUntried};
 
-    /// Executes the instance, own or not, and all that it waits for, where it is committed and not executed and all that it waits
-    /// for is committed: one entry more, and `true`. `false` where it isn't committed, was executed, or waits for one that isn't
-    /// committed. That and a fault leave the node as it was.
+    /// Executes the instance, own or not, and all that it waits for: one entry more, and `true`. `false` if it isn't committed,
+    /// was executed, or waits for one that isn't committed; this and a fault leave the node as it was.
     pub fn execute(&mut self, instance: InstanceId) -> Result<bool, NodeFault>
         ensures ok { IfOk result (λ executed. (self.old.closed ≡ false) × IsTried self.old.replica instance executed self.new.replica) }
         ensures same { self.new ≡ record self.old { replica = self.new.replica } }

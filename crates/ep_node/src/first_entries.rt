@@ -18,7 +18,7 @@ fn slot_of(instance: InstanceId) -> usize
     usize::from(instance.number()) * 8 + usize::from(instance.replica().index())
 }
 
-/// Makes so many places. What stands there stays.
+/// Makes at least this many places. What stands there stays.
 fn widen(items: &mut Vec<Option<u32>>, count: usize) -> Result<(), AllocError>
     ensures room { OnOk result (count ≤ length items.new.items) }
     ensures same { (place : ℕ) → slice_index_or items.new.items place None ≡ slice_index_or items.old.items place None }
@@ -29,7 +29,7 @@ fn widen(items: &mut Vec<Option<u32>>, count: usize) -> Result<(), AllocError>
     items.resize(count, None)
 }
 
-/// Puts the number at the place, where none stands.
+/// Puts the number at the place, if none stands there.
 fn put_first(items: &mut Vec<Option<u32>>, place: usize, number: u32)
     requires { place < length items.old.items }
     ensures here { slice_index_or items.new.items place None ≡ or_other (slice_index_or items.old.items place None) (Some number) }
@@ -83,7 +83,7 @@ impl FirstEntries {
         *self.items.get(slot_of(instance))?
     }
 
-    /// Gives the instance this number, where it has none.
+    /// Gives the instance this number, if it has none.
     fn note_one(&mut self, instance: InstanceId, number: u32)
         requires { 16008 ≤ length self.old }
         ensures noted { (i : ℕ) → IsInstance i → noted self.new i ≡ or_other (noted self.old i) (number_for (Some instance) number i) }
@@ -92,7 +92,7 @@ impl FirstEntries {
         put_first(&mut self.items, slot_of(instance), number);
     }
 
-    /// Gives the instance, if there is one, this number, where it has none.
+    /// Gives the instance, if there is one, this number, if it has none.
     pub(crate) fn note(&mut self, instance: &Option<InstanceId>, number: u32)
         requires { 16008 ≤ length self.old }
         ensures noted { (i : ℕ) → IsInstance i → noted self.new i ≡ or_other (noted self.old i) (number_for instance.now number i) }

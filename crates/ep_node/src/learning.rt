@@ -30,7 +30,7 @@ pub(crate) fn about_by(entry: &Entry) -> Option<InstanceId>
     }
 }
 
-/// This instance, where a message of the kind says that it is committed.
+/// This instance, if a message of the kind says that it is committed.
 fn committed_as(kind: Kind, instance: InstanceId) -> Option<InstanceId>
     ensures { result ≡ committed_as kind instance }
 {

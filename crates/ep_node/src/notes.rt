@@ -7,7 +7,7 @@ use crate::learning::{about_by, learnt_by};
 use ep_journal::Entry;
 use std::alloc::{AllocError, Global};
 
-/// What a node notes of its first entries, of so many: for each instance which of them was the first about it, and which learnt
+/// What a node notes of its first `seen` entries: for each instance which of them was the first about it, and which learnt
 /// first that it is committed. Nothing is noted before it is asked for.
 #[derive(Drop)]
 pub(crate) struct Notes {
@@ -32,7 +32,7 @@ impl Notes {
         }
     }
 
-    /// Notes the entry that stands behind these.
+    /// Notes the entry that comes after these.
     fn note(&mut self, entry: &Entry)
         requires room { (16008 ≤ length self.old.about) × (16008 ≤ length self.old.commits) }
         ensures about { (es : List Entry) → AreFirst about_by es self.old.about → AreFirst about_by (es ++ entry.now ∷ []) self.new.about }

@@ -7,7 +7,7 @@ use ep_journal::{Event, StepFault};
 use ep_replica::Replica;
 use std::alloc::{AllocError, Global};
 
-/// The replica takes the events in order, and tells of each whether it was taken. `Err` where there is no memory for the list;
+/// The replica takes the events in order, and tells of each whether it was taken. `Err` if there is no memory for the list;
 /// then none was.
 pub(crate) fn take_each(
     alloc: Global,

@@ -18,7 +18,7 @@ use ep_journal::Entry;
 use ep_replica::Replica;
 use std::alloc::{AllocError, Global};
 
-/// The entries after the first ones, so many.
+/// The entries after the first `count`.
 fn after(entries: &[Entry], count: u32) -> &[Entry]
     ensures { result.now ≡ drop count entries.now }
 {
@@ -123,7 +123,7 @@ fn open_as(replica: &Replica, table: &FirstEntries, instance: InstanceId) -> Ope
     }
 }
 
-/// The least open instances, so many or all.
+/// The least open instances: this many, or all if there are fewer.
 fn open_in(
     alloc: Global,
     replica: &Replica,
@@ -145,7 +145,7 @@ fn open_in(
     Ok(told)
 }
 
-/// What is told of the replica's entries after the first ones, so many.
+/// What is reported of the replica's entries after the first `count`.
 pub(crate) fn ready_of(
     alloc: Global,
     replica: &Replica,

@@ -1,5 +1,5 @@
 -- Flags, and numbers whose blocker was committed, one after the other.
-use Rattle.std.proofs.Common.{◌≡◌, ◌≢◌, inl, inr, ℕ, ◌+◌, ◌≤◌, ◌<◌, Bool, true, false, Option, None, List, [], ◌∷◌, ◌++◌, zero, suc, length, set, refl, sym, subst, ◌∙◌}
+use Rattle.std.proofs.Common.{◌≡◌, ◌≢◌, inl, inr, ℕ, ◌+◌, ◌≤◌, ◌<◌, Bool, true, false, Option, None, List, [], ◌∷◌, ◌++◌, zero, suc, length, get_or, set, refl, sym, subst, ◌∙◌}
 use Rattle.std.proofs.lemmas.Bool.{cases_eq}
 use Rattle.std.proofs.lemmas.List.{get_or-set_same, get_or-set_other}
 use Rattle.ep_replica.specs.Blockers.{is_due, blocker_of, Wakes}
@@ -29,8 +29,8 @@ other_flag flags m n low is = elim (cases_eq n m) [
   | inr ne ↦ (ne, sym (get_or-set_other flags m n false false ne) ∙ is)
 ]
 
--- a place more, without a blocker
-pub pushed_none : (xs : List (Option ℕ)) (n : ℕ) → blocker_of (xs ++ None ∷ []) n ≡ blocker_of xs n
+-- a place more, with nothing in it
+pub pushed_none : {X : Type 0} (xs : List (Option X)) (n : ℕ) → get_or (xs ++ None ∷ []) n None ≡ get_or xs n None
 pushed_none [] zero = refl
 pushed_none [] (suc n) = refl
 pushed_none (x ∷ xs) zero = refl

@@ -24,7 +24,7 @@ impl Replica {
         self.journal().value(key)
     }
 
-    /// What the keys of its map have, after all that it executed, in rising order of keys: a copy. `OutOfRange` where a key isn't of 1 to 255 bytes,
+    /// What the keys of its map have, after all that it executed, in rising order of keys: a copy. `OutOfRange` if a key isn't of 1 to 255 bytes,
     /// as each command's are.
     pub fn contents(&self) -> Result<Contents, ContentsFault>
         ensures ok { IfOk result (λ c. c ≡ (state_of self.now).store.contents) }
@@ -40,14 +40,14 @@ impl Replica {
         self.journal().seal()
     }
 
-    /// The phase in which it leads the instance, and how many other replicas answered in it, 0 to 6; none where it doesn't lead it.
+    /// The phase in which it leads the instance, and how many other replicas answered in it, 0 to 6; none if it doesn't lead it.
     pub fn leads(&self, instance: InstanceId) -> Option<(LeadPhase, u8)>
         ensures { result ≡ progress_in self.now.faults self.now.me (maps.get (state_of self.now).leads instance) }
     {
         self.journal().leads(instance)
     }
 
-    /// The least instance above this one, where there is one, that it knows of and hasn't committed: that it has a record of, or that what it
+    /// The least instance above this one (if one is given) that it knows of and hasn't committed: that it has a record of, or that what it
     /// voted for or committed in another depends on. It is one to recover.
     ///
     /// It takes one pass over the records and their dependencies.

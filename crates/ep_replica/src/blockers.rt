@@ -7,6 +7,7 @@ ghost use Rattle.ep_space.specs.Entries.{slot};
 ghost use Rattle.ep_replica.specs.Spans.{IsWithin};
 
 use crate::due_numbers::DueNumbers;
+use crate::flags::widen;
 use crate::span::Span;
 use ep_base::InstanceId;
 use std::alloc::{AllocError, Global};
@@ -18,16 +19,6 @@ fn slot_of(instance: InstanceId) -> usize
     ensures small { result < 16008 }
 {
     usize::from(instance.number()) * 8 + usize::from(instance.replica().index())
-}
-
-/// Makes so many flags. What is set stays so.
-fn widen(awaited: &mut Vec<bool>, count: usize) -> Result<(), AllocError>
-    ensures { (place : ℕ) → slice_index_or awaited.new.items place false ≡ slice_index_or awaited.old.items place false }
-{
-    if count <= awaited.len() {
-        return Ok(());
-    }
-    awaited.resize(count, false)
 }
 
 /// Whether the instance was ever a blocker.
@@ -74,7 +65,7 @@ fn wake_one(
     false
 }
 
-/// What the instance blocks at these numbers is due. Answers where other blockers are left.
+/// What the instance blocks at these numbers is due. Returns a span with all of them that still have a blocker.
 fn wake_within(
     items: &mut Vec<Option<InstanceId>>,
     span: Span,
@@ -149,7 +140,7 @@ impl Blockers {
         *self.items.get(number as usize)?
     }
 
-    /// Sets what blocks the own instance of this number, where it has a place, and answers whether it has one.
+    /// Sets what blocks the own instance of this number, if it has a place, and returns whether it has one.
     pub(crate) fn set(&mut self, number: u16, blocker: Option<InstanceId>) -> bool
         requires { number ≤ highest_number }
         ensures here { IsTrue result → blocker_of self.new number ≡ blocker }

@@ -4,11 +4,12 @@ ghost use Rattle.std.specs.Prelude.{◌≡◌, ◌≢◌, ◌≤◌, ◌<◌, �
 ghost use Rattle.ep_base.specs.Instances.{highest_number};
 ghost use Rattle.ep_replica.specs.Blockers.{is_due};
 
+use crate::flags::widen;
 use crate::span::Span;
 use std::alloc::{AllocError, Global};
 use std::marker::Model;
 
-/// The least number from this one on whose flag is set, where it is before the end; else 2,001.
+/// The least number from this one on whose flag is set, if it is before the end; else 2,001.
 fn first_set(flags: &[bool], first: u16, end: u16) -> u16
     requires { first ≤ 2001 }
     ensures range { (first ≤ result) × (result ≤ 2001) }
@@ -77,10 +78,7 @@ impl DueNumbers {
         ensures room { OnOk result (highest_number < length self.new) }
         ensures same { (n : ℕ) → is_due self.new n ≡ is_due self.old n }
     {
-        for _ in self.flags.len()..2001 {
-            self.flags.push(false)?;
-        }
-        Ok(())
+        widen(&mut self.flags, 2001)
     }
 
     /// The number is due. It takes no memory.
@@ -95,7 +93,7 @@ impl DueNumbers {
         self.flags[number as usize] = true;
     }
 
-    /// The number is due no longer.
+    /// The number isn't due any more.
     pub(crate) fn remove(&mut self, number: u16)
         ensures { (n : ℕ) → n ≢ number → is_due self.old n ≡ true → is_due self.new n ≡ true }
     {
@@ -105,7 +103,7 @@ impl DueNumbers {
         }
     }
 
-    /// The least due number that isn't below this one; 2,001 where there is none.
+    /// The least due number that isn't below this one; 2,001 if there is none.
     pub(crate) fn next(&mut self, from: u16) -> u16
         requires { from ≤ 2001 }
         ensures range { (from ≤ result) × (result ≤ 2001) }

@@ -18,6 +18,8 @@ mod clock;
 mod due_numbers;
 mod entry_receipts;
 mod firsts;
+mod flags;
+mod indexes;
 mod opened_fault;
 mod pending;
 mod proposal;

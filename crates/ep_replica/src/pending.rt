@@ -16,7 +16,7 @@ enum Attempt {
     Executed,
     /// It isn't committed, or was executed before, or waits for one that isn't committed.
     Passed,
-    /// It was refused for want of memory.
+    /// It was refused, as memory ran out.
     Refused,
     /// It was refused, as no stamp is left.
     Full,
@@ -30,7 +30,7 @@ fn instance_at(replica: ReplicaId, number: u16) -> InstanceId
     InstanceId::new(replica, number).unwrap()
 }
 
-/// Whether the instance is above this one, where there is one.
+/// Whether the instance is above this one; true if none is given.
 fn is_above(after: &Option<InstanceId>, instance: InstanceId) -> bool
     ensures { IsTrue result ↔ IsAbove after.now instance }
 {
@@ -63,7 +63,7 @@ impl Replica {
             && !self.has_executed(instance)
     }
 
-    /// The least instance that the replica leads, that is committed and not executed here, and that is above this one, where there is one.
+    /// The least instance above this one (if one is given) that the replica leads and that is committed and not executed here.
     pub fn next_ready(&self, after: Option<InstanceId>) -> Option<InstanceId>
         ensures { IsNext self.now after result }
     {
@@ -88,7 +88,7 @@ impl Replica {
         }
     }
 
-    /// An instance that this one waits for, which isn't committed; none where all that it reaches is committed.
+    /// An instance that this one waits for, which isn't committed; none if all that it reaches is committed.
     fn obstacle(&self, instance: InstanceId) -> Result<Option<InstanceId>, AllocError>
         ensures { IfOk result (λ found. IfSome found (IsBlockedBy self.now instance)) }
     {
@@ -119,8 +119,8 @@ impl Replica {
         self.blocker_among(decree.attrs.deps.as_slice())
     }
 
-    /// Executes an own instance, if it is pending and waits for none. Otherwise the replica is left as it was, and where it waits it isn't tried
-    /// again before what it waits for is committed.
+    /// Executes an own instance, if it is pending and waits for none. Otherwise the replica is left as it was, and if it waits it isn't tried
+    /// again until what it waits for is committed.
     fn try_execute(&mut self, instance: InstanceId) -> Attempt
         requires { leader_of instance ≡ self.old.me }
         ensures { Tries self.old instance result self.new }
@@ -140,7 +140,7 @@ impl Replica {
     }
 
     /// Executes the least own instance that is committed, not executed, and waits for none that isn't committed: one entry more, and `true`; `false`
-    /// where there is none. At an `Err` memory is wanted, or no stamp is left. Both leave the replica as it was.
+    /// if there is none. `Err`: memory ran out, or no stamp is left. `false` and `Err` leave the replica as it was.
     pub fn try_next(&mut self) -> Result<bool, StepFault>
         ensures { TriesNext self.old result self.new }
     {
@@ -156,7 +156,7 @@ impl Replica {
         Ok(false)
     }
 
-    /// The same, and `false` too where memory is wanted or no stamp is left.
+    /// As `try_next`, but `false` too if memory runs out or no stamp is left.
     #[tactic(auto, using(crate::proofs::Trying::told_next, crate::proofs::Trying::held_next))]
     pub fn execute_next(&mut self) -> bool
         ensures { ExecutesNext self.old result self.new }

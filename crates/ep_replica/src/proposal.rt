@@ -7,6 +7,6 @@ pub struct Proposal {
     pub client: u32,
     /// The client's request, from 1.
     pub request: u32,
-    /// The stamp that the client handed in, 0 where it knew of none.
+    /// The stamp that the client handed in, 0 if it knew of none.
     pub seen: u64,
 }

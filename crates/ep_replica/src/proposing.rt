@@ -23,7 +23,7 @@ impl Replica {
     ghost use Rattle.ep_replica.specs.Applied.{IsDeclined};
     ghost use Rattle.ep_replica.specs.Pending.{Submits};
 
-    /// Proposes a client's command: one step and one entry more, and the instance that it is proposed as. Whatever is refused leaves the replica
+    /// Proposes a client's command: one step and one entry more, and the instance in which it is proposed. Whatever is refused leaves the replica
     /// as it was.
     pub fn submit(
         &mut self,

@@ -56,7 +56,7 @@ impl<'a> ReceiptView<'a> {
     }
 }
 
-/// The receipt of what was executed at this spot, as the instance, for this proposal of the replica; none where nothing was.
+/// The receipt for this proposal of the replica, executed at this spot as this instance; none if nothing was.
 pub(crate) fn told_at<'a>(
     replica: ReplicaId,
     instance: InstanceId,

@@ -74,7 +74,7 @@ impl Remembered {
         self.blockers.reserve()
     }
 
-    /// Notes that the instance was committed, if it was: it is due where it is the replica's own, and so is what it blocked.
+    /// Notes that the instance was committed, if it was: it is due if it is the replica's own, and so is what it blocked.
     pub(crate) fn note(&mut self, journal: &Journal, subject: Option<InstanceId>)
         requires room { (highest_number < length self.old.due) × (highest_number < length self.old.blockers) }
         ensures { (k : Kept) → Grows k journal.now subject → Remembers k self.old.due self.old.blockers → Remembers journal.now self.new.due self.new.blockers }
@@ -91,7 +91,7 @@ impl Remembered {
         }
     }
 
-    /// The own instance of this number isn't tried again before what blocks it is committed; not at all, where nothing is said to.
+    /// The own instance of this number isn't tried again until what blocks it is committed; never, if nothing is given.
     pub(crate) fn set_aside(&mut self, number: u16, blocker: Option<InstanceId>)
         requires { number ≤ highest_number }
         ensures { (k : Kept) → MayBeSetAside k (instance_of k.me number) blocker → Remembers k self.old.due self.old.blockers → Remembers k self.new.due self.new.blockers }

@@ -36,7 +36,7 @@ impl Span {
         }
     }
 
-    /// These numbers without this one, where it is the first.
+    /// These numbers without this one, if it is the first.
     pub(crate) fn without(self, number: u16) -> Span
         ensures { (n : ℕ) → IsWithin self n → n ≢ number → IsWithin result n }
     {

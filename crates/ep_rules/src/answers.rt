@@ -54,7 +54,7 @@ impl<X> Answers<X> {
 }
 
 impl<X: Drop> Answers<X> {
-    /// This answer more. As it was at an `Err`.
+    /// Adds this answer. At an `Err` the answers are as they were.
     pub fn add(&mut self, from: ReplicaId, value: X) -> Result<(), AllocError>
         ensures ok { OnOk result (self.new ≡ with_answer self.old from value) }
         ensures err { OnErr result (self.new ≡ self.old) }

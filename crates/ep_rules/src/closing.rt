@@ -1,16 +1,16 @@
-//! Laws of seals: who has executed one has one map.
+//! Laws of seals: all who have executed one have the same map.
 
 ghost use Rattle.ep_rules.specs.Closing.{ClosedStays, OneSettling, RunsClose, RunsCloseAlike, RunsExecuteAll, SealCloses};
 ghost use Rattle.ep_rules.specs.History.{OneClosing};
 
 /// A replica that has executed a seal has the map that the history leaves.
 ///
-/// For any interleaving of the replicas' own runs. Of two interfering committed commands one depends on the other.
+/// Premises: any interleaving of the replicas' own runs; of two interfering committed commands one depends on the other.
 pub fn one_closing()
     ensures { OneClosing }
 {}
 
-/// Operations with a seal leave what those up to the first seal write, and that seal's value.
+/// Operations among which is a seal leave, of an open map, what those up to the first seal write, closed with that seal's value.
 pub fn seal_closes()
     ensures { SealCloses }
 {}

@@ -1,4 +1,4 @@
-//! Laws of how many: what a step sends, what a replica executes, and how many instances there are.
+//! Laws that count: what a step sends, what a replica executes, and how many instances there are.
 
 ghost use Rattle.ep_rules.specs.Counts.{ExecutedOnce, InstancesAreFew, SendsFew};
 

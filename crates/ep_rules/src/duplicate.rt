@@ -5,9 +5,9 @@ ghost use Rattle.std.specs.Prelude.{◌≡◌, IfOk};
 use ep_base::{Attrs, Vote};
 use std::alloc::{AllocError, Global};
 
-/// A value that can be made again, where there is memory.
+/// A value that can be copied, which may take memory.
 pub trait Duplicate: Drop {
-    /// The same value again.
+    /// A copy of the value.
     fn duplicate(&self, alloc: Global) -> Result<Self, AllocError>
         ensures { IfOk result (λ x. x ≡ self.now) };
 }

@@ -20,17 +20,17 @@ pub fn same_history()
     ensures { SameHistory }
 {}
 
-/// Whose journal, among matched ones, has executed a seal leaves the map that the history up to its first seal writes, with that seal's value.
+/// Of matched journals, each that has executed a seal leaves the map that the history up to its first seal writes, with that seal's value.
 pub fn journals_close()
     ensures { JournalsClose }
 {}
 
-/// Where each generation's journals match, and open with a map that one of the generation before leaves, closed by a seal, one map's replies to one history explain each answer of each generation.
+/// If each generation's journals match, and open with a map that one of the generation before leaves, closed by a seal, one map's replies to one history explain each answer of each generation.
 pub fn chains_explain()
     ensures { ChainsExplain }
 {}
 
-/// Each caller's order is kept across generations, where each one's stamps are above that of an entry that executed the seal before it.
+/// Each caller's order is kept across generations, if the stamps of each are above that of an entry that executed a seal of the one before.
 pub fn chains_keep_callers()
     ensures { ChainsKeepCallers }
 {}
@@ -40,12 +40,12 @@ pub fn lives_grow()
     ensures { LivesGrow }
 {}
 
-/// What a beginning of a replica's entries leaves closed, all of them leave.
+/// If a prefix of a replica's entries leaves a closed map, all of them leave the same.
 pub fn closed_entries()
     ensures { ClosedEntries }
 {}
 
-/// Turns are a life where each generation's acts are a run from its opening map, whoever steps has opened the generation, and whoever opens one takes the map of one that has closed the generation before.
+/// Turns are a life if each generation's acts are a run from its opening map, whoever steps has opened the generation, and whoever opens one takes the map of one that has closed the generation before.
 pub fn runs_make_lives()
     ensures { RunsMakeLives }
 {}

@@ -9,33 +9,33 @@ pub fn one_plan()
 
 /// A component is executed whole in one execution, and what a replica has executed is closed under reach.
 ///
-/// For any interleaving of the replicas' own runs whose committed attributes agree.
+/// Premise: any interleaving of the replicas' own runs, whose committed attributes agree.
 pub fn components()
     ensures { Components }
 {}
 
 /// Two interfering commands are executed by each replica in the order in which the history has them.
 ///
-/// Of two interfering committed commands one depends on the other.
+/// Premises: any interleaving of the replicas' own runs; of two interfering committed commands one depends on the other.
 pub fn one_order()
     ensures { OneOrder }
 {}
 
-/// A command's reply is the same where a replica's own executions are done in turn and where the history is.
+/// A command's reply is the same whether a replica's own executions are done in turn or the history is.
 ///
-/// Of two interfering committed commands one depends on the other.
+/// Premises: any interleaving of the replicas' own runs; of two interfering committed commands one depends on the other.
 pub fn one_reply()
     ensures { OneReply }
 {}
 
 /// Each answer of each execution, not only of the first one of its instance, is the reply of one map to the history, at the instance's place there; a no-op answers lost, and has no place.
 ///
-/// For any interleaving of the replicas' own runs. Of two interfering committed commands one depends on the other.
+/// Premises: any interleaving of the replicas' own runs; of two interfering committed commands one depends on the other.
 pub fn one_history()
     ensures { OneHistory }
 {}
 
-/// What is executed before any execution of an instance stands before it in the history.
+/// What is executed before any execution of an instance stands before it in the history; no-ops aside, which have no place there.
 pub fn earlier_first()
     ensures { EarlierFirst }
 {}

@@ -1,8 +1,8 @@
 //! The rule book: what a replica knows, the definitions of its steps, and the laws of every run.
 //!
-//! Every crate above cites it. Its definitions, in specs/, are what the words of all contracts mean; docs/PROTOCOL.md is
-//! what they are to be read against. Its code is the plain data that they speak of, and laws: public functions with empty
-//! bodies, whose contracts are theorems.
+//! Every crate above cites it. Its definitions, in specs/, are what the words of all contracts mean; compare them with
+//! docs/PROTOCOL.md. Its code is the plain data that they speak of, and laws: public functions with empty bodies, whose
+//! contracts are theorems.
 //!
 //! Start with specs/Phases.antt and specs/Recovery.antt (the rules), then specs/Steps.antt (one step of a replica) and
 //! specs/Worlds.antt (runs). The laws are the public modules below; docs/SAFETY.md tells how their proof goes.

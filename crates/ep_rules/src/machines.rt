@@ -3,14 +3,16 @@
 ghost use Rattle.ep_rules.specs.MachineChains.{ChainsOneMachine, LivesOneMachine};
 ghost use Rattle.ep_rules.specs.Machines.{HandedStays, JournalsOneMachine, KeepersAreMachines, MachinesResume, MapIsMachine, OneMachine, OneState, RunsCloseMachines, RunsOneMachine, RunsOneState};
 
-/// Whatever the machine: what each replica's own one replies to an operation is what one machine replies that is handed the one history.
+/// Whatever the machine: each replica's own one replies to an operation as one machine does that is handed the one history.
 ///
-/// For any interleaving of the replicas' own executions, as plans alone. Of two interfering committed commands one depends on the other.
+/// Premises: any interleaving of the replicas' own executions, as plans alone; of two interfering committed commands one depends on the other.
 pub fn one_machine<S, R>()
     ensures { OneMachine S R }
 {}
 
 /// Two replicas that have executed the same operations, at any two times, have their machines in one state.
+///
+/// The premises are those of `one_machine`.
 pub fn one_state<S, R>()
     ensures { OneState S R }
 {}
@@ -25,7 +27,7 @@ pub fn machines_resume<S, R>()
     ensures { MachinesResume S R }
 {}
 
-/// In every run, whatever the machine: what a replica's own one replies to an operation is what one machine replies that is handed the run's history, which is a linearization of the run.
+/// In every run, whatever the machine: a replica's own one replies to an operation as one machine does that is handed the run's history, which is a linearization of the run.
 pub fn runs_one_machine<S, R>()
     ensures { RunsOneMachine S R }
 {}
@@ -40,12 +42,12 @@ pub fn runs_close_machines<S, R>()
     ensures { RunsCloseMachines S R }
 {}
 
-/// Of journals that match, whatever the machine: what one replies that is handed what a journal executes is what one machine replies that is handed the journals' history.
+/// Of journals that match, whatever the machine: one that is handed what a journal executes replies to it as one machine does that is handed the journals' history.
 pub fn journals_one_machine<S, R>()
     ensures { JournalsOneMachine S R }
 {}
 
-/// Whatever the machine, it is one through all generations of a chain of journals, where each generation begins with the state that the seal of the one before has left.
+/// Whatever the machine, it is one through all generations of a chain of journals, each of which begins with the state that the seal of the one before has left.
 pub fn chains_one_machine<S, R>()
     ensures { ChainsOneMachine S R }
 {}
@@ -60,7 +62,7 @@ pub fn map_is_machine()
     ensures { MapIsMachine }
 {}
 
-/// What keeps to its footprints is a machine: it changes at most what its keys have, nothing where it only reads, and follows from what they have.
+/// What keeps to its footprints is a machine: each operation changes at most what its keys have, and nothing if it only reads; what they have then, and its reply, follow from what they had.
 pub fn keepers_are_machines<X, R>()
     ensures { KeepersAreMachines X R }
 {}

@@ -1,4 +1,4 @@
-//! Laws of journals: where they match, they are one run of a world, and what a world plays are journals that match.
+//! Laws of journals: if they match, they are one run of a world, and what a world plays are journals that match.
 
 ghost use Rattle.ep_rules.specs.Merging.{AgreedIs, AgreesByStamp, AskedGrows, CallerOrder, ClockedAccepted, ClockedMatch, ClocksGrow, ClocksStayAbove, DoneByPlace, EachReply, FaultsAreFirst, FramesWereSent, JournalsAgree, JournalsDepend, JournalsKeep, JournalsOrder, JournalsPropose, LocalRunsGrow, MergedIsARun, NumbersArePlaces, OneProposal, OneSchedule, OneTable, OriginByPlace, OwnEntriesLeave, OwnReceiptsAgree, OwnStays, PlayedAccepted, PlayedGrows, PlayedIsARun, PlayedMatch, PlayedSends, ProposalsName, ProposalsTell, SentByPlace, SentStays, SomeSchedule};
 
@@ -7,7 +7,7 @@ pub fn merged_is_a_run()
     ensures { MergedIsARun }
 {}
 
-/// Journals have one schedule at most: all their entries by stamp, and by replica where stamps are equal.
+/// Journals have one schedule at most: all their entries by stamp, and by replica if stamps are equal.
 pub fn one_schedule()
     ensures { OneSchedule }
 {}
@@ -42,7 +42,7 @@ pub fn journals_depend()
     ensures { JournalsDepend }
 {}
 
-/// What the matched journals agree on in an instance is what some of them commit there.
+/// What the matched journals agree on in an instance is what at least one of them commits there.
 pub fn agreed_is()
     ensures { AgreedIs }
 {}
@@ -72,7 +72,7 @@ pub fn played_is_a_run()
     ensures { PlayedIsARun }
 {}
 
-/// The journals of what a world plays are local runs that match, where each stamp is one more than the greatest one that was known.
+/// The journals of what a world plays are local runs that match, if their entries are numbered from 1 and each stamp is one more than the greatest one that was known.
 pub fn played_match()
     ensures { PlayedMatch }
 {}
@@ -82,7 +82,7 @@ pub fn played_sends()
     ensures { PlayedSends }
 {}
 
-/// The journals of what a world plays are accepted, together with receipts of its replicas' own commands.
+/// The journals of what a world plays are accepted, together with receipts of its replicas' own commands, if their entries are numbered from 1 and each stamp is one more than the greatest one that was known.
 pub fn played_accepted()
     ensures { PlayedAccepted }
 {}
@@ -102,12 +102,12 @@ pub fn proposals_tell()
     ensures { ProposalsTell }
 {}
 
-/// A local run with one step more is a local run, where the step's entry is numbered next, has a greater stamp, and its frames bear its number and stamp.
+/// A local run and one more step are a local run if the step's entry has the next number and a greater stamp, and its frames bear both and their places.
 pub fn local_runs_grow()
     ensures { LocalRunsGrow }
 {}
 
-/// A clocked journal with one entry more is clocked, where that entry's stamp is one more than the greatest one that was known.
+/// A clocked journal and one more entry are clocked if that entry's stamp is one more than the greatest one that was known.
 pub fn clocks_grow()
     ensures { ClocksGrow }
 {}
@@ -122,7 +122,7 @@ pub fn played_grows()
     ensures { PlayedGrows }
 {}
 
-/// What was asked in entries and then in more is what was asked in the ones, and then in the others.
+/// What is asked in two lists of entries, one after the other, is what is asked in the first and then in the second.
 pub fn asked_grows()
     ensures { AskedGrows }
 {}
@@ -142,17 +142,17 @@ pub fn own_stays()
     ensures { OwnStays }
 {}
 
-/// The receipts that a replica gives for its own commands agree with the journals, where each stamp is one more than the greatest one that was known.
+/// The receipts that a replica gives for its own commands agree with the journals, if each stamp is one more than the greatest one that was known.
 pub fn own_receipts_agree()
     ensures { OwnReceiptsAgree }
 {}
 
-/// Clocked journals match where each handled frame was sent.
+/// Clocked journals match if each handled frame was sent.
 pub fn clocked_match()
     ensures { ClockedMatch }
 {}
 
-/// Clocked journals where each handled frame was sent are accepted, with receipts of which each is some replica's own.
+/// Clocked journals are accepted, with receipts of which each is some replica's own, if each handled frame was sent.
 pub fn clocked_accepted()
     ensures { ClockedAccepted }
 {}
@@ -167,12 +167,12 @@ pub fn numbers_are_places()
     ensures { NumbersArePlaces }
 {}
 
-/// A frame was sent where it stands at the place that it names, in the entry at its number's place.
+/// A frame was sent exactly if it stands at the place that it names, in the entry at its number's place.
 pub fn sent_by_place()
     ensures { SentByPlace }
 {}
 
-/// Something was sent where a frame says, where that place of that entry has a frame.
+/// A frame was sent from where this one says that it comes, exactly if that place of that entry has a frame.
 pub fn origin_by_place()
     ensures { OriginByPlace }
 {}
@@ -182,7 +182,7 @@ pub fn done_by_place()
     ensures { DoneByPlace }
 {}
 
-/// A known receipt agrees with the journals where its instance's one proposal has a greater stamp than the client had seen.
+/// A known receipt agrees with the journals if its instance's one proposal has a greater stamp than the client had seen.
 pub fn agrees_by_stamp()
     ensures { AgreesByStamp }
 {}

@@ -8,19 +8,19 @@ use std::alloc::{AllocError, Global};
 /// A client's command, the greatest stamp that the client knew of when it proposed, and an execution with its answer.
 #[derive(Drop)]
 pub struct Receipt {
-    /// The client, from 1 in what a replica gives.
+    /// The client; from 1 if a replica gave the receipt.
     pub client: u32,
-    /// The client's request, from 1 in what a replica gives.
+    /// The client's request; from 1 if a replica gave the receipt.
     pub request: u32,
     /// The instance as which the command was proposed.
     pub instance: InstanceId,
-    /// The stamp that the client handed in with its command, 0 where it knew of none.
+    /// The stamp that the client handed in with its command; 0 if it knew of none.
     pub seen: u64,
     /// The replica that executed the instance.
     pub replica: ReplicaId,
-    /// The number of the entry that executed it, from 1 in what a replica gives.
+    /// The number of the entry that executed it; from 1 if a replica gave the receipt.
     pub entry: u32,
-    /// The stamp of that entry, from 1 to 2^48 - 1 in what a replica gives.
+    /// The stamp of that entry; from 1 to 2^48 - 1 if a replica gave the receipt.
     pub stamp: u64,
     /// What that execution answered.
     pub answer: Answer,

@@ -1,6 +1,6 @@
 //! Laws of every run: agreement, permanence, validity and dependency.
 //!
-//! Of 2f+1 replicas, of any acts that follow the rule book from the opening world, where messages come in any order, often, or never.
+//! They hold for 2f+1 replicas and any acts that follow the rule book from the opening world; messages may come in any order, often, or never.
 
 ghost use Rattle.ep_rules.specs.Safety.{Agreement, Dependency, Permanence, Validity};
 

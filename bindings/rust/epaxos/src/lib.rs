@@ -2,7 +2,7 @@
 //!
 //! Three, five or seven replicas hold one map. Any of them takes any command; commands on a common key are executed in one order at all of them, and whatever a
 //! majority has is never lost. The crate has no socket, no timer and no thread: you own those. A [`Replica`] takes what happened, and leaves a [`Ready`]:
-//! bytes for your log, and, *once you say that these are on the disk*, what to send and whom to answer. The types have you do it in this order.
+//! bytes for your log, and, *once you say that these are on the disk*, what to send and whom to answer. The types enforce this order.
 //!
 //! ```
 //! use epaxos::{Call, Cluster, Command, Event, LogFile, Patience, Replica, Waits};
@@ -29,7 +29,7 @@
 //!     output.receipts().for_each(|receipt| answer(receipt.client, receipt.answer));
 //! #   if output.entries() > 0 { break }
 //!     let late = patience.turn(begun.elapsed().as_millis() as u64, output.open());     // what has been open for too long
-//!     if let Some((peer, entries)) = regained() { // a link stands again, by which all of the first so many entries had come
+//!     if let Some((peer, entries)) = regained() { // a link is up again, by which all of the first so many entries had come
 //!         let again = replica.report(entries, 0)?;
 //!         again.frames().filter(|frame| frame.to == peer).for_each(|frame| send(frame.to, frame.bytes));
 //!     }
@@ -42,38 +42,38 @@
 //! # Ok(()) }
 //! ```
 //!
-//! `examples/three.rs` is a cluster of three threads with a file each, `examples/lock.rs` a lock, `examples/machine.rs` a machine of one's own that is replicated.
+//! `examples/three.rs` is a cluster of three threads with a file each, `examples/lock.rs` a lock, `examples/machine.rs` a replicated machine of your own.
 //!
 //! # What is lost on its way
 //!
-//! Nothing is sent again by itself. When to wait no longer for what is open is a question of time, of which the core knows nothing: [`Patience`] tells. Ask
-//! what is open a few times a second ([`Replica::ready_with_open`]; in between [`Replica::ready`] does, without a turn), and have the replica take what
+//! Nothing is sent again by itself. When to stop waiting for what is open is a question of time, of which the core knows nothing; [`Patience`] answers it. Ask
+//! what is open a few times a second ([`Replica::ready_with_open`]; in between [`Replica::ready`] will do, without a turn), and have the replica take what
 //! [`Patience::turn`] returns: it then asks the others.
 //!
-//! One thing that is lost leaves nothing open: a Commit, to a replica that has heard nothing else of its instance. That one lacks the command until a later one
-//! comes that depends on it. So whoever has sent it tells it again, by [`Replica::report`]:
+//! One loss leaves nothing open: that of a Commit, to a replica that has heard nothing else of its instance. It lacks the command until another one comes
+//! that depends on it. So the replica that sent the Commit tells it again, by [`Replica::report`]:
 //!
-//! - when a link to a peer stands again, and after a start: what was told behind the entries by which the peer is sure to have all
-//!   ([`Output::entries`] counts them). 0 is always right, and tells all of the generation;
-//! - now and then, where the network loses single frames: what was told in the last seconds.
+//! - when a link to a peer is up again, and after a start: what was told after the entries of which the peer is sure to have all frames
+//!   ([`Output::entries`] counts entries). 0 is always right, and tells all of the generation;
+//! - now and then, if the network loses single frames: what was told in the last seconds.
 //!
 //! A frame that comes twice does no harm; it costs its receiver an entry of its log.
 //!
 //! # Where the core runs
 //!
-//! There are two cores behind the same calls, made of the same sources. **The library** runs in the program itself; the crate is linked with it where it is
-//! found as the crate is built. **A process** of its own for each replica, `epaxos node`, is the other one: it is slower, and its memory is its own.
-//! Neither keeps anything that outlives it: the log is yours. [`Setup`] and [`Core`] choose; by itself a replica takes the library, where there is one.
+//! There are two cores behind the same calls, made from the same sources. **The library** runs in the program itself; the crate is linked with it if it is
+//! found when the crate is built. **A process** of its own for each replica, `epaxos node`, is the other one: it is slower, and its memory is its own.
+//! Neither keeps anything that outlives it: you keep the log. [`Setup`] and [`Core`] choose; by default a replica takes the library, if there is one.
 //!
 //! `./epaxos --build` at the top of the repository proves and builds both, and `./epaxos --build --unproved` builds both in minutes, without their proofs;
-//! [`Replica::said`] then says so. Build the crate again behind it. `EPAXOS_LIBRARY` names another folder of `libepaxos.a` as the crate is built, and
-//! `EPAXOS` another program as yours runs.
+//! [`Replica::said`] then says so. Build the crate again after that. `EPAXOS_LIBRARY` names another folder of `libepaxos.a` when the crate is built, and
+//! `EPAXOS` another program when yours runs.
 //!
-//! A host that keeps a process `epaxos node` itself, with the log in the process's hands, finds its bytes in [`wire`].
+//! A host that runs a process `epaxos node` itself, which then keeps the log, finds its bytes in [`wire`].
 //!
 //! # What is proved, and what you owe
 //!
-//! Proved of the core, by its prover: it is safe, it ends, want of memory is an answer, a refused call has changed nothing, what is taken is one step of
+//! Proved of the core: it is safe, it ends, running out of memory is an answer, a refused call has changed nothing, what is taken is one step of
 //! the protocol, and nothing is told of an entry that isn't among those that you said are on the disk. So no two replicas commit different commands in an
 //! instance, and all execute interfering commands in one order. This crate, which carries bytes to the core and back, isn't proved. You owe:
 //!
@@ -84,7 +84,7 @@
 //!
 //! # An audit
 //!
-//! Of the logs of all replicas, and of what clients were told, an audit says whether one history of one map explains them, or names the first fault. Once the
+//! An audit of the logs of all replicas, and of what clients were told, says whether one history of one map explains them, or names the first fault. Once the
 //! replicas have stopped, `epaxos collect` makes a bundle of their folders. A replica's folder has, for generation 1, the file `1/log`, and beside it
 //! `1/opening`, which is what the generation opened with ([`Cluster::first_opening`]; of a later one, the very bytes that the replica was begun with). So a host
 //! keeps its log there from the start, or copies it there for the audit:
@@ -103,7 +103,7 @@
 //! # Ok::<(), std::io::Error>(())
 //! ```
 //!
-//! and appends [`Receipt::bytes`] to a file, `zero/receipts` say, before it answers. Then, with `epaxos` of the repository's top,
+//! and appends [`Receipt::bytes`] to a file, such as `zero/receipts`, before it answers. Then, with `epaxos` at the top of the repository,
 //!
 //! ```text
 //! epaxos collect --generation 1 zero one two --receipts zero/receipts --receipts one/receipts --receipts two/receipts > 1.bundle

@@ -14,9 +14,7 @@ loop-index-preserved c =
     let v : Option (List ℕ) = c.unwrap.result.1.now in
     let at : slice_get es k ≡ Some (i, v) = rw (← c.get_index.ensures.entry, c.unwrap.ensures) refl in
     let place : c.loop-index.index ≡ k + 1 = omega arith in
-    let name : c.in_ok-name.name.items ≡ i.items = c.in_ok-name.ensures.items ∙ c.as_slice.ensures.value in
-    let value : c.in_ok-value.value ≡ v = c.in_ok-value.ensures ∙ c.as_ref.ensures.value in
-    c.in_ok-set.ensures.ok
-    ∙ (λ t. with_key (contents_of c.loop-index.copy.entries) (name t) (value t))
+    c.in_ok-add.ensures
+    ∙ (λ t. with_key (contents_of c.loop-index.copy.entries) (c.as_slice.ensures.value t) (c.as_ref.ensures.value t))
     ∙ ap (λ m. with_key m i.items v) (c.loop-index.invariant ∙ ap (λ (n : ℕ). contents_of (drop n es)) place)
     ∙ sym (ap contents_of (drop_here es k (i, v) at))
