@@ -39,8 +39,7 @@ pub fn assemble(
 {
     let logs = read_logs(alloc, logs)?;
     let journals = collect(logs.journals)?;
-    let bundled = bundle_of(alloc, &journals, receipts)?;
-    forget(journals);
+    let bundled = bundle_of(alloc, journals, receipts)?;
     Ok(Assembled {
         bundle: bundled.bundle,
         ends: logs.ends,
@@ -48,8 +47,28 @@ pub fn assemble(
     })
 }
 
-/// The bundle of these journals, and of the receipts that these files hold.
+/// The bundle of these journals, and of the receipts that these files hold. The process ends then, and its end frees the journals' memory.
 pub(crate) fn bundle_of(
+    alloc: Global,
+    journals: Journals,
+    receipts: &[Vec<u8>],
+) -> Result<Bundled, AssembleFault>
+    ensures ok { IfOk result (λ b. IsBundled journals (contents receipts.now) b.bundle.items b.ends.items) }
+    ensures err { IfErr result (AreUnheld journals.version (size journals.faults) (contents receipts.now)) }
+{
+    match bundle_with(alloc, &journals, receipts) {
+        Ok(bundled) => {
+            forget(journals);
+            Ok(bundled)
+        }
+        Err(fault) => {
+            drop(journals);
+            Err(fault)
+        }
+    }
+}
+
+fn bundle_with(
     alloc: Global,
     journals: &Journals,
     receipts: &[Vec<u8>],

@@ -15,7 +15,6 @@ use crate::opened_log::OpenedLog;
 use crate::openings::opened;
 use ep_base::Generation;
 use std::alloc::Global;
-use std::mem::forget;
 
 /// The bundle of version 3 of a generation, of what the folders of its machines have, in any order, and of the receipts that these files hold, in
 /// their order. Each log is read with the map of all opening files and the least of their stamps: a replica closes by itself, so stamps may differ
@@ -51,8 +50,7 @@ fn assemble_kept(
 {
     let logs = read_kept(alloc, cluster, kept)?;
     let journals = collect(logs.journals)?;
-    let bundled = bundle_of(alloc, &journals, receipts)?;
-    forget(journals);
+    let bundled = bundle_of(alloc, journals, receipts)?;
     Ok(Assembled {
         bundle: bundled.bundle,
         ends: logs.ends,

@@ -11,7 +11,7 @@ use crate::folder_options::FolderOptions;
 use crate::generation_start::GenerationStart;
 use crate::program::{concluded, opened_as, served, tell_first};
 use crate::server_fault::ServerFault;
-use crate::staging::{check_stage, first_stage, handed_stage};
+use crate::staging::{checked, first_stage, handed_stage};
 use ep_base::{Generation, ReplicaId, Sink, Size, Source};
 use ep_cli::{Status, Streams};
 use ep_device::{Device, FileDevice};
@@ -56,7 +56,7 @@ fn ready<'a, R: Files<File = File> + AllocGlobal, F: Sink>(
     ensures told { TellsCuts (became F.held F.has_failed fault_writer.old fault_writer.new) }
 {
     let stage = first_stage(rt, options)?;
-    check_stage(options.size, &stage)?;
+    let stage = checked(options.size, stage)?;
     let generation = stage.file.file().generation();
     let node = open_stage(rt, options, stage, fault_writer)?;
     match closing(rt.alloc(), options.size, &node) {
@@ -85,8 +85,7 @@ fn ready_next<'a, R: Files<File = File> + AllocGlobal, F: Sink>(
     ensures err { IfErr result IsUnready }
     ensures told { TellsCut (became F.held F.has_failed fault_writer.old fault_writer.new) }
 {
-    let stage = closed_stage(rt, options.folder, file)?;
-    check_stage(options.size, &stage)?;
+    let stage = closed_stage(rt, options, file)?;
     let generation = stage.file.file().generation();
     let node = open_stage(rt, options, stage, fault_writer)?;
     of_size(options.size, generation, node)
@@ -95,13 +94,14 @@ fn ready_next<'a, R: Files<File = File> + AllocGlobal, F: Sink>(
 /// The generation that this file opens, which closes the one before. It is on the disk.
 fn closed_stage<R: Files<File = File> + AllocGlobal>(
     rt: &R,
-    folder: &str,
+    options: &FolderOptions<'_>,
     file: OpeningFile,
 ) -> Result<GenerationStart, FolderFault>
     ensures { IfOk result (λ s. s.file ≡ file) }
 {
     let file = SpelledFile::write(rt.alloc(), file)?;
-    handed_stage(rt, folder, file, false)
+    let stage = handed_stage(rt, options.folder, file, false)?;
+    checked(options.size, stage)
 }
 
 /// The node, where its cluster has this size.

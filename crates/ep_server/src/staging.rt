@@ -211,18 +211,23 @@ fn settle<R: Files<File = File> + AllocGlobal>(
     Ok(())
 }
 
-/// The generation of a plan, whose opening is in its place.
-fn kept_stage<R: Files<File = File> + AllocGlobal>(
+/// The opening of the generation that the replica goes on with, of those that are here, and whether its log is begun.
+fn next_file<R: Files<File = File> + AllocGlobal>(
     rt: &R,
     folder: &str,
-    plan: Plan,
-    held: Vec<GenerationFolder>,
-) -> Result<GenerationStart, FolderFault> {
+    held: &[GenerationFolder],
+) -> Result<(SpelledFile, Begin), FolderFault> {
+    let plan = plan_for(held, Wish::GoOn)?;
     let generation = generation_of(plan.generation)?;
     let begin = begin_of(rt, folder, plan, generation)?;
     let file = kept_file(rt, folder, generation)?;
-    settle(rt, folder, &file, begin, false)?;
-    Ok(GenerationStart { file, begin, held })
+    match settle(rt, folder, &file, begin, false) {
+        Ok(()) => Ok((file, begin)),
+        Err(fault) => {
+            drop(file);
+            Err(fault)
+        }
+    }
 }
 
 /// The generation that the replica goes on with, of those that are here.
@@ -231,8 +236,13 @@ fn next_stage<R: Files<File = File> + AllocGlobal>(
     folder: &str,
 ) -> Result<GenerationStart, FolderFault> {
     let held = look(rt, folder)?;
-    let plan = plan_for(&held, Wish::GoOn)?;
-    kept_stage(rt, folder, plan, held)
+    match next_file(rt, folder, &held) {
+        Ok((file, begin)) => Ok(GenerationStart { file, begin, held }),
+        Err(fault) => {
+            drop(held);
+            Err(fault)
+        }
+    }
 }
 
 /// Has the opening that is handed over in its place, and says whether its log is begun.
@@ -262,16 +272,17 @@ fn wish_of(file: &SpelledFile, is_new: bool, is_same: bool) -> Wish {
     }
 }
 
-/// How a replica that is new or not starts with an opening that is handed over.
-fn plan_with<R: Files + AllocGlobal>(
+/// Has the opening that is handed over, to a replica that is new or not, in its place, and says whether its log is begun.
+fn begin_with<R: Files<File = File> + AllocGlobal>(
     rt: &R,
     folder: &str,
     held: &[GenerationFolder],
     file: &SpelledFile,
     is_new: bool,
-) -> Result<Plan, FolderFault> {
+) -> Result<Begin, FolderFault> {
     let is_same = is_newest(rt, folder, held, file)?;
-    Ok(plan_for(held, wish_of(file, is_new, is_same))?)
+    let plan = plan_for(held, wish_of(file, is_new, is_same))?;
+    placed(rt, folder, plan, file)
 }
 
 /// The generation of an opening that is handed over, to a replica that is new or not: from a peer, or by this process, which has closed the
@@ -284,10 +295,33 @@ pub(crate) fn handed_stage<R: Files<File = File> + AllocGlobal>(
 ) -> Result<GenerationStart, FolderFault>
     ensures { IfOk result (λ s. s.file ≡ file) }
 {
-    let held = look(rt, folder)?;
-    let plan = plan_with(rt, folder, &held, &file, is_new)?;
-    let begin = placed(rt, folder, plan, &file)?;
-    Ok(GenerationStart { file, begin, held })
+    match look(rt, folder) {
+        Ok(held) => handed_in(rt, folder, held, file, is_new),
+        Err(fault) => {
+            drop(file);
+            Err(FolderFault::from(fault))
+        }
+    }
+}
+
+/// The generation of an opening that is handed over, in a folder that has this.
+fn handed_in<R: Files<File = File> + AllocGlobal>(
+    rt: &R,
+    folder: &str,
+    held: Vec<GenerationFolder>,
+    file: SpelledFile,
+    is_new: bool,
+) -> Result<GenerationStart, FolderFault>
+    ensures { IfOk result (λ s. s.file ≡ file) }
+{
+    match begin_with(rt, folder, &held, &file, is_new) {
+        Ok(begin) => Ok(GenerationStart { file, begin, held }),
+        Err(fault) => {
+            drop(file);
+            drop(held);
+            Err(fault)
+        }
+    }
 }
 
 /// The generation that a start begins with.
@@ -309,8 +343,21 @@ pub(crate) fn first_stage<R: Files<File = File> + AllocGlobal>(
     }
 }
 
+/// The stage, where its opening is for a cluster of this size, or its log isn't begun: it couldn't be closed then.
+pub(crate) fn checked(size: Size, stage: GenerationStart) -> Result<GenerationStart, FolderFault>
+    ensures { IfOk result (λ s. s ≡ stage) }
+{
+    match check_stage(size, &stage) {
+        Ok(()) => Ok(stage),
+        Err(fault) => {
+            drop(stage);
+            Err(fault)
+        }
+    }
+}
+
 /// Whether the opening is for a cluster of this size, where its log is begun: it can't be closed then.
-pub(crate) fn check_stage(size: Size, stage: &GenerationStart) -> Result<(), FolderFault> {
+fn check_stage(size: Size, stage: &GenerationStart) -> Result<(), FolderFault> {
     let file = stage.file.file();
     let found = file.size();
     if stage.begin == Begin::New && found != size {
