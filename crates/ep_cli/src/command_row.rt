@@ -3,6 +3,7 @@
 use crate::arg_row::ArgRow;
 
 /// A command, as its help has it.
+#[derive(Drop)]
 pub struct CommandRow {
     /// Its name.
     pub name: &'static str,
