@@ -30,11 +30,12 @@ pub(crate) fn read_kept(
     let mut ends = Vec::new(alloc);
     for (place, one) in kept.iter().enumerate() {
         let log = read_opened(alloc, cluster, place, one)?;
-        ends.push(End {
+        let end = End {
             whole: log.whole,
             is_torn: log.behind > 0,
-        })?;
+        };
         journals.push(log.journal)?;
+        ends.push(end)?;
     }
     Ok(Logs { journals, ends })
 }
@@ -53,6 +54,7 @@ fn read_opened(
     let origin = origin_beside(alloc, cluster, &one.opening)?;
     let log = read_one(alloc, place, &one.log, &origin)?;
     if !is_of_size(cluster, &log) {
+        drop(log);
         return Err(GenerationFault::LogSize(place));
     }
     Ok(log)
