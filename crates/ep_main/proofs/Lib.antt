@@ -1,3 +1,4 @@
+mod Adding
 mod Bundling
 mod Linked
 mod Choosing

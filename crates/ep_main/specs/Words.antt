@@ -85,17 +85,27 @@ turned = with_rule bounded (value_option (codes "turns"))
 abbrev pub run : App
 run = with_rule turned emit
 
+abbrev pub chain_rule : Rule
+chain_rule = record (new_rule (codes "chain")) { long = Some (codes "chain"); action = Some SetTrue }
+
 abbrev pub chained : App
-chained = with_rule (new_app (codes "audit")) (record (new_rule (codes "chain")) { long = Some (codes "chain"); action = Some SetTrue })
+chained = with_rule (new_app (codes "audit")) chain_rule
 
 abbrev pub audit : App
 audit = with_rule chained (record (new_rule (codes "FILE")) { action = Some Append })
 
+-- with no subcommand yet
+abbrev pub bare : App
+bare = on_top (λ s. record s { subcommand_required = true; has_version = true }) (new_app (codes "epaxos"))
+
 abbrev pub replaying : App
-replaying = with_subcommand (on_top (λ s. record s { subcommand_required = true; has_version = true }) (new_app (codes "epaxos"))) replay.top
+replaying = with_subcommand bare replay.top
+
+abbrev pub running : App
+running = with_subcommand replaying run.top
 
 abbrev pub auditing : App
-auditing = with_subcommand (with_subcommand replaying run.top) audit.top
+auditing = with_subcommand running audit.top
 
 abbrev pub upgrade : App
 upgrade = with_rule (new_app (codes "upgrade")) (value_option (codes "to"))

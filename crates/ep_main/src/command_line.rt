@@ -5,10 +5,10 @@ ghost use Rattle.clap.specs.Values.{kind_of};
 ghost use Rattle.clap.specs.declared.error.ErrorKind.TheVariants.{DisplayHelp, DisplayVersion, OutOfMemory};
 ghost use Rattle.clap.specs.Walk.{Text, all_of, first_of, rows_of, rule_of, texts};
 ghost use Rattle.clap.specs.Matches.{found_of};
-ghost use Rattle.clap.specs.Simple.{app_of, subcommand_rows_of};
+ghost use Rattle.clap.specs.Simple.{App, app_of, new_app, subcommand_rows_of, with_rule, with_subcommand};
 ghost use Rattle.clap.specs.declared.builder.command.Command.TheViews.{out-Command as fields_of};
 ghost use Rattle.ep_main.specs.Options.{Options};
-ghost use Rattle.ep_main.specs.Words.{AskFor, AskForHelp, Chooses, IsAuditTask, IsBundleAudit, IsChainAudit, IsChainFound, IsChainOf, IsHelp, IsHelpTask, IsMet, IsMetTask, IsShown, IsShownTask, IsTask, MetReplay, MetRun, MetAudit, MetChain, MetUpgrade, Names, NamesHost, NamesTarget, audit as audit_app, audit_words, auditing, bounded, chained, emit as emit_rule, hosted, limit_in, replay as replay_app, replaying, run as run_app, run_words, epaxos, turned, upgrade as upgrade_app};
+ghost use Rattle.ep_main.specs.Words.{AskFor, AskForHelp, Chooses, IsAuditTask, IsBundleAudit, IsChainAudit, IsChainFound, IsChainOf, IsHelp, IsHelpTask, IsMet, IsMetTask, IsShown, IsShownTask, IsTask, MetReplay, MetRun, MetAudit, MetChain, MetUpgrade, Names, NamesHost, NamesTarget, audit as audit_app, audit_words, bare, chain_rule, chained, limit_in, replay as replay_app, run as run_app, run_words, epaxos, upgrade as upgrade_app, value_option};
 ghost use Rattle.ep_main.specs.declared.asked.Asked.{Asked};
 ghost use Rattle.ep_main.specs.declared.asked.Asked.TheVariants.{Replay, Run, Audit, Upgrade, Version};
 ghost use Rattle.ep_cli.specs.declared.words_fault.WordsFault.TheVariants.{Memory};
@@ -380,35 +380,55 @@ fn emit_named(alloc: Global, what: &str) -> Result<Emit, WordsFault>
 fn program<'a>(alloc: Global) -> Result<Command<'a>, AllocError>
     ensures { IfOk result (λ c. app_of c ≡ epaxos) }
 {
-    let command = auditing_program(alloc)?;
-    let upgrade = upgrade_command(alloc)?;
-    command.subcommand(upgrade)
+    let replaying = joined(bare_program(alloc), replay_command(alloc))?;
+    let running = joined(replaying, run_command(alloc))?;
+    let auditing = joined(running, audit_command(alloc))?;
+    joined(auditing, upgrade_command(alloc))
+}
+
+/// The program as yet without subcommands.
+fn bare_program<'a>(alloc: Global) -> Command<'a>
+    ensures { app_of result ≡ bare }
+{
+    Command::new(alloc, "epaxos")
+        .about("A replicated key-value core without a leader")
+        .after_help(AFTER_ALL)
+        .version("0.1.0")
+        .subcommand_required(true)
+}
+
+/// The command with this subcommand more, if there was memory for it.
+fn joined<'a>(
+    command: Command<'a>,
+    made: Result<Command<'a>, AllocError>,
+) -> Result<Command<'a>, AllocError>
+    ensures { (sub : App) → IfOk made (λ m. (app_of m ≡ sub) × ((fields_of m).has_globals ≡ false)) → IfOk result (λ c. app_of c ≡ with_subcommand (app_of command) sub.top) }
+{
+    match made {
+        Ok(made) => command.subcommand(made),
+        Err(fault) => {
+            drop(command);
+            Err(fault)
+        }
+    }
 }
 
 fn upgrade_command<'a>(alloc: Global) -> Result<Command<'a>, AllocError>
     ensures { IfOk result (λ c. (app_of c ≡ upgrade_app) × ((fields_of c).has_globals ≡ false)) }
 {
-    let to = Arg::new(alloc, "to")
-        .long("to")
-        .value_name("VERSION")
-        .help("Which version the bundle is to be of: 2 (the default) or 3")
-        .action(ArgAction::Set);
-    let command = Command::new(alloc, "upgrade")
-        .about(
-            "Reads a bundle on standard input, and writes the bundle of version 2, or 3, that says the same",
-        )
-        .after_help(AFTER_UPGRADE);
-    command.arg(to)
-}
-
-/// The program without its subcommand `upgrade`.
-fn auditing_program<'a>(alloc: Global) -> Result<Command<'a>, AllocError>
-    ensures { IfOk result (λ c. app_of c ≡ auditing) }
-{
-    let command = replaying_program(alloc)?;
-    let run = run_command(alloc)?;
-    let audit = audit_command(alloc)?;
-    command.subcommand(run)?.subcommand(audit)
+    let command = command_of(
+        alloc,
+        "upgrade",
+        "Reads a bundle on standard input, and writes the bundle of version 2, or 3, that says the same",
+        AFTER_UPGRADE,
+    );
+    with_option(
+        alloc,
+        command,
+        "to",
+        "VERSION",
+        "Which version the bundle is to be of: 2 (the default) or 3",
+    )
 }
 
 fn audit_command<'a>(alloc: Global) -> Result<Command<'a>, AllocError>
@@ -422,14 +442,23 @@ fn audit_command<'a>(alloc: Global) -> Result<Command<'a>, AllocError>
 fn chained_command<'a>(alloc: Global) -> Result<Command<'a>, AllocError>
     ensures { IfOk result (λ c. (app_of c ≡ chained) × ((fields_of c).has_globals ≡ false)) }
 {
-    let chain = Arg::new(alloc, "chain")
+    let command = command_of(
+        alloc,
+        "audit",
+        "Reads a bundle on standard input, audits it, and prints what the audit says",
+        AFTER_AUDIT,
+    );
+    command.arg(chain_flag(alloc))
+}
+
+fn chain_flag<'a>(alloc: Global) -> Arg<'a>
+    ensures rule { rule_of result ≡ chain_rule }
+    ensures local { result.global ≡ false }
+{
+    Arg::new(alloc, "chain")
         .long("chain")
         .help("Audits a chain: the bundles of generations, one after the other, each in a FILE")
-        .action(ArgAction::SetTrue);
-    let command = Command::new(alloc, "audit")
-        .about("Reads a bundle on standard input, audits it, and prints what the audit says")
-        .after_help(AFTER_AUDIT);
-    command.arg(chain)
+        .action(ArgAction::SetTrue)
 }
 
 /// The same with the names of files, the last words.
@@ -443,98 +472,94 @@ fn filed_command<'a>(alloc: Global, command: Command<'a>) -> Result<Command<'a>,
     command.arg(files)
 }
 
-/// The program with its subcommand `replay` alone.
-fn replaying_program<'a>(alloc: Global) -> Result<Command<'a>, AllocError>
-    ensures { IfOk result (λ c. app_of c ≡ replaying) }
-{
-    let replay = replay_command(alloc)?;
-    let command = Command::new(alloc, "epaxos")
-        .about("A replicated key-value core without a leader")
-        .after_help(AFTER_ALL)
-        .version("0.1.0")
-        .subcommand_required(true);
-    command.subcommand(replay)
-}
-
 fn replay_command<'a>(alloc: Global) -> Result<Command<'a>, AllocError>
     ensures { IfOk result (λ c. (app_of c ≡ replay_app) × ((fields_of c).has_globals ≡ false)) }
 {
-    let emit = Arg::new(alloc, "emit")
-        .long("emit")
-        .value_name("WHAT")
-        .help("What to print: report (the default) or bundle")
-        .action(ArgAction::Set);
-    let command = Command::new(alloc, "replay")
-        .about(
-            "Reads a script on standard input, plays it in one thread, audits what it leaves, and prints a report or a bundle",
-        )
-        .after_help(AFTER_REPLAY);
-    command.arg(emit)
+    let command = command_of(
+        alloc,
+        "replay",
+        "Reads a script on standard input, plays it in one thread, audits what it leaves, and prints a report or a bundle",
+        AFTER_REPLAY,
+    );
+    with_option(
+        alloc,
+        command,
+        "emit",
+        "WHAT",
+        "What to print: report (the default) or bundle",
+    )
 }
 
 fn run_command<'a>(alloc: Global) -> Result<Command<'a>, AllocError>
     ensures { IfOk result (λ c. (app_of c ≡ run_app) × ((fields_of c).has_globals ≡ false)) }
 {
-    let hosted = hosted_command(alloc)?;
-    let bounded = bounded_command(alloc, hosted)?;
-    let turned = turned_command(alloc, bounded)?;
-    emitting_command(alloc, turned)
+    let command = command_of(
+        alloc,
+        "run",
+        "Reads a script on standard input, runs it in threads, audits what they leave, and prints a report or a bundle",
+        AFTER_RUN,
+    );
+    let hosted = with_option(
+        alloc,
+        command,
+        "host",
+        "HOST",
+        "Which host has the replicas: lock (the default) or ring",
+    )?;
+    let bounded = with_option(
+        alloc,
+        hosted,
+        "capacity",
+        "K",
+        "How many frames an inbox, or a ring, holds: 1 to 4096 (64 is the default)",
+    )?;
+    let turned = with_option(
+        alloc,
+        bounded,
+        "turns",
+        "T",
+        "How often a thread turns in a section, at most: 1 to 10000000 (100000 is the default)",
+    )?;
+    with_option(
+        alloc,
+        turned,
+        "emit",
+        "WHAT",
+        "What to print: report (the default) or bundle",
+    )
 }
 
-/// The command `run` with its option `--host` alone.
-fn hosted_command<'a>(alloc: Global) -> Result<Command<'a>, AllocError>
-    ensures { IfOk result (λ c. (app_of c ≡ hosted) × ((fields_of c).has_globals ≡ false)) }
+/// A command with its help, as yet with no options.
+fn command_of<'a>(alloc: Global, name: &'a str, about: &'a str, after_help: &'a str) -> Command<'a>
+    ensures { (app_of result ≡ new_app name.now) × ((fields_of result).has_globals ≡ false) }
 {
-    let host = Arg::new(alloc, "host")
-        .long("host")
-        .value_name("HOST")
-        .help("Which host has the replicas: lock (the default) or ring")
-        .action(ArgAction::Set);
-    let command = Command::new(alloc, "run")
-        .about(
-            "Reads a script on standard input, runs it in threads, audits what they leave, and prints a report or a bundle",
-        )
-        .after_help(AFTER_RUN);
-    command.arg(host)
+    Command::new(alloc, name)
+        .about(about)
+        .after_help(after_help)
 }
 
-/// The same with its option `--capacity`.
-fn bounded_command<'a>(alloc: Global, command: Command<'a>) -> Result<Command<'a>, AllocError>
-    requires { (app_of command ≡ hosted) × ((fields_of command).has_globals ≡ false) }
-    ensures { IfOk result (λ c. (app_of c ≡ bounded) × ((fields_of c).has_globals ≡ false)) }
+/// The command with one option more, which has a word after it.
+fn with_option<'a>(
+    alloc: Global,
+    command: Command<'a>,
+    name: &'a str,
+    value: &'a str,
+    help: &'a str,
+) -> Result<Command<'a>, AllocError>
+    requires { (fields_of command).has_globals ≡ false }
+    ensures { IfOk result (λ c. (app_of c ≡ with_rule (app_of command) (value_option name.now)) × ((fields_of c).has_globals ≡ false)) }
 {
-    let capacity = Arg::new(alloc, "capacity")
-        .long("capacity")
-        .value_name("K")
-        .help("How many frames an inbox, or a ring, holds: 1 to 4096 (64 is the default)")
-        .action(ArgAction::Set);
-    command.arg(capacity)
+    command.arg(option(alloc, name, value, help))
 }
 
-/// The same with its option `--turns`.
-fn turned_command<'a>(alloc: Global, command: Command<'a>) -> Result<Command<'a>, AllocError>
-    requires { (app_of command ≡ bounded) × ((fields_of command).has_globals ≡ false) }
-    ensures { IfOk result (λ c. (app_of c ≡ turned) × ((fields_of c).has_globals ≡ false)) }
+/// An option with a word after it.
+fn option<'a>(alloc: Global, name: &'a str, value: &'a str, help: &'a str) -> Arg<'a>
+    ensures rule { rule_of result ≡ value_option name.now }
+    ensures local { result.global ≡ false }
 {
-    let turns = Arg::new(alloc, "turns")
-        .long("turns")
-        .value_name("T")
-        .help(
-            "How often a thread turns in a section, at most: 1 to 10000000 (100000 is the default)",
-        )
-        .action(ArgAction::Set);
-    command.arg(turns)
-}
-
-/// The same with its option `--emit`, the last one.
-fn emitting_command<'a>(alloc: Global, command: Command<'a>) -> Result<Command<'a>, AllocError>
-    requires { (app_of command ≡ turned) × ((fields_of command).has_globals ≡ false) }
-    ensures { IfOk result (λ c. (app_of c ≡ run_app) × ((fields_of c).has_globals ≡ false)) }
-{
-    let emit = Arg::new(alloc, "emit")
-        .long("emit")
-        .value_name("WHAT")
-        .help("What to print: report (the default) or bundle")
-        .action(ArgAction::Set);
-    command.arg(emit)
+    Arg::new(alloc, name)
+        .long(name)
+        .value_name(value)
+        .help(help)
+        .action(ArgAction::Set)
 }
