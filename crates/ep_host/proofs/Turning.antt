@@ -12,7 +12,8 @@ use Rattle.ep_host.specs.Node.{Node}
 use Rattle.ep_host.specs.Pointwise.{Each}
 use Rattle.ep_host.specs.Rings.{ArePeers, place, PopsAt, IsTaken, handled_by}
 use Rattle.ep_host.specs.Tasks.{event_of, next, next_place}
-use Rattle.ep_host.specs.Turns.{TakesAt, BeginsTask}
+use Rattle.ep_host.specs.Asking.{turn_of}
+use Rattle.ep_host.specs.Turns.{TakesAt, BeginsTask, has_moved}
 use Rattle.ep_host.specs.Weathers.{kind_at}
 use Rattle.ep_host.specs.declared.delivery.Delivery.{Delivery}
 use Rattle.ep_host.specs.declared.delivery.Delivery.TheVariants.{Put, Short, Dropped, Held, Repeated}
@@ -28,6 +29,10 @@ use Rattle.ep_host.proofs.Places.{each_each, each_at}
 -- a node of its parts
 abbrev pub node : Kept → List Link → List Weather → List Task → List (ℕ × StepFault) → ℕ → ℕ → Bool → Node
 node k links weather agenda refused used lost ended = record { replica = k; links = links; weather = weather; agenda = agenda; refused = refused; used = used; lost = lost; ended = ended }
+
+pub moved_back : (b : Bool) → has_moved (turn_of b) ≡ b
+moved_back true = refl
+moved_back false = refl
 
 -- one frame more
 

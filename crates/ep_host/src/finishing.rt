@@ -28,7 +28,10 @@ fn audited(alloc: Global, journals: Journals, receipts: &[Receipt]) -> Result<Fi
             journals,
             verdict: Err(fault),
         }),
-        Err(VerdictFault::Memory) => Err(AllocError),
+        Err(VerdictFault::Memory) => {
+            drop(journals);
+            Err(AllocError)
+        }
     }
 }
 

@@ -98,6 +98,7 @@ pub fn only_of(version: Version, given: Option<Frame>) -> Option<Frame>
             if is_of(version, &frame) {
                 Some(frame)
             } else {
+                drop(frame);
                 None
             }
         }

@@ -80,5 +80,5 @@ pub use tended::Tended;
 pub use tending::tend;
 pub use threads::section;
 pub use turn::Turn;
-pub use weather::Weather;
+pub use weather::{Weather, own_of};
 pub use weather_kind::WeatherKind;

@@ -1,15 +1,18 @@
 //! Replicas behind locks.
 
-ghost use Rattle.std.specs.Prelude.{◌≡◌, IfOk, vec_len, All};
+ghost use Rattle.std.specs.Prelude.{◌≡◌, ◌+◌, IfOk, OnOk, vec_len, All};
 ghost use Rattle.ep_base.specs.Quorums.{size};
 ghost use Rattle.ep_host.specs.Finishing.{StartAs};
-ghost use Rattle.ep_host.specs.Starts.{one_opening, one_version};
+ghost use Rattle.ep_host.specs.Starts.{CanStart, one_opening, one_version};
+ghost use Rattle.ep_journal.specs.Openings.{Opening as Opened};
+ghost use Rattle.ep_replica.specs.Kept.{start_of};
 
 use crate::act::Act;
 use crate::finished::Finished;
 use crate::finishing::finished;
 use crate::frames_out::FramesOut;
 use crate::host_fault::HostFault;
+use crate::host_frame::HostFrame;
 use crate::making;
 use crate::seat::{Seat, inboxes_of, send};
 use crate::second::Second;
@@ -18,6 +21,7 @@ use crate::tended::Tended;
 use crate::turn::Turn;
 use crate::weather::{Weather, is_weather};
 use ep_base::{Command, Generation, InstanceId, ReplicaId, Size, Version};
+use ep_inbox::Port;
 use ep_journal::{Journal, Opening};
 use ep_rules::Receipt;
 use std::alloc::{AllocError, Global};
@@ -38,17 +42,55 @@ pub struct LockHost<S: Start = Second> {
     ghost of_opening: { opening ≡ S.start.1 } by { one_opening _ _ },
 }
 
+/// The journal of the replica, which starts so.
+fn journal_of<S: Start>(seat: Seat<S>) -> Journal
+    ensures { start_of result ≡ S.start }
+{
+    let Seat { cell, sender } = seat;
+    drop(sender);
+    cell.into_inner().into_journal()
+}
+
 /// The journals of the replicas, which start so.
 fn journals_of<S: Start>(alloc: Global, seats: Vec<Seat<S>>) -> Result<Vec<Journal>, AllocError>
     ensures start { IfOk result (λ journals. StartAs S.start journals.items) }
     ensures count { IfOk result (λ journals. vec_len journals ≡ vec_len seats) }
 {
     let mut journals = Vec::new(alloc);
-    for seat in seats {
-        let Seat { cell, sender: _ } = seat;
-        journals.push(cell.into_inner().into_journal())?;
+    match journals.reserve(seats.len()) {
+        Ok(()) => {
+            for seat in seats {
+                journals.push_reserved(journal_of(seat));
+            }
+            Ok(journals)
+        }
+        Err(fault) => {
+            drop(seats);
+            Err(fault)
+        }
     }
-    Ok(journals)
+}
+
+/// Adds a seat for each replica of a cluster of which these are the inboxes. Hands out the opening once more.
+fn add_seats<S: Start>(
+    seats: &mut Vec<Seat<S>>,
+    inboxes: &Vec<Port<HostFrame>>,
+    cluster: Size,
+    version: Version,
+    opening: &Opening,
+) -> Result<Opening, AllocError>
+    requires inboxes { vec_len inboxes.now ≡ size cluster }
+    requires can_start { CanStart version opening.now }
+    requires start { S.start ≡ (version, opening.now) }
+    ensures count { OnOk result (vec_len seats.new ≡ vec_len seats.old + size cluster) }
+    ensures opening { IfOk result (λ (o : Opened). o ≡ opening.now) }
+{
+    let alloc = *inboxes.allocator();
+    for number in 0..cluster.count() {
+        let replica = making::replica(alloc, cluster, number, version, opening)?;
+        seats.push(Seat::new(alloc, replica, inboxes.as_slice())?)?;
+    }
+    opening.copy(alloc)
 }
 
 impl<S: Start> LockHost<S> {
@@ -60,6 +102,7 @@ impl<S: Start> LockHost<S> {
     ghost use Rattle.ep_host.specs.Asking.{IsTaken, IsSubmitted, IsPumped, IsRefused, IsUntold, AreTold, IsOutcomeIn};
     ghost use Rattle.ep_host.specs.Finishing.{IsFinished};
     ghost use Rattle.ep_host.specs.Setting.{IsUnset};
+    ghost use Rattle.ep_host.specs.Starts.{CanStart};
     ghost use Rattle.ep_host.specs.Tending.{event_of};
     ghost use Rattle.ep_host.specs.Weathers.{IsWeather};
     ghost use Rattle.ep_host.specs.declared.host_fault.HostFault.TheVariants.{OutOfRange};
@@ -72,19 +115,10 @@ impl<S: Start> LockHost<S> {
         ensures version { IfOk result (λ host. host.version ≡ V2) }
         ensures opening { IfOk result (λ host. host.opening ≡ no_opening) }
     {
-        let inboxes = inboxes_of(alloc, cluster, capacity)?;
-        let mut seats = Vec::new(alloc);
-        for index in 0..cluster.count() {
-            let replica = making::second(alloc, cluster, index);
-            seats.push(Seat::new(alloc, replica, &inboxes)?)?;
-        }
-        Ok(LockHost {
-            cluster,
-            version: Version::V2,
-            opening: Opening::none(alloc),
-            seats,
-            alloc,
-        })
+        let opening = Opening::none(alloc);
+        let made = LockHost::of(alloc, cluster, capacity, Version::V2, &opening);
+        drop(opening);
+        made
     }
 
     /// The replicas of a cluster of this size, of version 3 and this generation, all with this opening, before any event, each with an inbox for so
@@ -102,19 +136,55 @@ impl<S: Start> LockHost<S> {
         ensures version { IfOk result (λ host. host.version ≡ V3 generation) }
         ensures opening { IfOk result (λ host. host.opening ≡ opening.now) }
     {
+        let version = Version::of_generation(generation);
+        LockHost::of(alloc, cluster, capacity, version, opening)
+    }
+
+    /// The same, of this version, which is 2 or 3, and with this opening, which is none in version 2.
+    pub fn of(
+        alloc: Global,
+        cluster: Size,
+        capacity: usize,
+        version: Version,
+        opening: &Opening,
+    ) -> Result<LockHost<S>, AllocError>
+        requires capacity { (1 ≤ capacity) × (capacity ≤ 4096) }
+        requires can_start { CanStart version opening.now }
+        requires start { S.start ≡ (version, opening.now) }
+        ensures cluster { IfOk result (λ host. host.cluster ≡ cluster) }
+        ensures version { IfOk result (λ host. host.version ≡ version) }
+        ensures opening { IfOk result (λ host. host.opening ≡ opening.now) }
+    {
         let inboxes = inboxes_of(alloc, cluster, capacity)?;
         let mut seats = Vec::new(alloc);
-        for number in 0..cluster.count() {
-            let replica = making::opened(alloc, cluster, number, generation, opening)?;
-            seats.push(Seat::new(alloc, replica, &inboxes)?)?;
+        let added = add_seats(&mut seats, &inboxes, cluster, version, opening);
+        drop(inboxes);
+        match added {
+            Ok(opening) => Ok(LockHost {
+                cluster,
+                version,
+                opening,
+                seats,
+                alloc,
+            }),
+            Err(fault) => {
+                drop(seats);
+                Err(fault)
+            }
         }
-        Ok(LockHost {
-            cluster,
-            version: Version::of_generation(generation),
-            opening: opening.copy(alloc)?,
+    }
+
+    /// Drops the host. Whoever does it by this call needs no proof of how its parts are dropped.
+    pub fn discard(self) {
+        let LockHost {
+            cluster: _,
+            version: _,
+            opening,
             seats,
-            alloc,
-        })
+            alloc: _,
+        } = self;
+        drop(opening);
+        drop(seats);
     }
 
     /// The cluster's size.
@@ -282,10 +352,11 @@ impl<S: Start> LockHost<S> {
         let LockHost {
             cluster: _,
             version: _,
-            opening: _,
+            opening,
             seats,
             alloc,
         } = self;
+        drop(opening);
         let journals = journals_of(alloc, seats)?;
         finished(alloc, journals, receipts)
     }

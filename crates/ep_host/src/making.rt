@@ -1,17 +1,37 @@
 //! The replicas of a host, before any event.
 
-ghost use Rattle.std.specs.Prelude.{◌≡◌, ◌<◌, [], IfOk};
+ghost use Rattle.std.specs.Prelude.{◌≡◌, ◌≤◌, ◌<◌, [], IfOk};
 ghost use Rattle.ep_base.specs.Quorums.{size};
 ghost use Rattle.ep_base.specs.declared.version_kind.VersionKind.TheVariants.{V3};
 ghost use Rattle.ep_replica.specs.Kept.{begun};
+ghost use Rattle.ep_host.specs.Starts.{CanStart};
 
-use ep_base::{Generation, ReplicaId, Size};
+use ep_base::{Generation, ReplicaId, Size, Version, VersionKind};
 use ep_journal::Opening;
 use ep_replica::{OpenedFault, Replica};
 use std::alloc::{AllocError, Global};
 
-/// The replica of this number, which is one of the cluster's, of version 2.
-pub fn second(alloc: Global, cluster: Size, index: u8) -> Replica
+/// The replica of this number, which is one of the cluster's, of this version and with this opening.
+pub fn replica(
+    alloc: Global,
+    cluster: Size,
+    index: u8,
+    version: Version,
+    opening: &Opening,
+) -> Result<Replica, AllocError>
+    requires index { index < size cluster }
+    requires start { CanStart version opening.now }
+    ensures { IfOk result (λ r. r ≡ record { version = version; faults = cluster; me = index; opening = opening.now; entries = [] }) }
+{
+    match version.kind() {
+        VersionKind::V1 => unreachable!(),
+        VersionKind::V2 => Ok(second(alloc, cluster, index)),
+        VersionKind::V3(number) => in_generation(alloc, cluster, index, number, opening),
+    }
+}
+
+/// The same, of version 2.
+fn second(alloc: Global, cluster: Size, index: u8) -> Replica
     requires { index < size cluster }
     ensures { result ≡ begun cluster index }
 {
@@ -20,18 +40,20 @@ pub fn second(alloc: Global, cluster: Size, index: u8) -> Replica
     Replica::new(alloc, cluster, me).unwrap()
 }
 
-/// The replica of this number, which is one of the cluster's, of a generation, with this opening.
-pub fn opened(
+/// The same, of the generation of this number.
+fn in_generation(
     alloc: Global,
     cluster: Size,
     index: u8,
-    generation: Generation,
+    number: u32,
     opening: &Opening,
 ) -> Result<Replica, AllocError>
-    requires { index < size cluster }
-    ensures { IfOk result (λ r. r ≡ record { version = V3 generation; faults = cluster; me = index; opening = opening.now; entries = [] }) }
+    requires index { index < size cluster }
+    requires number { 1 ≤ number }
+    ensures { IfOk result (λ r. r ≡ record { version = V3 number; faults = cluster; me = index; opening = opening.now; entries = [] }) }
 {
     let _faults = cluster.faults();
+    let generation = Generation::new(number).unwrap();
     let me = ReplicaId::new(index).unwrap();
     let opening = opening.copy(alloc)?;
     match Replica::opened(alloc, cluster, me, generation, opening) {

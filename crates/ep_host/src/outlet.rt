@@ -20,7 +20,7 @@ impl Outlet {
     ghost use Rattle.std.specs.Prelude.{◌≡◌, [], None, Some, IsFalse};
     ghost use Rattle.ep_inbox.specs.Ports.{inbox_capacity, WasAt};
     ghost use Rattle.ep_host.specs.Outboxes.{PutsIn, Posts, LetsGo};
-    ghost use Rattle.ep_host.specs.declared.weather_kind.WeatherKind.TheVariants.{Hold, Repeat};
+    ghost use Rattle.ep_host.specs.declared.weather_kind.WeatherKind.TheVariants.{Drop, Hold, Repeat};
 
     /// None is counted or held.
     pub fn new(alloc: Global, port: Port<HostFrame>) -> Outlet
@@ -82,16 +82,22 @@ impl Outlet {
         }
     }
 
+    /// Drops the frame.
+    fn pass_over(&mut self, frame: HostFrame) -> Delivery
+        ensures { Posts (Some Drop) frame result self.old self.new }
+    {
+        drop(frame);
+        self.count = self.count.saturating_add(1);
+        Delivery::Dropped
+    }
+
     /// Does with a frame for the replica what the weather says.
     pub fn send<R: Wait>(&mut self, rt: &R, kind: Option<WeatherKind>, frame: HostFrame) -> Delivery
         ensures { Posts kind frame result self.old self.new }
     {
         match kind {
             None => self.put_once(rt, frame),
-            Some(WeatherKind::Drop) => {
-                self.count = self.count.saturating_add(1);
-                Delivery::Dropped
-            }
+            Some(WeatherKind::Drop) => self.pass_over(frame),
             Some(WeatherKind::Hold) => self.hold(frame),
             Some(WeatherKind::Repeat) => self.put_twice(rt, frame),
         }

@@ -41,6 +41,7 @@ pub fn deliver<R: Wait>(
     let to = frame.origin().to;
     let place = to.index() as usize;
     if place >= outlets.len() {
+        drop(frame);
         return Delivery::Put(false);
     }
     let count = outlets[place].count.saturating_add(1);

@@ -35,10 +35,18 @@ fn collected(alloc: Global, nodes: Vec<RingNode>) -> Result<Vec<Journal>, AllocE
     ensures { IfOk result (λ journals. journals.items ≡ replicas_in nodes.items) }
 {
     let mut journals = Vec::new(alloc);
-    for node in nodes {
-        journals.push(node.into_journal())?;
+    match journals.reserve(nodes.len()) {
+        Ok(()) => {
+            for node in nodes {
+                journals.push_reserved(node.into_journal());
+            }
+            Ok(journals)
+        }
+        Err(fault) => {
+            drop(nodes);
+            Err(fault)
+        }
     }
-    Ok(journals)
 }
 
 /// The audit of journals with receipts that it accepts.

@@ -1,10 +1,9 @@
 //! How the nodes of a host are made.
 
-ghost use Rattle.std.specs.Prelude.{◌≡◌, ◌≤◌, ◌<◌, IfOk, OnOk};
-ghost use Rattle.ep_base.specs.Quorums.{size};
-ghost use Rattle.ep_base.specs.declared.version_kind.VersionKind.TheVariants.{V2, V3};
-ghost use Rattle.ep_journal.specs.Openings.{no_opening};
+ghost use Rattle.std.specs.Prelude.{◌≡◌, [], All, OnOk};
+ghost use Rattle.ep_host.specs.Host.{IsHost, IsFresh, StartsAs};
 ghost use Rattle.ep_host.specs.Joins.{Joins, CanJoin};
+ghost use Rattle.ep_host.specs.Starts.{CanStart};
 
 use crate::held_frames::HeldFrames;
 use crate::host_fault::HostFault;
@@ -13,7 +12,7 @@ use crate::making;
 use crate::ring_node::RingNode;
 use crate::task::Task;
 use crate::weather::Weather;
-use ep_base::{Generation, Size};
+use ep_base::{Generation, Size, Version};
 use ep_journal::Opening;
 use rtrb::RingBuffer;
 use std::alloc::{AllocError, Global};
@@ -48,14 +47,49 @@ fn join_nodes(
     Ok(())
 }
 
+/// Adds the nodes of a cluster, of which there is none yet, each joined to those before it.
+fn add_nodes(
+    nodes: &mut Vec<RingNode>,
+    cluster: Size,
+    capacity: usize,
+    version: Version,
+    opening: &Opening,
+) -> Result<(), AllocError>
+    requires none { nodes.old.items ≡ [] }
+    requires start { CanStart version opening.now }
+    ensures host { OnOk result (IsHost cluster nodes.new.items) }
+    ensures fresh { OnOk result (All (IsFresh capacity) nodes.new.items) }
+    ensures start { OnOk result (All (StartsAs version opening.now) nodes.new.items) }
+{
+    let alloc = *nodes.allocator();
+    for number in 0..cluster.count() {
+        let replica = making::replica(alloc, cluster, number, version, opening)?;
+        let mut node = RingNode::new(alloc, replica);
+        for place in 0..nodes.len() {
+            match join_nodes(alloc, &mut nodes[place], &mut node, capacity) {
+                Ok(()) => {}
+                Err(fault) => {
+                    drop(node);
+                    return Err(fault);
+                }
+            }
+        }
+        nodes.push(node)?;
+    }
+    Ok(())
+}
+
 /// Nodes, each with its replica, that hand frames to one another through rings: one for each ordered pair.
 pub struct RingHost;
 
 impl RingHost {
     ghost use Rattle.std.specs.Prelude.{◌≤◌, ◌<◌, ◌≡◌, ℕ, length, IfOk, IfErr, OnOk, OnErr, All};
+    ghost use Rattle.ep_base.specs.declared.version_kind.VersionKind.TheVariants.{V2, V3};
+    ghost use Rattle.ep_journal.specs.Openings.{no_opening};
     ghost use Rattle.ep_host.specs.Host.{IsHost, IsFresh, StartsAs};
     ghost use Rattle.ep_host.specs.Pointwise.{Each};
     ghost use Rattle.ep_host.specs.Setting.{SetsWeatherAt, IsUnsetAt, IsReleased};
+    ghost use Rattle.ep_host.specs.Starts.{CanStart};
     ghost use Rattle.ep_host.specs.Turns.{AssignsAt};
 
     /// The nodes of a cluster of this size, of version 2, before any event and without tasks. Each ring has room for so many frames.
@@ -65,15 +99,10 @@ impl RingHost {
         ensures fresh { IfOk result (λ nodes. All (IsFresh capacity) nodes.items) }
         ensures start { IfOk result (λ nodes. All (StartsAs V2 no_opening) nodes.items) }
     {
-        let mut nodes = Vec::new(alloc);
-        for index in 0..cluster.count() {
-            let mut node = RingNode::new(alloc, making::second(alloc, cluster, index));
-            for place in 0..nodes.len() {
-                join_nodes(alloc, &mut nodes[place], &mut node, capacity)?;
-            }
-            nodes.push(node)?;
-        }
-        Ok(nodes)
+        let opening = Opening::none(alloc);
+        let made = RingHost::of(alloc, cluster, capacity, Version::V2, &opening);
+        drop(opening);
+        made
     }
 
     /// The nodes of a cluster of this size, of version 3 and this generation, all with this opening, before any event and without tasks. Each ring has
@@ -90,16 +119,32 @@ impl RingHost {
         ensures fresh { IfOk result (λ nodes. All (IsFresh capacity) nodes.items) }
         ensures start { IfOk result (λ nodes. All (StartsAs (V3 generation) opening.now) nodes.items) }
     {
+        let version = Version::of_generation(generation);
+        RingHost::of(alloc, cluster, capacity, version, opening)
+    }
+
+    /// The same, of this version, which is 2 or 3, and with this opening, which is none in version 2.
+    pub fn of(
+        alloc: Global,
+        cluster: Size,
+        capacity: usize,
+        version: Version,
+        opening: &Opening,
+    ) -> Result<Vec<RingNode>, AllocError>
+        requires capacity { (1 ≤ capacity) × (capacity ≤ 4096) }
+        requires start { CanStart version opening.now }
+        ensures host { IfOk result (λ nodes. IsHost cluster nodes.items) }
+        ensures fresh { IfOk result (λ nodes. All (IsFresh capacity) nodes.items) }
+        ensures start { IfOk result (λ nodes. All (StartsAs version opening.now) nodes.items) }
+    {
         let mut nodes = Vec::new(alloc);
-        for number in 0..cluster.count() {
-            let replica = making::opened(alloc, cluster, number, generation, opening)?;
-            let mut node = RingNode::new(alloc, replica);
-            for place in 0..nodes.len() {
-                join_nodes(alloc, &mut nodes[place], &mut node, capacity)?;
+        match add_nodes(&mut nodes, cluster, capacity, version, opening) {
+            Ok(()) => Ok(nodes),
+            Err(fault) => {
+                drop(nodes);
+                Err(fault)
             }
-            nodes.push(node)?;
         }
-        Ok(nodes)
     }
 
     /// Assigns a task to one of the nodes of a host, which stays one. At want of memory the node is as it was.
@@ -125,6 +170,11 @@ impl RingHost {
         ensures host { (f : ℕ) → IsHost f nodes.old → IsHost f nodes.new }
     {
         nodes[node].set_weather(weather)
+    }
+
+    /// Drops the nodes. Whoever does it by this call needs no proof of how their parts are dropped.
+    pub fn discard(nodes: Vec<RingNode>) {
+        drop(nodes);
     }
 
     /// Puts the held frames of each node of a host, which stays one, into their rings, as `RingNode::release` does.

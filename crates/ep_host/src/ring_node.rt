@@ -124,14 +124,18 @@ impl RingNode {
     {
         let RingNode {
             replica,
-            links: _,
-            weather: _,
-            agenda: _,
-            refused: _,
+            links,
+            weather,
+            agenda,
+            refused,
             used: _,
             lost: _,
             ended: _,
         } = self;
+        drop(links);
+        drop(weather);
+        drop(agenda);
+        drop(refused);
         replica.into_journal()
     }
 
@@ -140,9 +144,16 @@ impl RingNode {
         ensures ok { OnOk result (Assigns self.old task self.new) }
         ensures err { OnErr result (self.new ≡ self.old) }
     {
-        self.refused.reserve(self.agenda.len().saturating_add(1))?;
-        self.agenda.push_back(task)?;
-        Ok(())
+        match self.refused.reserve(self.agenda.len().saturating_add(1)) {
+            Ok(()) => {
+                self.agenda.push_back(task)?;
+                Ok(())
+            }
+            Err(fault) => {
+                drop(task);
+                Err(fault)
+            }
+        }
     }
 
     /// One link more, whose rings nothing has gone through.
@@ -223,11 +234,7 @@ impl RingNode {
         let taken = self.take_all();
         let begun = self.begin();
         let executed = self.execute();
-        if taken | begun | executed {
-            Turn::Moved
-        } else {
-            Turn::Idle
-        }
+        Turn::of(taken | begun | executed)
     }
 
     /// Sets the weather: what is to become of which frames that the node puts from now on. It takes the place of the one before; what is held stays held.

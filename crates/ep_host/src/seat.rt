@@ -38,11 +38,16 @@ impl<S: Start> Seat<S> {
         requires here { replica.me < size replica.faults }
         requires inboxes { length inboxes.now ≡ size replica.faults }
     {
-        let sender = Sender::new(alloc, replica.me(), inboxes)?;
-        Ok(Seat {
-            cell: Mutex::new(HostReplica::new(replica)),
-            sender: Mutex::new(sender),
-        })
+        match Sender::new(alloc, replica.me(), inboxes) {
+            Ok(sender) => Ok(Seat {
+                cell: Mutex::new(HostReplica::new(replica)),
+                sender: Mutex::new(sender),
+            }),
+            Err(fault) => {
+                drop(replica);
+                Err(fault)
+            }
+        }
     }
 }
 

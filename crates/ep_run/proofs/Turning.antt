@@ -17,7 +17,8 @@ use Rattle.ep_replica.specs.Kept.{Kept, start_of}
 use Rattle.ep_rules.specs.Journals.{asked_in as asked_in_entries}
 use Rattle.ep_rules.specs.Steps.{Event}
 use Rattle.ep_run.specs.Rings.{Turns}
-use Rattle.ep_run.specs.Weathers.{own_of, SetsOwn, HasOwn}
+use Rattle.ep_host.specs.Weathers.{own_of}
+use Rattle.ep_run.specs.Weathers.{SetsOwn, HasOwn}
 
 -- once its tasks are assigned: more entries, and an agenda that has lost so many tasks at least, or all
 pub record Passes (turns : ℕ) (a b : Node) : Type 0 where

@@ -1,5 +1,5 @@
 -- The weather of a section is one for its host, each replica's own of it is one for its node, and so it is set.
-use Rattle.std.proofs.Common.{◌≡◌, ℕ, zero, suc, ◌+◌, ◌<◌, eqb, cond, Bool, true, false, List, [], ◌∷◌, ◌++◌, length, take, get_or, refl, sym, ap, ◌∙◌, subst, arith, All, eqb-true, append_assoc}
+use Rattle.std.proofs.Common.{◌≡◌, ℕ, zero, suc, ◌+◌, ◌<◌, eqb, cond, Bool, true, false, List, [], ◌∷◌, ◌++◌, length, take, get_or, refl, sym, ap, ◌∙◌, subst, arith, All, eqb-true}
 use Rattle.std.specs.List.{IsDistinct, AllByRecursion}
 use Rattle.std.proofs.lemmas.Bool.Decides.{nat_tests}
 use Rattle.std.proofs.lemmas.List.{take_more, get_or_default}
@@ -9,7 +9,7 @@ use Rattle.ep_base.specs.Quorums.{size}
 use Rattle.ep_host.specs.Host.{IsHost}
 use Rattle.ep_host.specs.Node.{Node}
 use Rattle.ep_host.specs.Setting.{IsUnset, SetsWeather, SetsWeatherAt}
-use Rattle.ep_host.specs.Weathers.{NameOne, IsFrameIn, IsWeather, IsWeatherAt}
+use Rattle.ep_host.specs.Weathers.{NameOne, IsFrameIn, IsWeather, IsWeatherAt, own_of}
 use Rattle.ep_host.specs.declared.weather.Weather.{Weather}
 use Rattle.ep_host.specs.declared.host_fault.HostFault.{HostFault}
 use Rattle.ep_host.specs.declared.host_fault.HostFault.TheVariants.{Memory, OutOfRange, Replica}
@@ -17,7 +17,7 @@ use Rattle.ep_host.proofs.Places.{Firsts, firsts_more}
 use Rattle.ep_script.specs.Fits.{FitsWeather, FitsSection}
 use Rattle.ep_script.specs.Plan.{SectionPlan, same_frame}
 use Rattle.ep_script.specs.declared.weather_line.WeatherLine.{WeatherLine}
-use Rattle.ep_run.specs.Weathers.{weather_of, weather_in, own_of, SetsOwn}
+use Rattle.ep_run.specs.Weathers.{weather_of, weather_in, SetsOwn}
 use Rattle.ep_run.proofs.Running.{blank}
 
 -- one line more
@@ -26,17 +26,9 @@ in_both : (xs ys : List WeatherLine) → weather_in (xs ++ ys) ≡ weather_in xs
 in_both [] ys = refl
 in_both (x ∷ xs) ys = ap (λ (l : List Weather). weather_of x ∷ l) (in_both xs ys)
 
-own_both : (r : ℕ) (xs ys : List Weather) → own_of r (xs ++ ys) ≡ own_of r xs ++ own_of r ys
-own_both r [] ys = refl
-own_both r (x ∷ xs) ys = ap (λ (l : List Weather). cond (eqb x.from r) (x ∷ []) [] ++ l) (own_both r xs ys) ∙ sym (append_assoc (cond (eqb x.from r) (x ∷ []) []) (own_of r xs) (own_of r ys))
-
 pub line_more : (ls : List WeatherLine) (i : ℕ) (l : WeatherLine) → i < length ls → l ≡ get_or ls i l → weather_in (take (i + 1) ls) ≡ weather_in (take i ls) ++ weather_of l ∷ []
 line_more ls i l low is =
     ap weather_in (take_more ls i l low) ∙ in_both (take i ls) (get_or ls i l ∷ []) ∙ ap (λ (k : WeatherLine). weather_in (take i ls) ++ weather_of k ∷ []) (sym is)
-
-pub own_more : (r : ℕ) (ws : List Weather) (i : ℕ) (w : Weather) → i < length ws → w ≡ get_or ws i w → own_of r (take (i + 1) ws) ≡ own_of r (take i ws) ++ own_of r (w ∷ [])
-own_more r ws i w low is =
-    ap (own_of r) (take_more ws i w low) ∙ own_both r (take i ws) (get_or ws i w ∷ []) ∙ ap (λ (v : Weather). own_of r (take i ws) ++ own_of r (v ∷ [])) (sym is)
 
 -- a weather's first frame, and the others
 
@@ -87,7 +79,7 @@ own_all : (r : ℕ) (P : Weather → Type 0) (ws : List Weather) → All P ws �
 own_all r P [] h = h
 own_all r P (w ∷ ws) h = go (eqb w.from r) (own_all r P ws (All-tail P w ws h))
   where
-    go : (b : Bool) → All P (own_of r ws) → All P (cond b (w ∷ []) [] ++ own_of r ws)
+    go : (b : Bool) → All P (own_of r ws) → All P (cond b (w ∷ own_of r ws) (own_of r ws))
     go true rest = All-cons P w (own_of r ws) (All-head P w ws h) rest
     go false rest = rest
 
@@ -95,7 +87,7 @@ own_from : (r : ℕ) (ws : List Weather) → All (λ (w : Weather). w.from ≡ r
 own_from r [] = All-nil (λ (w : Weather). w.from ≡ r)
 own_from r (w ∷ ws) = go (eqb w.from r) refl (own_from r ws)
   where
-    go : (b : Bool) → eqb w.from r ≡ b → All (λ (v : Weather). v.from ≡ r) (own_of r ws) → All (λ (v : Weather). v.from ≡ r) (cond b (w ∷ []) [] ++ own_of r ws)
+    go : (b : Bool) → eqb w.from r ≡ b → All (λ (v : Weather). v.from ≡ r) (own_of r ws) → All (λ (v : Weather). v.from ≡ r) (cond b (w ∷ own_of r ws) (own_of r ws))
     go true e rest = All-cons (λ (v : Weather). v.from ≡ r) w (own_of r ws) (eqb-true w.from r e) rest
     go false e rest = rest
 
@@ -103,7 +95,7 @@ own_weather : (f r : ℕ) (ws : List Weather) → IsWeather f ws → IsWeather f
 own_weather f r [] h = h
 own_weather f r (w ∷ ws) h = go (eqb w.from r) (own_weather f r ws (weather_rest f w ws h))
   where
-    go : (b : Bool) → IsWeather f (own_of r ws) → IsWeather f (cond b (w ∷ []) [] ++ own_of r ws)
+    go : (b : Bool) → IsWeather f (own_of r ws) → IsWeather f (cond b (w ∷ own_of r ws) (own_of r ws))
     go true rest = weather_more f w (own_of r ws) (All-head (IsFrameIn f) w ws h.frames) (own_all r (λ (v : Weather). NameOne w v → ⊥) ws (weather_apart f w ws h)) rest
     go false rest = rest
 

@@ -1,7 +1,8 @@
 -- The weather of a section, as a host takes it.
-use Rattle.std.specs.Prelude.{◌≡◌, ℕ, eqb, cond, List, [], ◌∷◌, ◌++◌}
+use Rattle.std.specs.Prelude.{◌≡◌, List, [], ◌∷◌}
 use Rattle.ep_host.specs.Node.{Node}
 use Rattle.ep_host.specs.Setting.{SetsWeather}
+use Rattle.ep_host.specs.Weathers.{own_of}
 use Rattle.ep_host.specs.declared.weather.Weather.{Weather}
 use Rattle.ep_host.specs.declared.weather_kind.WeatherKind.{WeatherKind as HostKind}
 use Rattle.ep_host.specs.declared.weather_kind.WeatherKind.TheVariants as host
@@ -21,11 +22,6 @@ weather_of l = record { from = l.from; to = l.to; count = l.count; kind = kind_o
 abbrev pub weather_in : List WeatherLine → List Weather
 weather_in [] = []
 weather_in (l ∷ ls) = weather_of l ∷ weather_in ls
-
--- those of frames that replica r puts, in order
-abbrev pub own_of : ℕ → List Weather → List Weather
-own_of r [] = []
-own_of r (w ∷ ws) = cond (eqb w.from r) (w ∷ []) [] ++ own_of r ws
 
 -- the node's weather is its own of this from now on, and frames are counted anew
 abbrev pub SetsOwn : List Weather → Node → Node → Type 0

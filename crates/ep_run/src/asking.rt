@@ -46,8 +46,8 @@ fn proposal(
     ensures asked { IfOk result (λ a. (ps : List ℕ) (ts : List Receipt) → AreCounted clients.old ps ts → a ≡ Propose client (times client ps + 1) command.now (greatest client ts)) }
     ensures counted { OnOk result ((ps : List ℕ) (ts : List Receipt) → AreCounted clients.old ps ts → AreCounted clients.new (ps ++ client ∷ []) ts) }
 {
-    let command = command.copy(alloc)?;
     let known = clients.count(client)?;
+    let command = command.copy(alloc)?;
     Ok(Task::Propose {
         client,
         request: known.requests,

@@ -13,7 +13,7 @@ use std::thread::Threads;
 
 /// What a replica's two threads share in a section.
 #[derive(Drop)]
-pub(crate) struct Lane {
+struct Lane {
     replica: ReplicaId,
     has_submitted: AtomicBool,
 }
@@ -57,7 +57,7 @@ impl Lane {
 }
 
 /// A lane for each replica of a cluster of this size.
-pub(crate) fn lanes(alloc: Global, cluster: Size) -> Result<Vec<Lane>, AllocError> {
+fn lanes(alloc: Global, cluster: Size) -> Result<Vec<Lane>, AllocError> {
     let mut lanes = Vec::new(alloc);
     for index in 0..cluster.count() {
         let replica = ReplicaId::new(index).unwrap();
@@ -66,17 +66,17 @@ pub(crate) fn lanes(alloc: Global, cluster: Size) -> Result<Vec<Lane>, AllocErro
     Ok(lanes)
 }
 
-/// Runs a section's tasks, in two threads for each lane.
-pub(crate) fn run_lanes<S: Start + Send + Sync, R: Threads + Wait + Sync>(
+/// Runs a section's tasks, in two threads for each lane. Answers whether all threads were started.
+fn run_lanes<S: Start + Send + Sync, R: Threads + Wait + Sync>(
     rt: &R,
     host: &LockHost<S>,
     tasks: &Vec<Submission>,
     lanes: &[Lane],
     turns: u32,
-) -> Result<(), RunFault> {
+) -> bool {
     let alloc = *tasks.allocator();
     let tasks = tasks.as_slice();
-    let is_started = thread::scope(thread::scope_env(), rt, |scope| {
+    thread::scope(thread::scope_env(), rt, |scope| {
         let mut is_started = true;
         for lane in lanes {
             is_started = is_started
@@ -86,8 +86,18 @@ pub(crate) fn run_lanes<S: Start + Send + Sync, R: Threads + Wait + Sync>(
                 && scope.spawn(move || lane.pump_all(rt, host, turns)).is_ok();
         }
         is_started
-    });
-    if is_started {
+    })
+}
+
+/// Runs a section's tasks, in two threads for each replica.
+pub(crate) fn run_threads<S: Start + Send + Sync, R: Threads + Wait + Sync>(
+    rt: &R,
+    host: &LockHost<S>,
+    tasks: &Vec<Submission>,
+    turns: u32,
+) -> Result<(), RunFault> {
+    let lanes = lanes(*tasks.allocator(), host.size())?;
+    if run_lanes(rt, host, tasks, &lanes, turns) {
         Ok(())
     } else {
         Err(RunFault::NoThread)

@@ -11,7 +11,6 @@ ghost use Rattle.ep_run.specs.Asking.{asked_by as asks_of, asked_of, proposers_a
 ghost use Rattle.ep_run.specs.Rings.{AreAssigned, Begins, SettlesReleased, Turns, Collects, HasRun};
 ghost use Rattle.ep_host.specs.Host.{IsFresh, StartsAs};
 ghost use Rattle.ep_replay.specs.Heads.{opening_of};
-ghost use Rattle.ep_base.specs.declared.version_kind.VersionKind.TheVariants.{V3};
 ghost use Rattle.ep_run.specs.Lines.{AreDone};
 ghost use Rattle.ep_run.specs.Weathers.{weather_in, HasOwn};
 
@@ -20,11 +19,10 @@ use crate::collecting::{last_entry, none_collected, note_last};
 use crate::ran::Ran;
 use crate::refusals::refused_lines;
 use crate::ring_weather::set_weather;
-use ep_base::{Generation, VersionKind};
 use ep_host::{Finished, Gate, RingHost, RingNode, finish_with, section as turn_all, settle};
 use ep_replay::{Clients, opening_of};
 use ep_rules::Receipt;
-use ep_script::{AgendaLine, Head, ScriptSection};
+use ep_script::{AgendaLine, Head, RunScript, ScriptSection};
 use std::alloc::{AllocError, Global};
 use std::marker::Sync;
 use std::mem;
@@ -44,7 +42,6 @@ impl Gate for Open {
 }
 
 /// How far a run over nodes with rings has come.
-#[derive(Drop)]
 pub(crate) struct RingRun {
     nodes: Vec<RingNode>,
     clients: Clients,
@@ -138,35 +135,15 @@ fn nodes_of(alloc: Global, head: &Head, capacity: usize) -> Result<Vec<RingNode>
     ensures fresh { IfOk result (λ nodes. All (IsFresh capacity) nodes.items) }
     ensures start { IfOk result (λ nodes. All (StartsAs head.now.version (opening_of head.now.opening)) nodes.items) }
 {
-    match head.version().kind() {
-        VersionKind::V1 => unreachable!(),
-        VersionKind::V2 => RingHost::new(alloc, head.size(), capacity),
-        VersionKind::V3(number) => nodes_in(alloc, head, number, capacity),
-    }
-}
-
-/// The nodes of this generation, which open as the head says.
-fn nodes_in(
-    alloc: Global,
-    head: &Head,
-    number: u32,
-    capacity: usize,
-) -> Result<Vec<RingNode>, AllocError>
-    requires number { 1 ≤ number }
-    requires capacity { (1 ≤ capacity) × (capacity ≤ 4096) }
-    ensures host { IfOk result (λ nodes. IsHost head.now.faults nodes.items) }
-    ensures fresh { IfOk result (λ nodes. All (IsFresh capacity) nodes.items) }
-    ensures start { IfOk result (λ nodes. All (StartsAs (V3 number) (opening_of head.now.opening)) nodes.items) }
-{
-    let Ok(generation) = Generation::new(number) else {
-        unreachable!()
-    };
     let opening = opening_of(alloc, head.opening())?;
-    RingHost::opened(alloc, head.size(), capacity, generation, &opening)
+    let nodes = RingHost::new(alloc, head.size(), capacity, head.version(), &opening);
+    drop(opening);
+    nodes
 }
 
 impl RingRun {
     ghost use Rattle.std.specs.Prelude.{◌≡◌, ◌++◌, ◌∷◌, [], ◌≤◌, ◌<◌, length, ℕ, List, All, IfOk, OnOk, IsOk};
+    ghost use Rattle.ep_base.specs.Quorums.{size as size_with};
     ghost use Rattle.ep_host.specs.Finishing.{IsFinished};
     ghost use Rattle.ep_script.specs.Fits.{FitsSection};
     ghost use Rattle.ep_script.specs.Plan.{SectionPlan};
@@ -179,8 +156,8 @@ impl RingRun {
         requires { (1 ≤ capacity) × (capacity ≤ 4096) }
         ensures { IfOk result (λ s. (turns : ℕ) → HasRun (begun_of head.now) turns [] s) }
     {
+        let collected = none_collected(alloc, head.size().count() as usize)?;
         let nodes = nodes_of(alloc, head, capacity)?;
-        let collected = none_collected(alloc, nodes.len())?;
         Ok(RingRun {
             nodes,
             clients: Clients::new(alloc),
@@ -188,6 +165,23 @@ impl RingRun {
             collected,
             alloc,
         })
+    }
+
+    /// Runs the sections of a script.
+    pub(crate) fn run_all<R: Threads + Sync>(
+        &mut self,
+        rt: &R,
+        script: &RunScript,
+        turns: u32,
+    ) -> Result<(), AllocError>
+        requires run { (b : Begun) × HasRun b turns [] self.old }
+        requires size { length self.old.nodes.items ≡ size_with script.now.head.faults }
+        ensures { OnOk result ((b : Begun) → HasRun b turns [] self.old → HasRun b turns script.now.sections self.new) }
+    {
+        for section in script.sections() {
+            self.run(rt, section, turns)?;
+        }
+        Ok(())
     }
 
     /// Runs a section in threads and in its own weather, puts the held frames, settles, and collects the receipts.
@@ -210,7 +204,8 @@ impl RingRun {
         )?;
         let none = Vec::new(self.alloc);
         let nodes = mem::replace(&mut self.nodes, none);
-        self.nodes = turned(rt, nodes, turns);
+        let emptied = mem::replace(&mut self.nodes, turned(rt, nodes, turns));
+        RingHost::discard(emptied);
         self.collect_all()?;
         Ok(())
     }
@@ -244,6 +239,21 @@ impl RingRun {
         Ok(())
     }
 
+    /// Drops all of it.
+    pub(crate) fn discard(self) {
+        let RingRun {
+            nodes,
+            clients,
+            receipts,
+            collected,
+            alloc: _,
+        } = self;
+        RingHost::discard(nodes);
+        drop(clients);
+        drop(receipts);
+        drop(collected);
+    }
+
     /// What the run leaves, of these sections.
     pub(crate) fn end(self, sections: &[ScriptSection]) -> Result<Ran, AllocError>
         requires { (b : Begun) × (turns : ℕ) × HasRun b turns sections.now self }
@@ -254,20 +264,35 @@ impl RingRun {
     {
         let RingRun {
             nodes,
-            clients: _,
+            clients,
             receipts,
-            collected: _,
+            collected,
             alloc,
         } = self;
-        let refused = refused_lines(alloc, sections, &nodes)?;
+        drop(clients);
+        drop(collected);
+        let refused = match refused_lines(alloc, sections, &nodes) {
+            Ok(refused) => refused,
+            Err(fault) => {
+                RingHost::discard(nodes);
+                drop(receipts);
+                return Err(fault);
+            }
+        };
         let lost = lost_of(&nodes);
-        let finished = finish_with(alloc, nodes, &receipts)?;
-        Ok(Ran {
-            finished,
-            receipts,
-            refused,
-            lost,
-        })
+        match finish_with(alloc, nodes, &receipts) {
+            Ok(finished) => Ok(Ran {
+                finished,
+                receipts,
+                refused,
+                lost,
+            }),
+            Err(fault) => {
+                drop(receipts);
+                drop(refused);
+                Err(fault)
+            }
+        }
     }
 }
 

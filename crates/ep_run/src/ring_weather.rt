@@ -4,12 +4,12 @@ ghost use Rattle.std.specs.Prelude.{◌≡◌, ◌<◌, length, ℕ, OnOk};
 ghost use Rattle.ep_host.specs.Host.{IsHost};
 ghost use Rattle.ep_host.specs.Pointwise.{Each};
 ghost use Rattle.ep_host.specs.Setting.{SetsWeatherAt};
-ghost use Rattle.ep_host.specs.Weathers.{IsWeather};
+ghost use Rattle.ep_host.specs.Weathers.{IsWeather, own_of};
 ghost use Rattle.ep_script.specs.Fits.{FitsSection};
-ghost use Rattle.ep_run.specs.Weathers.{weather_in, own_of, SetsOwn};
+ghost use Rattle.ep_run.specs.Weathers.{weather_in, SetsOwn};
 
-use crate::weather::{own_of, want_of_memory, weather_in};
-use ep_host::{RingHost, RingNode, Weather};
+use crate::weather::{want_of_memory, weather_in};
+use ep_host::{RingHost, RingNode, Weather, own_of};
 use ep_script::ScriptSection;
 use std::alloc::{AllocError, Global};
 
@@ -25,7 +25,8 @@ fn set_own(
     ensures set { OnOk result (SetsWeatherAt place (own_of place weather.now) nodes.old nodes.new) }
     ensures host { (f : ℕ) → IsHost f nodes.old → IsHost f nodes.new }
 {
-    let own = own_of(alloc, weather, place)?;
+    let me = nodes[place].replica().me();
+    let own = own_of(alloc, me, weather)?;
     match RingHost::set_weather_at(nodes, place, &own) {
         Ok(()) => Ok(()),
         Err(fault) => Err(want_of_memory(fault)),

@@ -36,9 +36,11 @@ pub fn run_rings<R: Threads + Sync>(
     ensures lines { IfOk result (AreDone limits.now.turns script.now.sections) }
 {
     let mut run = RingRun::new(alloc, script.head(), limits.capacity)?;
-    for section in script.sections() {
-        run.run(rt, section, limits.turns)?;
+    match run.run_all(rt, script, limits.turns) {
+        Ok(()) => Ok(run.end(script.sections())?),
+        Err(fault) => {
+            run.discard();
+            Err(RunFault::from(fault))
+        }
     }
-    let ran = run.end(script.sections())?;
-    Ok(ran)
 }

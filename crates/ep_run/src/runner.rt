@@ -1,8 +1,7 @@
 //! Runs.
 
-ghost use Rattle.std.specs.Prelude.{◌≡◌, ◌≤◌, ℕ, List, IfOk, OnOk};
+ghost use Rattle.std.specs.Prelude.{◌≡◌, ℕ, List, IfOk, OnOk};
 ghost use Rattle.ep_base.specs.Quorums.{size as size_with};
-ghost use Rattle.ep_base.specs.declared.version_kind.VersionKind.TheVariants.{V3};
 ghost use Rattle.ep_host.specs.Finishing.{IsFinished};
 ghost use Rattle.ep_replay.specs.Tables.{AreCounted};
 ghost use Rattle.ep_rules.specs.declared.receipt.Receipt.{Receipt as Told};
@@ -13,13 +12,13 @@ ghost use Rattle.ep_run.specs.Locks.{HasBegun, IsOfHost};
 ghost use Rattle.ep_run.specs.Rings.{IsBegun, begun_of};
 
 use crate::collecting::{last_entry, none_collected, note_last};
-use crate::lane::{lanes, run_lanes};
+use crate::lane::run_threads;
 use crate::limits::Limits;
 use crate::ran::Ran;
 use crate::run_fault::RunFault;
 use crate::submission::Submission;
 use crate::weather::{want_of_memory, weather_in};
-use ep_base::{Generation, ReplicaId, VersionKind};
+use ep_base::ReplicaId;
 use ep_host::{LockHost, Start, Turn};
 use ep_replay::{Clients, opening_of};
 use ep_report::EventFault;
@@ -31,7 +30,6 @@ use std::sync::Wait;
 use std::thread::Threads;
 
 /// Runs the sections of a script.
-#[derive(Drop)]
 struct Runner<S: Start> {
     host: LockHost<S>,
     clients: Clients,
@@ -63,33 +61,16 @@ fn host_of<S: Start>(alloc: Global, head: &Head, limits: &Limits) -> Result<Lock
     requires { S.start ≡ (head.now.version, opening_of head.now.opening) }
     ensures { IfOk result (λ host. HasBegun head.now host.cluster host.version host.opening) }
 {
-    let capacity = limits.capacity;
-    match head.version().kind() {
-        VersionKind::V1 => unreachable!(),
-        VersionKind::V2 => LockHost::new(alloc, head.size(), capacity),
-        VersionKind::V3(number) => host_in(alloc, head, number, capacity),
-    }
-}
-
-/// The replicas of this generation, which open as the head says.
-fn host_in<S: Start>(
-    alloc: Global,
-    head: &Head,
-    number: u32,
-    capacity: usize,
-) -> Result<LockHost<S>, AllocError>
-    requires start { S.start ≡ (V3 number, opening_of head.now.opening) }
-    requires number { 1 ≤ number }
-    requires capacity { (1 ≤ capacity) × (capacity ≤ 4096) }
-    ensures cluster { IfOk result (λ host. host.cluster ≡ head.now.faults) }
-    ensures version { IfOk result (λ host. host.version ≡ V3 number) }
-    ensures opening { IfOk result (λ host. host.opening ≡ opening_of head.now.opening) }
-{
-    let Ok(generation) = Generation::new(number) else {
-        unreachable!()
-    };
     let opening = opening_of(alloc, head.opening())?;
-    LockHost::opened(alloc, head.size(), capacity, generation, &opening)
+    let host = LockHost::new(
+        alloc,
+        head.size(),
+        limits.capacity,
+        head.version(),
+        &opening,
+    );
+    drop(opening);
+    host
 }
 
 impl<S: Start + Send + Sync> Runner<S> {
@@ -110,6 +91,22 @@ impl<S: Start + Send + Sync> Runner<S> {
         })
     }
 
+    /// Runs the sections of a script.
+    fn run_all<R: Threads + Wait + Sync>(
+        &mut self,
+        rt: &R,
+        script: &RunScript,
+        turns: u32,
+    ) -> Result<(), RunFault>
+        requires { self.old.host.cluster ≡ script.now.head.faults }
+        ensures { self.new.host ≡ self.old.host }
+    {
+        for section in script.sections() {
+            self.run(rt, section, turns)?;
+        }
+        Ok(())
+    }
+
     /// Runs a section in threads and in its own weather, has the held frames put, settles, and collects what came of it.
     fn run<R: Threads + Wait + Sync>(
         &mut self,
@@ -120,15 +117,27 @@ impl<S: Start + Send + Sync> Runner<S> {
         requires fits { FitsSection (size_with self.old.host.cluster) section.now }
         ensures { self.new.host ≡ self.old.host }
     {
-        let tasks = submissions_of(self.alloc, &mut self.clients, section)?;
-        let lanes = lanes(self.alloc, self.host.size())?;
         self.set_weather(rt, section)?;
-        run_lanes(rt, &self.host, &tasks, &lanes, turns)?;
+        let tasks = submissions_of(self.alloc, &mut self.clients, section)?;
+        let done = self.run_tasks(rt, &tasks, turns);
+        drop(tasks);
+        done
+    }
+
+    /// Runs tasks in threads, has the held frames put, settles, and collects what came of it.
+    fn run_tasks<R: Threads + Wait + Sync>(
+        &mut self,
+        rt: &R,
+        tasks: &Vec<Submission>,
+        turns: u32,
+    ) -> Result<(), RunFault>
+        ensures { self.new.host ≡ self.old.host }
+    {
+        run_threads(rt, &self.host, tasks, turns)?;
         self.host.release(rt);
         self.settle(rt, turns);
-        self.list(rt, &tasks)?;
-        self.collect_all(rt)?;
-        Ok(())
+        self.list(rt, tasks.as_slice())?;
+        self.collect_all(rt)
     }
 
     /// Sets the host's weather: the section's.
@@ -208,6 +217,23 @@ impl<S: Start + Send + Sync> Runner<S> {
         Ok(())
     }
 
+    /// Drops all of it.
+    fn discard(self) {
+        let Runner {
+            host,
+            clients,
+            receipts,
+            refused,
+            collected,
+            alloc: _,
+        } = self;
+        host.discard();
+        drop(clients);
+        drop(receipts);
+        drop(refused);
+        drop(collected);
+    }
+
     /// What the run leaves.
     fn end<R: Wait>(self, rt: &R) -> Result<Ran, AllocError>
         ensures finished { IfOk result (λ r. IsFinished r.receipts.items r.finished) }
@@ -215,20 +241,28 @@ impl<S: Start + Send + Sync> Runner<S> {
     {
         let Runner {
             host,
-            clients: _,
+            clients,
             receipts,
             refused,
-            collected: _,
+            collected,
             alloc: _,
         } = self;
+        drop(clients);
+        drop(collected);
         let lost = host.lost(rt);
-        let finished = host.finish(&receipts)?;
-        Ok(Ran {
-            finished,
-            receipts,
-            refused,
-            lost,
-        })
+        match host.finish(&receipts) {
+            Ok(finished) => Ok(Ran {
+                finished,
+                receipts,
+                refused,
+                lost,
+            }),
+            Err(fault) => {
+                drop(receipts);
+                drop(refused);
+                Err(fault)
+            }
+        }
     }
 }
 
@@ -244,11 +278,13 @@ fn run_as<S: Start + Send + Sync, R: Threads + Wait + Sync>(
     ensures begun { IfOk result (λ r. IsBegun (begun_of script.now.head) r.finished.journals) }
 {
     let mut runner = Runner::<S>::new(alloc, script.head(), limits)?;
-    for section in script.sections() {
-        runner.run(rt, section, limits.turns)?;
+    match runner.run_all(rt, script, limits.turns) {
+        Ok(()) => Ok(runner.end(rt)?),
+        Err(fault) => {
+            runner.discard();
+            Err(fault)
+        }
     }
-    let ran = runner.end(rt)?;
-    Ok(ran)
 }
 
 /// Runs the script in threads, over replicas behind locks.

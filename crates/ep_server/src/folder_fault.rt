@@ -11,7 +11,7 @@ use ep_opening::OpeningFault;
 use std::alloc::AllocError;
 
 /// Why no node is opened in a folder.
-#[derive(Clone, Copy, Debug, PartialEq, Eq)]
+#[derive(Clone, Copy)]
 pub enum FolderFault {
     /// Memory was refused.
     Memory,

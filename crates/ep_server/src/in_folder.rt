@@ -28,7 +28,7 @@ use std::rt::Files;
 /// where telling fails, the status stays.
 pub fn serve_folder<'a, R: Files<File = File> + AllocGlobal, S: Source, W: Sink, F: Sink>(
     rt: &'a R,
-    options: &FolderOptions,
+    options: &FolderOptions<'_>,
     streams: &mut Streams<S, W, F>,
 ) -> Status
     ensures { (zs : List ℕ) → S.left streams.old.reader ≡ Some zs → IsFolderNode (record { has_failed = ⟦<FileDevice<'a, R> as Device>⟧.has_failed; why = ⟦<FileDevice<'a, R> as Device>⟧.why; seen = ⟦<FileDevice<'a, R> as Device>⟧.seen; moment = ⟦<FileDevice<'a, R> as Device>⟧.moment; left_since = ⟦<FileDevice<'a, R> as Device>⟧.left_since })
@@ -48,7 +48,7 @@ pub fn serve_folder<'a, R: Files<File = File> + AllocGlobal, S: Source, W: Sink,
 #[tactic(auto, using(crate::proofs::InFolders::tells_nothing, crate::proofs::InFolders::one_cut, crate::proofs::InFolders::of_this_size))]
 fn ready<'a, R: Files<File = File> + AllocGlobal, F: Sink>(
     rt: &'a R,
-    options: &FolderOptions,
+    options: &FolderOptions<'_>,
     fault_writer: &mut F,
 ) -> Result<Node<FileDevice<'a, R>>, ServerFault>
     ensures ok { IfOk result (λ node. IsQuiet node × IsOfFile options.now.size options.now.me node) }
@@ -76,7 +76,7 @@ fn ready<'a, R: Files<File = File> + AllocGlobal, F: Sink>(
 #[tactic(auto, using(crate::proofs::InFolders::tells_nothing, crate::proofs::InFolders::of_this_size))]
 fn ready_next<'a, R: Files<File = File> + AllocGlobal, F: Sink>(
     rt: &'a R,
-    options: &FolderOptions,
+    options: &FolderOptions<'_>,
     file: OpeningFile,
     fault_writer: &mut F,
 ) -> Result<Node<FileDevice<'a, R>>, ServerFault>
@@ -85,7 +85,7 @@ fn ready_next<'a, R: Files<File = File> + AllocGlobal, F: Sink>(
     ensures err { IfErr result IsUnready }
     ensures told { TellsCut (became F.held F.has_failed fault_writer.old fault_writer.new) }
 {
-    let stage = closed_stage(rt, options.folder.as_str(), file)?;
+    let stage = closed_stage(rt, options.folder, file)?;
     check_stage(options.size, &stage)?;
     let generation = stage.file.file().generation();
     let node = open_stage(rt, options, stage, fault_writer)?;
@@ -181,7 +181,7 @@ fn device_of<'a, R: Files<File = File> + AllocGlobal>(
 #[tactic(auto, using(crate::proofs::InFolders::tells_nothing, crate::proofs::InFolders::tells_cut))]
 fn open_stage<'a, R: Files<File = File> + AllocGlobal, F: Sink>(
     rt: &'a R,
-    options: &FolderOptions,
+    options: &FolderOptions<'_>,
     stage: GenerationStart,
     fault_writer: &mut F,
 ) -> Result<Node<FileDevice<'a, R>>, ServerFault>
@@ -192,12 +192,12 @@ fn open_stage<'a, R: Files<File = File> + AllocGlobal, F: Sink>(
 {
     let GenerationStart { file, begin, held } = stage;
     let generation = file.file().generation();
-    let device = device_of(rt, options.folder.as_str(), generation)?;
+    let device = device_of(rt, options.folder, generation)?;
     let whose = whose_of(file, options.me);
     match opened_as(rt.alloc(), device, whose, begin) {
         Ok(node) => {
             let _ = tell_first(node.cut(), fault_writer);
-            leaving(rt, options.folder.as_str(), &held, generation, node)
+            leaving(rt, options.folder, &held, generation, node)
         }
         Err(fault) => Err(ServerFault::Open(fault)),
     }

@@ -1,12 +1,12 @@
 //! `epaxos node`: a replica with its log in a file, which serves requests on standard input. `epaxos collect`: the bundle of
 //! logs and receipts. `epaxos contents`: the map of a folder. `epaxos upgrade --log`: the opening that the logs of version 2 give.
 //!
-//! `main` hands the words to `read_words`, in `command_line.rt`. For a node of version 2 it opens the log, and hands it and the standard
-//! streams to `serve_log`, in `program.rt`, which is all of the node: over any device, source and sinks, so that its contract can
-//! say what the bytes and the status mean. It does no more than call `Node::opened` and `ep_serve`'s `serve`. `serve_folder`, in
-//! `in_folder.rt`, does the same in the folder of a replica that lives through generations: `staging.rt` says which generation is opened,
-//! by `ep_folder`'s plan, and a generation that is closed is gone on from at once. `collect_named`, in `collecting.rt`, reads the files of
-//! `epaxos collect`, and prints what `ep_assemble`'s `collect_files` makes of them; so do `collect_of`, `show_named` and `upgrade_named` of the
+//! `main` hands the words to `read_words`, in `command_line.rt`; the commands are tables, in `commands.rt`. For a node of version 2 it opens the
+//! log, and hands it and the standard streams to `serve_log`, in `program.rt`, which is all of the node: over any device, source and sinks, so
+//! that its contract can say what the bytes and the status mean. It does no more than call `Node::opened` and `ep_serve`'s `serve`.
+//! `serve_folder`, in `in_folder.rt`, does the same in the folder of a replica that lives through generations: `staging.rt` says which generation
+//! is opened, by `ep_folder`'s plan, and a generation that is closed is gone on from at once. `collect_named`, in `collecting.rt`, reads the files
+//! of `epaxos collect`, and prints what `ep_assemble`'s `collect_files` makes of them; so do `collect_of`, `show_named` and `upgrade_named` of the
 //! files that their commands name.
 //!
 //! Start with `program.rt` and specs/Served.antt, `collecting.rt` and specs/NamedFiles.antt. A fault has one line on the fault
@@ -17,6 +17,7 @@ mod asks;
 mod collect_names;
 mod collecting;
 mod command_line;
+mod commands;
 mod contents;
 mod folder_fault;
 mod folder_options;
@@ -76,22 +77,28 @@ fn run<R: Env + AllocGlobal + Files<File = File>, S: Source, W: Sink, F: Sink>(
     rt: &R,
     streams: &mut Streams<S, W, F>,
 ) -> Status {
-    match asked_for(rt) {
+    match words(rt) {
+        Ok(words) => obey(rt, &words, streams),
+        Err(why) => decline(why, &mut streams.fault_writer),
+    }
+}
+
+/// Does what these words ask for.
+fn obey<R: AllocGlobal + Files<File = File>, S: Source, W: Sink, F: Sink>(
+    rt: &R,
+    words: &[String],
+    streams: &mut Streams<S, W, F>,
+) -> Status {
+    match read_words(rt.alloc(), words) {
         Ok(asked) => perform(rt, asked, streams),
         Err(why) => decline(why, &mut streams.fault_writer),
     }
 }
 
-/// What the words of the command line ask for.
-fn asked_for<R: Env + AllocGlobal>(rt: &R) -> Result<ServerAsked, WordsFault> {
-    let words = words(rt)?;
-    read_words(rt.alloc(), words.as_slice())
-}
-
 /// Does what is asked for, and answers how the program ends.
 fn perform<R: AllocGlobal + Files<File = File>, S: Source, W: Sink, F: Sink>(
     rt: &R,
-    asked: ServerAsked,
+    asked: ServerAsked<'_>,
     streams: &mut Streams<S, W, F>,
 ) -> Status {
     match asked {
@@ -100,7 +107,7 @@ fn perform<R: AllocGlobal + Files<File = File>, S: Source, W: Sink, F: Sink>(
         ServerAsked::Collect(names) => collect_named(rt, &names, streams),
         ServerAsked::CollectGeneration(asked) => collect_folders(rt, asked, streams),
         ServerAsked::Upgrade(logs) => upgrade_named(rt, &logs, streams),
-        ServerAsked::Contents(folder) => show_contents(rt, folder.as_str(), streams),
+        ServerAsked::Contents(folder) => show_contents(rt, folder, streams),
         ServerAsked::Version => show("epaxos 0.1.0\n", streams),
         ServerAsked::Help(text) => show(text.as_str(), streams),
     }
@@ -109,35 +116,57 @@ fn perform<R: AllocGlobal + Files<File = File>, S: Source, W: Sink, F: Sink>(
 /// Opens the log and serves.
 fn run_node<R: AllocGlobal + Files<File = File>, S: Source, W: Sink, F: Sink>(
     rt: &R,
-    options: &Options,
+    options: &Options<'_>,
     streams: &mut Streams<S, W, F>,
 ) -> Status {
-    let held = match hold_streams(rt) {
-        Ok(held) => held,
-        Err(fault) => return concluded(Err(fault), &mut streams.fault_writer),
-    };
-    let status = match FileDevice::open(rt.alloc(), rt, options.log.as_str()) {
+    match hold_streams(rt) {
+        Ok(held) => {
+            let status = serve_node(rt, options, streams);
+            drop(held);
+            status
+        }
+        Err(fault) => concluded(Err(fault), &mut streams.fault_writer),
+    }
+}
+
+/// Serves, as the standard streams are held.
+fn serve_node<R: AllocGlobal + Files<File = File>, S: Source, W: Sink, F: Sink>(
+    rt: &R,
+    options: &Options<'_>,
+    streams: &mut Streams<S, W, F>,
+) -> Status {
+    match FileDevice::open(rt.alloc(), rt, options.log) {
         Ok(device) => serve_log(rt.alloc(), options, device, streams),
         Err(fault) => concluded(
             Err(ServerFault::Open(OpenFault::from(fault))),
             &mut streams.fault_writer,
         ),
-    };
-    drop(held);
-    status
+    }
 }
 
 /// Locks the folder and serves in it.
 fn run_folder<R: AllocGlobal + Files<File = File>, S: Source, W: Sink, F: Sink>(
     rt: &R,
-    options: &FolderOptions,
+    options: &FolderOptions<'_>,
     streams: &mut Streams<S, W, F>,
 ) -> Status {
-    let held = match hold_streams(rt) {
-        Ok(held) => held,
-        Err(fault) => return concluded(Err(fault), &mut streams.fault_writer),
-    };
-    let status = match lock_folder(rt, options.folder.as_str()) {
+    match hold_streams(rt) {
+        Ok(held) => {
+            let status = serve_locked(rt, options, streams);
+            drop(held);
+            status
+        }
+        Err(fault) => concluded(Err(fault), &mut streams.fault_writer),
+    }
+}
+
+/// Locks the folder and serves in it, as the standard streams are held.
+fn serve_locked<R: AllocGlobal + Files<File = File>, S: Source, W: Sink, F: Sink>(
+    rt: &R,
+    options: &FolderOptions<'_>,
+    streams: &mut Streams<S, W, F>,
+) -> Status {
+    match lock_folder(rt, options.folder) {
         Ok(lock) => {
             let status = serve_folder(rt, options, streams);
             drop(lock);
@@ -147,22 +176,22 @@ fn run_folder<R: AllocGlobal + Files<File = File>, S: Source, W: Sink, F: Sink>(
             Err(ServerFault::Folder(FolderFault::from(fault))),
             &mut streams.fault_writer,
         ),
-    };
-    drop(held);
-    status
+    }
 }
 
 /// Files in the places of standard streams that are closed, so that the log's file takes none of them: answers would be written
 /// into it. Of a folder neither a read nor a write succeeds.
 fn hold_streams<R: Files<File = File>>(rt: &R) -> Result<(File, File, File), ServerFault> {
-    let held = (
-        File::open(rt, "/"),
-        File::open(rt, "/"),
-        File::open(rt, "/"),
-    );
-    match held {
-        (Ok(first), Ok(second), Ok(third)) => Ok((first, second, third)),
-        _ => Err(ServerFault::Open(OpenFault::Failed(SystemFault::Unknown))),
+    let first = hold_one(rt)?;
+    let second = hold_one(rt)?;
+    let third = hold_one(rt)?;
+    Ok((first, second, third))
+}
+
+fn hold_one<R: Files<File = File>>(rt: &R) -> Result<File, ServerFault> {
+    match File::open(rt, "/") {
+        Ok(file) => Ok(file),
+        Err(_) => Err(ServerFault::Open(OpenFault::Failed(SystemFault::Unknown))),
     }
 }
 

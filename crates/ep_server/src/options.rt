@@ -6,13 +6,13 @@ use ep_serve::Mode;
 
 /// What a node is asked to be.
 #[derive(Drop)]
-pub struct Options {
+pub struct Options<'a> {
     /// The cluster's size.
     pub size: Size,
     /// The replica's number.
     pub me: ReplicaId,
     /// The path of its log.
-    pub log: String,
+    pub log: &'a str,
     /// Whether it is to be begun.
     pub begin: Begin,
     /// When answers are written.

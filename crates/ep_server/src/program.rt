@@ -24,7 +24,7 @@ use std::mem::forget;
 /// one more; where telling fails, the status stays.
 pub fn serve_log<D: Device + Drop, S: Source, W: Sink, F: Sink>(
     alloc: Global,
-    options: &Options,
+    options: &Options<'_>,
     device: D,
     streams: &mut Streams<S, W, F>,
 ) -> Status
@@ -100,7 +100,7 @@ pub(crate) fn served<D: Device + Drop, S: Source, W: Sink, F>(
 /// The node of the device's log, of version 2.
 fn opened<D: Device + Drop>(
     alloc: Global,
-    options: &Options,
+    options: &Options<'_>,
     device: D,
 ) -> Result<Node<D>, OpenFault>
     ensures ok { IfOk result (λ node. IsQuiet node × (node.replica.faults ≡ options.now.size) × (node.replica.me ≡ options.now.me)

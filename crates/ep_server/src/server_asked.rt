@@ -7,11 +7,11 @@ use crate::options::Options;
 
 /// What the words of the command line ask for.
 #[derive(Drop)]
-pub enum ServerAsked {
+pub enum ServerAsked<'a> {
     /// To serve as a node of version 2, with its log in a file.
-    Node(Options),
+    Node(Options<'a>),
     /// To serve as a node that lives through generations, in a folder.
-    Folder(FolderOptions),
+    Folder(FolderOptions<'a>),
     /// To make the bundle of logs and receipts.
     Collect(CollectNames),
     /// To make the bundle of a generation, of folders and receipts.
@@ -19,7 +19,7 @@ pub enum ServerAsked {
     /// To make the opening of generation 2 of these logs.
     Upgrade(Vec<String>),
     /// The map of the newest generation in this folder, in words.
-    Contents(String),
+    Contents(&'a str),
     /// The program's name and its version.
     Version,
     /// Help: this text.

@@ -10,7 +10,7 @@ use ep_node::OpenFault;
 use ep_serve::ServeFault;
 
 /// Why the program ends before its work is done.
-#[derive(Clone, Copy, Debug, PartialEq, Eq)]
+#[derive(Clone, Copy)]
 pub enum ServerFault {
     /// No node was opened on the log.
     Open(OpenFault),

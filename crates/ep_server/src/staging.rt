@@ -293,9 +293,9 @@ pub(crate) fn handed_stage<R: Files<File = File> + AllocGlobal>(
 /// The generation that a start begins with.
 pub(crate) fn first_stage<R: Files<File = File> + AllocGlobal>(
     rt: &R,
-    options: &FolderOptions,
+    options: &FolderOptions<'_>,
 ) -> Result<GenerationStart, FolderFault> {
-    let folder = options.folder.as_str();
+    let folder = options.folder;
     match &options.asks {
         Asks::GoOn => next_stage(rt, folder),
         Asks::New => {
@@ -303,7 +303,7 @@ pub(crate) fn first_stage<R: Files<File = File> + AllocGlobal>(
             handed_stage(rt, folder, file, true)
         }
         Asks::Take(name) => {
-            let file = taken(rt, name.as_str(), options.size)?;
+            let file = taken(rt, name, options.size)?;
             handed_stage(rt, folder, file, false)
         }
     }

@@ -84,15 +84,17 @@ fn push_about(
     push_ballot(text, ballot)
 }
 
-fn push_pre_accept(
+// Appends a message's name, the instance that it is about, its ballot, and a command with its attributes.
+fn push_asked(
     text: &mut Vec<u8>,
+    name: &[u8],
     instance: InstanceId,
     ballot: Ballot,
     decree: &Decree,
 ) -> Result<(), AllocError>
-    ensures { OnOk result (text.new.items ≡ text.old.items ++ message_text (message.PreAccept instance ballot decree.now)) }
+    ensures { OnOk result (text.new.items ≡ text.old.items ++ (name.now ++ about_text instance ballot ++ decree_text decree.now)) }
 {
-    push_about(text, b"PreAccept ", instance, ballot)?;
+    push_about(text, name, instance, ballot)?;
     push_decree(text, decree)
 }
 
@@ -108,29 +110,6 @@ fn push_voted(
 {
     push_about(text, name, instance, ballot)?;
     push_attrs(text, attrs)
-}
-
-fn push_pre_accept_ok(
-    text: &mut Vec<u8>,
-    instance: InstanceId,
-    ballot: Ballot,
-    attrs: &Attrs,
-) -> Result<(), AllocError>
-    ensures { OnOk result (text.new.items ≡ text.old.items ++ message_text (message.PreAcceptOk instance ballot attrs.now)) }
-{
-    push_voted(text, b"PreAcceptOK ", instance, ballot, attrs)
-}
-
-fn push_accept(
-    text: &mut Vec<u8>,
-    instance: InstanceId,
-    ballot: Ballot,
-    decree: &Decree,
-) -> Result<(), AllocError>
-    ensures { OnOk result (text.new.items ≡ text.old.items ++ message_text (message.Accept instance ballot decree.now)) }
-{
-    push_about(text, b"Accept ", instance, ballot)?;
-    push_decree(text, decree)
 }
 
 fn push_commit(text: &mut Vec<u8>, instance: InstanceId, decree: &Decree) -> Result<(), AllocError>
@@ -174,17 +153,17 @@ fn push_told(text: &mut Vec<u8>, told: &Message) -> Result<(), AllocError>
             instance,
             ballot,
             decree,
-        } => push_pre_accept(text, *instance, *ballot, decree),
+        } => push_asked(text, b"PreAccept ", *instance, *ballot, decree),
         Message::PreAcceptOk {
             instance,
             ballot,
             attrs,
-        } => push_pre_accept_ok(text, *instance, *ballot, attrs),
+        } => push_voted(text, b"PreAcceptOK ", *instance, *ballot, attrs),
         Message::Accept {
             instance,
             ballot,
             decree,
-        } => push_accept(text, *instance, *ballot, decree),
+        } => push_asked(text, b"Accept ", *instance, *ballot, decree),
         Message::AcceptOk { instance, ballot } => {
             push_about(text, b"AcceptOK ", *instance, *ballot)
         }
@@ -210,7 +189,9 @@ pub fn push_message(text: &mut Vec<u8>, frame: &Frame) -> Result<(), AllocError>
     ensures { OnOk result (text.new.items ≡ text.old.items ++ message_text (message_at frame.now)) }
 {
     let told = frame.view().to_message(*text.allocator())?;
-    push_told(text, &told)
+    let pushed = push_told(text, &told);
+    drop(told);
+    pushed
 }
 
 /// Appends which frame it is: its sender, the number of the entry that sends it, and its place among what that entry sends,

@@ -2,7 +2,7 @@
 
 ghost use Rattle.std.specs.Prelude.{◌≡◌, ◌++◌, [], cond, eqb, length, codes, decimal, Some, IfOk, OnOk};
 ghost use Rattle.ep_journal.specs.Entries.{AreJournals, entries_at};
-ghost use Rattle.ep_view.specs.Handled.{is_in};
+ghost use Rattle.ep_view.specs.Handled.{is_in, AreHandled};
 ghost use Rattle.ep_audit.specs.Lookups.{entry_at};
 ghost use Rattle.ep_view.specs.Shown.{line_of, lines_at, none_kept, or_none, IsInOrder, IsShown};
 
@@ -23,10 +23,13 @@ pub fn schedule(alloc: Global, journals: &Journals) -> Result<Vec<(ReplicaId, u3
     let verdict = Verdict::of(alloc, journals)?;
     let Verdict {
         schedule,
-        committed: _,
-        history: _,
-        closing: _,
+        committed,
+        history,
+        closing,
     } = verdict;
+    drop(committed);
+    drop(history);
+    drop(closing);
     Ok(schedule)
 }
 
@@ -119,15 +122,31 @@ fn push_shown(
 /// whom, with `NEVER HANDLED` at each receiver whose frame no entry of any journal handles, and what it executes, with the
 /// answers. Where it keeps none of them, a line that says how many there are. Of journals of version 3 a line stands first
 /// that tells their generation and what they begin with.
-#[tactic(auto, using(crate::proofs::AsShown::is_shown))]
 pub fn show(alloc: Global, journals: &Journals, part: &Selection) -> Result<Vec<u8>, AllocError>
     ensures { IfOk result (λ text. IsShown journals.now part.now text.items) }
 {
     journals.are_journals();
     let handled = Handled::of(alloc, journals)?;
+    let text = shown_by(alloc, journals, &handled, part);
+    drop(handled);
+    text
+}
+
+// The same, where these frames are handled.
+#[tactic(auto, using(crate::proofs::AsShown::is_shown))]
+fn shown_by(
+    alloc: Global,
+    journals: &Journals,
+    handled: &Handled,
+    part: &Selection,
+) -> Result<Vec<u8>, AllocError>
+    requires journals { AreJournals journals.now }
+    requires handled { AreHandled journals.now handled.now }
+    ensures { IfOk result (λ text. IsShown journals.now part.now text.items) }
+{
     let places = schedule(alloc, journals)?;
     let mut text = Vec::new(alloc);
     push_edition(&mut text, journals.version(), journals.opening())?;
-    push_shown(&mut text, journals, &handled, part, &places)?;
+    push_shown(&mut text, journals, handled, part, &places)?;
     Ok(text)
 }

@@ -129,12 +129,23 @@ pub fn columns(
     part: &Selection,
 ) -> Result<Vec<u8>, AllocError> {
     let handled = Handled::of(alloc, journals)?;
+    let told = told_in_columns(alloc, journals, &handled, part);
+    drop(handled);
+    told
+}
+
+fn told_in_columns(
+    alloc: Global,
+    journals: &Journals,
+    handled: &Handled,
+    part: &Selection,
+) -> Result<Vec<u8>, AllocError> {
     let places = schedule(alloc, journals)?;
     let mut text = Vec::new(alloc);
     push_edition(&mut text, journals.version(), journals.opening())?;
     push_names(&mut text, journals.size().count())?;
     let names = text.len();
-    push_cells(&mut text, journals, &handled, part, &places)?;
+    push_cells(&mut text, journals, handled, part, &places)?;
     if text.len() == names {
         push_none_kept(&mut text, places.len())?;
     }

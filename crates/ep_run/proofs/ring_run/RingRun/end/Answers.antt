@@ -15,13 +15,13 @@ finish_with-requires c =
     let nodes = c.args.self.nodes.items in
     (f, h.host, subst (λ (l : List Told). AreOwn (opens (first_opening (replicas_in nodes))) f (their_journals (replicas_in nodes)) l) (sym c.deref-3.ensures.value) (of_own f nodes c.args.self.receipts.items h.host h.own))
 
-pub returns-clause-lines : goal.returns-clause-lines
-returns-clause-lines c = λ b turns h.
-    are_done b turns c.args.sections.now c.args.self _ h (c.in_ok-finished.ensures.journals b.faults h.host).1 refl c.deref.result.now c.deref.ensures.value c.in_ok-refused.ensures
+pub returns-in-Ok-finish_with-clause-lines : goal.returns-in-Ok-finish_with-clause-lines
+returns-in-Ok-finish_with-clause-lines c = λ b turns h.
+    are_done b turns c.args.sections.now c.args.self _ h (c.in-Ok-finish_with.ensures.journals b.faults h.host).1 refl c.deref.result.now c.deref.ensures.value c.in-Ok.ensures
 
-pub returns-clause-begun : goal.returns-clause-begun
-returns-clause-begun c = λ b turns h. record {
-  faults = (c.in_ok-finished.ensures.journals b.faults h.host).0;
-  version = c.in_ok-finished.ensures.version ∙ version_is b turns c.args.sections.now c.args.self h;
-  opening = c.in_ok-finished.ensures.opening ∙ opening_is b turns c.args.sections.now c.args.self h;
+pub returns-in-Ok-finish_with-clause-begun : goal.returns-in-Ok-finish_with-clause-begun
+returns-in-Ok-finish_with-clause-begun c = λ b turns h. record {
+  faults = (c.in-Ok-finish_with.ensures.journals b.faults h.host).0;
+  version = c.in-Ok-finish_with.ensures.version ∙ version_is b turns c.args.sections.now c.args.self h;
+  opening = c.in-Ok-finish_with.ensures.opening ∙ opening_is b turns c.args.sections.now c.args.self h;
 }

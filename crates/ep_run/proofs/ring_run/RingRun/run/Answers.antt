@@ -37,7 +37,7 @@ returns-clause-run g c = λ b done h.
     let ts = old.receipts.items in
     let start : c.as_mut_slice.result.now ≡ old.nodes.items = c.as_mut_slice.ensures.value in
     let is : c.replace-nodes.result.items ≡ middle = ap (λ (v : _). v.items) c.replace-nodes.ensures.value ∙ with_items_is old.nodes middle (search rules) in
-    let kept : new.nodes.items ≡ c.turned.result.items = (let n = c.in_ok-collect_all.ensures.nodes in cc) in
+    let kept : new.nodes.items ≡ c.turned.result.items = (let n = c.in_ok-collect_all.ensures.nodes in let r = c.replace-emptied.ensures.after in cc) in
     let begins : Begins (asked_by ps ts plan.lines) ws old.nodes.items middle = subst (λ (l : List Node). Begins (asked_by ps ts plan.lines) ws l middle) start (c.in_ok-begin.ensures.begins ps ts h.counted) in
     let counted : AreCounted clients (proposers_of ps plan.lines) ts = c.in_ok-begin.ensures.counted ps ts h.counted in
     let turned : Turns turns middle new.nodes.items = subst (λ (l : List Node). Turns turns middle l) (sym kept) (subst (λ (l : List Node). Turns turns l c.turned.result.items) is c.turned.ensures.turns) in
@@ -60,7 +60,7 @@ returns-clause-weather g c =
     let ps = proposers_in [] r.1 in
     let ts = old.receipts.items in
     let is : c.replace-nodes.result.items ≡ middle = ap (λ (v : _). v.items) c.replace-nodes.ensures.value ∙ with_items_is old.nodes middle (search rules) in
-    let kept : new.nodes.items ≡ c.turned.result.items = (let n = c.in_ok-collect_all.ensures.nodes in cc) in
+    let kept : new.nodes.items ≡ c.turned.result.items = (let n = c.in_ok-collect_all.ensures.nodes in let r = c.replace-emptied.ensures.after in cc) in
     let begins : Begins (asked_by ps ts plan.lines) ws c.as_mut_slice.result.now middle = c.in_ok-begin.ensures.begins ps ts r.2.counted in
     let turned : Turns turns middle new.nodes.items = subst (λ (l : List Node). Turns turns middle l) (sym kept) (subst (λ (l : List Node). Turns turns l c.turned.result.items) is c.turned.ensures.turns) in
     own_stays turns ws begins.assigned middle new.nodes.items begins.sets turned
