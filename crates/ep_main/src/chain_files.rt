@@ -77,8 +77,17 @@ pub(crate) fn read_links<R: Files + AllocGlobal>(
 {
     let mut links = Vec::new(rt.alloc());
     for name in names {
-        links.reserve(1)?;
-        links.push_reserved(read_link(rt, name)?);
+        if links.reserve(1).is_err() {
+            drop(links);
+            return Err(FilesFault::Memory);
+        }
+        match read_link(rt, name) {
+            Ok(link) => links.push_reserved(link),
+            Err(fault) => {
+                drop(links);
+                return Err(fault);
+            }
+        }
     }
     Ok(links)
 }

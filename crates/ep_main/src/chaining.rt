@@ -71,8 +71,9 @@ fn judge_chain(alloc: Global, links: &[ChainLink]) -> Result<Made, EngineFault>
 {
     match audit_chain(alloc, links) {
         Ok(verdicts) => {
-            let text = accepted_chain(alloc, links, &verdicts)?;
+            let told = accepted_chain(alloc, links, &verdicts);
             forget(verdicts);
+            let text = told?;
             Ok(Made {
                 status: Status::Done,
                 text,

@@ -1,6 +1,7 @@
 //! Replays.
 
 ghost use Rattle.std.specs.Prelude.{◌≡◌, ◌<◌, ◌^◌, ℕ, List, Some, length, IfOk, IfErr, false};
+ghost use Rattle.ep_audit.specs.Audited.{IsAudited};
 ghost use Rattle.ep_base.specs.Devices.{FailsAsTold};
 ghost use Rattle.ep_bundle.specs.Bytes.{bundle_bytes};
 ghost use Rattle.ep_main.specs.Faults.{is_read, is_write};
@@ -16,7 +17,7 @@ ghost use Rattle.ep_main.specs.declared.engine_fault.EngineFault.TheVariants.{Me
 use crate::asked::Emit;
 use crate::engine_fault::EngineFault;
 use crate::gathering::gather_bundle;
-use ep_audit::{VerdictFault, audit};
+use ep_audit::{Verdict, VerdictFault, audit};
 use ep_base::Source;
 use ep_cli::{Made, Status};
 use ep_replay::{Replayed, replay};
@@ -37,10 +38,12 @@ pub(crate) fn replay_of<S: Source>(
     ensures unwritten { IfErr result (λ e. is_write e ≡ false) }
 {
     let script = read_script(alloc, reader)?;
-    let played = replay(alloc, &script)?;
-    let text = emitted(alloc, emit, &played);
+    let outcome = replay(alloc, &script);
     // The system takes memory back at the process's end, all at once.
-    forget((script, played));
+    forget(script);
+    let played = outcome?;
+    let text = emitted(alloc, emit, &played);
+    forget(played);
     match text {
         Ok(text) => Ok(Made {
             text,
@@ -80,19 +83,31 @@ fn report_of(alloc: Global, played: &Replayed) -> Result<Vec<u8>, EngineFault>
 {
     match audit(alloc, &played.journals, played.receipts.as_slice()) {
         Ok(verdict) => {
-            let contents = told_contents(alloc, &played.journals, &verdict)?;
-            let life = life_of(&played.journals, &verdict, &contents);
-            let found = Findings {
-                life: life.as_ref(),
-                committed: verdict.committed.as_slice(),
-                history: verdict.history.as_slice(),
-                receipts: played.receipts.as_slice(),
-            };
-            let text = report(alloc, &found, played.refused.as_slice())?;
+            let text = report_by(alloc, played, &verdict);
             forget(verdict);
-            Ok(text)
+            text
         }
         Err(VerdictFault::Fault(_)) => unreachable!(),
         Err(VerdictFault::Memory) => Err(EngineFault::Memory),
     }
+}
+
+/// The report of what a script's run left, by the audit's verdict.
+fn report_by(alloc: Global, played: &Replayed, verdict: &Verdict) -> Result<Vec<u8>, EngineFault>
+    requires { IsAudited (opens played.now.journals.opening) played.now.journals.faults (journals_of played.now.journals) played.now.receipts.items verdict.now }
+    ensures value { IfOk result (λ text. IsReportOf played.now text.items) }
+    ensures memory { IfErr result (λ e. e ≡ Memory) }
+{
+    let contents = told_contents(alloc, &played.journals, verdict)?;
+    let life = life_of(&played.journals, verdict, &contents);
+    let found = Findings {
+        life: life.as_ref(),
+        committed: verdict.committed.as_slice(),
+        history: verdict.history.as_slice(),
+        receipts: played.receipts.as_slice(),
+    };
+    let told = report(alloc, &found, played.refused.as_slice());
+    forget(contents);
+    let text = told?;
+    Ok(text)
 }

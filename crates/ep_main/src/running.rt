@@ -44,10 +44,12 @@ pub(crate) fn run_of<R: Threads + Wait + Sync, S: Source>(
     ensures unwritten { IfErr result (λ e. is_write e ≡ false) }
 {
     let script = read_run(alloc, reader)?;
-    let ran = run_on_host(rt, alloc, options, &script)?;
-    let judged = judge_run(alloc, options.emit(), &ran);
+    let outcome = run_on_host(rt, alloc, options, &script);
     // The system takes memory back at the process's end, all at once.
-    forget((script, ran));
+    forget(script);
+    let ran = outcome?;
+    let judged = judge_run(alloc, options.emit(), &ran);
+    forget(ran);
     judged
 }
 
@@ -103,7 +105,9 @@ fn judge_reported(alloc: Global, ran: &Ran) -> Result<Made, EngineFault>
                 history: verdict.history.as_slice(),
                 receipts: ran.receipts.as_slice(),
             };
-            let text = run_report(alloc, &found, losses)?;
+            let told = run_report(alloc, &found, losses);
+            forget(contents);
+            let text = told?;
             Ok(Made {
                 status: Status::Done,
                 text,

@@ -92,8 +92,13 @@ fn upgrade(alloc: Global, bundle: Bundle) -> Result<Bundle, EngineFault>
     ensures memory { IfErr result (λ e. e ≡ Memory) }
 {
     let Bundle { journals, receipts } = bundle;
-    let journals = journals.into_upgraded(alloc)?;
-    Ok(Bundle { journals, receipts })
+    match journals.into_upgraded(alloc) {
+        Ok(journals) => Ok(Bundle { journals, receipts }),
+        Err(_) => {
+            drop(receipts);
+            Err(EngineFault::Memory)
+        }
+    }
 }
 
 /// The bytes of a bundle.

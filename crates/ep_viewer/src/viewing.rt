@@ -65,7 +65,9 @@ fn lines_of(alloc: Global, wanted: &Wanted, journals: &Journals) -> Result<Vec<u
     ensures refused { IfErr result (λ e. e ≡ Memory) }
 {
     let part = wanted.part(alloc, journals)?;
-    let text = show(alloc, journals, &part)?;
+    let told = show(alloc, journals, &part);
+    drop(part);
+    let text = told?;
     Ok(text)
 }
 
@@ -74,7 +76,9 @@ fn columns_of(alloc: Global, wanted: &Wanted, journals: &Journals) -> Result<Vec
     ensures refused { IfErr result (λ e. e ≡ Memory) }
 {
     let part = wanted.part(alloc, journals)?;
-    let text = columns(alloc, journals, &part)?;
+    let told = columns(alloc, journals, &part);
+    drop(part);
+    let text = told?;
     Ok(text)
 }
 
@@ -84,7 +88,9 @@ fn diagram_of(alloc: Global, wanted: &Wanted, journals: &Journals) -> Result<Vec
     ensures refused { IfErr result (IsNoText (Draw wanted.now) journals.now) }
 {
     let part = wanted.part(alloc, journals)?;
-    match diagram(alloc, journals, &part) {
+    let told = diagram(alloc, journals, &part);
+    drop(part);
+    match told {
         Ok(text) => Ok(text),
         Err(fault) => Err(ViewerFault::from(fault)),
     }
@@ -107,7 +113,9 @@ fn page_of(alloc: Global, wanted: &Wanted, journals: &Journals) -> Result<Vec<u8
     ensures refused { IfErr result (λ e. e ≡ Memory) }
 {
     let part = wanted.part(alloc, journals)?;
-    let text = page(alloc, journals, &part)?;
+    let told = page(alloc, journals, &part);
+    drop(part);
+    let text = told?;
     Ok(text)
 }
 
@@ -117,6 +125,8 @@ fn events_of(alloc: Global, wanted: &Wanted, journals: &Journals) -> Result<Vec<
     ensures refused { IfErr result (λ e. e ≡ Memory) }
 {
     let part = wanted.part(alloc, journals)?;
-    let text = trace_events(alloc, journals, &part)?;
+    let told = trace_events(alloc, journals, &part);
+    drop(part);
+    let text = told?;
     Ok(text)
 }

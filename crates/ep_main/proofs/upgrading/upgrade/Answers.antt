@@ -1,8 +1,8 @@
 use Rattle.ep_main.proofs.Rewriting.{two_is_late}
 use Rattle.ep_main.proofs.upgrading.upgrade.Goals as goal
 
-pub returns-clause-journals : goal.returns-clause-journals
-returns-clause-journals c = λ early. c.in_ok-journals.ensures.upgraded early
+pub returns-in-Ok-clause-journals : goal.returns-in-Ok-clause-journals
+returns-in-Ok-clause-journals c = λ early. c.in-Ok.ensures.upgraded early
 
-pub returns-clause-same : goal.returns-clause-same
-returns-clause-same c = λ is. c.in_ok-journals.ensures.same (two_is_late c.args.bundle.journals.version is)
+pub returns-in-Ok-clause-same : goal.returns-in-Ok-clause-same
+returns-in-Ok-clause-same c = λ is. c.in-Ok.ensures.same (two_is_late c.args.bundle.journals.version is)
