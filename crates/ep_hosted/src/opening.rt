@@ -125,9 +125,9 @@ impl Hosted {
         ensures ok { IfOk result (IsBegun seat (option_map (λ v. v.items) opening) (option_map (λ v. v.items) log)) }
         ensures err { IfErr result (IsUnbegun seat (option_map (λ v. v.items) opening) (option_map (λ v. v.items) log)) }
     {
-        let origin = beginning_of(alloc, seat.cluster, opening)?;
         let begin = begin_of(&log);
         let device = MemoryDevice::new(alloc, bytes_of(alloc, log), 0)?;
+        let origin = beginning_of(alloc, seat.cluster, opening)?;
         let whose = Whose {
             cluster: seat.cluster,
             me: seat.me,

@@ -108,7 +108,8 @@ fn sweep_at(node: &mut Node<HostDevice>) -> Result<(), AllocError>
     ensures same { node.new ≡ record node.old { replica = node.new.replica } }
     ensures err { OnErr result (StopsShort node.old.replica node.new.replica) }
 {
-    let _told = act(node, Request::ExecuteAll)?;
+    let told = act(node, Request::ExecuteAll)?;
+    drop(told);
     Ok(())
 }
 

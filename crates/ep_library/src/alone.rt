@@ -49,7 +49,11 @@ fn first_opening(alloc: Global, size: Size) -> Result<Vec<u8>, AllocError>
         Deps::new(alloc),
     );
     match file {
-        Ok(file) => write_opening(alloc, &file),
+        Ok(file) => {
+            let told = write_opening(alloc, &file);
+            drop(file);
+            told
+        }
         Err(_) => Err(AllocError),
     }
 }
@@ -137,7 +141,11 @@ fn found(alloc: Global, bytes: &[u8]) -> Result<Finding, AllocError>
     ensures { IfOk result (λ f. IsFound bytes.now f.status f.text.items) }
 {
     match read(alloc, bytes) {
-        Ok(bundle) => judged(alloc, &bundle),
+        Ok(bundle) => {
+            let told = judged(alloc, &bundle);
+            drop(bundle);
+            told
+        }
         Err(fault) => refused(alloc, fault),
     }
 }

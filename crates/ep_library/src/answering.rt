@@ -5,6 +5,7 @@ ghost use Rattle.ep_library.specs.Calls.{Unless};
 ghost use Rattle.ep_library.specs.Telling.{phase_number, Closes, ClosesFor, Leads, Looks, LooksAt, LooksOn, LooksUp, NextOpens, Shows, ShowsLead};
 
 use crate::codes::{close_status, command_status, tell_status};
+use crate::held::taken;
 use crate::instance::Instance;
 use crate::leading::Leading;
 use crate::lent::Lent;
@@ -16,7 +17,6 @@ use ep_handle::Handle;
 use ep_hosted::Hosted;
 use ep_phase::LeadPhase;
 use std::alloc::Global;
-use std::mem;
 
 /// The replica tells what its map has at the key.
 fn looks(alloc: Global, hosted: &mut Hosted, key: &Key, value: &mut Lent) -> u8
@@ -38,8 +38,7 @@ fn look_up(alloc: Global, handle: &mut Handle, key: &Key, value: &mut Lent) -> u
     ensures told { Unless result handle.old.value handle.new.value (λ h k. Looks result h key.now k value.new) }
     ensures untold { result ≢ 0 → value.new ≡ value.old }
 {
-    let held = mem::replace(handle, Handle::empty());
-    match held.into_box(alloc) {
+    match taken(alloc, handle) {
         None => NO_REPLICA,
         Some(mut hosted) => {
             let status = looks(alloc, &mut hosted, key, value);
@@ -95,8 +94,7 @@ fn next_open(
     ensures told { Unless result handle.old.value handle.new.value (λ h k. NextOpens result h above told.old told.new × (k ≡ h)) }
     ensures untold { result ≢ 0 → told.new ≡ told.old }
 {
-    let held = mem::replace(handle, Handle::empty());
-    match held.into_box(alloc) {
+    match taken(alloc, handle) {
         None => NO_REPLICA,
         Some(hosted) => {
             let status = next_opens(&hosted, above, told);
@@ -178,8 +176,7 @@ pub extern "C" fn ep_leads(
     let Some(instance) = instance_in(instance) else {
         return OUT_OF_RANGE;
     };
-    let held = mem::replace(handle, Handle::empty());
-    match held.into_box(alloc) {
+    match taken(alloc, handle) {
         None => NO_REPLICA,
         Some(hosted) => {
             let status = leads(&hosted, instance, leading);
@@ -218,8 +215,7 @@ pub extern "C" fn ep_close(
     let Ok(next) = Size::new(replicas) else {
         return OUT_OF_RANGE;
     };
-    let held = mem::replace(handle, Handle::empty());
-    match held.into_box(alloc) {
+    match taken(alloc, handle) {
         None => NO_REPLICA,
         Some(mut hosted) => {
             let status = closes(alloc, &mut hosted, next, opening);

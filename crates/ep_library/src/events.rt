@@ -6,6 +6,7 @@ ghost use Rattle.ep_library.specs.Arguments.{instance_in};
 ghost use Rattle.ep_library.specs.Calls.{Acts, Advances, Hears, Sweeps, Takes, Unless};
 
 use crate::codes::taking_status;
+use crate::held::taken;
 use crate::instance::Instance;
 use crate::making::instance_in;
 use crate::status::{DONE, NO_REPLICA, OUT_OF_RANGE};
@@ -13,7 +14,6 @@ use ep_handle::Handle;
 use ep_hosted::Hosted;
 use ep_journal::Event;
 use std::alloc::Global;
-use std::mem;
 
 /// The replica takes an event.
 pub(crate) fn takes(hosted: &mut Hosted, event: Event) -> u8
@@ -29,8 +29,7 @@ pub(crate) fn takes(hosted: &mut Hosted, event: Event) -> u8
 pub(crate) fn take(alloc: Global, handle: &mut Handle, event: Event) -> u8
     ensures { Unless result handle.old.value handle.new.value (λ h k. Takes result h event k) }
 {
-    let held = mem::replace(handle, Handle::empty());
-    match held.into_box(alloc) {
+    match taken(alloc, handle) {
         None => NO_REPLICA,
         Some(mut hosted) => {
             let status = takes(&mut hosted, event);
@@ -56,8 +55,7 @@ fn hears(alloc: Global, hosted: &mut Hosted, bytes: &[u8]) -> u8
 pub extern "C" fn ep_handle(alloc: Global, handle: &mut Handle, frame: &[u8]) -> u8
     ensures { Unless result handle.old.value handle.new.value (λ h k. Hears result h frame.now k) }
 {
-    let held = mem::replace(handle, Handle::empty());
-    match held.into_box(alloc) {
+    match taken(alloc, handle) {
         None => NO_REPLICA,
         Some(mut hosted) => {
             let status = hears(alloc, &mut hosted, frame);
@@ -107,8 +105,7 @@ fn advances(hosted: &mut Hosted) -> u8
 pub extern "C" fn ep_advance(alloc: Global, handle: &mut Handle) -> u8
     ensures { Unless result handle.old.value handle.new.value (λ h k. Advances result h k) }
 {
-    let held = mem::replace(handle, Handle::empty());
-    match held.into_box(alloc) {
+    match taken(alloc, handle) {
         None => NO_REPLICA,
         Some(mut hosted) => {
             let status = advances(&mut hosted);
@@ -134,8 +131,7 @@ fn sweeps(hosted: &mut Hosted) -> u8
 pub extern "C" fn ep_execute_all(alloc: Global, handle: &mut Handle) -> u8
     ensures { Unless result handle.old.value handle.new.value (λ h k. Sweeps result h k) }
 {
-    let held = mem::replace(handle, Handle::empty());
-    match held.into_box(alloc) {
+    match taken(alloc, handle) {
         None => NO_REPLICA,
         Some(mut hosted) => {
             let status = sweeps(&mut hosted);

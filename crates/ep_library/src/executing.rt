@@ -5,6 +5,7 @@ ghost use Rattle.ep_library.specs.Arguments.{instance_in};
 ghost use Rattle.ep_library.specs.Executing.{named, Executes, Tries};
 
 use crate::codes::taking_status;
+use crate::held::taken;
 use crate::instance::Instance;
 use crate::making::{instance_in, instance_out};
 use crate::status::{DONE, NO_REPLICA, OUT_OF_RANGE};
@@ -14,7 +15,6 @@ use ep_hosted::{Hosted, TakingFault};
 use ep_journal::StepFault;
 use ep_wire::TakeFault;
 use std::alloc::Global;
-use std::mem;
 
 /// Tells the instance that the fault names, if it names one.
 fn tell_named(fault: &TakingFault, waits_for: &mut Instance)
@@ -55,8 +55,7 @@ pub extern "C" fn ep_execute(
     let Some(instance) = instance_in(instance) else {
         return OUT_OF_RANGE;
     };
-    let held = mem::replace(handle, Handle::empty());
-    match held.into_box(alloc) {
+    match taken(alloc, handle) {
         None => NO_REPLICA,
         Some(mut hosted) => {
             let status = tries(&mut hosted, instance, waits_for);

@@ -17,6 +17,7 @@ mod copying;
 mod events;
 mod exchange;
 mod executing;
+mod held;
 mod instance;
 mod leading;
 mod lent;

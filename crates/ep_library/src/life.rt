@@ -6,6 +6,7 @@ ghost use Rattle.ep_library.specs.Calls.{Unless};
 ghost use Rattle.ep_library.specs.Opening.{Begins, IsSpare, Opens, OpensNew, Seats, TellsCut};
 
 use crate::codes::start_status;
+use crate::held::taken;
 use crate::making::{given, log_given, seat_of};
 use crate::place::Place;
 use crate::refusals::start_place;
@@ -15,7 +16,6 @@ use ep_handle::Handle;
 use ep_hosted::{Hosted, Seat, StartFault};
 use ep_node::Cut;
 use std::alloc::Global;
-use std::mem;
 
 /// The replica of this seat, by the bytes that are given.
 fn begin(alloc: Global, seat: Seat, setup: &Setup<'_>) -> Result<Hosted, StartFault>
@@ -49,7 +49,10 @@ fn seat(
                 *handle = Handle::of(hosted);
                 DONE
             }
-            Err(_) => MEMORY,
+            Err(failed) => {
+                drop(failed);
+                MEMORY
+            }
         },
         Err(fault) => {
             *place = start_place(fault);
@@ -85,8 +88,7 @@ pub extern "C" fn ep_open(
 ) -> u8
     ensures { Opens result handle.old.value setup.now place.old handle.new.value place.new }
 {
-    let held = mem::replace(handle, Handle::empty());
-    match held.into_box(alloc) {
+    match taken(alloc, handle) {
         Some(hosted) => {
             *handle = Handle::of(hosted);
             HAS_REPLICA
@@ -117,8 +119,7 @@ fn show_cut(cut: Option<Cut>, place: &mut Place) -> u8
 pub extern "C" fn ep_cut(alloc: Global, handle: &mut Handle, place: &mut Place) -> u8
     ensures { Unless result handle.old.value handle.new.value (λ h k. TellsCut result h.node.cut place.old place.new × (k ≡ h)) }
 {
-    let held = mem::replace(handle, Handle::empty());
-    match held.into_box(alloc) {
+    match taken(alloc, handle) {
         None => NO_REPLICA,
         Some(hosted) => {
             let status = show_cut(hosted.cut(), place);
@@ -134,7 +135,6 @@ pub extern "C" fn ep_free(alloc: Global, handle: &mut Handle) -> u8
     ensures ended { handle.new.value ≡ None }
     ensures status { result ≡ 0 }
 {
-    let held = mem::replace(handle, Handle::empty());
-    let _hosted = held.into_box(alloc);
+    drop(taken(alloc, handle));
     DONE
 }

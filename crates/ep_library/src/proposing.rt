@@ -10,6 +10,7 @@ use crate::call::Call;
 use crate::codes::command_status;
 use crate::events::{take, takes};
 use crate::exchange::Exchange;
+use crate::held::taken;
 use crate::making::part;
 use crate::touching::Touching;
 use ep_base::{Command, CommandFault};
@@ -17,7 +18,6 @@ use ep_handle::Handle;
 use ep_hosted::Hosted;
 use ep_journal::Event;
 use std::alloc::Global;
-use std::mem;
 
 /// A client's proposal.
 fn proposal(call: &Call, command: Command) -> Event
@@ -86,8 +86,7 @@ pub extern "C" fn ep_propose_put(
 ) -> u8
     ensures { Proposes result handle.old.value call.now (Put key.now value.now) handle.new.value }
 {
-    let held = mem::replace(handle, Handle::empty());
-    match held.into_box(alloc) {
+    match taken(alloc, handle) {
         None => propose(alloc, handle, call, Command::put(alloc, key, value)),
         Some(mut hosted) => {
             let status = puts(alloc, &mut hosted, call, key, value);

@@ -5,12 +5,12 @@ ghost use Rattle.ep_library.specs.Calls.{Unless};
 ghost use Rattle.ep_library.specs.Syncing.{flag, Answers, Asks, IsRun, IsRunOf, Lends, Syncs};
 
 use crate::codes::{ask_status, sync_status, tell_status};
+use crate::held::taken;
 use crate::lent::Lent;
 use crate::status::{DONE, MEMORY, NO_REPLICA};
 use ep_handle::Handle;
 use ep_hosted::Hosted;
 use std::alloc::Global;
-use std::mem;
 
 /// What C is told of whether something is so.
 fn flag(is_so: bool) -> u8
@@ -67,8 +67,7 @@ pub extern "C" fn ep_ready(
     ensures told { Unless result handle.old.value handle.new.value (λ h k. Lends result h k log.new is_anew.new) }
     ensures untold { result ≢ 0 → (log.new ≡ log.old) × (is_anew.new ≡ is_anew.old) }
 {
-    let held = mem::replace(handle, Handle::empty());
-    match held.into_box(alloc) {
+    match taken(alloc, handle) {
         None => NO_REPLICA,
         Some(mut hosted) => {
             let status = lends(alloc, &mut hosted, log, is_anew);
@@ -95,8 +94,7 @@ fn syncs(hosted: &mut Hosted, count: usize) -> u8
 pub extern "C" fn ep_synced(alloc: Global, handle: &mut Handle, count: usize) -> u8
     ensures { Unless result handle.old.value handle.new.value (λ h k. Syncs result h count k) }
 {
-    let held = mem::replace(handle, Handle::empty());
-    match held.into_box(alloc) {
+    match taken(alloc, handle) {
         None => NO_REPLICA,
         Some(mut hosted) => {
             let status = syncs(&mut hosted, count);
@@ -134,8 +132,7 @@ pub extern "C" fn ep_answers(
     ensures told { Unless result handle.old.value handle.new.value (λ h k. Answers result h told most k answers.new) }
     ensures untold { result ≢ 0 → answers.new ≡ answers.old }
 {
-    let held = mem::replace(handle, Handle::empty());
-    match held.into_box(alloc) {
+    match taken(alloc, handle) {
         None => NO_REPLICA,
         Some(mut hosted) => {
             let status = tells(alloc, &mut hosted, told, most, answers);
@@ -161,8 +158,7 @@ fn asks(alloc: Global, hosted: &mut Hosted, request: &[u8]) -> u8
 pub extern "C" fn ep_ask(alloc: Global, handle: &mut Handle, request: &[u8]) -> u8
     ensures { Unless result handle.old.value handle.new.value (λ h k. Asks result h request.now k) }
 {
-    let held = mem::replace(handle, Handle::empty());
-    match held.into_box(alloc) {
+    match taken(alloc, handle) {
         None => NO_REPLICA,
         Some(mut hosted) => {
             let status = asks(alloc, &mut hosted, request);

@@ -4,7 +4,7 @@ use ep_base::WriteFailed;
 use std::alloc::AllocError;
 
 /// An answer found no memory, or is longer than an answer can be.
-#[derive(Clone, Copy, Debug, PartialEq, Eq)]
+#[derive(Clone, Copy)]
 pub(crate) struct AnswerFault;
 
 impl From<AllocError> for AnswerFault {

@@ -1,12 +1,12 @@
 //! What there is to tell, as an answer.
 
-ghost use Rattle.std.specs.Prelude.{◌≡◌, ◌<◌, ◌+◌, ◌++◌, ◌^◌, None, drop, is_some, length, OnOk};
+ghost use Rattle.std.specs.Prelude.{◌≡◌, ◌<◌, ◌+◌, ◌++◌, ◌^◌, [], None, Some, drop, is_some, length, IfOk, OnOk};
 ghost use Rattle.std.specs.Io.KnownBytes.{Appends};
 ghost use Rattle.std.specs.List.{flat_map};
 ghost use Rattle.std.specs.Option.{option_map};
 ghost use Rattle.ep_serve.specs.Answering.{happened_bytes, leading_of, open_instance_bytes, open_instances_bytes, outgoing_bytes, sent_frames_bytes, summary_bytes, Tells};
 ghost use Rattle.ep_serve.specs.declared.due.Due.TheVariants as due;
-ghost use Rattle.ep_wire.specs.Answers.{sent_bytes, told_receipts_bytes};
+ghost use Rattle.ep_wire.specs.Answers.{ready_bytes, sent_bytes, told_receipts_bytes};
 
 use crate::answer_fault::AnswerFault;
 use crate::asked::leading_of;
@@ -170,6 +170,28 @@ fn put_all<K: Sink>(sink: &mut K, version: Version, ready: &Ready) -> Result<(),
     put_second_half(sink, ready)
 }
 
+/// The bytes of all that there is to tell.
+fn body_of(alloc: Global, version: Version, ready: &Ready) -> Result<Vec<u8>, AnswerFault>
+    ensures { IfOk result (λ body. Appends (Some []) (Some body.items)
+        ((summary_bytes ready.now.entries ready.now.is_sealed ++ outgoing_bytes version ready.now.frames.items ready.now.receipts.items)
+        ++ (happened_bytes ready.now.committed.items ready.now.executed.items ++ open_instances_bytes ready.now.still_open.items))) }
+{
+    let mut body = Noted::new(Vec::with_capacity(alloc, 1_024)?);
+    put_all(&mut body, version, ready)?;
+    Ok(body.into_inner())
+}
+
+/// These bytes, as the answer that they are the body of.
+fn put_body<K: Sink>(sink: &mut K, body: &[u8]) -> Result<(), AnswerFault>
+    ensures { OnOk result (Appends (K.held sink.old) (K.held sink.new) (ready_bytes body.now)) }
+{
+    if body.len() >= 0xffff_ffff {
+        return Err(AnswerFault);
+    }
+    write_ready(sink, body)?;
+    Ok(())
+}
+
 /// What there is to tell of the node's entries after the first ones, so many, and of at most so many open instances.
 pub(crate) fn put_ready<D: Device, K: Sink>(
     alloc: Global,
@@ -185,12 +207,8 @@ pub(crate) fn put_ready<D: Device, K: Sink>(
     let Ok(ready) = node.ready(alloc, after, most) else {
         return Err(AnswerFault);
     };
-    let mut body = Noted::new(Vec::with_capacity(alloc, 1_024)?);
-    put_all(&mut body, version, &ready)?;
-    let body = body.into_inner();
-    if body.len() >= 0xffff_ffff {
-        return Err(AnswerFault);
-    }
-    write_ready(sink, &body)?;
-    Ok(())
+    let made = body_of(alloc, version, &ready);
+    drop(ready);
+    let body = made?;
+    put_body(sink, &body)
 }
