@@ -38,8 +38,6 @@ fn made(front: Front, contents: Contents, executed: Deps) -> Result<OpeningFile,
         seal,
     } = front;
     let Ok(opening) = Opening::new(contents, since) else {
-        drop(seal);
-        drop(executed);
         return Err(OpeningFault::Memory);
     };
     match OpeningFile::new(size, generation, opening, seal, executed) {
