@@ -26,6 +26,13 @@ UNSENT = f"{TOP}/.ci/rows/audit-unsent-frame/stdin.hex"
 COMMANDS = ("replay", "run", "audit", "show", "explain", "draw", "trace-events", "upgrade", "node", "collect", "contents")
 
 
+# In the place of the build: leaves the program that is asked for, and notes the words.
+BUILDS_ONE = """#!/bin/bash
+echo "$@" >> '{top}/it.built'
+mkdir -p '{top}/out/unproved' && cp '{top}/built/'"$2" '{top}/out/unproved' && touch '{top}/out/unproved/'"$2.stamp"
+"""
+
+
 class Room:
     """A folder with the launcher."""
 
@@ -35,8 +42,11 @@ class Room:
             shutil.copy2(f"{TOP}/{name}", f"{top}/{name}")
         shutil.copytree(f"{TOP}/tools", f"{top}/tools", ignore=shutil.ignore_patterns("target", "__pycache__"))
         for name in os.listdir(f"{TOP}/crates"):
-            if os.path.isdir(f"{TOP}/crates/{name}/src"):
-                shutil.copytree(f"{TOP}/crates/{name}/src", f"{top}/crates/{name}/src")
+            for part in ("src", "specs"):
+                if os.path.isdir(f"{TOP}/crates/{name}/{part}"):
+                    shutil.copytree(f"{TOP}/crates/{name}/{part}", f"{top}/crates/{name}/{part}")
+        os.makedirs(f"{top}/crates/ep_base/proofs")
+        shutil.copy2(f"{TOP}/crates/ep_base/proofs/Lib.antt", f"{top}/crates/ep_base/proofs")
         for name, held in (("put.script", SCRIPT.encode()), ("four.script", FOUR.encode()), ("cut.bundle", CUT), ("no.run", SCRIPT.encode())):
             with open(f"{top}/{name}", "wb") as file:
                 file.write(held)
@@ -52,8 +62,8 @@ class Room:
             os.makedirs(f"{self.top}/out/unproved")
             for name in PROGRAMS:
                 shutil.copy2(f"{TOP}/crates/{name}/out/{name}", f"{self.top}/out/unproved")
+                self.write(f"out/unproved/{name}.stamp", "")
             self.write("out/unproved/kit", "the kit of the unproved\n")
-            self.write("out/unproved/stamp", "")
         if "proved" in kinds:
             for name in PROGRAMS:
                 out = f"{self.top}/crates/{name}/out"
@@ -75,13 +85,13 @@ class Room:
         earlier = time.time() - 3600
         os.utime(f"{self.top}/{name}", (earlier, earlier))
 
-    def run(self, words, given="", redirect="", quiet=None):
+    def run(self, words, given="", redirect="", quiet=None, under=""):
         """The status, the output and the fault output of a call in the shell."""
         how = {"shell": True, "executable": "/bin/bash", "cwd": self.top, "timeout": 60, "stdout": subprocess.PIPE, "stderr": subprocess.PIPE}
         environment = {it: value for it, value in os.environ.items() if it != "EPAXOS_QUIET"}
         if quiet is not None:
             environment["EPAXOS_QUIET"] = quiet
-        ran = subprocess.run(f"./epaxos {words} {redirect}", input=given.encode(), env=environment, **how)
+        ran = subprocess.run(f"{under} ./epaxos {words} {redirect}", input=given.encode(), env=environment, **how)
         return ran.returncode, ran.stdout.decode(errors="replace"), ran.stderr.decode(errors="replace")
 
     def seen(self, command, typed=b""):
@@ -148,19 +158,23 @@ def fixed(room):
     for words in ("--help", "help node"):
         yield f"{words} to a full device", room.run(words, redirect="> /dev/full"), (4, "", "writing failed\n")
         yield f"{words} with the output closed", room.run(words, redirect=">&-"), (4, "", "writing failed\n")
-    status, wrote, told = room.run("collect one.log")
-    yield "collect, not built", (status, wrote, "./epaxos --build --unproved" in told), (70, "", True)
-    status, shown = room.seen("./epaxos collect one.log", b"n\n")
-    yield "collect, not built, on a terminal", (status, "[Y/n]" in shown, "./epaxos --build --unproved" in shown), (70, True, True)
-    # (in the place of the build stands what leaves the programs that it would)
+    # (in the place of the build stands what leaves the program that it would, or fails)
     os.rename(f"{room.top}/tools/unproved", f"{room.top}/tools/unproved.kept")
-    room.write("tools/unproved", f"#!/bin/bash\nmkdir -p '{room.top}/out' && cp -r '{room.top}/built' '{room.top}/out/unproved' && touch '{room.top}/out/unproved/stamp'\n")
+    room.write("tools/unproved", "#!/bin/bash\necho \"$@\" >> it.built\nexit 70\n")
     os.chmod(f"{room.top}/tools/unproved", 0o755)
+    status, wrote, told = room.run("replay", SCRIPT)
+    yield "replay, which can't be built", (status, wrote, told.endswith("epaxos: no answer: the program isn't built\n")), (70, "", True)
+    os.remove(f"{room.top}/it.built")
     os.makedirs(f"{room.top}/built")
     for name in PROGRAMS:
         shutil.copy2(f"{TOP}/crates/{name}/out/{name}", f"{room.top}/built")
-    status, shown = room.seen("./epaxos collect one.log", b"y\n")
-    yield "collect, built when it was offered", (status, shown.endswith(UNPROVED + "reading one.log failed\n")), (4, True)
+    room.write("tools/unproved", BUILDS_ONE.format(top=room.top))
+    for words, built in (("replay", "ep_main"), ("collect one.log", "ep_server")):
+        for turn in ("first", "second"):
+            status, wrote, told = room.run(words, SCRIPT)
+            wanted = (0, REPORT, UNPROVED) if built == "ep_main" else (4, "", f"{UNPROVED}reading one.log failed\n")
+            yield f"{words}, not built, {turn} call", (status, wrote, told[-len(wanted[2]) :], ("is built now" in told) == (turn == "first")), (*wanted, True)
+    yield "each program is built once, alone", open(f"{room.top}/it.built").read(), "--program ep_main\n--program ep_server\n"
     os.rename(f"{room.top}/tools/unproved.kept", f"{room.top}/tools/unproved")
     room.place()
     yield "--version, not built", room.run("--version")[1].splitlines()[0::2], ["epaxos 0.1.0", "nothing is built: ./epaxos --build --unproved, or --build"]
@@ -194,9 +208,28 @@ def chosen(room):
     room.place("proved", "unproved")
     yield "proved", room.run("replay", SCRIPT), (0, REPORT, "")
     yield "proved, --version", room.run("--version"), (0, "epaxos 0.1.0\nthe kit of the proved\nproved\n", "")
+    room.edit("crates/ep_base/specs/Lib.antt")
+    yield "both, a definition is newer", room.run("replay", SCRIPT), (0, REPORT, UNPROVED)
+    room.restore("crates/ep_base/specs/Lib.antt")
+    room.edit("crates/ep_base/proofs/Lib.antt")
+    yield "proved, a proof is newer", room.run("replay", SCRIPT), (0, REPORT, "")
     room.edit("crates.txt")
     yield "both, crates.txt is newer", room.run("replay", SCRIPT), (0, REPORT, STALE)
     room.restore("crates.txt")
+
+
+def cheap(room):
+    """What a call costs beside its program: no process, and few calls of the system. (Time is too unsteady for a row; strace counts where it is there.)"""
+    if not shutil.which("strace"):
+        return
+    for kinds in (("unproved",), ("proved",)):
+        room.place(*kinds)
+        room.run("--quiet replay", SCRIPT)
+        _, wrote, told = room.run("--quiet replay", SCRIPT, redirect="", under="strace -f -qq -e signal=none -o it.calls")
+        with open(f"{room.top}/it.calls", encoding="utf-8") as file:
+            calls = file.read().splitlines()
+        started, begun = sum("fork(" in it or "clone(" in it or "clone3(" in it for it in calls), next(at for at, it in enumerate(calls) if f"/ep_main\"" in it and "execve(" in it)
+        yield f"what a call costs, {kinds[0]}", (wrote, told, started, begun < 4000), (REPORT, "", 0, True)
 
 
 def shown(room):
@@ -253,7 +286,7 @@ def tried():
     passed = failed = 0
     with tempfile.TemporaryDirectory() as top:
         room = Room(top)
-        for part in (fixed, chosen, shown, builds):
+        for part in (fixed, chosen, cheap, shown, builds):
             for name, found, wanted in part(room):
                 is_well = found == wanted
                 passed, failed = passed + is_well, failed + (not is_well)
