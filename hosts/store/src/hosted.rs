@@ -6,7 +6,7 @@ use crate::generations_fault::GenerationsFault;
 use crate::node_fault::NodeFault;
 use crate::outcome::{Asked, Outcome, Outgoing, Report};
 use crate::peers::Place;
-use epaxos::{Cluster, Fault, Instance, LogFile, OpenFault, Output, Replica, Setup, State};
+use epaxos::{Cluster, CommitFault, Fault, Instance, LogFile, OpenFault, Output, Replica, Setup, State};
 use std::fs;
 use std::path::{Path, PathBuf};
 
@@ -58,8 +58,7 @@ impl Acting {
     /// Puts on the disk what was taken, and adds to an outcome what there is to tell then.
     fn sync(&mut self, outcome: &mut Outcome) -> Result<(), NodeFault> {
         let ready = self.replica.ready().map_err(NodeFault::Core)?;
-        self.file.keep(&ready).map_err(|error| NodeFault::Log(self.path.clone(), error))?;
-        let output = ready.synced().map_err(NodeFault::Core)?;
+        let output = ready.commit(&mut self.file).map_err(|fault| commit_fault(fault, &self.path))?;
         outcome.entries = Some(output.entries()).filter(|entries| *entries > self.state.entries);
         self.state.entries = output.entries();
         outcome.proposed.extend(output.proposed());
@@ -139,9 +138,8 @@ impl Hosting {
                 (file, setup.open(&log).map_err(refused)?)
             };
             let ready = replica.ready().map_err(NodeFault::Core)?;
-            file.keep(&ready).map_err(failed)?;
             // (what was handed out before this start may be lost: it is sent again as anything that is lost is)
-            ready.synced().map_err(NodeFault::Core)?;
+            ready.commit(&mut file).map_err(|fault| commit_fault(fault, &path))?;
             generations.leave_before(opening.generation).map_err(NodeFault::Generations)?;
             lines.extend(replica.said().lines().map(str::to_string));
             if replica.cut() > 0 {
@@ -167,6 +165,14 @@ fn open_fault(fault: OpenFault, generation: Option<u32>) -> NodeFault {
     match fault {
         OpenFault::BadOpening(why) => NodeFault::Generations(GenerationsFault::BadOpening(generation, why)),
         fault => NodeFault::Open(fault),
+    }
+}
+
+/// Why what is ready isn't on the disk, in this log.
+fn commit_fault(fault: CommitFault, path: &Path) -> NodeFault {
+    match fault {
+        CommitFault::Core(fault) => NodeFault::Core(fault),
+        CommitFault::Log(error) => NodeFault::Log(path.to_path_buf(), error),
     }
 }
 

@@ -67,7 +67,7 @@ fn run(
             }
         }
         replica.advance()?;
-        let output = replica.ready()?.synced()?;
+        let output = replica.ready()?.assume_synced()?;
         let mut frames: [Frames; 3] = Default::default();
         for frame in output.frames() {
             frames[usize::from(frame.to)].push(frame.bytes);
@@ -121,7 +121,7 @@ fn round(open: u32, value: usize) -> Result<Duration, Box<dyn Error + Send + Syn
     for (me, inbox) in (0..).zip(inboxes) {
         let (peers, (told, done)) = (senders.clone(), channel());
         let mut replica = Replica::new(Cluster::Three, me)?;
-        replica.ready()?.synced()?;
+        replica.ready()?.assume_synced()?;
         replicas.push(thread::spawn(move || run(replica, &inbox, &peers, &told)));
         clients.push(done);
     }

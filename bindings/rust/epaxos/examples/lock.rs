@@ -3,7 +3,7 @@
 //!     cargo run --example lock
 //!
 //! A lock is a key, and its value is its owner's token. Who compares absent with a token takes it, and who compares its own token with absent gives it
-//! back. All three replicas are in one thread here, and nothing is kept on a disk: `three.rs` shows that part.
+//! back. All three replicas are in one thread here, and their logs are in memory: `three.rs` has files.
 #![forbid(unsafe_code)]
 
 use epaxos::{Answer, Call, Cluster, Command, Replica};
@@ -50,9 +50,9 @@ impl Owner {
 
 fn main() -> Result<(), Box<dyn Error>> {
     let mut replicas: Vec<Replica> = (0..3).map(|me| Replica::new(Cluster::Three, me)).collect::<Result<_, _>>()?;
-    for replica in &mut replicas {
-        // (their logs begin)
-        replica.ready()?.synced()?;
+    let mut logs: [Vec<u8>; 3] = Default::default();
+    for (replica, log) in replicas.iter_mut().zip(&mut logs) {
+        replica.ready()?.commit(log)?;
     }
     let mut owners: Vec<Owner> = (1..=3)
         .map(|client| Owner {
@@ -73,10 +73,10 @@ fn main() -> Result<(), Box<dyn Error>> {
         for (to, frame) in frames.drain(..) {
             replicas[usize::from(to)].handle(&frame)?;
         }
-        for replica in &mut replicas {
+        for (replica, log) in replicas.iter_mut().zip(&mut logs) {
             replica.advance()?;
-            // (a program that is to survive a crash puts `ready.log()` on the disk here)
-            let output = replica.ready()?.synced()?;
+            // (a program that is to survive a crash has a `LogFile`)
+            let output = replica.ready()?.commit(log)?;
             frames.extend(output.frames().map(|frame| (frame.to, frame.bytes.to_vec())));
             for receipt in output.receipts() {
                 let owner = &mut owners[receipt.client as usize - 1];

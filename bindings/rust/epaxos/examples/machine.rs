@@ -3,8 +3,8 @@
 //!     cargo run --example machine
 //!
 //! The core puts opaque commands in one order by their keys, which here are the accounts that they touch, and knows nothing of what they do. Each replica has a
-//! machine, which does the commands in the order in which its replica executes them. All replicas are in one thread here, and nothing is kept on a disk:
-//! `three.rs` shows that part.
+//! machine, which does the commands in the order in which its replica executes them. All replicas are in one thread here, and their logs are in memory:
+//! `three.rs` has files.
 #![forbid(unsafe_code)]
 
 use epaxos::{Answer, Call, Cluster, Command, Executed, Instance, Replica};
@@ -54,9 +54,9 @@ impl Bank {
 
 fn main() -> Result<(), Box<dyn Error>> {
     let mut replicas: Vec<Replica> = (0..3).map(|me| Replica::new(Cluster::Three, me)).collect::<Result<_, _>>()?;
-    for replica in &mut replicas {
-        // (their logs begin)
-        replica.ready()?.synced()?;
+    let mut logs: [Vec<u8>; 3] = Default::default();
+    for (replica, log) in replicas.iter_mut().zip(&mut logs) {
+        replica.ready()?.commit(log)?;
     }
     let mut banks: Vec<Bank> = (0..3).map(|_| Bank::default()).collect();
     // At three replicas side by side, so that commands cross: anna and ben have 100, and pay each other and carl.
@@ -78,9 +78,9 @@ fn main() -> Result<(), Box<dyn Error>> {
         for (to, frame) in frames.drain(..) {
             replicas[usize::from(to)].handle(&frame)?;
         }
-        for (replica, bank) in replicas.iter_mut().zip(&mut banks) {
+        for ((replica, log), bank) in replicas.iter_mut().zip(&mut logs).zip(&mut banks) {
             replica.execute_all()?;
-            let output = replica.ready()?.synced()?;
+            let output = replica.ready()?.commit(log)?;
             frames.extend(output.frames().map(|frame| (frame.to, frame.bytes.to_vec())));
             output.executed().for_each(|executed| bank.apply(&executed));
             for receipt in output.receipts() {

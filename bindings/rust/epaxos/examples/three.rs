@@ -114,9 +114,7 @@ impl Host {
 
     /// The log first; then frames, and clients; then what is late.
     fn settle(&mut self) -> Result<(), Box<dyn Error + Send + Sync>> {
-        let ready = self.replica.ready_with_open(64)?;
-        self.file.keep(&ready)?;
-        let output = ready.synced()?;
+        let output = self.replica.ready_with_open(64)?.commit(&mut self.file)?;
         for frame in output.frames() {
             let _ = self.peers[usize::from(frame.to)].send(Told::Frame(frame.bytes.to_vec()));
         }

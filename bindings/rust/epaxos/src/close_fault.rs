@@ -7,10 +7,11 @@ use std::fmt;
 /// Why a replica doesn't close its generation.
 ///
 /// ```
+/// # let mut log = Vec::new();
 /// use epaxos::{CloseFault, Cluster, Replica};
 ///
 /// let mut replica = Replica::new(Cluster::Three, 0)?;
-/// replica.ready()?.synced()?;
+/// replica.ready()?.commit(&mut log)?;
 /// let (_replica, fault) = replica.close(Cluster::Three).unwrap_err();
 /// assert_eq!(fault, CloseFault::NotSealed);
 /// # Ok::<(), Box<dyn std::error::Error>>(())

@@ -43,7 +43,7 @@ pub enum Fault {
     /// The seen stamp is absurd, or the replica's stamps are used up.
     StampFull,
     /// What was taken, or what was lent to be written, isn't on the disk yet, as the log isn't behind a start: [`ready`](crate::Replica::ready) and
-    /// [`synced`](crate::Ready::synced) first.
+    /// [`commit`](crate::Ready::commit) first.
     Unsynced,
     /// The core is gone, and this is what it said last. Open the replica again, from its log.
     Ended(String),
@@ -95,7 +95,7 @@ impl fmt::Display for Fault {
             Fault::BadFrame => "the bytes are no frame of this generation",
             Fault::StampFull => "the seen stamp is out of reach",
             Fault::Unsynced => {
-                "what was taken, or the log behind a start, is not on the disk yet: ready and synced come first"
+                "what was taken, or the log behind a start, is not on the disk yet: ready and commit come first"
             }
             Fault::Ended(what) => return write!(f, "the core has ended: {what}"),
         })

@@ -2,7 +2,7 @@
 //!
 //! Three, five or seven replicas hold one map. Any of them takes any command; commands on a common key are executed in one order at all of them, and whatever a
 //! majority has is never lost. The crate has no socket, no timer and no thread: you own those. A [`Replica`] takes what happened, and leaves a [`Ready`]:
-//! bytes for your log, and, *once you say that these are on the disk*, what to send and whom to answer. The types enforce this order.
+//! bytes for your log, and, *once these are on the disk*, what to send and whom to answer. [`Ready::commit`] does both, in this order.
 //!
 //! ```
 //! use epaxos::{Call, Cluster, Command, Event, LogFile, Patience, Replica, Waits};
@@ -23,8 +23,7 @@
 //! let begun = Instant::now();
 //! loop {
 //!     let ready = replica.ready_with_open(64)?;
-//!     file.keep(&ready)?;                         // one write and one sync for all that was taken; at first, the log's beginning
-//!     let output = ready.synced()?;               // only then is there anything to send
+//!     let output = ready.commit(&mut file)?;      // one write and one sync for all that was taken; only then is there anything to send
 //!     output.frames().for_each(|frame| send(frame.to, frame.bytes));
 //!     output.receipts().for_each(|receipt| answer(receipt.client, receipt.answer));
 //! #   if output.entries() > 0 { break }
@@ -77,8 +76,9 @@
 //! the protocol, and nothing is told of an entry that isn't among those that you said are on the disk. So no two replicas commit different commands in an
 //! instance, and all execute interfering commands in one order. This crate, which carries bytes to the core and back, isn't proved. You owe:
 //!
-//! - The bytes of [`Ready::log`] are on the disk before you call [`Ready::synced`]. One replica, one log; a replica never starts from an older copy, and
-//!   one whose log is lost doesn't come back under its number in its generation.
+//! - The bytes of [`Ready::log`] are on the disk before there is an output: [`LogFile`] sees to it, a [`Log`] of your own has to, and whoever calls
+//!   [`Ready::assume_synced`] says so. A replica never starts from an older copy of its log, and one whose log is lost doesn't come back under its number
+//!   in its generation.
 //! - A client's number and its request's name one command, over all starts ([`Call`]). Hand on stamps of receipts, and nothing else, as [`Call::seen`].
 //! - A frame that is handled was sent. It may be lost, repeated, delayed, overtaken; nobody may forge one.
 //!
@@ -125,6 +125,7 @@ mod call;
 mod close_fault;
 mod cluster;
 mod command;
+mod commit_fault;
 mod core;
 mod event;
 mod executed;
@@ -137,12 +138,15 @@ mod instance;
 mod leading;
 #[cfg(has_library)]
 mod library;
+mod log;
 mod log_file;
 mod open_fault;
 mod open_instance;
 mod out_of_range;
 mod output;
+mod own_log;
 mod patience;
+mod place;
 mod process;
 mod program;
 mod proposed;
@@ -166,6 +170,7 @@ pub use call::Call;
 pub use close_fault::CloseFault;
 pub use cluster::Cluster;
 pub use command::{Command, CommandOf, OwnedCommand};
+pub use commit_fault::CommitFault;
 pub use core::Core;
 pub use event::Event;
 pub use executed::Executed;
@@ -173,6 +178,7 @@ pub use fault::Fault;
 pub use frame::Frame;
 pub use instance::Instance;
 pub use leading::{Leading, Phase};
+pub use log::Log;
 pub use log_file::LogFile;
 pub use open_fault::OpenFault;
 pub use open_instance::OpenInstance;

@@ -1,14 +1,17 @@
 //! A log in a file.
 #![forbid(unsafe_code)]
 
-use crate::Ready;
+use crate::place::Place;
+use crate::records::{self, HEADER};
+use crate::{Log, Ready};
 use std::fs::{self, File, OpenOptions, TryLockError};
 use std::io::{self, ErrorKind, Read, Seek, SeekFrom, Write};
 use std::path::{Path, PathBuf};
 
 /// A replica's log in a file, for programs that want no other place for it. The file's folder has to be there, and on the disk.
 ///
-/// Beside the file `NAME.lock` keeps a second program out while this one has it, and `NAME.new` is of no meaning between two starts.
+/// It is one replica's: [`keep`](Log::keep) refuses another one's bytes. Beside the file `NAME.lock` keeps a second program out while this one has it; a
+/// `NAME.new` that is left over may be deleted.
 ///
 /// ```
 /// use epaxos::{Cluster, LogFile, Replica};
@@ -19,13 +22,11 @@ use std::path::{Path, PathBuf};
 /// {
 ///     let mut file = LogFile::begin(&path)?;                  // at the first start
 ///     let mut replica = Replica::new(Cluster::Three, 0)?;
-///     file.keep(&replica.ready()?)?;
+///     replica.ready()?.commit(&mut file)?;
 /// }
 /// let (mut file, log) = LogFile::open(&path)?;                // at each further one
 /// let mut replica = Replica::open(Cluster::Three, 0, &log)?;
-/// let ready = replica.ready()?;
-/// file.keep(&ready)?;
-/// let output = ready.synced()?;
+/// let output = replica.ready()?.commit(&mut file)?;
 /// # drop(output);
 /// # std::fs::remove_dir_all(&folder)?;
 /// # Ok::<(), Box<dyn std::error::Error>>(())
@@ -35,6 +36,11 @@ pub struct LogFile {
     path: PathBuf,
     /// None before the log begins: then no file is there, or none that was ever told of.
     file: Option<File>,
+    /// What it begins with, and how many bytes it has: header and whole records.
+    header: Vec<u8>,
+    bytes: u64,
+    /// Which of the replicas that this process has opened wrote to it last.
+    writer: Option<u64>,
     /// Whether a write or a sync has failed: then nobody knows what the file has.
     has_failed: bool,
     _lock: Lock,
@@ -45,7 +51,7 @@ pub struct LogFile {
 struct Lock(File);
 
 impl LogFile {
-    /// That of a replica that begins. [`keep`](LogFile::keep) makes the file, with the log's beginning in it: a start that ends before leaves none.
+    /// That of a replica that begins. [`keep`](Log::keep) makes the file, with the log's beginning in it: a start that ends before leaves none.
     ///
     /// # Errors
     ///
@@ -67,9 +73,7 @@ impl LogFile {
         match fs::metadata(path) {
             Ok(found) if found.len() == 0 => Err(refused(ErrorKind::AlreadyExists, path, EMPTY)),
             Ok(_) => Err(refused(ErrorKind::AlreadyExists, path, BEGUN)),
-            Err(error) if error.kind() == ErrorKind::NotFound => {
-                Ok(LogFile { path: path.into(), file: None, has_failed: false, _lock: lock })
-            }
+            Err(error) if error.kind() == ErrorKind::NotFound => Ok(LogFile::of(path, None, &[], lock)),
             Err(error) => Err(named(path, &error)),
         }
     }
@@ -93,42 +97,40 @@ impl LogFile {
         let read = opened.and_then(|mut file| file.read_to_end(&mut log).map(|_| file));
         match read {
             Ok(_) if log.is_empty() => Err(refused(ErrorKind::InvalidData, path, EMPTY)),
-            Ok(file) => Ok((LogFile { path: path.into(), file: Some(file), has_failed: false, _lock: lock }, log)),
+            Ok(file) => Ok((LogFile::of(path, Some(file), &log, lock), log)),
             Err(error) if error.kind() == ErrorKind::NotFound => Err(refused(error.kind(), path, MISSING)),
             Err(error) => Err(named(path, &error)),
         }
     }
 
-    /// Puts what is ready on the disk, and returns when it is there.
-    ///
-    /// # Errors
-    ///
-    /// The system's. From then on it fails: nobody knows what the file has. Drop the replica, and open both again.
-    ///
-    /// ```
-    /// # use epaxos::{Cluster, LogFile, Replica};
-    /// # fn of(mut file: LogFile, mut replica: Replica) -> Result<(), Box<dyn std::error::Error>> {
-    /// let ready = replica.ready()?;
-    /// file.keep(&ready)?;
-    /// let output = ready.synced()?;
-    /// # drop(output);
-    /// # Ok(()) }
-    /// ```
-    pub fn keep(&mut self, ready: &Ready) -> io::Result<()> {
-        if ready.log().is_empty() {
-            return Ok(());
-        }
-        if self.has_failed {
-            return Err(io::Error::other("an earlier write has failed"));
-        }
-        let kept = if ready.is_anew() { self.replace(ready.log()) } else { self.append(ready.log()) };
-        self.has_failed = kept.is_err();
-        kept
+    fn of(path: &Path, file: Option<File>, log: &[u8], lock: Lock) -> LogFile {
+        let (header, bytes) = (log[..HEADER.min(log.len())].to_vec(), records::whole(log) as u64);
+        LogFile { path: path.into(), file, header, bytes, writer: None, has_failed: false, _lock: lock }
+    }
+
+    /// Where the bytes go, if it is the log that they are for.
+    fn place(&self, ready: &Ready) -> io::Result<Place> {
+        let is_writer = ready.is_anew() || self.writer == Some(ready.own_log().opened);
+        let place = Place::of(ready, &self.header, self.bytes).filter(|_| is_writer);
+        place.ok_or_else(|| {
+            let has = match (self.header.get(6), self.header.get(7..HEADER).and_then(|it| it.first_chunk())) {
+                (Some(replica), Some(generation)) => {
+                    let generation = u32::from_be_bytes(*generation);
+                    format!("replica {replica} in generation {generation}, with {} bytes", self.bytes)
+                }
+                _ => "none so far".to_string(),
+            };
+            let (replica, generation, at) = (ready.replica(), ready.generation(), ready.at());
+            let what = if ready.is_anew() { "a whole log".into() } else { format!("what follows byte {at}") };
+            let why = format!(
+                "is the log of {has}: {what} of replica {replica} in generation {generation} isn't written to it"
+            );
+            refused(ErrorKind::InvalidInput, &self.path, &why)
+        })
     }
 
     fn append(&mut self, log: &[u8]) -> io::Result<()> {
-        let file =
-            self.file.as_mut().ok_or_else(|| io::Error::other("the log is another replica's: it has no beginning"))?;
+        let file = self.file.as_mut().ok_or_else(|| io::Error::other("it has no beginning"))?;
         file.write_all(log)?;
         file.sync_data()
     }
@@ -143,6 +145,45 @@ impl LogFile {
         sync_folder_of(&self.path)?;
         file.seek(SeekFrom::End(0))?;
         self.file = Some(file);
+        Ok(())
+    }
+}
+
+impl Log for LogFile {
+    /// Puts what is ready on the disk, and returns when it is there.
+    ///
+    /// # Errors
+    ///
+    /// `InvalidInput` where the file is the log of another replica, or other bytes come first: nothing was written. Else the system's. From then on it fails:
+    /// nobody knows what the file has. Drop the replica, and open both again.
+    ///
+    /// ```
+    /// # use epaxos::{Cluster, LogFile, Replica};
+    /// # fn of(mut file: LogFile, mut replica: Replica) -> Result<(), Box<dyn std::error::Error>> {
+    /// use epaxos::Log;
+    ///
+    /// let ready = replica.ready()?;
+    /// file.keep(&ready)?;                         // (Ready::commit does both)
+    /// let output = ready.assume_synced()?;
+    /// # drop(output);
+    /// # Ok(()) }
+    /// ```
+    fn keep(&mut self, ready: &Ready) -> io::Result<()> {
+        let place = self.place(ready)?;
+        if ready.log().is_empty() || place == Place::There {
+            return Ok(());
+        }
+        if self.has_failed {
+            return Err(io::Error::other("an earlier write has failed"));
+        }
+        let is_anew = place == Place::Instead;
+        let kept = if is_anew { self.replace(ready.log()) } else { self.append(ready.log()) };
+        self.has_failed = kept.is_err();
+        kept?;
+        if is_anew {
+            (self.header, self.writer) = (ready.own_log().header.clone(), Some(ready.own_log().opened));
+        }
+        self.bytes = ready.at() + ready.log().len() as u64;
         Ok(())
     }
 }

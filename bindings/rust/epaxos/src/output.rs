@@ -10,12 +10,13 @@ use crate::{Executed, Frame, Instance, Leading, OpenInstance, Proposed, Receipt}
 /// It lives until the next call of the replica, and its parts are lent, not copied. What is dropped unused is as good as lost on its way: frames may be.
 ///
 /// ```
+/// # let mut log = Vec::new();
 /// use epaxos::{Call, Cluster, Command, Replica};
 ///
 /// let mut replica = Replica::new(Cluster::Three, 0)?;
-/// replica.ready()?.synced()?;                         // (its log is on the disk)
+/// replica.ready()?.commit(&mut log)?;             // (its log is on the disk)
 /// replica.propose(Call::new(1, 1), Command::Put { key: b"x", value: b"1" })?;
-/// let output = replica.ready()?.synced()?;
+/// let output = replica.ready()?.commit(&mut log)?;
 /// let frame = output.frames().next().unwrap();
 /// assert_eq!(frame.to, 1);                            // the other member of its fast quorum
 /// assert_eq!(output.receipts().count(), 0);           // nobody has answered yet

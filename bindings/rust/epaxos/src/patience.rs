@@ -33,14 +33,15 @@ impl Default for Waits {
 /// Any answer would be safe; it is a question of time alone. Two replicas that recover the same instance stop each other, so the waits are random and grow.
 ///
 /// ```
+/// # let mut log = Vec::new();
 /// use epaxos::{Call, Cluster, Command, Patience, Replica, Waits};
 ///
 /// let mut replica = Replica::new(Cluster::Three, 0)?;
 /// let mut patience = Patience::new(Cluster::Three, 0, Waits::default(), 7);
-/// replica.ready()?.synced()?;
+/// replica.ready()?.commit(&mut log)?;
 /// replica.propose(Call::new(1, 1), Command::Get { key: b"x" })?;
 /// for now in [0, 200] {
-///     let output = replica.ready_with_open(64)?.synced()?;
+///     let output = replica.ready_with_open(64)?.commit(&mut log)?;
 ///     let late = patience.turn(now, output.open());
 ///     assert_eq!(late.len(), usize::from(now == 200));
 ///     for event in late {

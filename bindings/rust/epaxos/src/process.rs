@@ -88,7 +88,7 @@ impl Process {
     fn started(program: &Path, begin: &Begin) -> Result<(Process, State), OpenFault> {
         let scratch = Scratch::new().map_err(|error| OpenFault::NoCore(format!("no scratch folder: {error}")))?;
         let failed = |error: io::Error| OpenFault::Ended(error.to_string());
-        let generation = generation_of(begin.opening);
+        let generation = begin.generation();
         let mut words: Vec<OsString> = vec!["--new".into()];
         if let Some(opening) = begin.opening {
             let file = scratch.given();
@@ -338,12 +338,6 @@ impl Host for Process {
     fn said(&self) -> String {
         self.scratch.said()
     }
-}
-
-/// The generation that an opening begins, as it tells; 1 where there is none.
-fn generation_of(opening: Option<&[u8]>) -> u32 {
-    let told = opening.and_then(|opening| opening.get(6..10)?.try_into().ok());
-    told.map_or(1, u32::from_be_bytes)
 }
 
 /// Why a process doesn't go on from the log of a replica that has executed a seal.

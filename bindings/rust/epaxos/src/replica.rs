@@ -2,10 +2,12 @@
 #![forbid(unsafe_code)]
 
 use crate::core::{Host, Lent};
+use crate::own_log::OwnLog;
 use crate::records::{self, Follower, HEADER};
 use crate::wire::Told;
 use crate::{
-    Begin, Call, CloseFault, Cluster, Command, Event, Fault, Instance, OpenFault, Output, Ready, Setup, State, found,
+    Begin, Call, CloseFault, Cluster, Command, Event, Fault, Instance, OpenFault, Output, Ready, Setup,
+    State, found,
 };
 use std::cell::Cell;
 use std::fmt;
@@ -13,8 +15,8 @@ use std::marker::PhantomData;
 
 /// One replica. It takes what happens, and tells what is to be done, once what it took is on the disk. See [the crate's page](crate).
 ///
-/// Its log comes first: before [`ready`](Replica::ready) and [`synced`](Ready::synced) nothing is taken ([`Fault::Unsynced`]). In the examples here
-/// `replica.ready()?.synced()?` puts it nowhere; a program puts it on its disk in between ([`LogFile::keep`](crate::LogFile::keep)).
+/// Its log comes first: before [`ready`](Replica::ready) and [`commit`](Ready::commit) nothing is taken ([`Fault::Unsynced`]). In the examples here the log is a
+/// `Vec<u8>`, in memory; a program has a [`LogFile`](crate::LogFile), or a [`Log`](crate::Log) of its own.
 ///
 /// It is [`Send`] and not [`Sync`]: it lives on one thread at a time, and every call takes `&mut self`.
 ///
@@ -39,6 +41,7 @@ pub struct Replica {
     /// How many entries were told.
     told: u32,
     cut: u64,
+    own_log: OwnLog,
     is_alone: PhantomData<Cell<()>>,
 }
 
@@ -50,7 +53,7 @@ impl fmt::Debug for Replica {
 
 impl Replica {
     /// The replica of this number in a new cluster, before any event. Its log comes first: [`ready`](Replica::ready) lends its beginning, and nothing is taken
-    /// before that is [`synced`](Ready::synced).
+    /// before that is on the disk ([`commit`](Ready::commit)).
     ///
     /// # Errors
     ///
@@ -80,19 +83,14 @@ impl Replica {
     /// let mut log = Vec::new();
     /// {
     ///     let mut replica = Replica::new(Cluster::Three, 0)?;
-    ///     for request in [None, Some(1)] {
-    ///         if let Some(request) = request {
-    ///             replica.propose(Call::new(1, request), Command::Put { key: b"x", value: b"1" })?;
-    ///         }
-    ///         let ready = replica.ready()?;
-    ///         log.extend(ready.log());
-    ///         ready.synced()?;
-    ///     }
+    ///     replica.ready()?.commit(&mut log)?;
+    ///     replica.propose(Call::new(1, 1), Command::Put { key: b"x", value: b"1" })?;
+    ///     replica.ready()?.commit(&mut log)?;
     /// }
     /// log.extend(b"torn");
     /// let mut replica = Replica::open(Cluster::Three, 0, &log)?;
     /// assert_eq!(replica.cut(), 4);
-    /// let output = replica.ready_with_open(1)?.synced()?;
+    /// let output = replica.ready_with_open(1)?.commit(&mut log)?;
     /// assert_eq!(output.open().next().unwrap().instance.to_string(), "0.1");
     /// # Ok::<(), Box<dyn std::error::Error>>(())
     /// ```
@@ -105,7 +103,8 @@ impl Replica {
         if me >= cluster.replicas() {
             return Err(OpenFault::OutOfRange);
         }
-        let host = found::start(&setup.core, &Begin { cluster, me, opening, log })?;
+        let begin = Begin { cluster, me, opening, log };
+        let host = found::start(&setup.core, &begin)?;
         let (mut follower, mut cut, mut passed) = (Follower::default(), 0, HEADER);
         if let Some(log) = log {
             passed = records::whole(log);
@@ -127,6 +126,7 @@ impl Replica {
             passed,
             told,
             cut,
+            own_log: OwnLog::of(&begin),
             is_alone: PhantomData,
         })
     }
@@ -161,9 +161,10 @@ impl Replica {
     /// [`Fault`] says which. What is refused has changed nothing.
     ///
     /// ```
+    /// # let mut log = Vec::new();
     /// # use epaxos::{Cluster, Event, Fault, Instance, Replica};
     /// let mut replica = Replica::new(Cluster::Three, 0)?;
-    /// replica.ready()?.synced()?;                     // its log comes first
+    /// replica.ready()?.commit(&mut log)?;             // its log comes first
     /// let instance = Instance { replica: 1, number: 1 };
     /// assert_eq!(replica.take(&Event::Execute(instance)), Err(Fault::NotCommitted(instance)));
     /// # Ok::<(), Box<dyn std::error::Error>>(())
@@ -176,9 +177,10 @@ impl Replica {
     /// same. Where the core is a process, this asks for many with one write.
     ///
     /// ```
+    /// # let mut log = Vec::new();
     /// # use epaxos::{Call, Cluster, Command, Event, Fault, Replica};
     /// let mut replica = Replica::new(Cluster::Three, 0)?;
-    /// replica.ready()?.synced()?;                     // its log comes first
+    /// replica.ready()?.commit(&mut log)?;             // its log comes first
     /// let put = Event::Propose { call: Call::new(1, 1), command: Command::Put { key: b"x", value: b"1" } };
     /// assert_eq!(replica.take_all(&[Event::Handle(b"garbage"), put]), [Err(Fault::BadFrame), Ok(())]);
     /// # Ok::<(), Box<dyn std::error::Error>>(())
@@ -194,9 +196,10 @@ impl Replica {
     /// As [`take`](Replica::take).
     ///
     /// ```
+    /// # let mut log = Vec::new();
     /// # use epaxos::{Call, Cluster, Command, Fault, Replica};
     /// let mut replica = Replica::new(Cluster::Three, 0)?;
-    /// replica.ready()?.synced()?;                     // its log comes first
+    /// replica.ready()?.commit(&mut log)?;             // its log comes first
     /// replica.propose(Call::new(1, 1), Command::Get { key: b"x" })?;
     /// assert_eq!(replica.propose(Call::new(1, 2), Command::Get { key: b"" }), Err(Fault::OutOfRange));
     /// # Ok::<(), Box<dyn std::error::Error>>(())
@@ -213,15 +216,17 @@ impl Replica {
     ///
     /// ```
     /// # use epaxos::{Call, Cluster, Command, Replica};
+    /// # let (mut log, mut log_of_one) = (Vec::new(), Vec::new());
     /// let mut zero = Replica::new(Cluster::Three, 0)?;
     /// let mut one = Replica::new(Cluster::Three, 1)?;
-    /// zero.ready()?.synced()?;                        // its log comes first
-    /// one.ready()?.synced()?;                         // its log comes first
+    /// zero.ready()?.commit(&mut log)?;                // their logs come first
+    /// one.ready()?.commit(&mut log_of_one)?;
     /// zero.propose(Call::new(1, 1), Command::Put { key: b"x", value: b"1" })?;
-    /// for frame in zero.ready()?.synced()?.frames() {
+    /// for frame in zero.ready()?.commit(&mut log)?.frames() {
     ///     one.handle(frame.bytes)?;
     /// }
-    /// assert_eq!(one.ready()?.synced()?.frames().next().unwrap().to, 0);      // it agrees
+    /// let output = one.ready()?.commit(&mut log_of_one)?;
+    /// assert_eq!(output.frames().next().unwrap().to, 0);      // it agrees
     /// # Ok::<(), Box<dyn std::error::Error>>(())
     /// ```
     pub fn handle(&mut self, frame: &[u8]) -> Result<(), Fault> {
@@ -235,9 +240,10 @@ impl Replica {
     /// As [`take`](Replica::take): [`Fault::TooFewAnswers`], [`Fault::NotLeading`].
     ///
     /// ```
+    /// # let mut log = Vec::new();
     /// # use epaxos::{Call, Cluster, Command, Fault, Instance, Replica};
     /// let mut replica = Replica::new(Cluster::Three, 0)?;
-    /// replica.ready()?.synced()?;                     // its log comes first
+    /// replica.ready()?.commit(&mut log)?;             // its log comes first
     /// replica.propose(Call::new(1, 1), Command::Get { key: b"x" })?;
     /// let instance = Instance { replica: 0, number: 1 };
     /// assert_eq!(replica.give_up(instance), Err(Fault::TooFewAnswers));
@@ -254,11 +260,12 @@ impl Replica {
     /// As [`take`](Replica::take): [`Fault::AlreadyCommitted`].
     ///
     /// ```
+    /// # let mut log = Vec::new();
     /// # use epaxos::{Cluster, Instance, Replica};
     /// let mut replica = Replica::new(Cluster::Three, 0)?;
-    /// replica.ready()?.synced()?;                     // its log comes first
+    /// replica.ready()?.commit(&mut log)?;             // its log comes first
     /// replica.recover(Instance { replica: 1, number: 1 })?;
-    /// assert_eq!(replica.ready()?.synced()?.frames().count(), 2);     // Prepare, to both others
+    /// assert_eq!(replica.ready()?.commit(&mut log)?.frames().count(), 2);     // Prepare, to both others
     /// # Ok::<(), Box<dyn std::error::Error>>(())
     /// ```
     pub fn recover(&mut self, instance: Instance) -> Result<(), Fault> {
@@ -272,9 +279,10 @@ impl Replica {
     /// As [`take`](Replica::take): [`Fault::NotCommitted`].
     ///
     /// ```
+    /// # let mut log = Vec::new();
     /// # use epaxos::{Cluster, Instance, Replica};
     /// let mut replica = Replica::new(Cluster::Three, 0)?;
-    /// replica.ready()?.synced()?;                     // its log comes first
+    /// replica.ready()?.commit(&mut log)?;             // its log comes first
     /// assert!(replica.execute(Instance { replica: 0, number: 1 }).is_err());
     /// # Ok::<(), Box<dyn std::error::Error>>(())
     /// ```
@@ -289,9 +297,10 @@ impl Replica {
     /// [`Fault::Memory`], [`Fault::Unsynced`], [`Fault::Ended`].
     ///
     /// ```
+    /// # let mut log = Vec::new();
     /// # use epaxos::{Cluster, Replica};
     /// let mut replica = Replica::new(Cluster::Three, 0)?;
-    /// replica.ready()?.synced()?;                     // its log comes first
+    /// replica.ready()?.commit(&mut log)?;             // its log comes first
     /// replica.advance()?;                  // nothing is ready
     /// # Ok::<(), Box<dyn std::error::Error>>(())
     /// ```
@@ -306,9 +315,10 @@ impl Replica {
     /// As [`advance`](Replica::advance).
     ///
     /// ```
+    /// # let mut log = Vec::new();
     /// # use epaxos::{Cluster, Replica};
     /// let mut replica = Replica::new(Cluster::Three, 0)?;
-    /// replica.ready()?.synced()?;                     // its log comes first
+    /// replica.ready()?.commit(&mut log)?;             // its log comes first
     /// replica.execute_all()?;
     /// # Ok::<(), Box<dyn std::error::Error>>(())
     /// ```
@@ -323,13 +333,14 @@ impl Replica {
     /// [`Fault::Memory`], [`Fault::Ended`].
     ///
     /// ```
+    /// # let mut log = Vec::new();
     /// # use epaxos::{Cluster, Replica};
     /// # let mut replica = Replica::new(Cluster::Three, 0)?;
     /// # let mut file = std::io::sink();
     /// # use std::io::Write;
     /// let ready = replica.ready()?;
     /// file.write_all(ready.log())?;
-    /// let output = ready.synced()?;
+    /// let output = ready.commit(&mut log)?;
     /// # drop(output);
     /// # Ok::<(), Box<dyn std::error::Error>>(())
     /// ```
@@ -344,11 +355,12 @@ impl Replica {
     /// As [`ready`](Replica::ready).
     ///
     /// ```
+    /// # let mut log = Vec::new();
     /// # use epaxos::{Call, Cluster, Command, Phase, Replica};
     /// let mut replica = Replica::new(Cluster::Three, 0)?;
-    /// replica.ready()?.synced()?;                     // its log comes first
+    /// replica.ready()?.commit(&mut log)?;             // its log comes first
     /// replica.propose(Call::new(1, 1), Command::Get { key: b"x" })?;
-    /// let output = replica.ready_with_open(64)?.synced()?;
+    /// let output = replica.ready_with_open(64)?.commit(&mut log)?;
     /// let (instance, leading) = output.led().next().unwrap();
     /// assert_eq!((instance.number, leading.phase, leading.answers), (1, Phase::Proposing, 0));
     /// # Ok::<(), Box<dyn std::error::Error>>(())
@@ -359,6 +371,7 @@ impl Replica {
             self.follower.clear();
             self.is_told = false;
         }
+        self.own_log.lent(self.host.lent());
         let lent = self.host.lent().bytes;
         let records = lent.get(self.passed..).unwrap_or_default();
         if !records.is_empty() {
@@ -373,8 +386,14 @@ impl Replica {
         self.host.lent()
     }
 
+    pub(crate) fn own_log(&self) -> &OwnLog {
+        &self.own_log
+    }
+
     pub(crate) fn synced(&mut self, most: u8) -> Result<Output<'_>, Fault> {
+        let bytes = self.own_log.with(self.host.lent());
         self.host.sync()?;
+        self.own_log.bytes = bytes;
         self.passed = 0;
         self.host.tell(self.told, most)?;
         let told = Told::read(self.host.told()).ok_or_else(bad_report)?;
@@ -391,11 +410,12 @@ impl Replica {
     /// [`Fault::Unsynced`], as [`get`](Replica::get); [`Fault::Memory`].
     ///
     /// ```
+    /// # let mut log = Vec::new();
     /// # use epaxos::{Call, Cluster, Command, Replica};
     /// let mut replica = Replica::new(Cluster::Three, 0)?;
-    /// replica.ready()?.synced()?;                     // its log comes first
+    /// replica.ready()?.commit(&mut log)?;             // its log comes first
     /// replica.propose(Call::new(1, 1), Command::Get { key: b"x" })?;
-    /// assert_eq!(replica.ready()?.synced()?.frames().count(), 1);
+    /// assert_eq!(replica.ready()?.commit(&mut log)?.frames().count(), 1);
     /// let output = replica.report(0, 64)?;
     /// assert_eq!((output.frames().count(), output.open().count()), (1, 1));
     /// assert_eq!(replica.report(1, 0)?.frames().count(), 0);
@@ -411,13 +431,14 @@ impl Replica {
     ///
     /// # Errors
     ///
-    /// [`Fault::Unsynced`] while something that was taken isn't on the disk: after [`synced`](Ready::synced) nothing is. [`Fault::OutOfRange`] of a key
+    /// [`Fault::Unsynced`] while something that was taken isn't on the disk: after [`commit`](Ready::commit) nothing is. [`Fault::OutOfRange`] of a key
     /// that can't be.
     ///
     /// ```
+    /// # let mut log = Vec::new();
     /// # use epaxos::{Cluster, Replica};
     /// let mut replica = Replica::new(Cluster::Three, 0)?;
-    /// replica.ready()?.synced()?;
+    /// replica.ready()?.commit(&mut log)?;
     /// assert_eq!(replica.get(b"x")?, None);
     /// # Ok::<(), Box<dyn std::error::Error>>(())
     /// ```
@@ -432,9 +453,10 @@ impl Replica {
     /// [`Fault::Unsynced`], as [`get`](Replica::get).
     ///
     /// ```
+    /// # let mut log = Vec::new();
     /// # use epaxos::{Cluster, Replica};
     /// let mut replica = Replica::new(Cluster::Three, 0)?;
-    /// replica.ready()?.synced()?;
+    /// replica.ready()?.commit(&mut log)?;
     /// assert!(!replica.state()?.is_sealed);
     /// # Ok::<(), Box<dyn std::error::Error>>(())
     /// ```

@@ -10,9 +10,9 @@ use crate::{Cluster, Core, OpenFault, Replica};
 ///
 /// // goes on from a log, and tells of all its entries once more: for a machine of one's own that keeps nothing itself
 /// let setup = Setup { told: Some(0), ..Setup::new(Cluster::Three, 1) };
-/// # let log = setup.begin()?.ready()?.log().to_vec();
+/// # let mut log = setup.begin()?.ready()?.log().to_vec();
 /// let mut replica = setup.open(&log)?;
-/// assert_eq!(replica.ready()?.synced()?.entries(), 0);
+/// assert_eq!(replica.ready()?.commit(&mut log)?.entries(), 0);
 /// # Ok::<(), Box<dyn std::error::Error>>(())
 /// ```
 #[derive(Clone, PartialEq, Eq, Hash, Debug)]
@@ -85,4 +85,12 @@ pub(crate) struct Begin<'a> {
     pub(crate) opening: Option<&'a [u8]>,
     /// None: it is new.
     pub(crate) log: Option<&'a [u8]>,
+}
+
+impl Begin<'_> {
+    /// The generation that the opening begins, as it tells; 1 where there is none.
+    pub(crate) fn generation(&self) -> u32 {
+        let told = self.opening.and_then(|opening| opening.get(6..10)?.first_chunk());
+        told.map_or(1, |bytes| u32::from_be_bytes(*bytes))
+    }
 }

@@ -6,10 +6,11 @@ use crate::bytes::Fields;
 /// How far a replica is in its generation.
 ///
 /// ```
+/// # let mut log = Vec::new();
 /// use epaxos::{Cluster, Replica};
 ///
 /// let mut replica = Replica::new(Cluster::Three, 0)?;
-/// replica.ready()?.synced()?;
+/// replica.ready()?.commit(&mut log)?;
 /// let state = replica.state()?;
 /// assert_eq!((state.generation, state.entries, state.used), (1, 0, 0));
 /// # Ok::<(), Box<dyn std::error::Error>>(())

@@ -4,7 +4,7 @@
 mod common;
 
 use common::{Owned, World, cores, program};
-use epaxos::{Call, Cluster, Command, Core, Event, Fault, Instance, LogFile, OpenFault, Replica, Setup};
+use epaxos::{Call, Cluster, Command, Core, Event, Fault, Instance, Log, LogFile, OpenFault, Replica, Setup};
 use std::fs;
 use std::io::ErrorKind;
 use std::os::unix::fs::PermissionsExt;
@@ -17,7 +17,7 @@ fn begun(core: &Core) -> Replica {
     let mut replica = Setup { core: core.clone(), ..Setup::new(Cluster::Three, 0) }.begin().unwrap();
     let ready = replica.ready().unwrap();
     assert_eq!((ready.log().len(), ready.is_anew()), (43, true));
-    ready.synced().unwrap();
+    ready.assume_synced().unwrap();
     replica
 }
 
@@ -51,7 +51,7 @@ fn events_are_refused() {
         assert_eq!(replica.ready().unwrap().log(), b"");
         replica.propose(Call::new(1, 1), PUT).unwrap();
         assert_eq!(replica.give_up(OWN), Err(Fault::TooFewAnswers));
-        let output = replica.ready().unwrap().synced().unwrap();
+        let output = replica.ready().unwrap().assume_synced().unwrap();
         assert_eq!((output.entries(), output.proposed().next().unwrap().instance), (1, OWN));
     }
 }
@@ -83,7 +83,7 @@ fn many_events_have_an_outcome_each() {
         for (at, outcome) in replica.take_all(&events).into_iter().enumerate() {
             assert_eq!(outcome, if at % 3 == 0 { Err(Fault::BadFrame) } else { Ok(()) });
         }
-        let output = replica.ready().unwrap().synced().unwrap();
+        let output = replica.ready().unwrap().assume_synced().unwrap();
         assert_eq!(output.entries(), 133);
         let requests: Vec<_> = output.proposed().map(|it| it.request).collect();
         assert_eq!(requests, (0..200).filter(|it| it % 3 > 0).collect::<Vec<_>>());
@@ -104,7 +104,7 @@ fn nothing_is_taken_while_something_is_lent() {
         assert_eq!(replica.take_all(&[put]), [Err(Fault::Unsynced)]);
         let ready = replica.ready().unwrap();
         assert_eq!(ready.log(), first);
-        let output = ready.synced().unwrap();
+        let output = ready.assume_synced().unwrap();
         assert_eq!((output.entries(), output.frames().count()), (1, 1));
         // then there is nothing to write, and nothing is lent
         assert_eq!(replica.ready().unwrap().log(), b"");
@@ -123,12 +123,12 @@ fn logs_are_refused() {
         let setup = |cluster, me| Setup { core: core.clone(), ..Setup::new(cluster, me) };
         let mut replica = setup(Cluster::Three, 0).begin().unwrap();
         let header = replica.ready().unwrap().log().to_vec();
-        replica.ready().unwrap().synced().unwrap();
+        replica.ready().unwrap().assume_synced().unwrap();
         replica.propose(Call::new(1, 1), PUT).unwrap();
         replica.propose(Call::new(1, 2), PUT).unwrap();
         let ready = replica.ready().unwrap();
         let first = [&header[..], ready.log()].concat();
-        ready.synced().unwrap();
+        ready.assume_synced().unwrap();
         replica.propose(Call::new(1, 3), PUT).unwrap();
         let log = [&first[..], replica.ready().unwrap().log()].concat();
 
@@ -184,7 +184,7 @@ fn a_log_is_cut_anywhere() {
             let ready = replica.ready().unwrap();
             assert!(ready.is_anew());
             assert_eq!(ready.log(), &log[..end - cut]);
-            let output = ready.synced().unwrap();
+            let output = ready.assume_synced().unwrap();
             assert!(output.entries() >= before);
             before = output.entries();
             for (executed, did) in output.executed().zip(&world.seats[0].did) {
@@ -213,7 +213,7 @@ fn a_process_that_ends() {
     let setup = Setup { core: Core::Process(script.clone()), ..Setup::new(Cluster::Three, 0) };
     let mut replica = setup.begin().unwrap();
     let mut log = replica.ready().unwrap().log().to_vec();
-    replica.ready().unwrap().synced().unwrap();
+    replica.ready().unwrap().assume_synced().unwrap();
     let mut taken = 0;
     let ended = loop {
         let outcome = replica.propose(Call::new(1, taken + 1), PUT);
@@ -222,7 +222,7 @@ fn a_process_that_ends() {
         }
         let ready = replica.ready().unwrap();
         log.extend(ready.log());
-        if let Err(fault) = ready.synced() {
+        if let Err(fault) = ready.assume_synced() {
             break Err(fault);
         }
         taken += 1;
@@ -231,7 +231,7 @@ fn a_process_that_ends() {
     assert_eq!(replica.advance(), ended);
     drop(replica);
     let mut replica = Setup { core: Core::Process(program()), told: Some(0), ..setup }.open(&log).unwrap();
-    let output = replica.ready().unwrap().synced().unwrap();
+    let output = replica.ready().unwrap().assume_synced().unwrap();
     assert!(taken > 0 && output.entries() >= taken);
     fs::remove_file(script).unwrap();
 }
@@ -265,7 +265,7 @@ fn a_log_is_begun_once() {
     file = LogFile::begin(&path).unwrap();
     let mut replica = Setup { core: cores()[0].clone(), ..Setup::new(Cluster::Three, 0) }.begin().unwrap();
     file.keep(&replica.ready().unwrap()).unwrap();
-    replica.ready().unwrap().synced().unwrap();
+    replica.ready().unwrap().assume_synced().unwrap();
     replica.propose(Call::new(1, 1), PUT).unwrap();
     file.keep(&replica.ready().unwrap()).unwrap();
     // what is to be appended is for a log that is there

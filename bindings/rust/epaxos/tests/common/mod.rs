@@ -256,12 +256,7 @@ impl<'a> World<'a> {
     pub fn settle(&mut self, me: usize) {
         let seat = &mut self.seats[me];
         let Some(replica) = &mut seat.replica else { return };
-        let ready = replica.ready_with_open(64).unwrap();
-        if ready.is_anew() {
-            seat.log.clear();
-        }
-        seat.log.extend(ready.log());
-        let output = ready.synced().unwrap();
+        let output = replica.ready_with_open(64).unwrap().commit(&mut seat.log).unwrap();
         seat.entries = output.entries();
         self.frames.extend(output.frames().map(|frame| (frame.to, frame.bytes.to_vec())));
         seat.did.extend(output.executed().map(|it: Executed| Did {
