@@ -99,7 +99,7 @@ def tried(archive=None, node=BUILT[0], program=BUILT[1]):
                 well += [*built(compiler, scratch, archive), *example(compiler, scratch, node, program)]
             if shutil.which("g++"):
                 with open(f"{scratch}/header.cc", "w", encoding="ascii") as file:
-                    file.write('#include "epaxos.h"\nint main() { return ep_version() != EP_VERSION; }\n')
+                    file.write('#include "epaxos.h"\n#include "epaxos_answers.h"\nint main() { return ep_version() != EP_VERSION; }\n')
                 well.append(is_well(["g++", "-Wall", "-Wextra", "-Wpedantic", "-Werror", f"-I{FOLDER}", f"{scratch}/header.cc", archive, "-o", f"{scratch}/header"]) and is_well([f"{scratch}/header"]))
             if shutil.which("valgrind"):
                 os.mkdir(f"{scratch}/looked")

@@ -8,10 +8,13 @@
  *   - Each answers a status, and a call's comment names those that it may answer. Unless it says otherwise, a status that isn't EP_DONE says that the
  *     replica is as it was, and that nothing was written through the pointers.
  *   - What is wrong with a replica is a status: none was opened (EP_NO_REPLICA), it is opened twice (EP_HAS_REPLICA), it is freed twice (EP_DONE).
- *   - Pointers point to what they say, and none is NULL, also where a length is 0: EP_EMPTY has an address. Nothing that is handed in is used after the call.
+ *   - Pointers point to what they say, and none is NULL, but for that of ep_free. That holds where a length is 0 too: NULL may seem to work there, and no
+ *     proof covers it; EP_EMPTY has an address. Nothing that is handed in is used after the call.
  *   - Bytes that are lent lie in the replica, and stay until the next call with it.
- *   - A replica is used by one call at a time. It may go to another thread in between, by a lock or a join. No call comes from a signal handler.
+ *   - A replica is used by one call at a time. It may go to another thread in between, by a lock or a join. Two calls at once are undefined; EP_NO_REPLICA
+ *     of a replica that is there is a sign of it. No call comes from a signal handler.
  *   - In bytes, numbers have the highest byte first; docs/FORMATS.md has them all: section 10 requests and answers, 9 logs, 12 openings, 2 bundles.
+ *     epaxos_answers.h, a header alone, reads what is told.
  */
 #ifndef EPAXOS_H
 #define EPAXOS_H
@@ -153,7 +156,8 @@ enum {
     EP_BAD_FRAME = 14,
     /* The seen stamp is too far ahead, or the replica's stamps are used up. */
     EP_STAMP_FULL = 15,
-    /* There is no replica: none was opened, or it was freed. */
+    /* There is no replica: none was opened, it was freed, or another thread is in a call with it, which has to be
+       kept out. */
     EP_NO_REPLICA = 32,
     /* There is a replica already. */
     EP_HAS_REPLICA = 33,
@@ -210,6 +214,101 @@ enum {
     /* The opening is of a cluster of `at` replicas. */
     EP_OTHER_OPENING = 63
 };
+
+/* The name of a status, such as "EP_MEMORY"; of a number that is none, "EP_UNKNOWN". */
+static inline const char *ep_status_name(uint8_t status)
+{
+    switch (status) {
+    case EP_DONE:
+        return "EP_DONE";
+    case EP_MEMORY:
+        return "EP_MEMORY";
+    case EP_OUT_OF_RANGE:
+        return "EP_OUT_OF_RANGE";
+    case EP_SPACE_FULL:
+        return "EP_SPACE_FULL";
+    case EP_SEQ_EXHAUSTED:
+        return "EP_SEQ_EXHAUSTED";
+    case EP_NOT_LEADING:
+        return "EP_NOT_LEADING";
+    case EP_TOO_FEW_ANSWERS:
+        return "EP_TOO_FEW_ANSWERS";
+    case EP_ALREADY_COMMITTED:
+        return "EP_ALREADY_COMMITTED";
+    case EP_BALLOTS_EXHAUSTED:
+        return "EP_BALLOTS_EXHAUSTED";
+    case EP_NOT_COMMITTED:
+        return "EP_NOT_COMMITTED";
+    case EP_NOT_A_RUN:
+        return "EP_NOT_A_RUN";
+    case EP_BAD_BUNDLE:
+        return "EP_BAD_BUNDLE";
+    case EP_NOT_MINE:
+        return "EP_NOT_MINE";
+    case EP_BAD_FRAME:
+        return "EP_BAD_FRAME";
+    case EP_STAMP_FULL:
+        return "EP_STAMP_FULL";
+    case EP_NO_REPLICA:
+        return "EP_NO_REPLICA";
+    case EP_HAS_REPLICA:
+        return "EP_HAS_REPLICA";
+    case EP_LENT:
+        return "EP_LENT";
+    case EP_UNSYNCED:
+        return "EP_UNSYNCED";
+    case EP_NOT_LENT:
+        return "EP_NOT_LENT";
+    case EP_NOT_ALL:
+        return "EP_NOT_ALL";
+    case EP_NONE:
+        return "EP_NONE";
+    case EP_TOO_SHORT:
+        return "EP_TOO_SHORT";
+    case EP_NOT_ONE:
+        return "EP_NOT_ONE";
+    case EP_REFUSED:
+        return "EP_REFUSED";
+    case EP_NOT_SEALED:
+        return "EP_NOT_SEALED";
+    case EP_LAST_GENERATION:
+        return "EP_LAST_GENERATION";
+    case EP_NO_LOG:
+        return "EP_NO_LOG";
+    case EP_LOG_EXISTS:
+        return "EP_LOG_EXISTS";
+    case EP_OTHER_LOG:
+        return "EP_OTHER_LOG";
+    case EP_NO_HEADER:
+        return "EP_NO_HEADER";
+    case EP_OTHER_VERSION:
+        return "EP_OTHER_VERSION";
+    case EP_OTHER_GENERATION:
+        return "EP_OTHER_GENERATION";
+    case EP_BAD_LENGTH:
+        return "EP_BAD_LENGTH";
+    case EP_BAD_CHECKSUM:
+        return "EP_BAD_CHECKSUM";
+    case EP_BAD_ENTRY:
+        return "EP_BAD_ENTRY";
+    case EP_NOT_NEXT:
+        return "EP_NOT_NEXT";
+    case EP_TURNED:
+        return "EP_TURNED";
+    case EP_NOT_CLOCKED:
+        return "EP_NOT_CLOCKED";
+    case EP_OPENING_SHORT:
+        return "EP_OPENING_SHORT";
+    case EP_OPENING_DAMAGED:
+        return "EP_OPENING_DAMAGED";
+    case EP_OPENING_WRONG:
+        return "EP_OPENING_WRONG";
+    case EP_OTHER_OPENING:
+        return "EP_OTHER_OPENING";
+    default:
+        return "EP_UNKNOWN";
+    }
+}
 
 /* ---- A replica's life ---- */
 
@@ -357,6 +456,13 @@ uint8_t ep_first_opening(uint8_t replicas, uint8_t *out, size_t out_len, size_t 
 uint8_t ep_audit(const uint8_t *bundle, size_t bundle_len, uint8_t *out, size_t out_len, size_t *len);
 
 /* What tools/c-header writes ends here. */
+
+/* As `free` does, ep_free takes NULL too, and then does nothing. (A call of the library's own, by its address, doesn't.) */
+static inline uint8_t ep_free_any(struct ep_replica *replica)
+{
+    return replica ? (ep_free)(replica) : (uint8_t)EP_DONE;
+}
+#define ep_free(replica) ep_free_any(replica)
 
 #ifdef __cplusplus
 }

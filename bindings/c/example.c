@@ -4,6 +4,7 @@
    keys are the same three for all. Then the maps are compared. A program of yours has one replica, and sends frames to others. What the generation opened
    with is kept beside the logs, for an audit. */
 #include "epaxos.h"
+#include "epaxos_answers.h"
 
 #include <fcntl.h>
 #include <stdarg.h>
@@ -28,32 +29,7 @@ static void stop(const char *words, ...)
 static void check(const char *call, uint8_t status)
 {
     if (status != EP_DONE)
-        stop("%s answers status %d", call, status);
-}
-
-/* ---- Bytes of answers ---- */
-
-/* What is left to read of some bytes. */
-struct reader { const uint8_t *at; size_t left; };
-
-static const uint8_t *run(struct reader *reader, size_t count)
-{
-    const uint8_t *at = reader->at;
-    if (reader->left < count)
-        stop("an answer is cut short");
-    reader->at += count;
-    reader->left -= count;
-    return at;
-}
-
-/* A number of so many bytes, the highest first. */
-static uint64_t number(struct reader *reader, int bytes)
-{
-    const uint8_t *at = run(reader, (size_t)bytes);
-    uint64_t number = 0;
-    while (bytes--)
-        number = number << 8 | *at++;
-    return number;
+        stop("%s answers %s", call, ep_status_name(status));
 }
 
 /* ---- A replica and its file ---- */
@@ -112,29 +88,21 @@ static void keep(const struct node *node, struct ep_bytes log, int is_anew)
         stop("%s can't be written", folder);
 }
 
-/* Reads one answer of kind 9: sends its frames, and counts the answers that clients got. */
-static void read_ready(struct node *node, struct ep_bytes bytes)
+/* Sends the frames that are told, and counts the answers that clients got. */
+static void read_ready(struct node *node, struct ep_bytes answers)
 {
-    struct reader reader = { bytes.at, bytes.len };
-    run(&reader, 4);
-    if (number(&reader, 1) != 9)
-        stop("an answer is of another kind");
-    node->told = (uint32_t)number(&reader, 4);
-    number(&reader, 1); /* whether a seal was executed */
-    for (uint64_t left = number(&reader, 4); left--;) {
-        uint8_t to = (uint8_t)number(&reader, 1);
-        size_t len = (size_t)number(&reader, 4);
-        send_frame(to, run(&reader, len), len);
-    }
-    for (uint64_t left = number(&reader, 4); left--;) {
-        run(&reader, 4 + 4 + 3 + 8 + 1 + 4); /* client, request, instance, seen stamp, replica, entry */
-        uint64_t stamp = number(&reader, 8);
-        if (number(&reader, 1) == 1) /* the value that the key had before */
-            run(&reader, (size_t)number(&reader, 4));
-        node->seen = stamp > node->seen ? stamp : node->seen;
+    struct ep_report report;
+    struct ep_frame frame;
+    struct ep_receipt receipt;
+    if (!ep_read_report(answers, &report))
+        stop("an answer is cut short");
+    node->told = report.entries;
+    while (ep_next_frame(&report, &frame))
+        send_frame(frame.to, frame.bytes.at, frame.bytes.len);
+    while (ep_next_receipt(&report, &receipt)) {
+        node->seen = receipt.stamp > node->seen ? receipt.stamp : node->seen;
         node->answered++;
     }
-    /* what was committed, what was executed, and what is open follow */
 }
 
 /* One round: the log first, and then what it tells. */
@@ -177,7 +145,7 @@ static void open_node(struct node *node, const char *folder, uint8_t me, struct 
     struct ep_place place = { 0, 0 };
     uint8_t status = ep_open(&node->replica, &setup, &place);
     if (status != EP_DONE)
-        stop("%s: status %d, at %llu", node->path, status, (unsigned long long)place.at);
+        stop("%s: %s, at %llu", node->path, ep_status_name(status), (unsigned long long)place.at);
     if (ep_cut(&node->replica, &place) == EP_DONE)
         fprintf(stderr, "%s: cut at byte %llu\n", node->path, (unsigned long long)place.at);
     if (!is_new)

@@ -1,5 +1,6 @@
 /* Calls that a program makes by mistake: each is a status, and changes nothing. */
 #include "epaxos.h"
+#include "epaxos_answers.h"
 
 #include <stdio.h>
 #include <string.h>
@@ -13,6 +14,36 @@ static void want(const char *what, int status, int wanted)
 }
 
 #define WANT(wanted, call) want(#call, call, wanted)
+
+static int is(const char *text, const char *wanted)
+{
+    return !strcmp(text, wanted);
+}
+
+/* What is told of one proposal is read whole, and no part of it is. */
+static void read_whole(struct ep_bytes answers)
+{
+    struct ep_report report;
+    struct ep_frame frame;
+    struct ep_receipt receipt;
+    struct ep_instance instance;
+    struct ep_open_instance open;
+    for (size_t len = 0; len < answers.len; len++)
+        WANT(0, ep_read_report((struct ep_bytes){ answers.at, len }, &report));
+    WANT(1, ep_read_report(answers, &report));
+    WANT(1, (int)report.entries);
+    WANT(0, report.is_sealed);
+    WANT(1, ep_next_frame(&report, &frame));
+    WANT(1, frame.to);
+    WANT(0, memcmp(frame.bytes.at, "EP\3\1", 4));
+    WANT(0, ep_next_frame(&report, &frame));
+    WANT(0, ep_next_receipt(&report, &receipt));
+    WANT(0, ep_next_committed(&report, &instance));
+    WANT(0, ep_next_executed(&report, &instance));
+    WANT(1, ep_next_open_instance(&report, &open));
+    WANT(101, open.instance.number + 100 * open.leading.phase + 1000 * open.instance.replica);
+    WANT(0, ep_next_open_instance(&report, &open));
+}
 
 int main(void)
 {
@@ -28,6 +59,11 @@ int main(void)
     struct ep_touching touching = { { key, 1 }, { key, 1 }, 1, 0 };
     struct ep_setup setup = { empty, empty, 3, 0, 1 };
     size_t len = 3;
+
+    /* as `free` does */
+    WANT(EP_DONE, ep_free(NULL));
+    if (!is(ep_status_name(EP_DONE), "EP_DONE") || !is(ep_status_name(32), "EP_NO_REPLICA") || !is(ep_status_name(63), "EP_OTHER_OPENING") || !is(ep_status_name(200), "EP_UNKNOWN"))
+        puts("a status has another name"), wrong = 1;
 
     /* no replica: null, and after it was freed */
     for (int twice = 0; twice < 2; twice++) {
@@ -151,6 +187,8 @@ int main(void)
     WANT(10, leading.phase * 10 + leading.answers);
     WANT(EP_DONE, ep_next_open(&replica, (struct ep_instance){ 0, 0 }, &instance));
     WANT(1, instance.number + instance.replica);
+    WANT(EP_DONE, ep_answers(&replica, 0, 64, &value));
+    read_whole(value);
 
     /* audits */
     char text[64];

@@ -30,7 +30,7 @@ pub(crate) const NOT_MINE: u8 = 13;
 pub(crate) const BAD_FRAME: u8 = 14;
 /// The seen stamp is too far ahead, or the replica's stamps are used up.
 pub(crate) const STAMP_FULL: u8 = 15;
-/// There is no replica: none was opened, or it was freed.
+/// There is no replica: none was opened, it was freed, or another thread is in a call with it, which has to be kept out.
 pub(crate) const NO_REPLICA: u8 = 32;
 /// There is a replica already.
 pub(crate) const HAS_REPLICA: u8 = 33;
