@@ -184,6 +184,7 @@ def python(scratch, environment, library):
             yield filecmp.cmp(f"{scratch}/python0/{name}", f"{scratch}/python1/{name}", shallow=False)
     import epaxos
 
+    yield from (takes_turns(core) for core in cores)
     folders = [f"{scratch}/audited/{me}" for me in range(3)]
     for me, folder in enumerate(folders):
         os.makedirs(f"{folder}/1")
@@ -208,6 +209,40 @@ def refuses_an_older_log(epaxos, cores, path):
             print(f"an older log: {told}", flush=True)
             return False
     return True
+
+
+def takes_turns(core):
+    """Whether all that threads propose at once, at one replica, is taken, and nothing once it is ended."""
+    said = subprocess.run([sys.executable, "-c", THREADS, PYTHON], env=core, stdout=subprocess.PIPE, text=True).stdout
+    print("threads that propose at once:", said, end="", flush=True)
+    return said == "1912 of 1912 taken, 0 refused; then NoReplica\n"
+
+
+# Eight threads propose at one replica, which is then ended.
+THREADS = """
+import sys, threading
+sys.path.insert(0, sys.argv[1])
+import epaxos
+sys.setswitchinterval(1e-6)
+replica = epaxos.Replica.new(3, 0)
+replica.ready().synced()
+refused = []
+def run(client):
+    for request in range(1, 240):
+        try:
+            replica.propose(client, request, epaxos.put(b"key", b"1"))
+        except Exception as fault:
+            refused.append(fault)
+threads = [threading.Thread(target=run, args=(client,)) for client in range(1, 9)]
+for it in threads: it.start()
+for it in threads: it.join()
+taken = replica.ready().synced().entries
+replica.end()
+try:
+    replica.propose(1, 240, epaxos.get(b"key"))
+except epaxos.Fault as fault:
+    print(f"{taken} of {8 * 239} taken, {len(refused)} refused; then {fault.name}")
+"""
 
 
 # Opens a log of which so many entries were told.

@@ -21,6 +21,7 @@ bindings/rust/epaxos/src/lib.rs; the bytes in docs/FORMATS.md, section 10. Nothi
 """
 
 import ctypes
+import functools
 import hashlib
 import os
 import re
@@ -28,6 +29,7 @@ import shutil
 import struct
 import subprocess
 import tempfile
+import threading
 from typing import NamedTuple, Optional
 
 TOP = os.path.dirname(os.path.dirname(os.path.dirname(os.path.realpath(__file__))))
@@ -40,7 +42,10 @@ FAULTS = {
 
 
 class Fault(Exception):
-    """A call was refused, and has changed nothing: `name`, as `NotCommitted`, and the instance that it names, if it does."""
+    """A call was refused, and has changed nothing: `name`, as `NotCommitted`, and the instance that it names, if it does.
+
+    `NoReplica`: it was ended; or another thread is in a call with it, which the binding keeps out. `Ended: ..`: the core is gone; open the replica again, from its log.
+    """
 
     def __init__(self, name, instance=None):
         super().__init__(f"{name} {instance}" if instance else name)
@@ -207,11 +212,34 @@ class Ready:
         return self._replica._synced(self._most)
 
 
+def _in_turn(call):
+    """The call, which waits until no other thread is in one with the replica."""
+
+    @functools.wraps(call)
+    def waiting(self, *words, **named):
+        with self._lock:
+            return call(self, *words, **named)
+
+    return waiting
+
+
+def _packed(form, *numbers):
+    """The bytes of numbers, which may be out of range."""
+    try:
+        return struct.pack(form, *numbers)
+    except struct.error:
+        raise Fault("OutOfRange") from None
+
+
 class Replica:
-    """One replica. `new` begins it, `open` goes on from its log. Use it from one thread at a time."""
+    """One replica. `new` begins it, `open` goes on from its log.
+
+    Threads may share it: calls take turns. While what one of them has got by `ready` isn't synced, what others want it to take is refused (Unsynced), so have one thread
+    write the log.
+    """
 
     def __init__(self, core, told):
-        self._core, self._told = core, told
+        self._core, self._told, self._lock = core, told, threading.Lock()
 
     @classmethod
     def new(cls, replicas, me, opening=None, core=None):
@@ -230,55 +258,67 @@ class Replica:
         replica._told = replica._told if told is None else told
         return replica
 
+    @_in_turn
     def propose(self, client, request, command, seen=0):
         """Proposes a client's command: `seen` is the greatest stamp of the receipts that it knows of. (Nothing is taken while a Ready isn't synced: Unsynced.)"""
-        self._core.act(1, struct.pack(">IIQ", client, request, seen) + command)
+        self._core.act(1, _packed(">IIQ", client, request, seen) + command)
 
+    @_in_turn
     def handle(self, frame):
         """Handles bytes that came from a peer."""
         self._core.act(2, frame)
 
+    @_in_turn
     def give_up(self, instance):
         """Waits no longer for the fast quorum of an own instance."""
-        self._core.act(3, struct.pack(">BH", *instance))
+        self._core.act(3, _packed(">BH", *instance))
 
+    @_in_turn
     def recover(self, instance):
         """Takes over an instance."""
-        self._core.act(4, struct.pack(">BH", *instance))
+        self._core.act(4, _packed(">BH", *instance))
 
+    @_in_turn
     def execute(self, instance):
         """Executes an instance, and before it all that it depends on."""
-        self._core.act(5, struct.pack(">BH", *instance))
+        self._core.act(5, _packed(">BH", *instance))
 
+    @_in_turn
     def advance(self):
         """Executes all own instances that are ready."""
         self._core.act(6, b"")
 
+    @_in_turn
     def execute_all(self):
         """Executes all instances that are ready, others' too."""
         self._core.act(12, b"")
 
+    @_in_turn
     def ready(self, most=0):
         """What is to be put on the disk; then `synced` hands out what is to be sent, and at most so many open instances."""
         return Ready(self, *self._core.lend(), most)
 
+    @_in_turn
     def _synced(self, most):
         self._core.sync()
         output = Output(self._core.tell(self._told, most))
         self._told = output.entries
         return output
 
+    @_in_turn
     def report(self, after, most=0):
         """Tells once more what there was to tell behind the first `after` entries, for a peer whose link stands again, and after a start: a Commit that is lost
         may leave nothing open there. All that was taken has to be on the disk."""
         return Output(self._core.tell(after, most))
 
+    @_in_turn
     def get(self, key) -> Optional[bytes]:
         """What this replica's map has at the key: a local read, which may be old. All that was taken has to be on the disk."""
         if not 1 <= len(key) <= LONGEST_KEY:
             raise Fault("OutOfRange")
         return self._core.get(key)
 
+    @_in_turn
     def end(self):
         """Ends it; what wasn't synced is gone."""
         self._core.end()
@@ -409,6 +449,8 @@ class _Process:
 
     def answers(self, requests):
         """Asks, and reads the answers. The last request has to be one that is answered."""
+        if self.errors.closed:
+            raise Fault("NoReplica")
         try:
             self.running.stdin.write(b"".join(_request(*it) for it in requests))
             self.running.stdin.flush()
@@ -468,6 +510,7 @@ _DECLARED = """
 EP_MEMORY = 1
 EP_OUT_OF_RANGE = 3
 EP_NOT_COMMITTED = 10
+EP_NO_REPLICA = 32
 EP_LENT = 34
 EP_UNSYNCED = 35
 EP_NONE = 38
@@ -544,6 +587,9 @@ def _copied(lent):
     return ctypes.string_at(lent.at, lent.len) if lent.len else b""
 
 
+# Why a call is refused, where that has no number of a fault's name.
+_REFUSED = {_STATUSES["EP_LENT"]: "Unsynced", _STATUSES["EP_UNSYNCED"]: "Unsynced", _STATUSES["EP_NO_REPLICA"]: "NoReplica"}
+
 # Why nothing is opened.
 _UNOPENED = {
     "EP_MEMORY": "out of memory",
@@ -603,8 +649,7 @@ class _Library:
     @staticmethod
     def check(status):
         if status:
-            is_unsynced = status in (_STATUSES["EP_LENT"], _STATUSES["EP_UNSYNCED"])
-            raise Fault("Unsynced" if is_unsynced else FAULTS.get(status, f"Ended: the library answers status {status}"))
+            raise Fault(_REFUSED.get(status) or FAULTS.get(status, f"Ended: the library answers status {status}"))
 
     def act(self, kind, body):
         if kind == 1:
