@@ -45,6 +45,8 @@ pub enum Fault {
     /// What was taken, or what was lent to be written, isn't on the disk yet, as the log isn't behind a start: [`ready`](crate::Replica::ready) and
     /// [`commit`](crate::Ready::commit) first.
     Unsynced,
+    /// The library has no replica behind its handle: another thread is in a call with it, which safe code keeps out.
+    NoReplica,
     /// The core is gone, and this is what it said last. Open the replica again, from its log.
     Ended(String),
 }
@@ -97,6 +99,7 @@ impl fmt::Display for Fault {
             Fault::Unsynced => {
                 "what was taken, or the log behind a start, is not on the disk yet: ready and commit come first"
             }
+            Fault::NoReplica => "the replica is in use by another thread",
             Fault::Ended(what) => return write!(f, "the core has ended: {what}"),
         })
     }

@@ -181,6 +181,7 @@ fn done(status: u8) -> Result<(), Fault> {
 fn fault(status: u8) -> Fault {
     match status {
         status::LENT | status::UNSYNCED => Fault::Unsynced,
+        status::NO_REPLICA => Fault::NoReplica,
         // (which instance is told otherwise)
         NOT_COMMITTED => Fault::Ended(unknown(status)),
         _ => Fault::of(status, None).unwrap_or_else(|| Fault::Ended(unknown(status))),

@@ -5,6 +5,7 @@ pub(crate) const DONE: u8 = 0;
 pub(crate) const MEMORY: u8 = 1;
 pub(crate) const OUT_OF_RANGE: u8 = 3;
 pub(crate) const NOT_COMMITTED: u8 = 10;
+pub(crate) const NO_REPLICA: u8 = 32;
 pub(crate) const LENT: u8 = 34;
 pub(crate) const UNSYNCED: u8 = 35;
 pub(crate) const NONE: u8 = 38;
