@@ -1,12 +1,21 @@
 //! A small client of the Redis protocol, for the trial and the bench.
 use std::io::{self, BufRead, BufReader, Read, Write};
 use std::net::{SocketAddr, TcpStream};
+use std::os::unix::net::UnixStream;
+use std::path::Path;
 use std::time::Duration;
 
 /// A connection to one replica.
 pub struct Client {
-    reader: BufReader<TcpStream>,
+    reader: BufReader<Box<dyn Stream>>,
 }
+
+/// By TCP, or at a Unix socket.
+trait Stream: Read + Write + Send {}
+
+impl Stream for TcpStream {}
+
+impl Stream for UnixStream {}
 
 /// What a store replied.
 #[derive(Clone, PartialEq, Eq, Debug)]
@@ -47,7 +56,15 @@ impl Client {
         stream.set_nodelay(true)?;
         stream.set_read_timeout(Some(patience))?;
         stream.set_write_timeout(Some(patience))?;
-        Ok(Client { reader: BufReader::new(stream) })
+        Ok(Client { reader: BufReader::new(Box::new(stream)) })
+    }
+
+    /// Connects at a Unix socket, as operators do.
+    pub fn connect_at(socket: &Path, patience: Duration) -> io::Result<Client> {
+        let stream = UnixStream::connect(socket)?;
+        stream.set_read_timeout(Some(patience))?;
+        stream.set_write_timeout(Some(patience))?;
+        Ok(Client { reader: BufReader::new(Box::new(stream)) })
     }
 
     /// Asks, and waits for the reply. After an error the connection is of no use.

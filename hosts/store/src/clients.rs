@@ -16,6 +16,7 @@ use crate::say::say;
 use crate::stored::{self, Stored};
 use crate::teller::Teller;
 use crate::transactions::Transaction;
+use crate::wishes::Manage;
 use std::io::{self, BufWriter, Read, Write};
 use std::net::{Shutdown, TcpListener, TcpStream};
 use std::sync::Arc;
@@ -49,6 +50,8 @@ pub struct Shared {
     pub listing: Listing,
     pub patience: Duration,
     pub password: Option<Password>,
+    /// Where operators ask.
+    pub operators: String,
     pub memory: Arc<Memory>,
     pub metrics: Arc<Metrics>,
     pub connections: Arc<Connections>,
@@ -252,7 +255,11 @@ impl Session {
                 let brief = Reply::Bulk(self.brief().into_bytes());
                 self.ask_driver(What::Info, INFO_PATIENCE, Some(brief))?;
             }
-            Asked::Manage(manage) => self.ask_driver(What::Manage(manage), self.shared.patience, None)?,
+            Asked::Manage(manage @ Manage::Members) => {
+                self.ask_driver(What::Manage(manage, None), self.shared.patience, None)?;
+            }
+            // (who may write data may not end the cluster)
+            Asked::Manage(_) => self.fail(CommandFault::ForOperators(self.shared.operators.clone()))?,
             Asked::Hello(hello) => self.greet(hello)?,
             Asked::Client(client) => self.about(client)?,
             Asked::ReadOnly(is_read_only) => {
@@ -449,17 +456,7 @@ impl Session {
         }
         self.version = hello.version.unwrap_or(self.version);
         self.name = hello.name.or(self.name.take()).filter(|name| !name.is_empty());
-        let version = if self.version == Version::Two { 2 } else { 3 };
-        let pairs = [
-            ("server", Reply::text("epaxos")),
-            ("version", Reply::text(env!("CARGO_PKG_VERSION"))),
-            ("proto", Reply::Integer(version)),
-            ("id", Reply::Integer(self.id as i64)),
-            ("mode", Reply::text("standalone")),
-            ("role", Reply::text("master")),
-            ("modules", Reply::Array(Vec::new())),
-        ];
-        self.answer(Reply::Map(pairs.into_iter().map(|(name, value)| (Reply::text(name), value)).collect()))
+        self.answer(about_server(self.version, self.id))
     }
 
     fn about(&mut self, client: commands::Client) -> Result<(), Over> {
@@ -481,6 +478,21 @@ impl Session {
     }
 }
 
+/// What HELLO tells a client of this number.
+pub(crate) fn about_server(version: Version, id: u64) -> Reply {
+    let version = if version == Version::Two { 2 } else { 3 };
+    let pairs = [
+        ("server", Reply::text("epaxos")),
+        ("version", Reply::text(env!("CARGO_PKG_VERSION"))),
+        ("proto", Reply::Integer(version)),
+        ("id", Reply::Integer(id as i64)),
+        ("mode", Reply::text("standalone")),
+        ("role", Reply::text("master")),
+        ("modules", Reply::Array(Vec::new())),
+    ];
+    Reply::Map(pairs.into_iter().map(|(name, value)| (Reply::text(name), value)).collect())
+}
+
 /// What a local read replies. What is past its deadline is nil, and is removed.
 fn local(keys: &Arc<Keys>, key: Vec<u8>, action: &Action, told: Told) -> Reply {
     let Told::Value(value) = told else { return Reply::Error(fault_of(told)) };
@@ -494,7 +506,7 @@ fn local(keys: &Arc<Keys>, key: Vec<u8>, action: &Action, told: Told) -> Reply {
 }
 
 /// What a client is told where another answer was expected.
-fn fault_of(told: Told) -> CommandFault {
+pub(crate) fn fault_of(told: Told) -> CommandFault {
     match told {
         Told::Refused(fault) => CommandFault::Node(fault),
         Told::Alone => CommandFault::NoMajority,

@@ -36,6 +36,10 @@ pub enum CommandFault {
     Listing(ListingFault),
     /// What somebody who runs the store has asked for isn't done.
     Managing(ManageFault),
+    /// It is for operators, at this admin socket.
+    ForOperators(String),
+    /// It isn't for operators, and this is the admin socket.
+    ForClients,
     /// It isn't an identity: 32 hexadecimal digits.
     Identity,
     /// Of a command of several keys: what befell this one, counted from 1.
@@ -122,6 +126,12 @@ impl fmt::Display for CommandFault {
             CommandFault::Numbers(fault) => write!(f, "ERR {fault}"),
             CommandFault::Listing(fault) => write!(f, "ERR the keys can't be listed: {fault}"),
             CommandFault::Managing(fault) => write!(f, "ERR {fault}"),
+            CommandFault::ForOperators(place) => {
+                write!(f, "NOPERM this command is for operators only: use {place}")
+            }
+            CommandFault::ForClients => f.write_str(
+                "ERR the admin socket takes EPAXOS MEMBERS, SEAL, REPLACE and RESIZE, INFO and PING; use the clients' port for data",
+            ),
             CommandFault::Identity => f.write_str("ERR an identity has 32 hexadecimal digits"),
             CommandFault::AtKey(fault, place) => {
                 write!(f, "{fault} (this is of key {place}; each key is a command of its own, and others may be done)")

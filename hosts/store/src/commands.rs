@@ -1,13 +1,13 @@
 //! What a client's words ask for.
 use crate::actions::{Action, Keep, Only, OnlyExpire, Set, Tells, Unit, integer};
 use crate::command_fault::CommandFault;
-use crate::driver::Manage;
-use crate::identities::identity;
+use crate::identities::{Identity, identity};
 use crate::replies::Combine;
 use crate::resp::{Reply, Version};
 use crate::scripts;
 use crate::stored::{LONGEST_CONTENT, LONGEST_OWNER, now};
 use crate::table::{self, Entry, entry};
+use crate::wishes::Manage;
 use epaxos::LONGEST_KEY;
 use std::time::{Duration, SystemTime, UNIX_EPOCH};
 
@@ -305,9 +305,8 @@ fn epaxos(mut words: Words) -> Result<Asked, CommandFault> {
         (b"holder", [key]) => (key, Action::Holder),
         (b"seal", []) => return Ok(Asked::Manage(Manage::Seal)),
         (b"members", []) => return Ok(Asked::Manage(Manage::Members)),
-        (b"replace", [replica, identity]) => return Ok(Asked::Manage(replace(replica, identity, None)?)),
-        (b"replace", [replica, identity, address]) => {
-            return Ok(Asked::Manage(replace(replica, identity, Some(address))?));
+        (b"replace", [replica, identity, rest @ ..]) if rest.len() <= 2 => {
+            return Ok(Asked::Manage(replace(replica, identity, rest)?));
         }
         (b"resize", [size, new @ ..]) if new.len() % 3 == 0 => return Ok(Asked::Manage(resize(size, new)?)),
         (b"lock" | b"renew" | b"unlock" | b"holder" | b"seal" | b"members" | b"replace" | b"resize", _) => {
@@ -321,19 +320,40 @@ fn epaxos(mut words: Words) -> Result<Asked, CommandFault> {
     Ok(Asked::Keys(Combine::One, vec![(key.clone(), action)]))
 }
 
-fn replace(replica: &[u8], digits: &[u8], address: Option<&Vec<u8>>) -> Result<Manage, CommandFault> {
+/// Behind the identity stands the address, where one is told, and `FORCE` at the end.
+fn replace(replica: &[u8], digits: &[u8], rest: &[Vec<u8>]) -> Result<Manage, CommandFault> {
+    let (replica, identity) = machine(replica, digits)?;
+    let (address, is_forced) = match rest {
+        [rest @ .., last] if last.eq_ignore_ascii_case(b"force") => (rest, true),
+        rest => (rest, false),
+    };
+    let address = match address {
+        [] => None,
+        [address] => Some(at(address)?),
+        _ => return Err(CommandFault::Syntax),
+    };
+    Ok(Manage::Replace { replica, identity, address, is_forced })
+}
+
+/// A replica's number, and who is to be it.
+fn machine(replica: &[u8], digits: &[u8]) -> Result<(u8, Identity), CommandFault> {
     let replica = u8::try_from(number(replica)?).map_err(|_| CommandFault::NotAnInteger)?;
-    let identity = std::str::from_utf8(digits).ok().and_then(identity).ok_or(CommandFault::Identity)?;
-    let address = address.map(|address| String::from_utf8(address.clone()).map_err(|_| CommandFault::Syntax));
-    Ok(Manage::Replace { replica, identity, address: address.transpose()? })
+    Ok((replica, std::str::from_utf8(digits).ok().and_then(identity).ok_or(CommandFault::Identity)?))
+}
+
+/// An address, which is a word of a seal's line.
+fn at(address: &[u8]) -> Result<String, CommandFault> {
+    let is_word = |address: &str| !address.is_empty() && !address.contains(char::is_whitespace);
+    let address = std::str::from_utf8(address).ok().filter(|address| is_word(address));
+    address.map(str::to_string).ok_or(CommandFault::Syntax)
 }
 
 /// Each new replica by its number, its identity and its address.
 fn resize(size: &[u8], new: &[Vec<u8>]) -> Result<Manage, CommandFault> {
     let size = u8::try_from(number(size)?).map_err(|_| CommandFault::NotAnInteger)?;
-    let one = |words: &[Vec<u8>]| match replace(&words[0], &words[1], words.get(2))? {
-        Manage::Replace { replica, identity, address: Some(address) } => Ok((replica, identity, address)),
-        _ => Err(CommandFault::Syntax),
+    let one = |words: &[Vec<u8>]| {
+        let (replica, identity) = machine(&words[0], &words[1])?;
+        Ok((replica, identity, at(&words[2])?))
     };
     Ok(Manage::Resize { size, new: new.chunks(3).map(one).collect::<Result<_, _>>()? })
 }

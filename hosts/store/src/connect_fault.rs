@@ -11,6 +11,8 @@ pub enum ConnectFault {
     OtherKey,
     /// It knows another replica under this one's number.
     NotKnown,
+    /// It doesn't take this machine for one of the replicas, as yet or any more.
+    NotLetIn,
     /// Another replica is known under its number.
     OtherPeer,
 }
@@ -37,6 +39,7 @@ impl fmt::Display for ConnectFault {
             ConnectFault::Failed => "isn't reached",
             ConnectFault::OtherKey => "has another key than this one (--peer-key)",
             ConnectFault::NotKnown => "knows another replica under this one's number: this one must not come back",
+            ConnectFault::NotLetIn => "hasn't let this machine in yet",
             ConnectFault::OtherPeer => "isn't the replica that is known under its number: it must not come back",
         })
     }

@@ -15,6 +15,8 @@ const PATIENCE: Duration = Duration::from_secs(10);
 const ROOM_FOR_ERRORS: usize = 4_096;
 /// Marks the folder of a machine that has never acted, and waits until a generation names it.
 const JOINING: &str = "joining";
+/// An opening that a start goes on by.
+pub(crate) const WHOLE: &str = "opening.take";
 
 /// A replica's folder, which this process alone uses.
 pub struct Directory {
@@ -43,6 +45,14 @@ impl Directory {
         Ok(directory)
     }
 
+    /// The folder of a store that has ended, of which nothing is changed. No store starts over it meanwhile.
+    pub fn look(path: &Path) -> Result<Directory, DirectoryFault> {
+        let errors_path = path.join("node-errors");
+        let errors = File::open(&errors_path).map_err(|error| unusable(errors_path, error))?;
+        lock(&errors, path)?;
+        Ok(Directory { path: path.to_path_buf(), errors })
+    }
+
     pub fn path(&self) -> &Path {
         &self.path
     }
@@ -57,7 +67,7 @@ impl Directory {
         self.generations().join(generation.to_string()).join("opening")
     }
 
-    fn log(&self, generation: u32) -> PathBuf {
+    pub(crate) fn log(&self, generation: u32) -> PathBuf {
         self.generations().join(generation.to_string()).join("log")
     }
 
@@ -73,7 +83,7 @@ impl Directory {
 
     /// An opening that has come whole: a start by it that was broken off is repeated.
     pub fn whole(&self) -> PathBuf {
-        self.path.join("opening.take")
+        self.path.join(WHOLE)
     }
 
     /// What came together is whole.
@@ -93,12 +103,12 @@ impl Directory {
         self.errors.try_clone()
     }
 
-    fn has_identities(&self) -> bool {
+    pub(crate) fn has_identities(&self) -> bool {
         self.path.join(identities::NAME).exists()
     }
 
     /// The generations that have a file of this name, in rising order.
-    fn generations_with(&self, name: &str) -> Vec<u32> {
+    pub(crate) fn generations_with(&self, name: &str) -> Vec<u32> {
         let folder = self.generations();
         let all = numbers_in(&folder).unwrap_or_default().into_iter();
         all.filter(|generation| folder.join(generation.to_string()).join(name).exists()).collect()

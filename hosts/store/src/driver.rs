@@ -4,7 +4,6 @@ use crate::core::Core;
 use crate::directory::Directory;
 use crate::frames::Head;
 use crate::generation::{Generation, Limits, Stage};
-use crate::identities::Identity;
 use crate::manage_fault::ManageFault;
 use crate::members::{Member, Members};
 use crate::messages::Message;
@@ -19,6 +18,7 @@ use crate::receipts::Receipts;
 use crate::stop_fault::StopFault;
 use crate::teller::Teller;
 use crate::timers::{Due, Timers};
+use crate::wishes::{Manage, Wish};
 use epaxos::{Answer, Call, Fault, Instance, MOST_COMMANDS, OwnedAnswer, OwnedCommand, Proposed, State};
 use std::collections::{HashMap, VecDeque};
 use std::fmt::Write;
@@ -68,24 +68,16 @@ pub struct Ask {
 }
 
 pub enum What {
-    Propose { client: u32, request: u32, seen: u64, command: OwnedCommand },
+    Propose {
+        client: u32,
+        request: u32,
+        seen: u64,
+        command: OwnedCommand,
+    },
     Read(Vec<u8>),
     Info,
-    Manage(Manage),
-}
-
-/// What somebody who runs the store asks for.
-#[derive(Clone, PartialEq, Eq, Debug)]
-pub enum Manage {
-    /// The next generation.
-    Seal,
-    /// Who takes part in this one.
-    Members,
-    /// From the next generation on the replica is who has this identity, at this address of the peers' port; without one where
-    /// `--peers` says.
-    Replace { replica: u8, identity: Identity, address: Option<String> },
-    /// From the next generation on there are so many replicas. Each new one by its number, its identity and its address.
-    Resize { size: u8, new: Vec<(u8, Identity, String)> },
+    /// What somebody who runs the store asks for, and what is wrong with the addresses in it, where something is.
+    Manage(Manage, Option<ManageFault>),
 }
 
 /// What a client is told.
@@ -189,16 +181,6 @@ pub struct Held {
 /// A command that is under way.
 pub struct Waiting {
     pub instance: Instance,
-    pub reply: Teller,
-}
-
-/// What somebody who runs the store asked for, until a generation begins in which it is so.
-pub struct Wish {
-    /// In which generation it was asked.
-    pub generation: u32,
-    /// How many replicas are wanted, where that was asked.
-    pub size: Option<u8>,
-    pub changes: Vec<(u8, Member)>,
     pub reply: Teller,
 }
 
@@ -436,7 +418,7 @@ impl<C: Core> Driver<C> {
             Event::Ask(Ask { what, reply }) => match what {
                 What::Read(key) => batch.reads.push((key, reply)),
                 What::Info => self.infos.push(reply),
-                What::Manage(manage) => self.manage(manage, reply),
+                What::Manage(manage, fault) => self.manage(manage, fault, reply),
                 What::Propose { .. } if self.ends_at.is_some() => reply.send(Told::Late),
                 What::Propose { client, request, seen, command } => {
                     self.held.push_back(Held {
@@ -505,6 +487,10 @@ impl<C: Core> Driver<C> {
     fn seal(&mut self, batch: &mut Batch) {
         let now = Instant::now();
         if self.is_alone() || self.ends_at.is_some() || !self.generation.wants_seal(&self.limits, now) {
+            return;
+        }
+        self.drop_unfit_wishes();
+        if !self.generation.wants_seal(&self.limits, now) {
             return;
         }
         self.generation.note_seal(now);
@@ -870,4 +856,4 @@ impl<C: Core> Driver<C> {
 
 #[cfg(test)]
 #[path = "driver_tests.rs"]
-mod tests;
+pub(crate) mod tests;

@@ -5,6 +5,7 @@ use crate::plain::{Plain, World};
 use crate::random::Random;
 use crate::receipts;
 use crate::sealed::Key;
+use crate::waiting::Waiting;
 use std::fs;
 use std::sync::mpsc::{SyncSender, channel, sync_channel};
 
@@ -15,17 +16,22 @@ fn driver(name: &str) -> (Driver<Plain>, SyncSender<Event>, PathBuf) {
 
 /// The same at this place, where its peers are never reached.
 fn driver_at(name: &str, place: Place) -> (Driver<Plain>, SyncSender<Event>, PathBuf) {
+    driver_over(name, place, Peers::over(Vec::new()))
+}
+
+/// The same, with these ways to its peers.
+pub(crate) fn driver_over(name: &str, place: Place, peers: Peers) -> (Driver<Plain>, SyncSender<Event>, PathBuf) {
     let folder = std::env::temp_dir().join(format!("store-driver-{name}-{}", std::process::id()));
     let directory = Directory::open(&folder).unwrap();
     directory.prepare().unwrap();
     let (sender, events) = sync_channel(64);
     let identities = Identities::open(&folder, 5, place.replica).unwrap();
-    let membership = Arc::new(Membership { place, identities, key: Key::none() });
+    let membership = Arc::new(Membership { place, identities, key: Key::none(), waiting: Waiting::default() });
     let node = Plain::new(place, World::default(), directory.generations());
     let driver = Driver::new(Parts {
         state: node.state,
         node,
-        peers: Peers::start(&membership, &["127.0.0.1:1".into()], &sender).unwrap(),
+        peers,
         membership,
         receipts: receipts::Receipts::open(&directory.receipts(1)).unwrap(),
         directory,
@@ -143,7 +149,7 @@ fn frames_go_to_their_generation() {
     assert_eq!(frames(&driver), [frame(1, 2, 0)]);
     assert_eq!((driver.refused_frames, driver.others.seen(0)), (1, 7));
     let reply = Teller::new(|told| assert!(matches!(told, Told::Managed(Ok(text)) if text == "generation 2")));
-    assert!(sender.send(Event::Ask(Ask { what: What::Manage(Manage::Seal), reply })).is_ok());
+    assert!(sender.send(Event::Ask(Ask { what: What::Manage(Manage::Seal, None), reply })).is_ok());
     driver.turn().unwrap();
     assert_eq!((driver.generation.number, driver.others.seen(0)), (2, 0));
     [frame(1, 2, 0), frame(2, 5, 3)].into_iter().for_each(send);
@@ -272,14 +278,17 @@ fn another_number_of_replicas_is_for_a_new_beginning() {
     let manage = |manage: Manage| {
         let told = told.clone();
         let reply = Teller::new(move |it| _ = told.send(it));
-        assert!(sender.send(Event::Ask(Ask { what: What::Manage(manage), reply })).is_ok());
+        assert!(sender.send(Event::Ask(Ask { what: What::Manage(manage, None), reply })).is_ok());
     };
     let new = |numbers: &[u8]| numbers.iter().map(|it| (*it, [*it; 16], format!("a:{it}"))).collect();
-    for (size, new) in [(2, new(&[1])), (1, new(&[])), (3, new(&[1])), (3, new(&[1, 3])), (3, new(&[0, 1, 2]))] {
+    for (size, new) in
+        [(2, new(&[1])), (1, new(&[1])), (3, new(&[1])), (3, new(&[1, 3])), (3, new(&[1, 2, 2])), (3, new(&[0, 1, 2]))]
+    {
         manage(Manage::Resize { size, new });
         driver.turn().unwrap();
-        assert!(matches!(answers.try_recv(), Ok(Told::Managed(Err(_)))));
+        assert!(matches!(answers.try_recv(), Ok(Told::Managed(Err(ManageFault::NotASize)))));
     }
+    [1, 2].into_iter().for_each(|it| driver.membership.waiting.note(it, [it; 16]));
     manage(Manage::Resize { size: 3, new: new(&[1, 2]) });
     assert!(matches!(driver.turn(), Err(StopFault::Resized(2, 3))));
     assert!(matches!(answers.try_recv(), Ok(Told::Managed(Ok(text))) if text == "generation 2, of 3 replicas"));

@@ -176,6 +176,18 @@ pub fn numbers_in(folder: &Path) -> io::Result<Vec<u32>> {
     Ok(all)
 }
 
+/// The latest generation that a mark in the folder names; 0 where there is none.
+pub fn left_for(folder: &Path) -> io::Result<u32> {
+    let mut latest = 0;
+    for number in numbers_in(folder)? {
+        let mark = folder.join(number.to_string()).join("left");
+        if is_there(&mark)? {
+            latest = latest.max(left_in(&fs::read(&mark)?, number));
+        }
+    }
+    Ok(latest)
+}
+
 /// Whether something has this name. What isn't a folder has nothing in it.
 fn is_there(path: &Path) -> io::Result<bool> {
     match path.try_exists() {
@@ -215,6 +227,12 @@ pub fn opened(bytes: Vec<u8>) -> Result<Opened, String> {
         }
         None => damage(&bytes).and(wrong(if generation > 0 { 5 } else { 6 })),
     }
+}
+
+/// The opening of these bytes, whose digest is theirs; or why they are none.
+pub fn whole(bytes: Vec<u8>) -> Result<Opened, String> {
+    damage(&bytes)?;
+    opened(bytes)
 }
 
 /// Whether the digest of an opening isn't that of its other bytes.

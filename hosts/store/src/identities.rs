@@ -82,7 +82,8 @@ impl Identities {
     }
 }
 
-fn by_chance() -> io::Result<Identity> {
+/// A new one.
+pub(crate) fn by_chance() -> io::Result<Identity> {
     let mut identity = [0; 16];
     File::open("/dev/urandom")?.read_exact(&mut identity)?;
     Ok(identity)
@@ -122,11 +123,11 @@ fn write_lines(folder: &Path, known: &[Option<Identity>]) -> io::Result<()> {
     replace(folder, NAME, &text)
 }
 
-/// Puts a file with this text on the disk: the old one or the new one is there, whenever the machine stops.
-pub fn replace(folder: &Path, name: &str, text: &str) -> io::Result<()> {
+/// Puts a file of these bytes on the disk: the old one or the new one is there, whenever the machine stops.
+pub fn replace(folder: &Path, name: &str, bytes: impl AsRef<[u8]>) -> io::Result<()> {
     let new = folder.join(format!("{name}.new"));
     let mut file = File::create(&new)?;
-    file.write_all(text.as_bytes())?;
+    file.write_all(bytes.as_ref())?;
     file.sync_all()?;
     fs::rename(&new, folder.join(name))?;
     File::open(folder)?.sync_all()

@@ -30,7 +30,7 @@ impl Joining<'_> {
         let own = self.membership.identities.own();
         let replica = self.membership.place.replica;
         say(&format!(
-            "it waits to be let in, by EPAXOS REPLACE {replica} {} at another replica, or EPAXOS RESIZE",
+            "it waits to be let in, by EPAXOS REPLACE {replica} {} at another replica's admin socket, or EPAXOS RESIZE",
             digits(&own)
         ));
         // The last generation that was looked at and doesn't name this machine.
@@ -80,6 +80,7 @@ impl Joining<'_> {
                             fetch = None;
                             looked = looked.max(generation);
                             if self.is_named(&path) {
+                                self.membership.waiting.end();
                                 say(&format!("generation {generation} names this machine, and it comes in"));
                                 return Ok(Begin::Take(path));
                             }
@@ -104,7 +105,7 @@ impl Joining<'_> {
 fn refuse(ask: Ask, own: Identity) {
     let told = match ask.what {
         What::Info => Told::Info(format!("state:joining\r\nidentity:{}\r\n", digits(&own))),
-        What::Manage(_) => Told::Managed(Err(ManageFault::Joining(own))),
+        What::Manage(..) => Told::Managed(Err(ManageFault::Joining(own))),
         What::Propose { .. } | What::Read(_) => Told::Alone,
     };
     ask.reply.send(told);

@@ -4,6 +4,7 @@
 extern crate self as store;
 
 pub mod actions;
+pub mod admin;
 pub mod client;
 pub mod clients;
 pub mod command_fault;
@@ -63,6 +64,8 @@ pub mod processes;
 pub mod random;
 pub mod receipts;
 pub mod receipts_fault;
+pub mod recovery;
+pub mod recovery_fault;
 pub mod replies;
 pub mod resp;
 pub mod say;
@@ -75,3 +78,5 @@ pub mod teller;
 pub mod timed;
 pub mod timers;
 pub mod transactions;
+pub mod waiting;
+pub mod wishes;

@@ -1,6 +1,6 @@
 //! How a driver goes from generation to generation: seals, openings, and who takes part.
 use crate::core::{Begin, Core};
-use crate::driver::{Driver, Held, Manage, Told, Waiting, Wish};
+use crate::driver::{Driver, Held, Told, Waiting};
 use crate::generation::{Generation, Stage};
 use crate::identities::{Identity, digits};
 use crate::manage_fault::ManageFault;
@@ -16,6 +16,7 @@ use crate::say::say;
 use crate::stop_fault::StopFault;
 use crate::teller::Teller;
 use crate::timers::Timers;
+use crate::wishes::{Change, Manage, Wish};
 use epaxos::OwnedAnswer;
 use std::collections::{BTreeSet, HashMap};
 use std::fmt::Write;
@@ -329,7 +330,7 @@ impl<C: Core> Driver<C> {
         let (generation, size) = (opening.generation, opening.wanted());
         self.held.drain(..).for_each(|held| held.reply.send(Told::Late));
         for wish in std::mem::take(&mut self.wishes) {
-            let told = if wish.size.is_none_or(|wanted| wanted == size) {
+            let told = if wish.change.size.is_none_or(|wanted| wanted == size) {
                 Ok(format!("generation {generation}, of {size} replicas"))
             } else {
                 Err(ManageFault::Overruled)
@@ -375,54 +376,126 @@ impl<C: Core> Driver<C> {
         Ok(())
     }
 
-    /// Who is to take part in the next generation, as far as this replica is asked.
-    pub(crate) fn next_members(&self) -> Members {
+    /// Who takes part in this generation, as far as this replica knows.
+    fn present_members(&self) -> Members {
         let mut members = self.members.clone();
         members.0.resize(self.place.replicas, Member::default());
-        let size = self.wishes.iter().rev().find_map(|wish| wish.size);
         for (replica, member) in members.0.iter_mut().enumerate() {
             member.identity = self.membership.identities.of(replica as u8);
-        }
-        members.0.resize(size.map_or(self.place.replicas, usize::from), Member::default());
-        for (replica, member) in self.wishes.iter().flat_map(|wish| wish.changes.clone()) {
-            if let Some(place) = members.0.get_mut(usize::from(replica)) {
-                *place = member;
-            }
         }
         members
     }
 
-    /// Takes what somebody who runs the store asks for.
-    pub(crate) fn manage(&mut self, manage: Manage, reply: Teller) {
-        let mut size = None;
-        let changes = match manage {
-            Manage::Members => return reply.send(Told::Managed(Ok(self.list_members()))),
-            Manage::Seal => Vec::new(),
-            Manage::Resize { size: wanted, new } => {
-                let now = self.place.replicas as u8;
-                let numbers: BTreeSet<u8> = new.iter().map(|(replica, ..)| *replica).collect();
-                let is_fit = [3, 5, 7].contains(&wanted) && wanted != now && numbers == (now..wanted).collect();
-                if !is_fit {
-                    return reply.send(Told::Managed(Err(ManageFault::NotASize)));
-                }
-                size = Some(wanted);
-                let member = |(replica, identity, address): (u8, Identity, String)| {
-                    (replica, Member { identity: Some(identity), address: Some(address) })
+    /// Who is to take part in the next generation, as far as this replica is asked.
+    pub(crate) fn next_members(&self) -> Members {
+        let mut members = self.present_members();
+        self.wishes.iter().for_each(|wish| wish.change.make(&mut members));
+        members
+    }
+
+    /// Takes what somebody who runs the store asks for; `fault` is what is wrong with an address in it.
+    pub(crate) fn manage(&mut self, manage: Manage, fault: Option<ManageFault>, reply: Teller) {
+        match self.change_for(manage, fault) {
+            Ok(change) => {
+                self.generation.is_asked = true;
+                self.wishes.push(Wish { generation: self.generation.number, change, reply });
+            }
+            Err(told) => reply.send(Told::Managed(told)),
+        }
+    }
+
+    /// The change that is asked for; or what is told at once: what is so by now, or why it isn't made.
+    fn change_for(&self, manage: Manage, fault: Option<ManageFault>) -> Result<Change, Result<String, ManageFault>> {
+        let now = self.generation.number;
+        let change = match manage {
+            Manage::Members => return Err(Ok(self.list_members())),
+            Manage::Seal => Change::default(),
+            Manage::Resize { size, new } => {
+                let is_here = |(replica, identity, _): &(u8, Identity, String)| {
+                    self.membership.identities.of(*replica) == Some(*identity)
                 };
-                new.into_iter().map(member).collect()
+                if usize::from(size) == self.place.replicas && new.iter().all(is_here) {
+                    return Err(Ok(format!("generation {now}, of {size} replicas")));
+                }
+                self.resize_to(size, new).map_err(Err)?
             }
             Manage::Replace { replica, .. } if usize::from(replica) >= self.place.replicas => {
-                return reply.send(Told::Managed(Err(ManageFault::NoReplica(replica))));
+                return Err(Err(ManageFault::NoReplica(replica)));
             }
-            Manage::Replace { replica, .. } if replica == self.place.replica => {
-                return reply.send(Told::Managed(Err(ManageFault::ThisOne)));
-            }
-            Manage::Replace { replica, identity, address } => {
-                vec![(replica, Member { identity: Some(identity), address })]
+            Manage::Replace { replica, .. } if replica == self.place.replica => return Err(Err(ManageFault::ThisOne)),
+            Manage::Replace { replica, identity, address, is_forced } => {
+                let is_so = |named: &Member| {
+                    named.identity == Some(identity) && (address.is_none() || named.address == address)
+                };
+                if self.members.0.get(usize::from(replica)).is_some_and(is_so) {
+                    return Err(Ok(format!("generation {now}")));
+                }
+                Change { size: None, members: vec![(replica, Member { identity: Some(identity), address })], is_forced }
             }
         };
-        self.generation.is_asked = true;
-        self.wishes.push(Wish { generation: self.generation.number, size, changes, reply });
+        let mut next = self.next_members();
+        change.make(&mut next);
+        self.judge(&change, &next).and(fault.map_or(Ok(change), Err)).map_err(Err)
+    }
+
+    fn resize_to(&self, size: u8, new: Vec<(u8, Identity, String)>) -> Result<Change, ManageFault> {
+        let now = self.place.replicas as u8;
+        let numbers: BTreeSet<u8> = new.iter().map(|(replica, ..)| *replica).collect();
+        let is_each_new_once = numbers.len() == new.len() && numbers == (now..size).collect();
+        if ![3, 5, 7].contains(&size) || size == now || !is_each_new_once {
+            return Err(ManageFault::NotASize);
+        }
+        let member = |(replica, identity, address): (u8, Identity, String)| {
+            (replica, Member { identity: Some(identity), address: Some(address) })
+        };
+        Ok(Change { size: Some(size), members: new.into_iter().map(member).collect(), is_forced: false })
+    }
+
+    /// Why a change isn't made, by which the next generation would have these members.
+    fn judge(&self, change: &Change, next: &Members) -> Result<(), ManageFault> {
+        for (replica, member) in &change.members {
+            let known = self.membership.identities.of(*replica);
+            let Some(identity) = member.identity.filter(|identity| known != Some(*identity)) else { continue };
+            if !change.is_forced && self.is_reached(*replica) {
+                return Err(ManageFault::Reached(*replica));
+            }
+            if !self.membership.waiting.has(*replica, &identity) {
+                return Err(ManageFault::NotWaiting(*replica, identity));
+            }
+        }
+        let majority = |members: &Members| {
+            let (reached, replicas) = (self.count_reached(members), members.0.len());
+            if reached > replicas / 2 { Ok(()) } else { Err((reached, replicas)) }
+        };
+        let alone = majority(&self.present_members());
+        alone.map_err(|(reached, replicas)| ManageFault::Alone { reached, replicas })?;
+        majority(next).map_err(|(reached, replicas)| ManageFault::NoMajority { reached, replicas })
+    }
+
+    /// How many of these are reached now, or wait to be let in. A generation of which no majority does can't be ended any more.
+    fn count_reached(&self, members: &Members) -> usize {
+        let is_reached = |(replica, member): &(u8, &Member)| match self.membership.identities.of(*replica) {
+            known if known == member.identity => *replica == self.place.replica || self.is_reached(*replica),
+            _ => member.identity.is_some_and(|identity| self.membership.waiting.has(*replica, &identity)),
+        };
+        (0..).zip(&members.0).filter(is_reached).count()
+    }
+
+    /// Before a seal: who asked for a change that can't be made any more is told so. Who is reached may have changed since it was asked.
+    pub(crate) fn drop_unfit_wishes(&mut self) {
+        let mut next = self.present_members();
+        for wish in std::mem::take(&mut self.wishes) {
+            let mut with = next.clone();
+            wish.change.make(&mut with);
+            match self.judge(&wish.change, &with) {
+                Ok(()) => {
+                    next = with;
+                    self.wishes.push(wish);
+                }
+                Err(fault) => wish.reply.send(Told::Managed(Err(fault))),
+            }
+        }
+        self.generation.is_asked &= !self.wishes.is_empty();
     }
 
     /// Tells who asked for something that is so by now; the rest is asked for again.
@@ -430,8 +503,8 @@ impl<C: Core> Driver<C> {
         let now = self.generation.number;
         for wish in std::mem::take(&mut self.wishes) {
             let is_named = |(replica, member): &(u8, Member)| self.members.0.get(usize::from(*replica)) == Some(member);
-            let is_so = now > wish.generation && wish.size.is_none() && wish.changes.iter().all(is_named);
-            if is_so {
+            let is_so = wish.change.size.is_none() && wish.change.members.iter().all(is_named);
+            if now > wish.generation && is_so {
                 wish.reply.send(Told::Managed(Ok(format!("generation {now}"))));
             } else if now >= wish.generation + MOST_GENERATIONS {
                 wish.reply.send(Told::Managed(Err(ManageFault::Overruled)));
@@ -442,19 +515,23 @@ impl<C: Core> Driver<C> {
         }
     }
 
-    /// A line for each replica: its number, identity, address, generation, and whether it is reached.
+    /// A line for each replica: its number, identity, address, generation, and whether it is reached; and one for each machine that waits.
     fn list_members(&self) -> String {
         let mut text = format!("generation {}\n", self.generation.number);
-        for (replica, member) in self.next_members().0.iter().enumerate() {
+        for (replica, member) in (0..).zip(&self.present_members().0) {
             let who = member.identity.as_ref().map_or("not met yet".into(), digits);
-            let place = member.address.as_deref().unwrap_or("as by --peers");
-            let replica = replica as u8;
+            let place = member.address.as_deref().unwrap_or("address from --peers");
             let state = match replica {
                 me if me == self.place.replica => "this one".to_string(),
                 peer if self.is_reached(peer) => format!("reached, in generation {}", self.others.generation(peer)),
                 _ => "lost".into(),
             };
             let _ = writeln!(text, "{replica} {who} {place} {state}");
+        }
+        for (replica, identity) in self.membership.waiting.all() {
+            if self.membership.identities.of(replica) != Some(identity) {
+                let _ = writeln!(text, "{replica} {} waits to be let in", digits(&identity));
+            }
         }
         text
     }
@@ -488,3 +565,7 @@ fn settle(waiting: HashMap<(u32, u32), Waiting>, opening: &Opening, before: u32)
         });
     }
 }
+
+#[cfg(test)]
+#[path = "life_tests.rs"]
+mod tests;

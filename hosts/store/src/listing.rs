@@ -68,17 +68,22 @@ impl Listing {
 
 /// The keys of what `contents` prints, by their places.
 fn read(text: &[u8]) -> Option<Vec<Listed>> {
-    let mut lines = text.strip_suffix(b"\n")?.split(|byte| *byte == b'\n');
-    lines.next().filter(|line| line.starts_with(b"generation "))?;
-    let mut listed = lines.map(read_line).collect::<Option<Vec<_>>>()?;
+    let listed = |(key, value): (Vec<u8>, Vec<u8>)| Listed { place: place(&key), key, stored: Stored::read(value) };
+    let mut listed: Vec<_> = pairs(text)?.into_iter().map(listed).collect();
     listed.sort_by(|first, second| (first.place, &first.key).cmp(&(second.place, &second.key)));
     Some(listed)
 }
 
-fn read_line(line: &[u8]) -> Option<Listed> {
+/// The keys of what `contents` prints, each with its value.
+pub(crate) fn pairs(text: &[u8]) -> Option<Vec<(Vec<u8>, Vec<u8>)>> {
+    let mut lines = text.strip_suffix(b"\n")?.split(|byte| *byte == b'\n');
+    lines.next().filter(|line| line.starts_with(b"generation "))?;
+    lines.map(read_line).collect()
+}
+
+fn read_line(line: &[u8]) -> Option<(Vec<u8>, Vec<u8>)> {
     let space = line.iter().position(|byte| *byte == b' ')?;
-    let (key, value) = (word(&line[..space])?, word(&line[space + 1..])?);
-    Some(Listed { place: place(&key), key, stored: Stored::read(value) })
+    Some((word(&line[..space])?, word(&line[space + 1..])?))
 }
 
 /// The bytes that a word spells.

@@ -6,13 +6,14 @@ use std::fmt;
 use std::io::{self, Write};
 use std::net::TcpListener;
 use std::os::unix::process::CommandExt;
-use std::path::PathBuf;
+use std::path::{Path, PathBuf};
 use std::process::{Command, ExitCode};
 use std::sync::atomic::AtomicU64;
 use std::sync::mpsc::{SyncSender, sync_channel};
 use std::sync::{Arc, Mutex, PoisonError};
 use std::thread;
 use std::time::{Duration, Instant};
+use store::admin::{self, Operators};
 use store::clients::{self, Shared};
 use store::core::{Begin, Core};
 use store::directory::Directory;
@@ -40,17 +41,25 @@ use store::plants::Plant;
 use store::random::Random;
 use store::receipts::Receipts;
 use store::receipts_fault::ReceiptsFault;
+use store::recovery;
 use store::replies::Due;
 use store::say::{name, say};
 use store::sealed::{Key, KeyFault};
 use store::stop_fault::StopFault;
 use store::timers::Timers;
+use store::waiting::Waiting;
 
 /// How many events may wait for the driver.
 const WAITING_EVENTS: usize = 4_096;
 
 fn main() -> ExitCode {
-    let options = match words().and_then(read) {
+    let words = words();
+    if let Ok([first, words @ ..]) = words.as_deref()
+        && first == "recover"
+    {
+        return recovery::main(words.iter().cloned());
+    }
+    let options = match words.and_then(read) {
         Ok(Words::Help) => {
             // Where standard output is closed nobody is there to be told.
             let _ = std::io::stdout().write_all(help().as_bytes());
@@ -63,6 +72,7 @@ fn main() -> ExitCode {
         }
     };
     name(options.replica);
+    let admin = options.admin.clone();
     // Where it is killed the node's input closes, and so the node ends too, with all that it has taken on the disk.
     let due = Arc::<Due>::default();
     let fault = match start(options, due.clone()) {
@@ -73,6 +83,7 @@ fn main() -> ExitCode {
     if let StoreFault::Stop(_) = fault {
         // What clients are told is on its way to them.
         due.end(LAST_REPLIES);
+        admin.remove();
     }
     if let StoreFault::Stop(StopFault::Resized(..)) = fault {
         say(&format!("it can't begin anew: {}", begin_anew()));
@@ -106,6 +117,8 @@ enum StoreFault {
     Unguarded(String),
     /// It can't listen at this address.
     Listen(String, io::Error),
+    /// It can't listen there for operators.
+    Admin(String, io::Error),
     Receipts(ReceiptsFault),
     Thread(io::Error),
 }
@@ -127,6 +140,10 @@ impl StoreFault {
             | StoreFault::NoAddress(_) => true,
             StoreFault::Node(fault) => fault.is_lasting(),
             StoreFault::Stop(stop) => stop.is_lasting(),
+            // (a path that is too long, or that something else has)
+            StoreFault::Admin(_, error) => {
+                matches!(error.kind(), io::ErrorKind::InvalidInput | io::ErrorKind::AlreadyExists)
+            }
             StoreFault::Listen(..) | StoreFault::Receipts(_) | StoreFault::Thread(_) => false,
         };
         if is_lasting { LASTING } else { PASSING }
@@ -149,6 +166,9 @@ impl fmt::Display for StoreFault {
                  network keeps strangers out"
             ),
             StoreFault::Listen(address, error) => write!(f, "can't listen at {address}: {error}"),
+            StoreFault::Admin(place, error) => {
+                write!(f, "can't listen at {place}: {error}; --admin names another place")
+            }
             StoreFault::Receipts(fault) => fault.fmt(f),
             StoreFault::Thread(error) => write!(f, "a thread can't be started: {error}"),
         }
@@ -177,6 +197,7 @@ fn start(options: Options, due: Arc<Due>) -> Result<Driver<AnyCore>, StoreFault>
         directory.check_begin(options.start == options::Start::New).map_err(StoreFault::Directory)?;
     }
     directory.prepare().map_err(StoreFault::Directory)?;
+    let for_operators = options.admin.bind().map_err(|error| StoreFault::Admin(options.admin.to_string(), error))?;
     let (sender, events) = sync_channel(WAITING_EVENTS);
     let numbers = Arc::new(Mutex::new(Numbers::new(&options.directory, place.replica)));
     let metrics = Arc::<Metrics>::default();
@@ -185,7 +206,8 @@ fn start(options: Options, due: Arc<Due>) -> Result<Driver<AnyCore>, StoreFault>
         keys: Keys::start(sender.clone(), numbers.clone()).map_err(StoreFault::Thread)?,
         listing: Listing::new(program(&options), directory.generations()),
         patience: options.patience,
-        password: options.auth.as_deref().map(Password::read).transpose().map_err(StoreFault::Key)?,
+        password: password(options.auth.as_deref())?,
+        operators: options.admin.to_string(),
         memory: Memory::new(options.memory),
         metrics: metrics.clone(),
         connections: Arc::default(),
@@ -203,21 +225,25 @@ fn start(options: Options, due: Arc<Due>) -> Result<Driver<AnyCore>, StoreFault>
     let key = key.unwrap_or_else(Key::none);
     let open = |place: Place, addresses: &[String], for_peers: TcpListener| {
         let identities = Identities::open(&options.directory, MOST_REPLICAS, place.replica);
-        let membership = Membership { place, identities: identities.map_err(StoreFault::Identities)?, key };
-        let membership = Arc::new(membership);
+        let identities = identities.map_err(StoreFault::Identities)?;
+        let membership = Arc::new(Membership { place, identities, key, waiting: Waiting::new(joins) });
         let peers = Peers::start(&membership, addresses, &sender).map_err(StoreFault::Thread)?;
         let receiving = Arc::new(Receiving::new(membership.clone(), sender.clone()));
         spawn("peers", move || peers::listen(for_peers, &receiving)).map_err(StoreFault::Thread)?;
         Ok((membership, peers))
     };
-    let serve = |for_clients: TcpListener, shared: Shared| {
-        let shared = Arc::new(shared);
+    let password_of_operators = password(options.admin_auth.as_deref())?;
+    let serve = |for_clients: TcpListener, shared: Shared, membership: &Arc<Membership>| {
+        let (events, patience, due) = (shared.events.clone(), shared.patience, shared.due.clone());
+        let operators = Operators::new(events, patience, password_of_operators, due, membership.clone());
+        let (operators, shared) = (Arc::new(operators), Arc::new(shared));
+        spawn("operators", move || admin::listen(&for_operators, &operators)).map_err(StoreFault::Thread)?;
         spawn("clients", move || clients::listen(for_clients, shared)).map_err(StoreFault::Thread)
     };
     let (mut node, state, receipts, membership, peers);
     if joins {
         (membership, peers) = open(place, &options.peers, for_peers)?;
-        serve(for_clients, shared)?;
+        serve(for_clients, shared, &membership)?;
         let joining = Joining { membership: &membership, directory: &directory, peers: &peers, events: &events };
         let begin = joining.wait().map_err(StoreFault::Stop)?;
         let opening = match &begin {
@@ -248,7 +274,7 @@ fn start(options: Options, due: Arc<Due>) -> Result<Driver<AnyCore>, StoreFault>
         }
         directory.end_joining().map_err(StoreFault::Directory)?;
         (membership, peers) = open(place, &addresses(&options, &opening)?, for_peers)?;
-        serve(for_clients, shared)?;
+        serve(for_clients, shared, &membership)?;
     }
     let sealer = numbers.lock().unwrap_or_else(PoisonError::into_inner).give().map_err(StoreFault::Numbers)?;
     let (replica, replicas, generation) = (place.replica, place.replicas, state.generation);
@@ -276,6 +302,10 @@ fn start(options: Options, due: Arc<Due>) -> Result<Driver<AnyCore>, StoreFault>
 
 fn open_receipts(directory: &Directory, generation: u32) -> Result<Receipts, StoreFault> {
     Receipts::open(&directory.receipts(generation)).map_err(StoreFault::Receipts)
+}
+
+fn password(file: Option<&Path>) -> Result<Option<Password>, StoreFault> {
+    file.map(Password::read).transpose().map_err(StoreFault::Key)
 }
 
 fn bind(address: &str) -> Result<TcpListener, StoreFault> {

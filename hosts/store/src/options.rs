@@ -1,4 +1,5 @@
 //! The command line.
+use crate::admin::{self, Admin};
 use crate::generation::Limits;
 use crate::options_fault::OptionsFault;
 use crate::plants::Plant;
@@ -12,6 +13,7 @@ store: one replica of a replicated store, for clients of the Redis protocol
 
     store --replica R --peers HOST:PORT,HOST:PORT,HOST:PORT --dir DIR [--new] [--listen HOST:PORT] [--peer-key FILE] [--node PATH]
           [--patience S]
+    store recover --help   recovery after the loss of a majority
 
     --replica R            which replica this is, from 0
     --peers A,B,C          where each replica listens for the others, in order, this one too: 3, 5 or 7 of them
@@ -22,13 +24,17 @@ store: one replica of a replicated store, for clients of the Redis protocol
                            file that only its owner reads (head -c 32 /dev/urandom | base64 > FILE; chmod 600 FILE)
     --insecure             without a key the peers' port is one of this machine alone; with this it may be any, open to whoever comes
     --auth FILE            the password that clients say first (AUTH), 16 to 4096 bytes in a file that only its owner reads
+    --admin PATH           the admin socket, which alone takes commands that change the cluster (EPAXOS SEAL, REPLACE, RESIZE): a Unix socket of
+                           mode 0600; default DIR/{ADMIN} (redis-cli -s DIR/{ADMIN} EPAXOS MEMBERS)
+    --admin HOST:PORT      the same over TCP; needs --admin-auth; a port alone is one of 127.0.0.1
+    --admin-auth FILE      the password for the admin socket, as --auth has one for clients
     --memory BYTES         so much may be under way for all clients together; default {MEMORY}
     --metrics HOST:PORT    where Prometheus reads /metrics; a port alone is one of 127.0.0.1; default: nowhere
     --node PATH            the program `epaxos`, in which the core then runs, with its log; default: the core runs in the store itself, where that
                            was built with the library, else in the `epaxos` on the PATH
     --patience S           after so many seconds a client is told TRYAGAIN; default 10. Its command may still be done
     --join                 in the place of --new: for a machine that comes in the place of a lost one; it tells its identity and waits
-                           until a generation begins that names it (EPAXOS REPLACE, at any other replica)
+                           until a generation begins that names it (EPAXOS REPLACE, at another replica's admin socket)
     --seal-numbers N       a generation ends once a replica has proposed so many commands in it: 10 to 1,900; default {NUMBERS}
     --seal-dependencies N  or once one of its commands depends on so many others: 10 to 14,000; default {DEPENDENCIES}
     --seal-log BYTES       or once its log is so long; default {LOG}
@@ -51,7 +57,8 @@ pub fn help() -> String {
     let numbers = [("{NUMBERS}", LIMITS.numbers.into()), ("{DEPENDENCIES}", LIMITS.dependencies.into())];
     let others = [("{LOG}", LIMITS.log), ("{KEPT}", KEPT as u64), ("{MEMORY}", MEMORY as u64)];
     let all = numbers.into_iter().chain(others);
-    all.fold(TEXT.to_string(), |text, (word, number): (&str, u64)| text.replace(word, &number.to_string()))
+    let text = TEXT.replace("{ADMIN}", admin::NAME);
+    all.fold(text, |text, (word, number): (&str, u64)| text.replace(word, &number.to_string()))
 }
 
 /// How a folder is gone about.
@@ -77,6 +84,9 @@ pub struct Options {
     /// Whether the peers' port may be open to others without a key.
     pub is_insecure: bool,
     pub auth: Option<PathBuf>,
+    /// Where operators ask, and the password that they say first.
+    pub admin: Admin,
+    pub admin_auth: Option<PathBuf>,
     pub memory: usize,
     pub metrics: Option<String>,
     /// The program in which the core runs, where one is named.
@@ -105,6 +115,7 @@ pub fn read(words: impl IntoIterator<Item = String>) -> Result<Words, OptionsFau
     let mut plant = None;
     let (mut is_insecure, mut peer_key) = (false, None);
     let (mut auth, mut memory, mut metrics) = (None, MEMORY, None);
+    let (mut admin, mut admin_auth) = (None, None);
     let mut start = Start::Again;
     let (mut limits, mut kept) = (LIMITS, KEPT);
     while let Some(word) = words.next() {
@@ -135,6 +146,8 @@ pub fn read(words: impl IntoIterator<Item = String>) -> Result<Words, OptionsFau
             "--listen" => listen = with_host(value()?),
             "--peer-key" => peer_key = Some(PathBuf::from(value()?)),
             "--auth" => auth = Some(PathBuf::from(value()?)),
+            "--admin" => admin = Some(read_admin(value()?)),
+            "--admin-auth" => admin_auth = Some(PathBuf::from(value()?)),
             "--memory" => memory = number(&word, &value()?, 1 << 20, usize::MAX)?,
             "--metrics" => metrics = Some(with_host(value()?)),
             "--node" => node = Some(PathBuf::from(value()?)),
@@ -153,6 +166,10 @@ pub fn read(words: impl IntoIterator<Item = String>) -> Result<Words, OptionsFau
     let peers = read_peers(&peers.ok_or(OptionsFault::Missing("--peers"))?)?;
     let replica = number("--replica", &replica.ok_or(OptionsFault::Missing("--replica"))?, 0, peers.len() as u8 - 1)?;
     let directory = directory.ok_or(OptionsFault::Missing("--dir"))?;
+    let admin = admin.unwrap_or_else(|| Admin::Socket(directory.join(admin::NAME)));
+    if let (Admin::Address(address), None) = (&admin, &admin_auth) {
+        return Err(OptionsFault::OpenAdmin(address.clone()));
+    }
     Ok(Words::Run(Box::new(Options {
         replica,
         peers,
@@ -162,6 +179,8 @@ pub fn read(words: impl IntoIterator<Item = String>) -> Result<Words, OptionsFau
         peer_key,
         is_insecure,
         auth,
+        admin,
+        admin_auth,
         memory,
         metrics,
         node,
@@ -170,6 +189,13 @@ pub fn read(words: impl IntoIterator<Item = String>) -> Result<Words, OptionsFau
         kept,
         plant,
     })))
+}
+
+/// HOST:PORT or a port is TCP; all else is a path.
+fn read_admin(word: String) -> Admin {
+    let port = word.rsplit_once(':').map_or(&*word, |(_, port)| port);
+    let is_address = !word.contains('/') && port.parse::<u16>().is_ok();
+    if is_address { Admin::Address(with_host(word)) } else { Admin::Socket(word.into()) }
 }
 
 fn with_host(address: String) -> String {
@@ -227,6 +253,18 @@ mod tests {
         let Ok(Words::Run(options)) = words("--replica 0 --peers a:1,b:2,c:3 --dir d") else { panic!() };
         assert_eq!(options.listen, "127.0.0.1:7000");
         assert_eq!(words("--replica 9 --help"), Ok(Words::Help));
+        for (line, admin, password) in [
+            ("", Admin::Socket("d/admin.sock".into()), None),
+            ("--admin /run/store/s", Admin::Socket("/run/store/s".into()), None),
+            ("--admin s --admin-auth f", Admin::Socket("s".into()), Some("f")),
+            ("--admin 7200 --admin-auth f", Admin::Address("127.0.0.1:7200".into()), Some("f")),
+            ("--admin 0.0.0.0:7200 --admin-auth f", Admin::Address("0.0.0.0:7200".into()), Some("f")),
+        ] {
+            let Ok(Words::Run(it)) = words(&format!("--replica 0 --peers a:1,b:2,c:3 --dir d {line}")) else {
+                panic!()
+            };
+            assert_eq!((it.admin, it.admin_auth), (admin, password.map(PathBuf::from)), "{line}");
+        }
     }
 
     #[test]
@@ -247,6 +285,8 @@ mod tests {
             ("--replica 0 --peers a:1,b:2,c:3 --dir", OptionsFault::NoValue("--dir".into())),
             (&format!("{all} --new --join"), OptionsFault::TwoStarts),
             (&format!("{all} --seal-numbers 1901"), OptionsFault::out_of_range("--seal-numbers", "1901", 10, 1_900)),
+            (&format!("{all} --admin 7200"), OptionsFault::OpenAdmin("127.0.0.1:7200".into())),
+            (&format!("{all} --admin 0.0.0.0:7200"), OptionsFault::OpenAdmin("0.0.0.0:7200".into())),
             (&format!("{all} --keep 0"), OptionsFault::out_of_range("--keep", "0", 1, usize::MAX)),
         ] {
             assert_eq!(words(line), Err(fault), "{line}");

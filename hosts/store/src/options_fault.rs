@@ -23,6 +23,8 @@ pub enum OptionsFault {
     NotAnAddress(String),
     /// Two replicas have this address.
     Twice(String),
+    /// Who reaches this address could change the cluster.
+    OpenAdmin(String),
     /// There is no such misbehaviour.
     Plant(String),
 }
@@ -49,6 +51,10 @@ impl fmt::Display for OptionsFault {
             OptionsFault::Replicas(count) => write!(f, "--peers names {count} replicas; 3, 5 or 7 are possible"),
             OptionsFault::NotAnAddress(peer) => write!(f, "--peers: {peer} isn't HOST:PORT"),
             OptionsFault::Twice(peer) => write!(f, "--peers names {peer} twice"),
+            OptionsFault::OpenAdmin(address) => write!(
+                f,
+                "--admin {address} needs a password: add --admin-auth FILE, or give the path of a Unix socket"
+            ),
             OptionsFault::Plant(name) => write!(f, "--plant {name}: not known"),
         }
     }

@@ -11,6 +11,7 @@ use crate::link_fault::LinkFault;
 use crate::say::say;
 use crate::sealed::{self, Channel, Direction, Hello, Key};
 use crate::timed::Timed;
+use crate::waiting::Waiting;
 use std::collections::VecDeque;
 use std::io::{self, BufReader, BufWriter, Read, Write};
 use std::net::{Shutdown, TcpListener, TcpStream, ToSocketAddrs};
@@ -54,11 +55,12 @@ pub struct Place {
     pub replica: u8,
 }
 
-/// What this replica is to the others: its place, whom it knows, and the key that all share.
+/// What this replica is to the others: its place, whom it knows, the key that all share, and who waits to be let in.
 pub struct Membership {
     pub place: Place,
     pub identities: Identities,
     pub key: Key,
+    pub waiting: Waiting,
 }
 
 /// The ways to all other replicas.
@@ -286,31 +288,17 @@ impl TcpLink {
     }
 
     fn connect(&self) -> Result<(TcpStream, Channel), ConnectFault> {
-        let Membership { place, identities, key } = &*self.membership;
+        let membership = &*self.membership;
         let address = self.address().clone();
-        let stream = connect_to(&address)?;
-        stream.set_nodelay(true)?;
-        stream.set_write_timeout(Some(WRITE_PATIENCE))?;
-        let mut timed = Timed::new(&stream, CONNECT_PATIENCE);
-        let mut channel = sealed::call(&mut timed, key, &Hello::new(place.replicas as u8, place.replica, self.to)?)?;
-        channel.sending.write(&mut timed, GREETING, &identities.own())?;
-        // The other end answers the greeting: whoever only takes the connection, and closes it, wasn't reached.
-        let (kind, answer) = channel.receiving.read(&mut timed, LONGEST_GREETING)?;
+        let says: &[u8] = if membership.waiting.is_this() { &[WAITS] } else { &[] };
+        let (stream, channel, answer, identity) = greet(membership, self.to, &address, says)?;
         stream.set_read_timeout(Some(SILENCE))?;
-        let (GREETING, [is_accepted, identity @ ..]) = (kind, answer.as_slice()) else {
-            return Err(ConnectFault::Failed);
-        };
-        if *is_accepted == REFUSED {
-            return Err(ConnectFault::NotKnown);
+        match answer {
+            ACCEPTED if membership.identities.meet(self.to, identity)? => Ok((stream, channel)),
+            ACCEPTED => Err(ConnectFault::OtherPeer),
+            NOT_LET_IN => Err(ConnectFault::NotLetIn),
+            _ => Err(ConnectFault::NotKnown),
         }
-        let is_known = match identity.try_into() {
-            Ok(identity) => identities.meet(self.to, identity)?,
-            Err(_) => return Err(ConnectFault::Failed),
-        };
-        if !is_known {
-            return Err(ConnectFault::OtherPeer);
-        }
-        Ok((stream, channel))
     }
 
     /// Sends what comes; ends with the cause.
@@ -376,6 +364,36 @@ fn beat(mut stream: TcpStream, mut sending: Direction) {
         message.clear();
         thread::sleep(BEATS);
     }
+}
+
+/// Greets whoever listens at an address as the replica of this number: the connection, the answer's first byte, and who it is.
+fn greet(
+    membership: &Membership,
+    to: u8,
+    address: &str,
+    says: &[u8],
+) -> Result<(TcpStream, Channel, u8, Identity), ConnectFault> {
+    let Membership { place, identities, key, .. } = membership;
+    let stream = connect_to(address)?;
+    stream.set_nodelay(true)?;
+    stream.set_write_timeout(Some(WRITE_PATIENCE))?;
+    let mut timed = Timed::new(&stream, CONNECT_PATIENCE);
+    let mut channel = sealed::call(&mut timed, key, &Hello::new(place.replicas as u8, place.replica, to)?)?;
+    channel.sending.write(&mut timed, GREETING, &[&identities.own()[..], says].concat())?;
+    // The other end answers the greeting: whoever only takes the connection, and closes it, wasn't reached.
+    let (kind, answer) = channel.receiving.read(&mut timed, LONGEST_GREETING)?;
+    match (kind, answer.split_first()) {
+        (GREETING, Some((answer, identity))) => {
+            let identity = identity.try_into().map_err(|_| ConnectFault::Failed)?;
+            Ok((stream, channel, *answer, identity))
+        }
+        _ => Err(ConnectFault::Failed),
+    }
+}
+
+/// Who listens for its peers at this address, under this number. Nothing comes of the connection.
+pub fn who_is_at(membership: &Membership, replica: u8, address: &str) -> Result<Identity, ConnectFault> {
+    greet(membership, replica, address, &[ASKS]).map(|(.., identity)| identity)
 }
 
 fn connect_to(address: &str) -> io::Result<TcpStream> {
@@ -463,8 +481,14 @@ pub fn listen(listener: TcpListener, receiving: &Arc<Receiving>) {
     }
 }
 
-const ACCEPTED: u8 = 1;
+/// What a greeting may say behind an identity: that the machine waits to be let in, or that it only asks who is here.
+const WAITS: u8 = 1;
+const ASKS: u8 = 2;
+/// And what the answer begins with: another identity is known under this number; frames are taken; or whoever greets isn't one
+/// of the replicas.
 const REFUSED: u8 = 0;
+const ACCEPTED: u8 = 1;
+const NOT_LET_IN: u8 = 2;
 
 impl Receiving {
     /// Reads a greeting and answers it: the replica that greets, if it has the key and is known under its number. Whoever
@@ -484,17 +508,29 @@ impl Receiving {
             self.complain(stream, "has another key than this one (--peer-key)")?;
         }
         let (GREETING, greeting) = greeting? else { return Ok(None) };
-        let Ok(identity) = greeting.as_slice().try_into() else { return Ok(None) };
-        // (who isn't one of the replicas, by now or yet, is known by a seal alone)
-        let is_known = if usize::from(from) < self.membership.place.replicas {
-            self.membership.identities.meet(from, identity)?
-        } else {
-            self.membership.identities.of(from) == Some(identity)
+        let Some((identity, says)) = greeting.split_first_chunk() else { return Ok(None) };
+        let (identity, membership) = (*identity, &self.membership);
+        let answer = match says {
+            [ASKS] => ACCEPTED,
+            [] if usize::from(from) < membership.place.replicas => {
+                if membership.identities.meet(from, identity)? {
+                    ACCEPTED
+                } else {
+                    REFUSED
+                }
+            }
+            [] | [WAITS] => {
+                if says == [WAITS] {
+                    membership.waiting.note(from, identity);
+                }
+                // (who isn't one of the replicas, by now or yet, is known by a seal alone)
+                if membership.identities.of(from) == Some(identity) { ACCEPTED } else { NOT_LET_IN }
+            }
+            _ => return Ok(None),
         };
-        let mut answer = vec![if is_known { ACCEPTED } else { REFUSED }];
-        answer.extend(self.membership.identities.own());
-        channel.sending.write(&mut timed, GREETING, &answer)?;
-        Ok(is_known.then_some((from, identity, channel)))
+        channel.sending.write(&mut timed, GREETING, &[&[answer][..], &membership.identities.own()].concat())?;
+        let is_taken = answer == ACCEPTED && says != [ASKS];
+        Ok(is_taken.then_some((from, identity, channel)))
     }
 
     /// Tells of a stranger, once.
@@ -579,7 +615,7 @@ mod tests {
         let folder = std::env::temp_dir().join(format!("store-{name}-{replica}-{}", std::process::id()));
         std::fs::create_dir_all(&folder).unwrap();
         let identities = Identities::open(&folder, 3, replica).unwrap();
-        Arc::new(Membership { place: Place { replicas: 3, replica }, identities, key })
+        Arc::new(Membership { place: Place { replicas: 3, replica }, identities, key, waiting: Waiting::default() })
     }
 
     /// Tries until it is connected, or refused for good: on a machine that is busy the first try may take too long.

@@ -77,7 +77,7 @@ pub fn lacking(opening: &[u8]) -> Option<Vec<u8>> {
 }
 
 /// Reads over a key and its value.
-fn skip_key(fields: &mut Fields) -> Option<()> {
+pub(crate) fn skip_key(fields: &mut Fields) -> Option<()> {
     let (key, value) = (fields.u8()?, fields.u32()?);
     fields.run(usize::from(key) + value as usize).map(|_| ())
 }

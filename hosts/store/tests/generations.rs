@@ -55,7 +55,7 @@ fn generations_follow_one_another() {
         wait("the newest generation", || generation(store) >= 3);
         has_all(store, 0..200);
     }
-    let told = stores[1].ask("EPAXOS SEAL");
+    let told = stores[1].operate("EPAXOS SEAL");
     let Reply::Bulk(Some(told)) = told else { panic!("{told:?}") };
     assert!(told.starts_with(b"generation "));
     let mut stores = stores.map(Some);
@@ -76,7 +76,7 @@ fn who_lags_comes_along() {
     drop(two);
     for place in 0..3 {
         set(&[&zero, &one], 10 + 50 * place..60 + 50 * place);
-        assert!(matches!(zero.ask("EPAXOS SEAL"), Reply::Bulk(Some(_))));
+        assert!(matches!(zero.operate("EPAXOS SEAL"), Reply::Bulk(Some(_))));
     }
     assert!(generation(&zero) >= 4);
     let two = places.start_with(2, &node, &SHORT);
@@ -112,7 +112,7 @@ fn three_become_five_and_three_again() {
     drop(two);
     let (at_three, at_four) = (places.peer(3), places.peer(4));
     let line = format!("EPAXOS RESIZE 5 3 {of_three} {at_three} 4 {of_four} {at_four}");
-    assert!(matches!(zero.ask(&line), Reply::Bulk(Some(_))));
+    assert!(matches!(zero.operate(&line), Reply::Bulk(Some(_))));
     for store in [&three, &four] {
         wait("the new ones", || store.told().contains("node process"));
     }
@@ -120,6 +120,9 @@ fn three_become_five_and_three_again() {
     for store in [&zero, &one, &two] {
         wait("the others", || store.told().contains("of 5 in generation"));
     }
+    // Asked again, as by somebody who has lost the answer, it is so.
+    let again = zero.operate(&line);
+    assert!(matches!(&again, Reply::Bulk(Some(text)) if text.ends_with(b", of 5 replicas")), "{again:?}");
     let all = [&zero, &one, &two, &three, &four];
     all.iter().for_each(|store| has_all(store, 0..50));
     set(&all, 50..100);
@@ -127,7 +130,7 @@ fn three_become_five_and_three_again() {
     drop(one);
     wait("its folder", || fs::rename(places.directory(1), places.folder.join("lost")).is_ok());
     let (one, identity) = join(&places, places.command(1, &node), 1);
-    assert!(matches!(zero.ask(&format!("EPAXOS REPLACE 1 {identity}")), Reply::Bulk(Some(_))));
+    assert!(matches!(zero.operate(&format!("EPAXOS REPLACE 1 {identity}")), Reply::Bulk(Some(_))));
     wait("the new machine", || one.told().contains("of 5 in generation"));
     has_all(&one, 0..100);
     // It stays so, whatever `--peers` of the first ones says.
@@ -136,7 +139,7 @@ fn three_become_five_and_three_again() {
     let zero = places.start_with(0, &node, &SHORT);
     assert!(zero.told().contains("of 5 in generation"));
     has_all(&zero, 0..120);
-    assert!(matches!(zero.ask("EPAXOS RESIZE 3"), Reply::Bulk(Some(_))));
+    assert!(matches!(zero.operate("EPAXOS RESIZE 3"), Reply::Bulk(Some(_))));
     for store in [&mut three, &mut four] {
         assert_eq!(store.status(), Some(3));
         assert!(store.told().contains("takes part no more"));
@@ -146,6 +149,8 @@ fn three_become_five_and_three_again() {
         wait("the others", || told(3) > told(5));
         has_all(store, 0..120);
     }
+    let again = zero.operate("EPAXOS RESIZE 3");
+    assert!(matches!(&again, Reply::Bulk(Some(text)) if text.ends_with(b", of 3 replicas")), "{again:?}");
     set(&[&zero, &one, &two], 120..150);
 }
 
@@ -162,7 +167,7 @@ fn a_lost_machine_is_replaced() {
     set(&[&zero, &one], 50..100);
     let (two, identity) = join(&places, places.command(2, &node), 2);
     assert!(matches!(ask(&mut two.client(), "SET x 1"), Reply::Error(_)));
-    assert!(matches!(one.ask(&format!("EPAXOS REPLACE 2 {identity}")), Reply::Bulk(Some(_))));
+    assert!(matches!(one.operate(&format!("EPAXOS REPLACE 2 {identity}")), Reply::Bulk(Some(_))));
     wait("the new machine", || two.told().contains("node process"));
     has_all(&two, 0..100);
     set(&[&zero, &one, &two], 100..130);

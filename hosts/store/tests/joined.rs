@@ -30,6 +30,7 @@ use store::sealed::Key;
 use store::stop_fault::StopFault;
 use store::teller::Teller;
 use store::timers::Timers;
+use store::waiting::Waiting;
 
 const REPLICAS: u8 = 3;
 const KEYS: u8 = 3;
@@ -206,7 +207,7 @@ fn play<C: Core + Send>(it: &Play, begin: impl Fn(Place, &Directory, &SyncSender
             peers: Peers::over((0..REPLICAS).map(way).collect()),
             receipts: Receipts::open(&directory.receipts(state.generation)).unwrap(),
             directory,
-            membership: Arc::new(Membership { place, identities, key: Key::none() }),
+            membership: Arc::new(Membership { place, identities, key: Key::none(), waiting: Waiting::default() }),
             timers: Timers::new(replica, Instant::now(), Random::from_seed(u64::from(replica) + 77)),
             events,
             plant: it.plant,

@@ -305,7 +305,7 @@ def main():
         time.sleep(seconds / 2)
         show("without strangers", *clients.taken())
         # An older copy of a folder, for later.
-        shutil.copytree(f"{cluster.folder}/2", f"{cluster.folder}/older")
+        shutil.copytree(f"{cluster.folder}/2", f"{cluster.folder}/older", ignore=shutil.ignore_patterns("admin.sock"))
         until = time.monotonic() + seconds
         Link.share = 0.01
         strangers = [threading.Thread(target=it, args=(cluster, until)) for it in (at_peers, at_peers, at_clients)]

@@ -47,6 +47,7 @@ impl Memory {
             listing,
             patience: PATIENCE,
             password: None,
+            operators: "the socket".into(),
             memory: Bytes::new(64 << 20),
             metrics,
             connections: Arc::default(),

@@ -10,6 +10,7 @@ use std::path::{Path, PathBuf};
 use std::process::{Child, Command, Stdio};
 use std::thread;
 use std::time::{Duration, Instant};
+use store::admin;
 use store::client::{Client, Reply};
 use store::ports::Ports;
 
@@ -38,7 +39,7 @@ pub fn real_node() -> Option<PathBuf> {
     node
 }
 
-/// Three replicas, and two that may come later: a folder, and the ports at which they listen for each other and for clients. The folder is
+/// Three replicas, and four that may come later: a folder, and the ports at which they listen for each other and for clients. The folder is
 /// removed when the test is over.
 pub struct Places {
     pub folder: PathBuf,
@@ -46,7 +47,7 @@ pub struct Places {
 }
 
 /// So many replicas there may be.
-const MOST: usize = 5;
+const MOST: usize = 7;
 
 impl Places {
     pub fn new(name: &str) -> Places {
@@ -101,7 +102,7 @@ impl Places {
         let told = self.folder.join(format!("told-{replica}"));
         let errors = fs::File::create(&told).unwrap();
         let child = command.stdin(Stdio::null()).stderr(errors).spawn().unwrap();
-        Store { child, told, port: self.port(replica) }
+        Store { child, told, port: self.port(replica), admin: self.directory(replica).join(admin::NAME) }
     }
 
     /// The folder of a replica.
@@ -121,6 +122,7 @@ pub struct Store {
     child: Child,
     told: PathBuf,
     port: u16,
+    admin: PathBuf,
 }
 
 impl Store {
@@ -155,6 +157,11 @@ impl Store {
     /// Asks on a new connection.
     pub fn ask(&self, line: &str) -> Reply {
         ask(&mut self.client(), line)
+    }
+
+    /// Asks at the admin socket, on a new connection.
+    pub fn operate(&self, line: &str) -> Reply {
+        ask(&mut Client::connect_at(&self.admin, PATIENCE).unwrap(), line)
     }
 
     /// A line of INFO, as the core tells it.

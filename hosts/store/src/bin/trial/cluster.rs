@@ -12,6 +12,7 @@ use std::sync::atomic::{AtomicBool, Ordering};
 use std::sync::{Arc, Mutex};
 use std::thread;
 use std::time::{Duration, Instant};
+use store::admin;
 use store::client::{Client, Reply};
 use store::ports::Ports;
 use store::processes;
@@ -253,8 +254,8 @@ impl Cluster {
         let words: Vec<&[u8]> = words.iter().map(|word| word.as_bytes()).collect();
         let start = Instant::now();
         for count in 0.. {
-            let port = self.client_ports[others[count % others.len()]];
-            let answer = Client::connect(port, Duration::from_secs(5)).and_then(|mut client| client.ask(&words));
+            let operator = self.operator(others[count % others.len()], Duration::from_secs(5));
+            let answer = operator.and_then(|mut client| client.ask(&words));
             if matches!(answer, Ok(Reply::Bulk(_) | Reply::Simple(_)))
                 || said().is_some_and(|told| told.contains(COMES_IN))
             {
@@ -267,6 +268,11 @@ impl Cluster {
         }
         wait_for(|| said()?.contains(COMES_IN).then_some(()))
             .ok_or(format!("the new machine of replica {replica} doesn't come in: {:?}", said()))
+    }
+
+    /// A connection for what operators ask.
+    fn operator(&self, replica: usize, patience: Duration) -> io::Result<Client> {
+        Client::connect_at(&self.folder(replica).join(admin::NAME), patience)
     }
 
     /// Keeps a copy of a replica's folder, where there is none; else has it come back.
@@ -326,8 +332,8 @@ impl Cluster {
             if begun.elapsed() > ASKING {
                 break;
             }
-            let port = self.client_ports[count % self.replicas];
-            let asked = Client::connect(port, Duration::from_secs(5)).and_then(|mut client| client.ask(&words));
+            let operator = self.operator(count % self.replicas, Duration::from_secs(5));
+            let asked = operator.and_then(|mut client| client.ask(&words));
             answer = format!("{asked:?}");
             let start = Instant::now();
             // (where it was begun it takes a while)
@@ -349,20 +355,16 @@ impl Cluster {
             if self.newest() > changes || start.elapsed() > ASKING {
                 return;
             }
-            let port = self.client_ports[count % self.replicas];
-            let asked = Client::connect(port, Duration::from_secs(5));
-            let _ = asked.and_then(|mut client| client.ask(&[b"EPAXOS", b"SEAL"]));
+            let operator = self.operator(count % self.replicas, Duration::from_secs(5));
+            let _ = operator.and_then(|mut client| client.ask(&[b"EPAXOS", b"SEAL"]));
             thread::sleep(Duration::from_millis(100));
         }
     }
 
     /// Asks a replica to end its generation, without waiting.
     pub fn seal(&self, replica: usize) {
-        let port = self.client_ports[replica];
-        thread::spawn(move || {
-            let client = Client::connect(port, Duration::from_secs(2));
-            client.and_then(|mut client| client.ask(&[b"EPAXOS", b"SEAL"]))
-        });
+        let operator = self.operator(replica, Duration::from_secs(2));
+        thread::spawn(move || operator.and_then(|mut client| client.ask(&[b"EPAXOS", b"SEAL"])));
     }
 
     /// Cuts the last records off the log of a replica that was killed.

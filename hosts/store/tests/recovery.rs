@@ -1,0 +1,182 @@
+//! Recovery after the loss of a majority: `store recover`, over the folders that are left.
+mod common;
+use common::{Places, Store, real_node, wait};
+use std::path::Path;
+use std::process::{Command, Output};
+use store::client::Reply;
+
+fn set(stores: &[&Store], numbers: std::ops::Range<usize>) {
+    for number in numbers {
+        let line = format!("SET key-{number} value-{number}");
+        wait("a majority", || stores[number % stores.len()].ask(&line) == Reply::Simple("OK".into()));
+    }
+}
+
+fn has_all(store: &Store, numbers: std::ops::Range<usize>) {
+    for number in numbers {
+        let value = Reply::Bulk(Some(format!("value-{number}").into_bytes()));
+        wait("a local read", || store.local(&format!("key-{number}")) == value);
+    }
+}
+
+/// Starts a machine that waits to be this replica of so many, at the places of another one: it, and the words that let it in.
+fn join(places: &Places, node: &Path, (replica, count): (usize, usize), at: usize) -> (Store, String) {
+    let peers: Vec<_> = (0..count).map(|it| places.peer(if it == replica { at } else { it })).collect();
+    let mut command = Command::new(env!("CARGO_BIN_EXE_store"));
+    command.args(["--replica", &replica.to_string(), "--peers", &peers.join(","), "--join"]);
+    command.args(["--listen", &places.port(at).to_string()]).arg("--dir").arg(places.directory(at));
+    command.arg("--node").arg(node);
+    let store = places.launch(&mut command, at);
+    let wish = format!("EPAXOS REPLACE {replica} ");
+    wait("its identity", || store.told().contains(&wish));
+    let identity = store.told().split_once(&wish).unwrap().1[..32].to_string();
+    (store, format!("{replica} {identity} {}", places.peer(at)))
+}
+
+/// Asks until it is done: who waits may not have greeted this replica yet.
+fn operate(store: &Store, line: &str) {
+    wait(line, || matches!(store.operate(line), Reply::Bulk(Some(_))));
+}
+
+/// Has `store recover` look at these replicas' folders: its status, and what it tells.
+fn recover(places: &Places, node: &Path, words: &[&str], replicas: &[usize]) -> (i32, String) {
+    let mut command = Command::new(env!("CARGO_BIN_EXE_store"));
+    command.arg("recover").args(words).arg("--node").arg(node);
+    command.args(replicas.iter().map(|replica| places.directory(*replica)));
+    let Output { status, stdout, stderr } = command.output().unwrap();
+    (status.code().unwrap(), String::from_utf8([stdout, stderr].concat()).unwrap())
+}
+
+/// The same where it is done, and tells all of these.
+fn recovered(places: &Places, node: &Path, words: &[&str], replicas: &[usize], parts: &[&str]) {
+    let (status, told) = recover(places, node, words, replicas);
+    assert!(status == 0 && parts.iter().all(|part| told.contains(part)), "{status} {told}");
+}
+
+/// The same where it isn't done, and nothing is changed.
+fn refused(places: &Places, node: &Path, words: &[&str], replicas: &[usize], part: &str) {
+    let (status, told) = recover(places, node, words, replicas);
+    assert!(status == 3 && told.contains("nothing was changed: ") && told.contains(part), "{status} {told}");
+}
+
+fn has_opening(places: &Places, replica: usize) -> bool {
+    places.directory(replica).join("opening.take").exists()
+}
+
+#[test]
+fn four_new_machines_are_lost() {
+    let Some(node) = real_node() else { return };
+    let places = Places::new("grown");
+    let stores = [0, 1, 2].map(|replica| places.start(replica, &node));
+    set(&stores.each_ref(), 0..30);
+    let new = [3, 4, 5, 6].map(|replica| join(&places, &node, (replica, 7), replica));
+    let named: Vec<&str> = new.iter().map(|(_, named)| named.as_str()).collect();
+    operate(&stores[0], &format!("EPAXOS RESIZE 7 {}", named.join(" ")));
+    for (store, _) in &new {
+        wait("the new machines", || store.told().contains("of 7 in generation 2"));
+    }
+    drop(new);
+    for store in &stores {
+        wait("the new number", || store.told().contains("of 7 in generation 2"));
+        wait("their loss", || (3..7).all(|peer| store.info(&format!("peer_{peer}")) == "lost"));
+    }
+    // Nothing can be done, not even undo it.
+    assert!(matches!(stores[0].ask("SET x 1"), Reply::Error(_)));
+    assert!(matches!(stores[0].operate("EPAXOS RESIZE 3"), Reply::Error(_)));
+    let mut stores = stores.map(Some);
+    for store in &mut stores {
+        assert_eq!(store.take().unwrap().end("TERM"), Some(0));
+    }
+    // Too few of them are refused, and so many that they can just be started.
+    refused(&places, &node, &["--write"], &[0], "1 is no majority of 3");
+    refused(&places, &node, &["--write"], &[0, 1, 2, 3, 4, 5, 6], "a majority: just start these stores");
+    recovered(
+        &places,
+        &node,
+        &[],
+        &[0, 1, 2],
+        &["generation 2 has lost its majority: 3 of its 7 replicas are here", "then add --write"],
+    );
+    assert!((0..3).all(|replica| !has_opening(&places, replica)));
+    let parts = [
+        "generation 1 has a majority here: everything that was acknowledged up to its end is kept",
+        "no log here has a committed command of generation 2",
+        "WARNING: replica 3 of generation 2, ",
+        "3 replicas, of which 0, 1, 2 are here, and 30 keys",
+    ];
+    recovered(&places, &node, &["--write"], &[0, 1, 2], &parts);
+    assert!((0..3).all(|replica| has_opening(&places, replica)));
+    refused(&places, &node, &["--write"], &[0, 1, 2], "from an earlier recovery");
+    // They go on, by the words that they had.
+    let stores = [0, 1, 2].map(|replica| places.start(replica, &node));
+    for store in &stores {
+        assert!(store.told().contains("of 3 in generation 1"), "{}", store.told());
+        has_all(store, 0..30);
+    }
+    set(&stores.each_ref(), 30..60);
+    // (and the next generation follows on that one)
+    operate(&stores[1], "EPAXOS SEAL");
+    stores.iter().for_each(|store| has_all(store, 0..60));
+    // One of the four that comes back all the same does nothing by itself.
+    let three = places.launch(places.command_of(3, 7, &node).args(["--patience", "5"]), 3);
+    wait("its start", || three.told().contains("node process"));
+    assert!(matches!(three.ask("SET x 1"), Reply::Error(_)));
+    set(&stores.each_ref(), 60..70);
+}
+
+#[test]
+fn two_replicas_were_thrown_out() {
+    let Some(node) = real_node() else { return };
+    let places = Places::new("thrown-out");
+    let [mut zero, one, two] = [0, 1, 2].map(|replica| places.start(replica, &node));
+    set(&[&zero, &one, &two], 0..20);
+    let (new, named) = join(&places, &node, (2, 3), 4);
+    operate(&zero, &format!("EPAXOS REPLACE {named} FORCE"));
+    drop((two, new));
+    set(&[&zero, &one], 20..40);
+    let (new, named) = join(&places, &node, (1, 3), 5);
+    operate(&zero, &format!("EPAXOS REPLACE {named} FORCE"));
+    drop((one, new));
+    wait("the loss", || ["peer_1", "peer_2"].iter().all(|peer| zero.info(peer) == "lost"));
+    assert!(matches!(zero.ask("SET x 1"), Reply::Error(_)));
+    // (a store that runs keeps its folder)
+    let (status, told) = recover(&places, &node, &["--write"], &[0, 1, 2]);
+    assert!(status == 1 && told.contains("is in use"), "{status} {told}");
+    assert_eq!(zero.end("TERM"), Some(0));
+    let parts = ["has a majority here: everything that was acknowledged up to its end is kept", "and 40 keys"];
+    recovered(&places, &node, &["--write"], &[0, 1, 2], &parts);
+    let stores = [0, 1, 2].map(|replica| places.start(replica, &node));
+    stores.iter().for_each(|store| has_all(store, 0..40));
+    set(&stores.each_ref(), 40..60);
+}
+
+#[test]
+fn what_may_be_lost_is_accepted_first() {
+    let Some(node) = real_node() else { return };
+    let places = Places::new("lost");
+    let start = |replica: usize| {
+        let store = places.launch(&mut places.command_of(replica, 5, &node), replica);
+        wait("its start", || store.told().contains("node process"));
+        store
+    };
+    let stores = [0, 1, 2, 3, 4].map(start);
+    set(&stores.each_ref(), 0..30);
+    has_all(&stores[2], 0..30);
+    drop(stores);
+    // Three of the five are lost for good.
+    refused(&places, &node, &["--write"], &[0, 2], "--accept-loss");
+    let parts = ["WARNING: machines that aren't here took part in generation 1", "and 30 keys"];
+    recovered(&places, &node, &["--write", "--accept-loss"], &[0, 2], &parts);
+    let stores = [0, 2].map(start);
+    stores.iter().for_each(|store| has_all(store, 0..30));
+    set(&stores.each_ref(), 30..40);
+    // One of the three that comes back isn't let in; a new machine is.
+    let one = places.launch(&mut places.command_of(1, 5, &node), 1);
+    wait("its peers", || one.told().contains("must not come back"));
+    assert!(matches!(one.ask("SET x 1"), Reply::Error(_)));
+    drop(one);
+    let (new, named) = join(&places, &node, (1, 3), 5);
+    operate(&stores[0], &format!("EPAXOS REPLACE {named}"));
+    wait("the new machine", || new.told().contains("node process"));
+    has_all(&new, 0..40);
+}
