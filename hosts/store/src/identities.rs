@@ -124,7 +124,7 @@ fn write_lines(folder: &Path, known: &[Option<Identity>]) -> io::Result<()> {
 }
 
 /// Puts a file of these bytes on the disk: the old one or the new one is there, whenever the machine stops.
-pub fn replace(folder: &Path, name: &str, bytes: impl AsRef<[u8]>) -> io::Result<()> {
+pub fn replace(folder: &Path, name: &str, bytes: &(impl AsRef<[u8]> + ?Sized)) -> io::Result<()> {
     let new = folder.join(format!("{name}.new"));
     let mut file = File::create(&new)?;
     file.write_all(bytes.as_ref())?;
