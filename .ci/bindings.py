@@ -182,6 +182,7 @@ def python(scratch, environment, library):
     if library:
         for name in ("0.log", "1.log", "2.log"):
             yield filecmp.cmp(f"{scratch}/python0/{name}", f"{scratch}/python1/{name}", shallow=False)
+        yield is_well([sys.executable, f"{PYTHON}/large.py"], env=cores[1])
     import epaxos
 
     yield from (takes_turns(core) for core in cores)

@@ -2,6 +2,8 @@
 
 What is wanted is written out from docs/FORMATS.md and the worked examples there."""
 
+import drawing
+
 NOTHING = dict(committed=[], history=[], receipts=[])
 # instance 0.1 has `put x 1`, of client 1
 ONE_PUT = dict(committed=["0.1 seq 1 deps - put x 1"], history=["0.1 put x 1 -> absent"], receipts=["client 1 request 1 0.1 absent"])
@@ -418,8 +420,9 @@ def parted():
             wanted = "".join(lines[it] for it in kept) or f"0 of {len(lines)} entries\n"
             name = " ".join(words)[:40]
             yield dict(name=f"{len(kept)} of {len(lines)} entries by {name}, shown", words=[*made, "show", *words], given=script, wanted=wanted.encode())
-            title = f"{len(kept)} of {len(lines)} events of 3 replicas"
-            yield dict(name=f"{len(kept)} of {len(lines)} entries by {name}, drawn", words=[*made, "draw", *words], given=script, wanted=b"<svg ", is_begun=True, says=[title], is_picture=True)
+            part = "".join(lines[it] for it in kept)
+            yield dict(name=f"{len(kept)} of {len(lines)} entries by {name}, drawn", words=[*made, "draw", "--mermaid", *words], given=script, wanted=drawing.sequence(part, 3).encode())
+            yield dict(name=f"{len(kept)} of {len(lines)} entries by {name}, drawn as a graph", words=[*made, "draw", "--dot", *words], given=script, wanted=drawing.graph("".join(lines), part).encode())
     names = "replica 0                         replica 1                         replica 2\n"
     yield dict(name="none of three entries, in columns", words=[*made, "show", "--columns", "--key", "w"], given=PARTED, wanted=(names + "0 of 3 entries\n").encode())
     yield dict(name="none of no entries", words=[*made, "show", "--key", "w"], given=b"replicas 3\n", wanted=b"")
@@ -427,31 +430,43 @@ def parted():
     yield dict(name="trace events by a key", **events, says=["propose swap x y (client 2"])
 
 
+# Five puts of two keys, each committed by all, and executed but for the last; the third is a swap of both keys. Of the fourth's dependencies 0.3 implies all others.
+GRAPHED = b"replicas 3\n" + b"".join(b"propose 0 %d %s\n" % it + b"flush\n" * 3 for it in ((1, b"put x 1"), (2, b"put y 2"), (1, b"swap x y"), (3, b"put x 4"), (3, b"get y"))) + b"execute 0 0.4\n"
+NODES = {
+    1: '  "0.1" [style=solid, label="0.1 put x 1\\nabsent"];\n',
+    2: '  "0.2" [style=solid, label="0.2 put y 2\\nabsent"];\n',
+    3: '  "0.3" [style=solid, label="0.3 swap x y\\npresent 1"];\n  "0.3" -> "0.1";\n  "0.3" -> "0.2";\n',
+    4: '  "0.4" [style=solid, label="0.4 put x 4\\npresent 2"];\n  "0.4" -> "0.3";\n',
+    5: '  "0.5" [style=solid, label="0.5 get y"];\n  "0.5" -> "0.3";\n',
+}
+# Without 0.3 the dependencies that it implies stand for themselves.
+BARE = {4: '  "0.4" [style=solid, label="0.4 put x 4\\npresent 2"];\n  "0.4" -> "0.1";\n  "0.4" -> "0.3";\n', 5: '  "0.5" [style=solid, label="0.5 get y"];\n  "0.5" -> "0.2";\n  "0.5" -> "0.3";\n'}
+HEAD = 'digraph dependencies {\n  rankdir=BT;\n  node [shape=box, style=dashed, fontname="monospace"];\n'
+
+
 def drawn():
-    """As much as is drawn, and one more: of entries, which are recoveries of one instance, and of instances, which are gets, each committed."""
-    made, recoveries = ["replay", "--emit", "bundle", "|", "draw"], b"replicas 3\n" + b"recover 1 0.1\n" * 2001
-    gets = b"replicas 3\n" + b"propose 0 7 get x\n" * 2000 + b"flush\n" * 3
-    told = b"too many to draw: 2001, and 2000 at most; --from, --to, --replica, --instance, --key and --client keep a part of a diagram, and --page shows all\n"
-    ranges = b"replica 0: 0 entries\nreplica 1: 2001 entries, stamps 1 to 2001\nreplica 2: 0 entries\nfor example, --to 2000 keeps 2000 of these events at most\n"
-    yield dict(name="2,001 entries, drawn", words=made, given=recoveries, told=told + ranges, status=2)
-    # 2,000 proposals, and the entries that handle what they send: of each stamp from 2 to 2,000 two are there, so 2,000 are kept up to 1,000
-    puts = b"replicas 3\n" + b"propose 2 7 put x 1\n" * 1500 + b"flush\n"
-    lines = b"replica 0: 1500 entries, stamps 2 to 1501\nreplica 1: 0 entries\nreplica 2: 1500 entries, stamps 1 to 1500, instances 2.1 to 2.1500\n"
-    few = b"for example, --to 1000 keeps 2000 of these events at most\n"
-    yield dict(name="3,000 entries, drawn", words=made, given=puts, told=told.replace(b"2001", b"3000") + lines + few, status=2)
-    more = b"for example, --to 1497 keeps 2000 of these events at most\n"
-    yield dict(name="2,007 of them, drawn", words=[*made, "--from", "498"], given=puts, told=told.replace(b"2001", b"2007") + lines + more, status=2)
-    yield dict(name="2,000 of them, drawn", words=[*made, "--to", "2000"], given=recoveries, says=["1:1 recover 0.1", "1:2000 recover 0.1"], is_picture=True)
-    yield dict(name="2,001 instances, drawn", words=[*made, "--graph"], given=gets + flushed(b"propose 1 7 get x"), told=told, status=2)
-    # words beside a row, and in a box: of 120 bytes all stand there, of 121 the first 120
-    for ways, before, behind in (([], "0:1 propose put k ", " (client 1 request 1 seen 0); took 0.1"), (["--graph"], "0.1 put k ", "")):
-        for length in (120, 121):
-            value = "v" * (length - len(before + behind))
-            words = f">{before}{value}{behind}"
-            stands = f"{words}</text>" if length == 120 else f"{words[:121]}...</text>"
-            given = f"replicas 3\npropose 0 1 put k {value}\nflush\nflush\n".encode()
-            yield dict(name=f"words of {length} bytes, {' '.join(made[4:] + ways)}", words=[*made, *ways], given=given, wanted=b"<svg ", is_begun=True, says=[stands])
-    yield dict(name="2,000 instances, drawn", words=[*made, "--graph"], given=gets, says=["0.1 get x", "0.2000 get x"], is_picture=True)
+    """Parts of a graph, and more than 2,000 entries and instances, which once were too many."""
+    made = ["replay", "--emit", "bundle", "|", "draw"]
+    for part, lines in (
+        ([], NODES.values()),
+        (["--key", "x"], [NODES[it] for it in (1, 3, 4)]),
+        (["--client", "1"], [NODES[it] for it in (1, 3)]),
+        (["--client", "3"], BARE.values()),
+        (["--instance", "0.4"], [BARE[4]]),
+        (["--key", "y", "--client", "3"], [BARE[5]]),
+        (["--replica", "0", "--to", "1"], [NODES[1]]),
+        (["--replica", "1"], []),
+    ):
+        yield dict(name=f"a graph {' '.join(part) or 'of all'}", words=[*made, "--dot", *part], given=GRAPHED, wanted=f"{HEAD}{''.join(lines)}}}\n".encode())
+    recoveries = b"replicas 3\n" + b"recover 1 0.1\n" * 2001
+    lines = "".join(f"  Note over r1: recover 0.1\n  r1--xr0: Prepare 0.1\n  r1--xr2: Prepare 0.1\n" for _ in range(2001))
+    head = "sequenceDiagram\n" + "".join(f"  participant r{it} as replica {it}\n" for it in range(3))
+    yield dict(name="2,001 entries, drawn", words=[*made, "--mermaid"], given=recoveries, wanted=(head + lines).encode())
+    yield dict(name="two of 2,001 entries, drawn", words=[*made, "--mermaid", "--from", "2000"], given=recoveries, wanted=(head + lines[: 2 * len(lines) // 2001]).encode())
+    gets = b"replicas 3\n" + b"propose 0 7 get x\n" * 2000 + b"flush\n" * 3 + flushed(b"propose 1 7 get x")
+    names = [*(f"0.{it}" for it in range(1, 2001)), "1.1"]
+    nodes = "".join(f'  "{it}" [style=solid, label="{it} get x"];\n' for it in names)
+    yield dict(name="2,001 instances, drawn as a graph", words=[*made, "--dot"], given=gets, wanted=f"{HEAD}{nodes}}}\n".encode())
 
 
 def every():

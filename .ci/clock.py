@@ -18,9 +18,14 @@ def read(pid, name):
         return b""
 
 
-def kind_of(pid):
-    """The kind of work that the process began: a check of a must-fail edit, one of tests or their run, another check; or none."""
-    words = read(pid, "cmdline").split(b"\0")
+def crate_of(words):
+    """The crate that a check is of."""
+    named = [after for word, after in zip(words, words[1:]) if word == b"--crate-name"]
+    return named[0].decode() if named else ""
+
+
+def kind_of(pid, words):
+    """The kind of work that the process, which was begun by these words, does: a check of a must-fail edit, one of tests or their run, another check; or none."""
     name = os.path.basename(words[0])
     try:
         cwd = os.readlink(f"/proc/{pid}/cwd")
@@ -37,7 +42,7 @@ class Clock:
     """Looks at the processes below this one twice a second. The total is exact, a kind's time is what was seen of it."""
 
     def __init__(self):
-        self.processor, self.clock, self.seen = dict.fromkeys(KINDS, 0.0), dict.fromkeys(KINDS, 0.0), {}
+        self.processor, self.clock, self.seen, self.crates = dict.fromkeys(KINDS, 0.0), dict.fromkeys(KINDS, 0.0), {}, {}
         self.ended, self.began, self.spent = threading.Event(), time.monotonic(), self.total()
         self.looking = threading.Thread(target=self.look_on, daemon=True)
 
@@ -49,8 +54,10 @@ class Clock:
         self.ended.set()
         self.looking.join()
         self.spent, self.began = self.total() - self.spent, time.monotonic() - self.began
-        for kind, ticks in self.seen.values():
+        for kind, crate, ticks in self.seen.values():
             self.processor[kind] += ticks / TICK
+            if kind == "proofs" and crate:
+                self.crates[crate] = self.crates.get(crate, 0.0) + ticks / TICK
 
     def total(self):
         return sum(os.times()[:4])
@@ -75,13 +82,15 @@ class Clock:
         found, todo = set(), [(it, None) for it in below.get(os.getpid(), [])]
         while todo:
             pid, root = todo.pop()
-            kind = None if root else kind_of(pid)
+            words = [] if root else read(pid, "cmdline").split(b"\0")
+            kind = None if root else kind_of(pid, words)
             if kind:
                 root = pid, ticks[pid][1]
                 found.add(kind)
-                self.seen[root] = kind, 0
+                self.seen[root] = kind, crate_of(words), 0
             if root:
-                self.seen[root] = self.seen[root][0], self.seen[root][1] + ticks[pid][0]
+                *of, so_far = self.seen[root]
+                self.seen[root] = *of, so_far + ticks[pid][0]
             todo += [(it, root) for it in below.get(pid, [])]
         return found
 
@@ -90,7 +99,9 @@ class Clock:
         other = max(self.spent - sum(self.processor.values()), 0.0)
         parts = [f"{it} {self.processor[it] / 60:.1f}" for it in KINDS]
         times = [f"{it} {self.clock[it] / 60:.1f}" for it in KINDS]
+        crates = sorted(self.crates.items(), key=lambda it: -it[1])
         return [
+            f"seconds of processor time of proofs (what an earlier run kept takes none): {', '.join(f'{it} {seconds:.0f}' for it, seconds in crates)}",
             f"minutes of processor time: {self.spent / 60:.1f} ({', '.join(parts)}, other {other / 60:.1f})",
             f"minutes by the clock: {self.began / 60:.1f} (with {', with '.join(times)}: these run side by side)",
         ]

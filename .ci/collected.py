@@ -75,6 +75,11 @@ def collections():
     """Folders of which a bundle is made."""
     for name, it in (("generation 1", FIRST), ("generation 7", ONE), ("5 replicas", TWO), ("7 replicas", THREE), ("the last generation", LAST), ("long values", LONG), ("nothing", Generation(generation=2))):
         yield dict(name=f"collect of {name}", words=collect(it), files=folders(it) | receipts(it), wanted=it.bundle())
+    # more than 5,000 entries in a log
+    many = Generation(*[f"put k{at} v" for at in range(1700)], generation=3, since=9)
+    yield dict(name="collect of long logs", words=collect(many), files=folders(many) | receipts(many), wanted=many.bundle())
+    yield dict(name="audit of long logs", words=["audit"], given=many.bundle(), wanted=many.audited())
+    yield dict(name="contents of a long log", words=["contents", "zero"], files=folders(many), wanted=shown(many, 0, many.held))
     turned = collect(ONE, "two", "zero", "one")
     yield dict(name="collect of folders in another order", words=turned, files=folders(ONE) | receipts(ONE), wanted=ONE.bundle())
     # the least stamp stands in the bundle, whoever has it
@@ -82,6 +87,10 @@ def collections():
         yield dict(name=f"collect of other stamps, {at}", words=collect(ONE), files=folders(ONE, *sinces) | receipts(ONE), wanted=ONE.bundle())
     bare = Generation(generation=8, since=6, opening={"a": "1"})
     yield dict(name="collect of no receipts", words=collect(bare, receipts=False), files=folders(bare, 9, 6, 7), wanted=bare.bundle())
+    # what generation 1 opens with is the same for all clusters of a size, so that its files may be missing
+    for it in (FIRST, Generation("put x 1", "get x", size=5), Generation("put x 1", "get x", size=7)):
+        bare = {name: held for name, held in folders(it).items() if not name.endswith("opening")}
+        yield dict(name=f"collect of generation 1 of {it.size} without its openings", words=collect(it), files=bare | receipts(it), wanted=it.bundle())
     # other files and generations in the folders change nothing
     more = folders(ONE) | folders(ONE.next()) | {"zero/7/left": b"8", "zero/x": b"", "one/07/log": b"x"} | receipts(ONE)
     yield dict(name="collect of folders with more", words=collect(ONE), files=more, wanted=ONE.bundle())
@@ -105,10 +114,19 @@ def refusals():
     files = folders(ONE)
     for name in ("zero/7/opening", "two/7/opening", "zero/7/log", "one/7/log"):
         yield refused(f"no {name}", without(files, name), f"{name} {MISSING}")
-    yield refused("another generation than there is", files, f"zero/6/opening {MISSING}", collect(Generation(generation=6)))
-    yield refused("a folder that isn't there", files, f"three/7/opening {MISSING}", collect(ONE, "zero", "three"))
-    yield refused("no such receipts", files, "reading more failed", ["collect", "--generation", "7", "--receipts", "more", "zero", "one", "two"], 4)
-    yield refused("a folder in the place of a log", without(files, "one/7/log") | {"one/7/log/x": b""}, "reading one/7/log failed", status=4)
+    # a generation that a folder doesn't have; what it has; and a folder one level off
+    yield refused("another generation than there is", files, "zero has no generation 6: its oldest is 7, its newest 7", collect(Generation(generation=6)))
+    held = files | folders(Generation(generation=12, opening={"c": "0"})) | folders(Generation(generation=9, opening={"c": "0"}))
+    yield refused("another generation than several", held, "zero has no generation 8: its oldest is 7, its newest 12", collect(Generation(generation=8)))
+    yield refused("a generation that the second folder lacks", files | folder(ONE.next(), 0), "one has no generation 8: its oldest is 7, its newest 7", collect(ONE.next()))
+    stored = {f"zero/generations/{name.removeprefix('zero/')}": it for name, it in files.items() if name.startswith("zero/")}
+    yield refused("the folder of a store", stored, "zero has no generation; look into zero/generations", collect(ONE, "zero"))
+    yield refused("a folder without a generation", {"zero/x": b""}, "zero has no generation", collect(ONE, "zero"))
+    yield refused("a folder that isn't there", files, "reading three failed: no such file or directory", collect(ONE, "zero", "three"), 4)
+    yield refused("no such receipts", files, "reading more failed: no such file or directory", ["collect", "--generation", "7", "--receipts", "more", "zero", "one", "two"], 4)
+    yield refused("a folder in the place of a log", without(files, "one/7/log") | {"one/7/log/x": b""}, "reading one/7/log failed: not a regular file", status=4)
+    # logs of version 3 that are named plainly
+    yield refused("a log of version 3 named plainly", files, "log refused zero/7/log: a log of version 3; name its node's folder, with --generation G", ["collect", "zero/7/log"])
     # opening files
     held = files["one/7/opening"]
     body = held[:-32]
@@ -193,8 +211,9 @@ def maps():
     for name, held, line, status in (
         ("no generation", {"zero/x": b""}, "zero has no generation", 2),
         ("a log alone", without(files, "zero/7/opening"), "zero has no generation", 2),
-        ("no folder", {"one/x": b""}, "reading zero failed", 4),
-        ("a file", {"zero": b""}, "reading zero failed", 4),
+        ("no folder", {"one/x": b""}, "reading zero failed: no such file or directory", 4),
+        ("the folder of a store", {"zero/generations/7/opening": files["zero/7/opening"]}, "zero has no generation; look into zero/generations", 2),
+        ("a file", {"zero": b""}, "reading zero failed: no such file or directory", 4),
         ("a cut opening", files | {"zero/7/opening": b"EPOP"}, "opening refused zero/7/opening: cut short at byte 4", 2),
         ("another generation's opening", files | {"zero/7/opening": eight}, "zero/7/opening is of another generation", 2),
         ("a log begun otherwise", files | {"zero/7/opening": opening(ONE, 41)}, "log refused zero/7/log: another generation", 2),

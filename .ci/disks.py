@@ -9,6 +9,7 @@ for there whose folder wasn't synced.
 
 import os
 import random
+import shutil
 import subprocess
 import sys
 import tempfile
@@ -16,6 +17,7 @@ import tempfile
 sys.dont_write_bytecode = True
 TOP = os.path.dirname(os.path.dirname(os.path.abspath(__file__)))
 
+import disk
 import folders
 import shim
 from shim import SYNC, propose
@@ -60,9 +62,9 @@ def comes_back(case, least=None):
 
 def comes_back_always(case, chances=CHANCES):
     """Whatever a power loss leaves."""
-    disk, place, log, told, entries = case.disk, case.place, case.log, case.told, case.entries
+    disk, root, place, log, told, entries = case.disk, case.root, case.place, case.log, case.told, case.entries
     for seed in range(chances + 1):
-        case.disk, case.place, case.log, case.told, case.entries = disk, place, log, told, entries
+        case.disk, case.root, case.place, case.log, case.told, case.entries = disk, root, place, log, told, entries
         case.lose_power(random.Random(seed) if seed else None)
         comes_back(case, told)
 
@@ -287,6 +289,18 @@ def begins_a_folder(case):
         case.wants(case.told >= told, f"{told} entries were told, and {case.told} came back, after: {lines[moment][:80]}")
 
 
+def without_folder(case):
+    """FOLDER isn't there."""
+    case.disk.names.pop(case.place)
+    os.rmdir(case.place)
+
+
+def makes_a_folder(case):
+    """The same where FOLDER isn't there: the node makes it."""
+    without_folder(case)
+    begins_a_folder(case)
+
+
 def failed_in_a_folder(kind, place, error, is_taken):
     """The place-th call of a kind fails in a start that closes or takes; then a start again, and then a power loss."""
 
@@ -298,7 +312,8 @@ def failed_in_a_folder(kind, place, error, is_taken):
         case.start(LIVES, f"fail={kind}:{place}:{place}:{error}", words=words)
         wanted = CAUSES[error]
         case.wants(case.status == 4, f"status {case.status}, and 4 was wanted")
-        case.wants(case.errors.lower() in (f"log failed: {wanted}\n", f"folder failed: {wanted}\n"), f"{case.errors.strip()!r} in the place of {wanted!r}")
+        lines = (f"log failed: {wanted}\n", f"folder failed: {wanted}\n", f"folder failed: {case.started}: {wanted}\n")
+        case.wants(case.errors.lower() in lines, f"{case.errors.strip()!r} in the place of {wanted!r}")
         told = case.told
         goes_on(case, "none", told, words)
         told = case.told
@@ -322,32 +337,101 @@ def failed_in_folders(make):
                 yield f"{'take' if is_taken else 'close'}, {kind} {place}: {CAUSES[errors[0]]}", failed_in_a_folder(kind, place, errors[0], is_taken)
 
 
-def a_disk_that_lies_to_a_folder(case):
-    """Of the rows themselves: each file's sync that wasn't done is noticed, and that of a folder for the one that was made, and for the log."""
-    tree = case.trees[2]
-    case.put(tree)
+def is_renewed(case, rules=()):
+    """A sync fails once, and the next start writes the log anew: what it tells then is there after a power loss."""
+    case.start(SYNC, is_new=True)
+    case.start(shim.propose_in(1, 1, 3, b"x", b"1") + SYNC, f"fail=fdatasync:1:1:{IO}")
+    case.wants(case.status == 4, f"status {case.status} where a sync failed")
+    case.start(shim.STATE + SYNC, *rules)
+    case.wants(case.status == 0 and case.told == 1, f"status {case.status}, {case.told} of 1 entry told")
+    told = case.told
+    case.lose_power()
+    comes_back(case, told)
+
+
+def is_marked(case, rules=()):
+    """The power is lost, and the folder of the generation that was served too: the mark stays, and the replica acts in no generation before that one."""
+    case.put(case.trees[2])
+    case.start(LIVES, *rules)
+    case.wants(case.status == 0 and case.state()[0] == 2, f"the start: status {case.status}, {case.errors.strip()}")
+    case.lose_power()
+    shutil.rmtree(f"{case.place}/2")
     case.start(LIVES)
-    synced, opened = [], {}
+    case.wants(case.status == 2 and "has been in generation 2, which is gone" in case.errors, f"status {case.status}, {case.errors.strip()}, where generation 2 is gone")
+
+
+def is_in_a_new_folder(case, rules=()):
+    """FOLDER was made right before, so a power loss may take it as long as the folder that it is in isn't synced."""
+    case.disk.names.pop(case.place)
+    case.disk.change({case.place: disk.Folder()})
+    case.start(SYNC + LIVES, *rules, is_new=True)
+    case.wants(case.status == 0, f"the first start: status {case.status}, {case.errors.strip()}")
+    told = case.told
+    case.lose_power(random.Random(1))
+    comes_back(case, told)
+
+
+def folders_synced(case):
+    """Which folders the last start synced, by their names in FOLDER, in order."""
+    opened, synced = {}, []
     for line in case.lines:
         kind, *words = line.split(" ")
         if kind == "open" and words[2] == "folder":
             opened[words[1]] = os.path.relpath(words[3], case.place)
         elif kind == "folder":
             synced.append(opened[words[1]])
-    files = case.calls("fsync")
-    wanted = [("fsync", it) for it in range(1, files + 1)]
-    wanted += [("folder", synced.index(".") + 1), ("folder", max(at for at, it in enumerate(synced, 1) if it == "2"))]
-    case.wants(files == 4 and len(synced) == 5, f"{files} files and {len(synced)} folders were synced: {synced}")
-    for kind, place in wanted:
-        case.forget()
-        case.put(tree)
-        noticed, case.faults = case.faults, []
-        lost_after_each_call(case, rules=(f"held={kind}:{place}:{place}",))
-        noticed, case.faults = case.faults, noticed
-        case.wants(noticed, f"the {kind} {place} that wasn't done wasn't noticed")
+    return synced
 
 
-FOLDER_ROWS = (closes, takes, executes_the_seal, begins_a_folder, a_disk_that_lies_to_a_folder)
+def notices(case, row, kind, place, word):
+    """The row has a fault with this word where a sync isn't done."""
+    case.forget()
+    before, case.faults = case.faults, []
+    row(case, rules=(f"held={kind}:{place}:{place}",))
+    noticed, case.faults = case.faults, before
+    case.wants(any(word in it for it in noticed), f"{row.__name__}: the {kind} {place} that wasn't done wasn't noticed: {noticed[:1]}")
+
+
+def a_disk_that_lies_to_a_folder(case):
+    """Of the rows themselves: each sync of a file or of a folder that wasn't done is noticed in a start that closes a generation, by what a power loss
+    leaves or by the order of the calls; and each that what was told needs, by what is there after the power loss."""
+    case.put(case.trees[2])
+    case.start(LIVES)
+    synced, files = folders_synced(case), case.calls("fsync")
+    case.wants(files == 4 and synced == ["1", ".", "..", "2", "2", "1"], f"{files} files and these folders were synced: {synced}")
+
+    def closes_here(case, rules):
+        case.put(case.trees[2])
+        lost_after_each_call(case, rules=rules)
+
+    for kind, count in (("fsync", files), ("folder", len(synced))):
+        for place in range(1, count + 1):
+            notices(case, closes_here, kind, place, "")
+    case.forget()
+    without_folder(case)
+    case.start(SYNC, is_new=True)
+    synced = folders_synced(case)
+    case.wants(synced == ["..", ".", "..", "1", "1"], f"where FOLDER was made, these folders were synced: {synced}")
+
+    def made_here(case, rules):
+        without_folder(case)
+        case.start(SYNC, *rules, is_new=True)
+
+    for place in range(1, len(synced) + 1):
+        notices(case, made_here, "folder", place, "")
+    lost = "would outlast a power loss"
+    # (the names in FOLDER and in 2, of the opening and the log together)
+    notices(case, closes_here, "folder", 2, lost)
+    notices(case, closes_here, "folder", 5, lost)
+    # (the log that was written anew, the mark, and FOLDER itself)
+    notices(case, is_renewed, "folder", 1, lost)
+    notices(case, is_marked, "folder", 6, "where generation 2 is gone")
+    case.forget()
+    case.start(SYNC, is_new=True)
+    notices(case, is_in_a_new_folder, "folder", folders_synced(case).index("..") + 1, lost)
+
+
+FOLDER_ROWS = (closes, takes, executes_the_seal, begins_a_folder, makes_a_folder, is_renewed, is_marked, is_in_a_new_folder, a_disk_that_lies_to_a_folder)
 
 
 def tried(node=NODE, word=""):

@@ -28,7 +28,7 @@ SECONDS = 120
 FIXED, DRAWN = 20, 10
 KEYS = ("a", "aa", "b", "%00", "%ff")
 VALUES = ("1", "2", "%-", "%25%0a")
-LOOKS = (["show"], ["explain"], ["draw"], ["draw", "--graph"], ["trace-events"])
+LOOKS = (["show"], ["explain"], ["draw"], ["draw", "--mermaid"], ["draw", "--dot"], ["trace-events"])
 
 
 class Wrong(Exception):

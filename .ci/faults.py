@@ -5,13 +5,13 @@ What is wanted is written out from docs/FORMATS.md: lines, words, numbers and ra
 S = b"replicas 3\n"
 # what is told of text that is no bundle, before what it is
 TEXT = "bundle refused E12 at byte 0\n  do: give explain a bundle, as `epaxos replay --emit bundle` and `epaxos collect` write it, or a script\n  likely: another file or another program's output was given\n  found: "
-BOTH = "replay, as no line near its beginning is one of run alone"
+BOTH = "replay"
 
 
 def told(line, rest, size="line 1", taken=BOTH):
     """What is told of a line that is refused, behind its number."""
     cluster = f"  {size}: there are 3 replicas, 0 to 2\n" if size else ""
-    return f"script refused at line {line}\n  line {line}{rest}\n{cluster}  it is taken for a script for {taken}; docs/FORMATS.md, section 4, has all lines\n"
+    return f"script refused at line {line}\n  line {line}{rest}\n{cluster}  read as a script for {taken}; docs/FORMATS.md, section 4, has all lines\n"
 
 
 def replay(line):
@@ -30,21 +30,31 @@ def firsts():
     yield "four replicas", b"replicas 4\n", told(1, ", word 2: 4 is out of range: how many replicas there are, 3, 5 or 7", None)
     yield "replicas in letters", b"replicas five\n", told(1, ", word 2: five is no number: how many replicas there are, 3, 5 or 7", None)
     yield "a word behind the replicas", b"replicas 3 5\n", told(1, ", word 3: 5 is one word more than the line has: replicas N", None)
+    yield "replicas in capitals", b"Replicas 3\npropose 0 1 put x 1\n", told(1, ", word 1: Replicas isn't replicas: the first line is replicas 3, replicas 5 or replicas 7", None)
+    for word in ("Replicas", "REPLICAS", "replica", "replcas", "rreplicas", "replikas", "replicsa"[:7] + "s"):
+        yield f"{word} alone", f"{word} 3\n".encode(), told(1, f", word 1: {word} isn't replicas: the first line is replicas 3, replicas 5 or replicas 7", None)
+    mark = "%ef%bb%bf"
+    yield "a byte order mark", b"\xef\xbb\xbfreplicas 3\npropose 0 1 put x 1\n", told(1, f", word 1: {mark}replicas begins with a byte order mark: scripts have none", None)
+    yield "a byte order mark, and nothing else", b"\xef\xbb\xbfreplicas 3\n", told(1, f", word 1: {mark}replicas begins with a byte order mark: scripts have none", None)
+    yield "a comment behind the replicas", b"replicas 3 # three\n", told(1, ", word 3: # is one word more than the line has: replicas N; comments stand on lines of their own", None)
     yield "replicas twice", S + b"\nreplicas 3\n", told(3, ", word 1: replicas stands once, before all other lines")
 
 
 def words():
     """Words that don't stand there, and words that are missing or too many."""
     yield "another command", S + b"propose 0 1 set x 1\n", told(2, ", word 4: set is no command: get, put, del or swap")
-    yield "another line", S + b"flush\nexecutes 0 0.1\n", told(3, ", word 1: executes is no line: propose, giveup, recover, execute, deliver or flush", taken=replay(2))
+    yield "another line", S + b"flush\nexecutes 0 0.1\n", told(3, ", word 1: executes is unknown; a line begins with propose, giveup, recover, execute, deliver or flush", taken=replay(2))
     yield "a section in a replay", S + b"flush\nsection\n", told(3, ", word 1: section is a line of run alone: here may stand propose, giveup, recover, execute, deliver or flush", taken=replay(2))
     yield "a flush in a run", S + b"section\nflush\n", told(3, ", word 1: flush is a line of replay alone: here may stand propose, giveup, recover, section, drop, hold or repeat", taken=run(2))
-    yield "another line of a run", S + b"section\nlose 0 1 1\n", told(3, ", word 1: lose is no line: propose, giveup, recover, section, drop, hold or repeat", taken=run(2))
+    yield "another line of a run", S + b"section\nlose 0 1 1\n", told(3, ", word 1: lose is unknown; a line begins with propose, giveup, recover, section, drop, hold or repeat", taken=run(2))
     yield "no client", S + b"propose 0\n", told(2, ", word 3: nothing stands here: a client, 1 to 4294967295")
     yield "no command", S + b"propose 0 1\n", told(2, ", word 4: nothing stands here: a command, get, put, del or swap")
     yield "no value", S + b"propose 0 1 put x\n", told(2, ", word 6: nothing stands here: a value")
     yield "a get with a value", S + b"propose 0 1 get x 1\n", told(2, ", word 6: 1 is one word more than the line has: propose R C get K")
     yield "a flush with a number", S + b"flush 2\n", told(2, ", word 2: 2 is one word more than the line has: flush", taken=replay(2))
+    yield "a zero byte", S + b"flush \0\n", told(2, ", word 2: %00 is one word more than the line has: flush", taken=replay(2))
+    yield "a form feed", S + b"\x0cpropose 0 1 put x 1\n", told(2, ", word 1: %0cpropose is unknown; a line begins with propose, giveup, recover, execute, deliver or flush")
+    yield "a comment behind a command", S + b"propose 0 1 get x #one\n", told(2, ", word 6: #one is one word more than the line has: propose R C get K; comments stand on lines of their own")
     yield "a section with a name", S + b"section one\n", told(2, ", word 2: one is one word more than the line has: section", taken=run(2))
     yield "a deliver of nothing", S + b"deliver\n", told(2, ", word 2: nothing stands here: a message, 1 to 4294967295", taken=replay(2))
 
@@ -54,7 +64,7 @@ def numbers():
     yield "a replica too high", S + b"propose 3 1 put x 1\n", told(2, ", word 2: 3 is out of range: a replica, 0 to 2")
     yield "a replica in letters", S + b"propose zero 1 put x 1\n", told(2, ", word 2: zero is no number: a replica, 0 to 2")
     yield "client 0", S + b"propose 0 0 put x 1\n", told(2, ", word 3: 0 is out of range: a client, 1 to 4294967295")
-    yield "a number of 11 digits", S + b"propose 0 12345678901 put x 1\n", told(2, ", word 3: 12345678901 has no number of 1 to 10 digits: a client, 1 to 4294967295")
+    yield "a number of 11 digits", S + b"propose 0 12345678901 put x 1\n", told(2, ", word 3: 12345678901 is too long; expected a client, 1 to 4294967295")
     yield "message 0", S + b"deliver 1 0\n", told(2, ", word 3: 0 is out of range: a message, 1 to 4294967295", taken=replay(2))
     yield "an instance without a dot", S + b"execute 0 1\n", told(2, ", word 3: 1 is no instance: R.I, a replica R, a dot and a number I, 1 to 2000", taken=replay(2))
     yield "an instance with two dots", S + b"execute 0 0.1.1\n", told(2, ", word 3: 0.1.1 is no instance: R.I, a replica R, a dot and a number I, 1 to 2000", taken=replay(2))
@@ -65,7 +75,7 @@ def numbers():
 def keys():
     """Keys and values."""
     yield "an escape that is none", S + b"propose 0 1 put a%zzb 1\n", told(2, ", word 5: a%zzb has %zz, which is no escape: % and two hexadecimal digits; %- stands alone, for no bytes")
-    yield "an odd byte", S + b"propose 0 1 put \xc3\xa9 1\n", told(2, ", word 5: ?? has the byte c3: bytes outside 21 to 7e (hexadecimal) are written %c3")
+    yield "an odd byte", S + b"propose 0 1 put \xc3\xa9 1\n", told(2, ", word 5: %c3%a9 has the byte c3: bytes outside 21 to 7e (hexadecimal) are written %c3")
     yield "an empty key", S + b"propose 0 1 get %-\n", told(2, ", word 5: %- spells 0 bytes: the length of a key, 1 to 255")
     yield "a key too long", S + b"propose 0 1 get " + b"k" * 256 + b"\n", told(2, ", word 5: " + "k" * 60 + "... spells 256 bytes: the length of a key, 1 to 255")
     yield "a value too long", S + b"propose 0 1 put k " + b"v" * 1025 + b"\n", told(2, ", word 6: " + "v" * 60 + "... spells 1025 bytes: the length of a value, 0 to 1024")
@@ -89,7 +99,7 @@ def generations():
     yield "a stamp behind a line", LATE + b"propose 0 1 put x 1\nsince 7\n", told(4, f", word 1: since {late}")
     yield "an opening behind a line", LATE + b"flush\nopening x 1\n", told(4, f", word 1: opening {late}", taken=replay(3))
     yield "a stamp too high", LATE + b"since 281474976710655\n", told(3, ", word 2: 281474976710655 is out of range: a stamp, 0 to 281474976710654")
-    yield "a stamp of 16 digits", LATE + b"since 0000000000000000\n", told(3, ", word 2: 0000000000000000 has no number of 1 to 15 digits: a stamp, 0 to 281474976710654")
+    yield "a stamp of 16 digits", LATE + b"since 0000000000000000\n", told(3, ", word 2: 0000000000000000 is too long; expected a stamp, 0 to 281474976710654")
     yield "a stamp twice", LATE + b"since 7\nopening x 1\nsince 7\n", told(5, ", word 1: since is the script's second line since, after line 3")
     yield "a key twice", LATE + b"opening x 1\nopening y 1\nopening %78 2\n", told(5, ", word 2: %78 spells a key that has a value already, by line 3")
     yield "an opening without a value", LATE + b"opening x\n", told(3, ", word 3: nothing stands here: a value")
@@ -148,6 +158,13 @@ def texts():
     yield "a report", b"verdict accepted\ncommitted 0\nhistory 0\nreceipts 0\nrefused 0\n", "a report, as replay, run and audit print it\n"
     yield "a trace", b"line 2  stamp 1  replica 0 entry 1  propose put x 1 (client 1 request 1 seen 0); took 0.1\n", "a trace, as replay --emit trace prints it\n"
     yield "what is shown", b"stamp 1  replica 0 entry 1  execute 0.1\n", "entries in words, as show prints them\n"
+    yield "nothing", b"", "nothing, as the input is empty\n"
+    for order in ("le", "be"):
+        for mark in ("", "\ufeff"):
+            yield f"UTF-16{order}{' with its mark' if mark else ''}", f"{mark}replicas 3\npropose 0 1 put x 1\n".encode(f"utf-16-{order}"), "text in UTF-16; a script is in ASCII\n"
+    yield "nearly replicas, behind another line", b"hello\nReplicas 3\n", "text, of which no line near its beginning begins with a word of scripts, as replicas or propose\n"
+    for word in ("replisacs", "repla", "replicate", "replicasas"):
+        yield f"{word} alone", f"{word} 3\n".encode(), "text, of which no line near its beginning begins with a word of scripts, as replicas or propose\n"
     yield "a letter", b"Dear replica,\n\nyours\n", "text, of which no line near its beginning begins with a word of scripts, as replicas or propose\n"
 
 
@@ -159,10 +176,10 @@ def every():
         yield dict(name=f"explain input without an end: {name}", words=["explain"], redirect=f"< <({command})", wanted=wanted.encode(), status=2)
     for name, given, what in texts():
         yield dict(name=f"explain text for a bundle: {name}", words=["explain"], given=given, wanted=(TEXT + what).encode(), status=2)
-    for name, script, subcommand in (
-        ("replay", S + b"propose 0 1 put x 1\nflush\n", "replay"),
-        ("run", S + b"propose 0 1 put x 1\nsection\n", "run"),
-        ("both", S + b"propose 0 1 put x 1", "replay"),
-        ("version 3", LATE + b"opening y 1\nsince 7\nopening x %-\npropose 0 1 cas x %- %!\npropose 1 2 seal n\nsection\n", "run"),
+    for name, script, subcommand, more in (
+        ("replay", S + b"propose 0 1 put x 1\nflush\n", "replay", ""),
+        ("run", S + b"propose 0 1 put x 1\nsection\n", "run", "  replay refuses line 3, as section is a line of run alone\n"),
+        ("both", S + b"propose 0 1 put x 1", "replay", ""),
+        ("version 3", LATE + b"opening y 1\nsince 7\nopening x %-\npropose 0 1 cas x %- %!\npropose 1 2 seal n\nhold 0 1 1\nsection\n", "run", "  replay refuses line 8, as hold is a line of run alone\n"),
     ):
-        yield dict(name=f"explain a script for {name}", words=["explain"], given=script, wanted=f"script read, for {subcommand}\n".encode())
+        yield dict(name=f"explain a script for {name}", words=["explain"], given=script, wanted=f"script read, for {subcommand}\n{more}".encode())

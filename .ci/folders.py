@@ -186,10 +186,19 @@ def no_log_line(generation):
     return line(f"folder refused: generation {generation} has no log; repeat the --take that was broken off, or go on with the opening of a later one by --take FILE")
 
 
-def first_starts(it, _folder):
+def place_failed(it, cause):
+    return line(f"folder failed: {it.place(0)}: {cause}")
+
+
+def first_starts(it, folder):
     """A first start, and what is refused then."""
-    no_folder = line("folder failed: no such file or directory")
-    yield "no folder", differs(told(it, 0, "--new"), (4, None, no_folder))
+    yield "no folder", differs(told(it, 0), (4, None, place_failed(it, "no such file or directory")))
+    if not it.starter:
+        # a new replica's folder is made, where that which it is in is there
+        new = Cluster(it.program, f"{folder}/new")
+        yield "no folder for it, and --new", differs(told(new, 0, "--new"), (4, None, place_failed(new, "no such file or directory")))
+        os.mkdir(new.folder)
+        yield "no folder, and --new", differs((told(new, 0, "--new"), told(new, 0)), ((0, 1, ""), (0, 1, "")))
     os.mkdir(it.place(0))
     yield "an empty folder", differs(told(it, 0), (2, None, EMPTY_LINE))
     yield "an empty folder is left so", differs(os.listdir(it.place(0)), ["node.lock"])
@@ -249,7 +258,7 @@ def one_at_a_time(it, folder):
         first.stdin.flush()
         first.stdout.read(26)
         for words in ((), ("--new",), ("--take", f"{folder}/taken")):
-            yield f"a second one {' '.join(words[:1])}", differs(told(it, 0, *words), (4, None, line("folder failed: another process has it open")))
+            yield f"a second one {' '.join(words[:1])}", differs(told(it, 0, *words), (4, None, place_failed(it, "another process has it open")))
     finally:
         first.communicate(timeout=SECONDS)
     yield "nothing was taken", differs(told(it, 0), (0, 1, ""))

@@ -2,6 +2,7 @@
 
   .ci/run             runs the parts that PARTS lists, one after the other; docs/GATE.md tells what each is for and what it takes. Where the first,
                       which looks whether pages and copies are up to date, fails, no other is run
+  .ci/run --all       the same, and tries all wrong bodies, not only those that changed and ten more
   .ci/run --built     runs only the parts that go over the programs that an earlier `rt ci` built
 
 At its end it says what processor time each part took, and its last line is 'N passed, M failed'. The status is 0 where M is 0.
@@ -14,6 +15,7 @@ import subprocess
 import sys
 import tempfile
 import time
+import traceback
 from dataclasses import dataclass
 
 sys.dont_write_bytecode = True
@@ -59,13 +61,17 @@ PUT = b"replicas 3\npropose 0 1 put x 1\n"
 # a script whose bundle has over 16 KiB, so that it takes several reads, and is audited and upgraded, shown and drawn on devices that fail
 LONG = b"replicas 3\n" + b"propose 0 1 put x 1\nflush\nflush\n" * 40
 # what looks whether something that is written is up to date
-LOOKS = (["tools/make-rows", "check"], ["tools/wrong-bodies", "--look"], ["tools/pages"], ["tools/make-page", "--check"], ["tools/c-header", "--check"])
+LOOKS = (["tools/make-rows", "check"], ["tools/pages"], ["tools/history"], ["tools/make-page", "--check"], ["tools/c-header", "--check"], ["tools/wrong-bodies", "--look"])
 # how ep_viewer looks at a bundle
-VIEWS = (["show"], ["show", "--columns"], ["explain"], ["draw"], ["draw", "--graph"])
+VIEWS = (["show"], ["show", "--columns"], ["explain"], ["draw"], ["draw", "--mermaid"], ["draw", "--dot"])
 TRACE = ["replay", "--emit", "trace"]
 # the script that is traced, and whose bundle is looked at, with allocations refused; and rows of bundles that an audit refuses, or doesn't read
 VIEWED = "examples/crossing_puts.script"
 ROWS_VIEWED = ("audit-of-another-value", "audit-of-another-entry", "audit-cut", "audit-not-a-run")
+
+
+# lines on what failed, said again at the end: who reads only that finds them
+AGAIN = []
 
 
 def looks():
@@ -96,6 +102,7 @@ def counted(*words):
     """Runs a tool whose last line counts what it tried, shows what it says, and returns the two numbers."""
     ran = subprocess.run(words, stdin=subprocess.DEVNULL, stdout=subprocess.PIPE, text=True, errors="replace")
     print(f"{words[0]}: {ran.stdout}", end="", flush=True)
+    AGAIN.extend(f"{words[0]}: {it}" for it in ran.stdout.splitlines() if it.startswith("FAILED: "))
     counts = re.search(r"(\d+) passed, (\d+) failed\n\Z", ran.stdout)
     passed, failed = map(int, counts.groups()) if counts else (0, 0)
     return passed, failed or int(ran.returncode != 0 or not counts)
@@ -107,9 +114,9 @@ def tests():
 
 
 def wrong_bodies():
-    """The wrong bodies that each gate has the prover refuse, and some that the commit draws."""
+    """The wrong bodies that changed, or stand on what changed, and some that the commit draws; or all."""
     commit = subprocess.run(["git", "rev-parse", "HEAD"], stdout=subprocess.PIPE, stderr=subprocess.DEVNULL, text=True).stdout.strip()
-    return counted("tools/wrong-bodies", "--gate", commit or "none")
+    return counted("tools/wrong-bodies", *(["--all"] if sys.argv[1:] == ["--all"] else ["--gate", commit or "none"]))
 
 
 def swept(tool, words, given=None):
@@ -292,7 +299,7 @@ def main(words):
     if words in (["--help"], ["-h"]):
         print(__doc__, end="")
         return 0
-    if words not in ([], ["--built"]):
+    if words not in ([], ["--all"], ["--built"]):
         print(__doc__, end="", file=sys.stderr)
         return 2
     os.chdir(TOP)
@@ -301,16 +308,23 @@ def main(words):
     told, passed, failed = [], 0, 0
     with clock.Clock() as spent:
         for part in PARTS:
-            if words and not part.is_of_built:
+            if words == ["--built"] and not part.is_of_built:
                 continue
             processor, began = processor_time(), time.monotonic()
-            counts = part.call()
+            try:
+                counts = part.call()
+            except Exception:
+                # (what a part's own code can't do is one that failed: the others are run)
+                said = traceback.format_exc()
+                print(said, end="", flush=True)
+                AGAIN.append(f"{part.name}: {said.splitlines()[-1]}")
+                counts = 0, 1
             passed, failed = passed + counts[0], failed + counts[1]
             minutes = (processor_time() - processor) / 60, (time.monotonic() - began) / 60
             told.append("%s: %d passed, %d failed, %.1f minutes of processor time, %.1f by the clock" % (part.name, *counts, *minutes))
             if part.call is looks and failed:
                 break
-    print(*told, *spent.lines(), sep="\n")
+    print(*AGAIN, *told, *spent.lines(), sep="\n")
     print(f"{passed} passed, {failed} failed", flush=True)
     return 1 if failed else 0
 

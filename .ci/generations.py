@@ -602,6 +602,9 @@ def accepted_chains():
     yield "two", [ONE, TWO]
     yield "two, the last one without an entry", [ONE, ONE.next()]
     yield "three, of 3, 5 and 7 replicas", [ONE, TWO, THREE]
+    third = TWO.next("put d 4", "swap a d", "seal o", size=7)
+    fourth = third.next("put e 5", "seal p", size=5)
+    yield "five", [ONE, TWO, third, fourth, fourth.next("del e", size=3)]
     yield "two that begin later", [TWO, THREE]
     yield "two, with a later since", [ONE, ONE.next("get a", since=CLOSED_AT + 1000)]
     first = Generation("seal n", size=7, opening={"k": LONGEST})
@@ -704,10 +707,10 @@ def chain_files():
     chain = ["audit", "--chain"]
     yield dict(name="a chain of files with a blank in a name", words=[*chain, "one bundle", "two.bundle"], files=files, wanted=wanted)
     for name, words, told_of, status in (
-        ("a file that isn't there", ["one bundle", "none.bundle"], b"reading none.bundle failed\n", 4),
-        ("a file that isn't there, before one of version 2", ["none.bundle", "old.bundle"], b"reading none.bundle failed\n", 4),
+        ("a file that isn't there", ["one bundle", "none.bundle"], b"reading none.bundle failed: no such file or directory\n", 4),
+        ("a file that isn't there, before one of version 2", ["none.bundle", "old.bundle"], b"reading none.bundle failed: no such file or directory\n", 4),
         ("a file that isn't there, behind one of version 2", ["old.bundle", "none.bundle"], b"bundle refused E12 at byte 4 in old.bundle\n", 2),
-        ("a folder", ["one bundle", "."], b"reading . failed\n", 4),
+        ("a folder", ["one bundle", "."], b"reading . failed: not a regular file\n", 4),
     ):
         yield dict(name=f"a chain with {name}", words=[*chain, *words], files=files, told=told_of, status=status)
     for redirect in ("< /dev/null", "<&-", "< ."):

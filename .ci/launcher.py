@@ -172,7 +172,7 @@ def fixed(room):
     for words, built in (("replay", "ep_main"), ("collect one.log", "ep_server")):
         for turn in ("first", "second"):
             status, wrote, told = room.run(words, SCRIPT)
-            wanted = (0, REPORT, UNPROVED) if built == "ep_main" else (4, "", f"{UNPROVED}reading one.log failed\n")
+            wanted = (0, REPORT, UNPROVED) if built == "ep_main" else (4, "", f"{UNPROVED}reading one.log failed: no such file or directory\n")
             yield f"{words}, not built, {turn} call", (status, wrote, told[-len(wanted[2]) :], ("is built now" in told) == (turn == "first")), (*wanted, True)
     yield "each program is built once, alone", open(f"{room.top}/it.built").read(), "--program ep_main\n--program ep_server\n"
     os.rename(f"{room.top}/tools/unproved.kept", f"{room.top}/tools/unproved")
@@ -247,6 +247,8 @@ def shown(room):
         yield f"{words} {given}, not on a terminal", (status_elsewhere, told), (status, "".join(line for line in said.splitlines(True) if not line.startswith("see: ")))
     yield "a chain, on a terminal", room.seen("./epaxos audit --chain cut.bundle"), (2, "bundle refused E12 at byte 4 in cut.bundle\n")
     yield "from a pipe, on a terminal", room.seen("cat four.script | ./epaxos replay"), (2, "script refused at line 1\nsee: epaxos explain < FILE\n")
+    status, seen = room.seen("./epaxos replay > it.out", (SCRIPT + "\4").encode())
+    yield "a script from the terminal", (status, "reading from the terminal; Ctrl-D ends the input\n" in seen), (0, True)
     many = SCRIPT + "#\n" * 20000
     room.write("many.script", many)
     closed = "(./epaxos {} < {}; echo $? > it.status) | (exec <&-; sleep 0.3); cat it.status"

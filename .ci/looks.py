@@ -2,6 +2,7 @@
 
 What is wanted is written out from docs/FORMATS.md: the bytes of bundles by section 2, by .ci/generations.py, and entries by section 11."""
 
+import drawing
 from generations import LAST_GENERATION, LONGEST, Generation, number, told
 
 ALL = ("cas a 1 2", "cas a 1 3", "cas c %! %-", "ask a q", "ask a b q%20r", "act a %-", "act b a seq", "swap b a", "seal n", "get b", "ask a q", "seal m")
@@ -50,10 +51,6 @@ class Looked(Generation):
         kept = [line for _, _, line in sorted(self.lines) if keeps(line)]
         lines = self.edition() + (kept or [f"0 of {len(self.lines)} entries"] * bool(self.lines))
         return "".join(f"{it}\n" for it in lines).encode()
-
-    def dots(self):
-        """The words at its dots: what an entry sends isn't told there."""
-        return [line.split("  ", 2)[2].partition("; sends")[0] for _, _, line in self.lines]
 
 
 def life(**how):
@@ -204,14 +201,10 @@ def steps():
 
 
 def drawn():
-    """How they are drawn. (What an entry sends isn't told at its dot, but at arrows.)"""
-    one = life()
-    says = [*one.dots(), one.edition()[0], f"{len(one.lines)} events of 3 replicas", "a seal", "answered closed"]
-    yield dict(name="version 3: every command, drawn", words=["draw"], given=one.bundle(), says=says, is_picture=True)
-    said = {line.split(" ")[0]: line for line in one.history}
-    says = [f"{name} {text} -> closed" if said[name].endswith("closed") else f"{name} {text}" for name, text in ((f"0.{at}", it) for at, it in enumerate(ALL, 1))]
-    says += ["a seal: it depends on all above it, and all below depends on it", "-> closed: a seal was executed before it"]
-    yield dict(name="version 3: every command, drawn as a graph", words=["draw", "--graph"], given=one.bundle(), says=says, is_picture=True)
+    """How they are drawn."""
+    for name, one in (("every command", life()), ("nothing", Looked(generation=1)), ("version 2", Looked("put x 1", "swap x y", version=2))):
+        yield dict(name=f"version 3: {name}, drawn", words=["draw", "--mermaid"], given=one.bundle(), wanted=drawing.sequence(one.shown().decode(), one.size).encode())
+        yield dict(name=f"version 3: {name}, drawn as a graph", words=["draw", "--dot"], given=one.bundle(), wanted=drawing.graph(one.shown().decode()).encode())
 
 
 def traced():

@@ -137,7 +137,7 @@ def refusals():
     """Logs of which none is made, and the line of the first fault."""
     it = Stopped("put x 1", "put x 2")
     files = kept(it)
-    yield refused("no file", {name: held for name, held in files.items() if name != "one.log"}, "reading one.log failed", status=4)
+    yield refused("no file", {name: held for name, held in files.items() if name != "one.log"}, "reading one.log failed: no such file or directory", status=4)
     for name, held, line in (
         ("no bytes", b"", "no header of a log"),
         ("a bundle", it.bundle(), "no header of a log"),

@@ -54,6 +54,7 @@ def refused(fault):
 MALFORMED = (
     ("kind 0", asked(0), malformed(1, 4)),
     ("kind 14 with a body", asked(14, "0102"), malformed(1, 4)),
+    ("kind 16 with a body", asked(16, "0102"), malformed(1, 4)),
     ("a cut count of told entries", asked(13, "000000"), malformed(19, 5)),
     ("no count of open instances", asked(13, "00000000"), malformed(20, 9)),
     ("a byte behind both counts", asked(13, "000000000000"), malformed(12, 10)),
@@ -67,6 +68,8 @@ MALFORMED = (
     ("a swap of one key", asked(1, "00000001 00000001 0000000000000000 05 01 0001 7878"), malformed(9, 26)),
     ("a byte behind a put", put(1, 1, b"x", b"1")[:3] + b"\x18" + put(1, 1, b"x", b"1")[4:] + b"!", malformed(12, 27)),
     ("replica 3 of 3", asked(4, "03 0001"), malformed(10, 5)),
+    ("what was handled of replica 3 of 3", asked(15, "03"), malformed(10, 5)),
+    ("a byte behind a replica", asked(15, "0101"), malformed(12, 6)),
     ("number 2001", asked(3, "00 07d1"), malformed(11, 6)),
     ("a body of a sync", asked(10, "00"), malformed(12, 5)),
     ("a body of a state", asked(11, "00"), malformed(12, 5)),

@@ -2,6 +2,8 @@
 
 What is wanted is written out from docs/FORMATS.md: the bytes of bundles by section 2, words of bytes by section 3, entries and traces by section 11."""
 
+import drawing
+
 
 def worded(held):
     """Bytes as one word, by section 3."""
@@ -79,8 +81,7 @@ def proposed():
             shown = f"stamp 1  replica 0 entry 1  {event}; sends to 1 NEVER HANDLED: {ask}\n"
             for version in (1, 2) if op != "swap" else (2,):
                 yield dict(name=f"odd bytes, {what}: {op} in version {version}, shown", words=["show"], given=bundle(op, key, second, version=version), wanted=shown.encode())
-            drawn = [f"0:1 {event}", ask]
-            yield dict(name=f"odd bytes, {what}: {op}, drawn", words=["draw"], given=bundle(op, key, second), says=drawn, is_picture=True)
+            yield dict(name=f"odd bytes, {what}: {op}, drawn", words=["draw", "--mermaid"], given=bundle(op, key, second), wanted=drawing.sequence(shown, 3).encode())
             spelled = f"replicas 3\npropose 0 1 {op} {escaped(key)}" + f" {escaped(second)}" * (op in ("put", "swap"))
             traced = f"""line 2  stamp 1  replica 0 entry 1  {event}; sends #1 to 1: {ask}
 never given  #1 from 0 to 1: {ask}
@@ -138,13 +139,10 @@ def played():
         script = PLAYED.format(escaped(key), escaped(value)).encode()
         made = ["replay", "--emit", "bundle", "|"]
         shown = entries(put, get, value_word)
-        # (what an entry sends isn't told at its dot, but at arrows)
-        told = [it.split("  ", 2)[2].partition("; sends")[0] for it in shown.splitlines()]
         yield dict(name=f"odd bytes, {what}: a run, shown", words=[*made, "show"], given=script, wanted=shown.encode())
         yield dict(name=f"odd bytes, {what}: a run, explained", words=[*made, "explain"], given=script, wanted=b"verdict accepted\n")
-        yield dict(name=f"odd bytes, {what}: a run, drawn", words=[*made, "draw"], given=script, says=told, is_picture=True)
-        lines = [it if len(it) <= 120 else f"{it[:120]}..." for it in (f"0.1 {put}", f"0.2 {get}")]
-        yield dict(name=f"odd bytes, {what}: a run, drawn as a graph", words=[*made, "draw", "--graph"], given=script, says=lines, is_picture=True)
+        yield dict(name=f"odd bytes, {what}: a run, drawn", words=[*made, "draw", "--mermaid"], given=script, wanted=drawing.sequence(shown, 3).encode())
+        yield dict(name=f"odd bytes, {what}: a run, drawn as a graph", words=[*made, "draw", "--dot"], given=script, wanted=drawing.graph(shown).encode())
         yield dict(name=f"odd bytes, {what}: a run, traced", words=["replay", "--emit", "trace"], given=script, wanted=events(put, get, value_word).encode())
 
 
@@ -156,13 +154,11 @@ def refused():
         wanted = b"verdict refused\nA2 changed frame at replica 1 entry 1\n"
         says = [f"\n  handled: {handled}\n", f"\n  sent: {sent}\n"]
         yield dict(name=f"odd bytes, {what}: another value, explained", words=["explain"], given=given, wanted=wanted, is_begun=True, says=says, status=1)
-        says = ["A2 changed frame at replica 1 entry 1", *(f"PreAccept 0.1 ballot (0, 0) put {key_word} {it} seq 1 deps -" for it in (other_word, value_word))]
-        yield dict(name=f"odd bytes, {what}: another value, drawn", words=["draw"], given=given, says=says, is_picture=True)
         given = bundle("put", key, value, sent=other)
         line = b"bundle refused E11 at replica 0 entry 1\n"
         says = [f"put {key_word} {value_word}", f"put {key_word} {other_word}"]
         yield dict(name=f"odd bytes, {what}: another frame, explained", words=["explain"], given=given, wanted=line, is_begun=True, says=says, status=2)
-        for words in (["show"], ["show", "--columns"], ["draw"], ["draw", "--graph"]):
+        for words in (["show"], ["show", "--columns"], ["draw"], ["draw", "--mermaid"], ["draw", "--dot"]):
             yield dict(name=f"odd bytes, {what}: another frame, {' '.join(words)}", words=words, given=given, told=line, status=2)
         # the last byte is that of the answer to the get, as its receipt has it
         if len(other) == len(value):

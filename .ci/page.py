@@ -1,15 +1,19 @@
 #!/usr/bin/env python3
-"""Pages and trace events of runs, looked at from outside.
+"""Pages, diagrams, graphs and trace events of runs, looked at from outside.
 
   .ci/page.py PROGRAM     PROGRAM is ep_main as it was built, beside which ep_viewer was built
 
-Of each run the trace events are read as JSON, and counted against what `show` prints; and its page is opened in headless Chromium, where there is
-one: it has to say how many events and instances there are, to list the instances with their commands as `show` has them, and to raise no error.
+Of each run the trace events are read as JSON, and counted against what `show` prints; its diagram and its graph have to be those of what `show` prints, and
+the graph is drawn by Graphviz, where it is installed; and its page is opened in headless Chromium, where there is
+one: it has to say how many events and instances there are, to list the instances with their commands as `show` has them, to find slow and recovered ones,
+to sort by path, to have the arrows of the graph, and to raise no error. Both views are saved as SVG, and read as XML.
 The runs are worked scripts, a run whose keys and values are odd bytes, one of 10,800 events at five replicas, and one of version 3 with two seals.
 The last line is 'pages: N passed, M failed'.
 """
 
 import html
+import importlib.machinery
+import importlib.util
 import json
 import os
 import re
@@ -17,14 +21,17 @@ import shutil
 import subprocess
 import sys
 import tempfile
+from xml.dom import minidom
 
 sys.dont_write_bytecode = True
 TOP = os.path.dirname(os.path.dirname(os.path.abspath(__file__)))
 sys.path.insert(0, f"{TOP}/.ci")
+import drawing
 import looks
 import odd
 import rows
 
+GRAPHVIZ = shutil.which("dot")
 BROWSER = shutil.which("chromium") or shutil.which("chromium-browser") or shutil.which("google-chrome")
 SECONDS = 120
 EXAMPLES = ("one_put", "slow_path", "recovery", "two_swaps", "stale_answer_then_chosen", "empty")
@@ -136,12 +143,108 @@ def page_fault(shown_lines, page):
     return ""
 
 
+def diagram_fault(told, made):
+    """What is wrong with a diagram, by what is shown."""
+    lines = made.decode().splitlines()
+    replicas = sum(it.startswith("  participant ") for it in lines)
+    if made.decode() != drawing.sequence("\n".join(told), replicas):
+        return f"it isn't that of what is shown: {lines[:9]}"
+    other = [it for it in lines[1:] if not drawing.DRAWN.fullmatch(it)]
+    return f"Mermaid doesn't read {other[0]!r}" if other else ""
+
+
+def graph_fault(told, made):
+    """What is wrong with a graph, by what is shown; and by what Graphviz draws of it, where it has few nodes."""
+    if made.decode() != drawing.graph("\n".join(told)):
+        return f"it isn't that of what is shown: {made[:300]!r}"
+    nodes = re.findall(rf'^  "({INSTANCE})" \[', made.decode(), re.M)
+    if not GRAPHVIZ or len(nodes) > 60:
+        return ""
+    ended = subprocess.run([GRAPHVIZ, "-Tsvg"], input=made, capture_output=True, timeout=SECONDS)
+    if ended.returncode or ended.stderr:
+        return f"Graphviz says {ended.stderr[:300]!r}"
+    texts = {"".join(part.data for part in it.childNodes) for it in minidom.parseString(ended.stdout).getElementsByTagName("text")}
+    # (Graphviz has no-break spaces where several spaces follow each other, which no words have)
+    commands = {name: command for line in told for name, command, *_ in drawing.COMMIT.findall(line)}
+    unsaid = [f"{it} {commands[it]}" for it in nodes if f"{it} {commands[it]}" not in texts]
+    return f"Graphviz draws {sorted(texts)[:9]} and not {unsaid[0]!r}" if unsaid else ""
+
+
+def frames():
+    """tools/page-frames, which drives a browser."""
+    loader = importlib.machinery.SourceFileLoader("page_frames", f"{TOP}/tools/page-frames")
+    made = importlib.util.module_from_spec(importlib.util.spec_from_loader("page_frames", loader))
+    loader.exec_module(made)
+    return made
+
+
+def paths_of(entries):
+    """The path of each instance that is committed, by docs/FORMATS.md, 11.3."""
+    sent, paths = {}, {}
+    for it in entries:
+        for _, _, message in it.sent:
+            kind, name = message.split(" ")
+            kinds = sent.setdefault((it.replica, name), set())
+            kinds.add(kind)
+            if kind == "Commit":
+                paths.setdefault(name, "recovered" if "Prepare" in kinds else "slow" if "Accept" in kinds else "fast")
+    return paths
+
+
+USED = """(() => {
+  const typed = text => { find.value = text; find.dispatchEvent(new Event('input')); return [rows.length, listed.map(it => it.name)]; };
+  const found = [typed('SLOW'), typed('Recovered'), typed('never HANDLED')];
+  typed('');
+  const by = name => { document.querySelector(`#head [data-by=${name}]`).click(); return listed.map(it => it.path); };
+  const sorted = [by('path'), by('path')];
+  by('name');
+  const diagram = picture();
+  document.querySelector('[data-mode=graph]').click();
+  const edges = graph().nodes.flatMap(one => one.edges.map(to => `${one.name} ${to.name}`));
+  return JSON.stringify({found, sorted, edges, pictures: [diagram, picture()]});
+})()"""
+
+
+def used_fault(told, page):
+    """What is wrong with a page that is used: words are looked for, a column is sorted by, the graph is opened, pictures are saved."""
+    entries = [drawing.Entry(it) for it in parted(told)[1]]
+    # (what the browser's helpers still write while it is removed stays)
+    with tempfile.TemporaryDirectory(ignore_cleanup_errors=True) as folder:
+        with open(f"{folder}/page.html", "wb") as it:
+            it.write(page)
+        browser = frames().Browser(f"{folder}/own")
+        try:
+            browser.open(f"{folder}/page.html")
+            made = json.loads(browser.value(USED))
+        finally:
+            browser.process.kill()
+            browser.process.wait()
+    paths = paths_of(entries)
+    for path, (_, names) in zip(("slow", "recovered"), made["found"]):
+        wanted = sorted((it for it in paths if paths[it] == path), key=drawing.number)
+        if names != wanted:
+            return f"of {path} it lists {names[:9]} and not {wanted[:9]}"
+    if made["found"][2][0] != sum("NEVER HANDLED" in it for it in told):
+        return f"it finds {made['found'][2][0]} events with frames that were never handled"
+    ranks = [[("recovered", "slow", "fast", "open").index(it) for it in one] for one in made["sorted"]]
+    if ranks[0] != sorted(ranks[0]) or ranks[1] != sorted(ranks[1], reverse=True):
+        return f"sorted by path it lists {made['sorted'][0][:9]}, {made['sorted'][1][:9]}"
+    wanted = re.findall(rf'^  "({INSTANCE})" -> "({INSTANCE})"', drawing.graph("\n".join(told)), re.M)
+    if sorted(made["edges"]) != sorted(" ".join(it) for it in wanted):
+        return f"the graph has {len(made['edges'])} arrows, and not these {len(wanted)}"
+    for it in made["pictures"]:
+        if minidom.parseString(it.encode()).documentElement.tagName != "svg":
+            return "a picture is no SVG"
+    return ""
+
+
 def tried(program):
     """Looks at all runs, prints a line for each that is wrong, and returns how many passed and how many failed."""
     passed = failed = 0
     if not BROWSER:
         print("pages: there is no chromium here, so no page is opened", flush=True)
-    ways = [("trace events", events_fault, ["trace-events"])] + [("a page", page_fault, ["draw", "--page"])] * bool(BROWSER)
+    ways = [("trace events", events_fault, ["trace-events"]), ("a diagram", diagram_fault, ["draw", "--mermaid"]), ("a graph", graph_fault, ["draw", "--dot"])]
+    ways += [("a page", page_fault, ["draw"]), ("a page that is used", used_fault, ["draw"])] * bool(BROWSER)
     for name, bundle in bundles(program):
         told = ran(program, ["show"], bundle).decode().splitlines()
         for what, fault, words in ways:

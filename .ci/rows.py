@@ -13,7 +13,7 @@ A row is a folder .ci/rows/NAME with files, each of which may lack:
 PROGRAM is ep_main as it was built; what begins with `node`, `collect` or `contents` is run by ep_server, and what begins with `show`, `explain`,
 `draw` or `trace-events`, and traces, by ep_viewer, which were built as it was. Runs of `epaxos node`, and of `collect` on its logs, are in .ci/nodes.py.
 More rows are made of the scripts and reports in examples/ and .ci/scripts/ (NAME.script is played, NAME.run is run
-by both hosts, and where there is a NAME.trace or a NAME.svg, NAME.script is traced
+by both hosts, and where there is a NAME.trace, a NAME.mmd or a NAME.dot, NAME.script is traced
 or drawn), and by .ci/made.py, .ci/words.py, .ci/cases.py, .ci/odd.py, .ci/faults.py, .ci/generations.py, .ci/collected.py, .ci/moved.py and .ci/looks.py. What .ci/drawn.py draws by
 chance is looked at too.
 """
@@ -25,14 +25,10 @@ import subprocess
 import sys
 import tempfile
 from dataclasses import dataclass, field
-from xml.dom import minidom
-from xml.parsers.expat import ExpatError
 
 sys.dont_write_bytecode = True
 TOP = os.path.dirname(os.path.dirname(os.path.abspath(__file__)))
 SECONDS = 120
-# what there is in a picture
-TAGS = {"svg", "title", "style", "defs", "marker", "path", "rect", "g", "line", "circle", "text"}
 
 
 def program_of(program, words):
@@ -71,9 +67,8 @@ class Row:
     # whether the output has only to begin so, and how the fault output has to end behind what is told, where it may say more
     is_begun: bool = False
     rest: bytes | None = None
-    # what printed lines have to have in them too; of a picture, what has to stand in one of its texts each, and no other bytes are wanted
+    # what printed lines have to have in them too
     says: list = field(default_factory=list)
-    is_picture: bool = False
 
     def run(self, program):
         """Returns what is wrong with a run of the program, or nothing."""
@@ -103,7 +98,7 @@ class Row:
         if not is_told:
             return f"standard error has {told[:200]!r} and not {self.told[:200]!r}"
         unsaid = self.unsaid(wrote)
-        if unsaid or self.is_picture:
+        if unsaid:
             return unsaid
         if wrote != self.wanted and wrote not in self.others and not (self.is_begun and wrote.startswith(self.wanted)):
             at = next((place for place, (a, b) in enumerate(zip(wrote, self.wanted)) if a != b), min(len(wrote), len(self.wanted)))
@@ -114,11 +109,8 @@ class Row:
         """Returns what the output has to say and doesn't, or nothing."""
         if self.says and not re.fullmatch(rb"[ -~\n]*\n", wrote):
             return "standard output has bytes that aren't printed, or doesn't end its last line"
-        texts = texts_in(wrote) if self.is_picture else [wrote.decode(errors="replace")]
-        if not texts:
-            return f"standard output is no picture: {wrote[:80]!r} .. {wrote[-80:]!r}"
         for words in self.says:
-            if not any(words in it for it in texts):
+            if words.encode() not in wrote:
                 return f"standard output doesn't say {words[:200]!r}"
         return ""
 
@@ -131,17 +123,6 @@ class Row:
         except subprocess.TimeoutExpired:
             return None, b"", b"it had not ended after %d seconds" % SECONDS
         return ran.returncode, ran.stdout, ran.stderr
-
-
-def texts_in(wrote):
-    """The texts in a picture, as a reader of XML has them; none where it isn't one."""
-    try:
-        elements = minidom.parseString(wrote).getElementsByTagName("*")
-    except ExpatError:
-        return []
-    if elements[0].tagName != "svg" or not {it.tagName for it in elements} <= TAGS:
-        return []
-    return ["".join(part.data for part in it.childNodes if part.nodeType == part.TEXT_NODE) for it in elements if it.tagName in ("title", "text")]
 
 
 def text(folder, name):
@@ -209,8 +190,9 @@ def written():
                 yield from played(name, script, report) if kind == ".script" else hosted(name, [], script, [report])
                 if os.path.isfile(f"{TOP}/{folder}/{stem}.trace"):
                     yield Row(f"{name}, traced", ["replay", "--emit", "trace"], script, text(f"{TOP}/{folder}", f"{stem}.trace"))
-                if os.path.isfile(f"{TOP}/{folder}/{stem}.svg"):
-                    yield Row(f"{name}, drawn", ["replay", "--emit", "bundle", "|", "draw"], script, text(f"{TOP}/{folder}", f"{stem}.svg"))
+                for ending, way in (("mmd", "--mermaid"), ("dot", "--dot")):
+                    if os.path.isfile(f"{TOP}/{folder}/{stem}.{ending}"):
+                        yield Row(f"{name}, drawn by {way}", ["replay", "--emit", "bundle", "|", "draw", way], script, text(f"{TOP}/{folder}", f"{stem}.{ending}"))
 
 
 def every():

@@ -140,10 +140,13 @@ class Case:
 
     def forget(self):
         """A new disk with an empty folder."""
-        self.place = f"{self.folder}/{self.starts}"
+        # what is traced is at or below the root
+        self.root = self.place = f"{self.folder}/{self.starts}"
         os.makedirs(self.place)
         self.log = f"{self.place}/log"
         self.disk = disk.Disk()
+        # folders that have a new name in them, or are new themselves, and weren't synced since; and what came before their syncs
+        self.unsynced, self.misordered = set(), []
         # how many entries were told of, -1 where nothing was answered; and the entries themselves
         self.told, self.entries = -1, []
         self.faults = []
@@ -152,8 +155,10 @@ class Case:
     def start(self, requests, *rules, words=(), is_new=False):
         """Starts the node, which reads these requests."""
         self.starts += 1
+        # where the node is
+        self.started = self.place
         trace = f"{self.folder}/{self.starts}.trace"
-        run = [self.shim, trace, self.place, *rules, "--", self.node, "node", "--replicas", "3", "--replica", "0", *self.where()]
+        run = [self.shim, trace, self.root, *rules, "--", self.node, "node", "--replicas", "3", "--replica", "0", *self.where()]
         run += [*words, *(["--new"] if is_new else [])]
         ended = subprocess.run(run, input=requests, capture_output=True, timeout=SECONDS)
         self.status, self.errors = ended.returncode, ended.stderr.decode(errors="replace")
@@ -169,8 +174,10 @@ class Case:
     def follow(self, lines):
         """Does with the disk what these calls did, and looks after each."""
         out, read = b"", 0
+        self.unsynced, self.misordered = set(), []
         for line in lines:
             kind, *rest = line.split(" ")
+            self.name(kind, rest)
             if kind == "out" and int(rest[0]) > 0:
                 out += bytes.fromhex(rest[1])
                 whole, size = answers(out[read:], self.version)
@@ -185,8 +192,25 @@ class Case:
                     self.faults.append(str(fault))
                     break
             self.look(line)
+        self.faults += self.misordered
         if read != len(out):
             self.faults.append("an answer is cut")
+
+    def name(self, kind, rest):
+        """A name is synced before there is another one, and before anything is told."""
+        if kind not in ("rename", "mkdir", "folder", "out") or rest[0] == "held" or int(rest[0]) < 0:
+            return
+        if kind == "folder":
+            self.unsynced.discard(self.disk.folders[int(rest[1])])
+            return
+        if self.unsynced:
+            self.misordered.append(f"{', '.join(sorted(os.path.relpath(it, self.place) for it in self.unsynced))} was not synced before: {kind} {rest[-1][-40:]}")
+        if kind == "rename":
+            self.unsynced = {os.path.dirname(rest[-1])}
+        if kind == "mkdir":
+            # (nobody knows whether the name of the folder that it is in would outlast a power loss)
+            above = os.path.dirname(rest[-1])
+            self.unsynced = {it for it in (above, os.path.dirname(above)) if it.startswith(self.root)}
 
     def hear(self, whole):
         for answer in whole:
@@ -211,12 +235,12 @@ class Case:
         """From now on there is what a power loss leaves."""
         left = self.disk.after_crash(chance)
         self.starts += 1
-        place = f"{self.folder}/{self.starts}"
-        os.makedirs(place)
+        root = f"{self.folder}/{self.starts}"
+        os.makedirs(root)
         self.disk = disk.Disk()
         for path, content in sorted(left.items()):
-            self.lay(place + path.removeprefix(self.place), content)
-        self.place, self.log = place, place + self.log.removeprefix(self.place)
+            self.lay(root + path.removeprefix(self.root), content)
+        self.root, self.place, self.log = root, root + self.place.removeprefix(self.root), root + self.log.removeprefix(self.root)
 
     def lay(self, path, content):
         """Makes a file of this content, or a folder where there is none; it is on the disk."""
@@ -243,6 +267,9 @@ class FolderCase(Case):
 
     def forget(self):
         super().forget()
+        # the folder that the replica's folder is in is traced too
+        self.lay(f"{self.root}/it", None)
+        self.place = f"{self.root}/it"
         self.generation, self.log = 1, f"{self.place}/1/log"
         # the answers of the last start
         self.answers = []
@@ -258,13 +285,13 @@ class FolderCase(Case):
     def start(self, requests, *rules, words=(), is_new=False):
         self.answers = []
         # what there was before it, for a start that is followed again
-        self.saved = copy.deepcopy((self.place, self.log, self.generation, self.told, self.entries, self.disk))
+        self.saved = copy.deepcopy((self.root, self.place, self.log, self.generation, self.told, self.entries, self.disk))
         return super().start(requests, *rules, words=words, is_new=is_new)
 
     def restore(self, saved):
         """From now on there is what there was before a start."""
         self.answers = []
-        self.place, self.log, self.generation, self.told, self.entries, self.disk = copy.deepcopy(saved)
+        self.root, self.place, self.log, self.generation, self.told, self.entries, self.disk = copy.deepcopy(saved)
 
     def hear(self, whole):
         self.answers += whole

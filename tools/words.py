@@ -228,10 +228,10 @@ def refusal(words):
 
 def check(command, given, plain):
     """Refuses a value that an option hasn't, and files that don't go with the options."""
-    if {"graph", "page"} <= {*given}:
-        raise Refused("'--graph' and '--page' don't go together\n")
-    if "graph" in given and {*given} & {it for it, *_ in PART}:
-        raise Refused("with '--graph' no part is kept\n")
+    if {"mermaid", "dot"} <= {*given}:
+        raise Refused("'--mermaid' and '--dot' don't go together\n")
+    if "page" in given and {"mermaid", "dot"} & {*given}:
+        raise Refused("'--page' doesn't go with '--mermaid' or '--dot'\n")
     if command == "audit" and plain and "chain" not in given:
         tip = tip_of_file(command, plain[0]) if len(plain) == 1 else ""
         raise Refused("a FILE stands with '--chain' alone\n" + (f"\n  tip: {tip}\n" if tip else ""))

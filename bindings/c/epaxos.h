@@ -27,7 +27,7 @@ extern "C" {
 #endif
 
 /* What ep_version() answers of the library that this header is of. */
-#define EP_VERSION 1
+#define EP_VERSION 3
 
 /* Begins a struct ep_bytes of no bytes, and a struct ep_replica of no replica. */
 #define EP_EMPTY { (const uint8_t *)"", 0 }
@@ -38,6 +38,13 @@ extern "C" {
 /* A node on the heap, or none, as one pointer. C begins it with a null pointer, and changes nothing in it. So each
    call sees whether a handle has no node, was freed, or has one already, and none is undefined. */
 struct ep_replica {
+    void *at;
+};
+
+/* When to give up and when to recover, on the heap, or none, as one pointer. C begins it with a null pointer, and
+   changes nothing in it. So each call sees whether it has none, was freed, or has one already, and none is
+   undefined. */
+struct ep_patience {
     void *at;
 };
 
@@ -124,6 +131,24 @@ struct ep_touching {
     uint8_t is_reading;
 };
 
+/* How long a replica waits, in the unit of the caller's times. Count in microseconds: numbers are rounded down. */
+struct ep_waits {
+    /* From which the random waits are drawn. Replicas of a cluster have different ones. */
+    uint64_t seed;
+    /* G of RFC 6298: a peer's time-out is SRTT + max (G, 4 RTTVAR). 100 ms are a good choice. */
+    uint32_t granularity;
+    /* The time-out of a peer that was never measured, 1 s in RFC 6298. */
+    uint32_t initial;
+    /* How long a Commit is waited for of which a peer tells. 1.5 s are a good choice. */
+    uint32_t told;
+    /* Waits double up to this one. 20 s are a good choice. */
+    uint32_t longest;
+    /* How many replicas the cluster has: 3, 5 or 7. */
+    uint8_t replicas;
+    /* Which of them this is, from 0. */
+    uint8_t replica;
+};
+
 /* Statuses. Those below 16 are the numbers of the faults' names (docs/FORMATS.md, section 7). */
 enum {
     /* The call did what it was to do. */
@@ -181,6 +206,10 @@ enum {
     EP_NOT_SEALED = 42,
     /* There is no generation after it. */
     EP_LAST_GENERATION = 43,
+    /* Nothing was begun that tells when to wait no longer, it was freed, or another thread is in a call with it. */
+    EP_NO_PATIENCE = 44,
+    /* It was begun already. */
+    EP_HAS_PATIENCE = 45,
     /* The log has no bytes, and the replica isn't new. */
     EP_NO_LOG = 48,
     /* The log has bytes, and the replica is new. */
@@ -273,6 +302,10 @@ static inline const char *ep_status_name(uint8_t status)
         return "EP_NOT_SEALED";
     case EP_LAST_GENERATION:
         return "EP_LAST_GENERATION";
+    case EP_NO_PATIENCE:
+        return "EP_NO_PATIENCE";
+    case EP_HAS_PATIENCE:
+        return "EP_HAS_PATIENCE";
     case EP_NO_LOG:
         return "EP_NO_LOG";
     case EP_LOG_EXISTS:
@@ -427,6 +460,16 @@ uint8_t ep_ask(struct ep_replica *replica, const uint8_t *request, size_t reques
    bytes. */
 uint8_t ep_get(struct ep_replica *replica, const uint8_t *key, size_t key_len, struct ep_bytes *value);
 
+/* Lends what all keys of the replica's own map have, after all that it executed: a local read, which may be old.
+   First how many keys have a value (4 bytes), and then, in rising order of keys, each with the length of the key
+   (1), that of the value (4), the key and the value. EP_NO_REPLICA, EP_UNSYNCED, EP_MEMORY. */
+uint8_t ep_contents(struct ep_replica *replica, struct ep_bytes *contents);
+
+/* Tells how many entries of a peer the replica knows of, by its log: the greatest number among the entries whose
+   frames it has handled; 0 if it has handled none. A peer whose log has fewer has lost what it promised, or was put
+   back to an older copy, and must not go on. EP_NO_REPLICA; EP_OUT_OF_RANGE: there is no such replica. */
+uint8_t ep_handled(struct ep_replica *replica, uint8_t peer, uint32_t *entries);
+
 /* Tells the least instance that the replica knows of and hasn't committed, above this one, or, if its number is 0,
    of all. EP_NO_REPLICA, EP_UNSYNCED; EP_NONE: there is none; EP_OUT_OF_RANGE: there is no such instance. */
 uint8_t ep_next_open(struct ep_replica *replica, struct ep_instance above, struct ep_instance *instance);
@@ -439,6 +482,48 @@ uint8_t ep_leads(struct ep_replica *replica, struct ep_instance instance, struct
    here. The replica goes on, and those that lag may still need it. EP_NO_REPLICA, EP_UNSYNCED, EP_MEMORY;
    EP_NOT_SEALED; EP_LAST_GENERATION; EP_OUT_OF_RANGE: a cluster has 3, 5 or 7 replicas. */
 uint8_t ep_close(struct ep_replica *replica, uint8_t replicas, struct ep_bytes *opening);
+
+/* ---- When to give up, and when to recover ---- */
+
+/* Begins to tell when a replica is to wait no longer, if nothing was begun: any answer is safe, and this one is wise
+   by the time that peers take to answer, which it is told. All peers are taken to be reached, and nothing is waited
+   for. Times are numbers of a clock of yours, which doesn't turn back; the first is any. `ep_patience_free` ends it.
+   EP_HAS_PATIENCE, EP_MEMORY; EP_OUT_OF_RANGE: `replicas` isn't 3, 5 or 7, or `replica` isn't below it. */
+uint8_t ep_patience_begin(struct ep_patience *patience, const struct ep_waits *waits);
+
+/* Ends it, if it was begun. EP_DONE. */
+uint8_t ep_patience_free(struct ep_patience *patience);
+
+/* Tells that an answer of this peer to an own proposal (a frame PreAcceptOK) came so long after the proposal's frame
+   was sent to it, which is after the sync. Not where that frame was sent twice: it isn't known then which one is
+   answered (Karn's rule). EP_NO_PATIENCE; EP_OUT_OF_RANGE: `peer` is above 6. */
+uint8_t ep_patience_measure(struct ep_patience *patience, uint8_t peer, uint32_t took);
+
+/* Tells that frames to this peer arrive, as far as you know, or, if `is_reached` is 0, that they don't: its
+   connection is lost. Where one is reached again, what was asked for is hurried. EP_NO_PATIENCE; EP_OUT_OF_RANGE:
+   `peer` is above 6. */
+uint8_t ep_patience_reach(struct ep_patience *patience, uint8_t peer, uint8_t is_reached);
+
+/* Has the next turn wait no longer for what was asked for before than as if that had been asked for once: when a
+   seal is committed, say, as it waits for all. EP_NO_PATIENCE. */
+uint8_t ep_patience_hurry(struct ep_patience *patience);
+
+/* Tells that somebody recovers this instance: a Prepare or an Accept of it was sent or handled here, at a ballot of
+   this counter. Another recovery would be in its way, so it is put off, if it is waited for. EP_NO_PATIENCE;
+   EP_OUT_OF_RANGE: there is no such instance. */
+uint8_t ep_patience_put_off(struct ep_patience *patience, struct ep_instance instance, uint16_t ballot, uint64_t now);
+
+/* Has a turn at this time, at which just these instances are open, and lends what to ask the replica for.
+   `instances` has nine bytes for each, in rising order, as the answer of kind 9 has them (docs/FORMATS.md, section
+   10); one that isn't open here, and of which a peer tells that it is committed, has the phase 4. `late` has four
+   bytes for each of at most 64 events: 3 (give up) or 4 (recover), and the instance, as in a request.
+   EP_NO_PATIENCE, EP_MEMORY; EP_OUT_OF_RANGE: the bytes aren't open instances in rising order. */
+uint8_t ep_patience_turn(struct ep_patience *patience, uint64_t now, const uint8_t *instances, size_t instances_len,
+                         struct ep_bytes *late);
+
+/* Tells when to have the next turn at the latest, if no instance is opened before. EP_NO_PATIENCE; EP_NONE: nothing
+   is waited for, or too few peers are reached. */
+uint8_t ep_patience_due(struct ep_patience *patience, uint64_t *due);
 
 /* ---- What is told without a replica ---- */
 

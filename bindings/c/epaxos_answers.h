@@ -1,4 +1,4 @@
-/* Reads what ep_answers lends (docs/FORMATS.md, section 10). A header alone, for C11 and C++: it copies nothing, and reads no byte that isn't there.
+/* Reads what ep_answers and ep_contents lend (docs/FORMATS.md, section 10). A header alone, for C11 and C++: it copies nothing, and reads no byte that isn't there.
  *
  *     struct ep_report report;
  *     struct ep_frame frame;
@@ -95,6 +95,12 @@ struct ep_open_instance {
     uint32_t since;
     /* How far it is led here; of phase 0: it isn't. */
     struct ep_leading leading;
+};
+
+/* A key, and what it has. */
+struct ep_pair {
+    struct ep_bytes key;
+    struct ep_bytes value;
 };
 
 /* ---- Bytes ---- */
@@ -260,6 +266,26 @@ static inline int ep_read_report(struct ep_bytes answers, struct ep_report *repo
     report->open = ep_begin_items(&reader, 1);
     ep_read_bytes(&reader, (size_t)9 * report->open.left);
     return !reader.is_cut && !reader.left;
+}
+
+/* Begins to read what ep_contents lends. */
+static inline struct ep_items ep_read_contents(struct ep_bytes contents)
+{
+    struct ep_reader reader = ep_reader_of(contents);
+    return ep_begin_items(&reader, 4);
+}
+
+/* The next key, and what it has: 1, or 0 where there is none, or none that is whole. */
+static inline int ep_next_pair(struct ep_items *contents, struct ep_pair *pair)
+{
+    size_t key, value;
+    if (!ep_take_item(contents))
+        return 0;
+    key = (size_t)ep_read_number(&contents->reader, 1);
+    value = (size_t)ep_read_number(&contents->reader, 4);
+    pair->key = ep_read_bytes(&contents->reader, key);
+    pair->value = ep_read_bytes(&contents->reader, value);
+    return !contents->reader.is_cut;
 }
 
 #ifdef __cplusplus

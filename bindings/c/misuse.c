@@ -45,6 +45,55 @@ static void read_whole(struct ep_bytes answers)
     WANT(0, ep_next_open_instance(&report, &open));
 }
 
+/* When to wait no longer: mistakes, and one own proposal of replica 0 of three, whose member took 100, three times (SRTT 100, RTTVAR 27: a time-out of 208). */
+static void wait_no_longer(void)
+{
+    struct ep_patience patience = EP_CLOSED;
+    struct ep_waits waits = { 7, 100, 1000, 1500, 20000, 3, 3 };
+    struct ep_bytes late = EP_EMPTY;
+    struct ep_instance nowhere = { 2001, 1 }, other = { 1, 1 };
+    uint8_t open[] = { 0, 0, 1, 0, 0, 0, 1, 1, 1 };
+    uint64_t due = 5;
+
+    WANT(EP_OUT_OF_RANGE, ep_patience_begin(&patience, &waits));
+    waits.replica = 0, waits.replicas = 4;
+    WANT(EP_OUT_OF_RANGE, ep_patience_begin(&patience, &waits));
+    for (int twice = 0; twice < 2; twice++) {
+        WANT(EP_NO_PATIENCE, ep_patience_measure(&patience, 1, 100));
+        WANT(EP_NO_PATIENCE, ep_patience_reach(&patience, 1, 0));
+        WANT(EP_NO_PATIENCE, ep_patience_hurry(&patience));
+        WANT(EP_NO_PATIENCE, ep_patience_put_off(&patience, other, 1, 0));
+        WANT(EP_NO_PATIENCE, ep_patience_turn(&patience, 0, open, sizeof open, &late));
+        WANT(EP_NO_PATIENCE, ep_patience_due(&patience, &due));
+        WANT(EP_DONE, ep_patience_free(&patience));
+        waits.replicas = 3;
+        WANT(EP_DONE, ep_patience_begin(&patience, &waits));
+        WANT(EP_HAS_PATIENCE, ep_patience_begin(&patience, &waits));
+        if (twice)
+            break;
+        WANT(EP_DONE, ep_patience_free(&patience));
+    }
+    for (int times = 0; times < 3; times++)
+        WANT(EP_DONE, ep_patience_measure(&patience, 1, 100));
+    WANT(EP_OUT_OF_RANGE, ep_patience_measure(&patience, 7, 100));
+    WANT(EP_OUT_OF_RANGE, ep_patience_reach(&patience, 7, 0));
+    WANT(EP_OUT_OF_RANGE, ep_patience_put_off(&patience, nowhere, 1, 0));
+    WANT(EP_DONE, ep_patience_put_off(&patience, other, 1, 0));
+    WANT(EP_NONE, ep_patience_due(&patience, &due));
+    WANT(5, (int)due);
+    WANT(EP_OUT_OF_RANGE, ep_patience_turn(&patience, 0, open, 8, &late));
+    WANT(EP_DONE, ep_patience_turn(&patience, 0, open, sizeof open, &late));
+    WANT(0, (int)late.len);
+    WANT(EP_DONE, ep_patience_due(&patience, &due));
+    WANT(208, (int)due);
+    WANT(EP_DONE, ep_patience_turn(&patience, 208, open, sizeof open, &late));
+    if (late.len != 4 || memcmp(late.at, (uint8_t[]){ 3, 0, 0, 1 }, 4))
+        puts("something else is late"), wrong = 1;
+    WANT(EP_DONE, ep_patience_reach(&patience, 1, 0));
+    WANT(EP_DONE, ep_patience_hurry(&patience));
+    WANT(EP_DONE, ep_patience_free(&patience));
+}
+
 int main(void)
 {
     static const uint8_t key[] = "k", damaged[43] = "EPLG";
@@ -58,6 +107,9 @@ int main(void)
     struct ep_exchange exchange = { empty, empty, 0, 1 };
     struct ep_touching touching = { { key, 1 }, { key, 1 }, 1, 0 };
     struct ep_setup setup = { empty, empty, 3, 0, 1 };
+    struct ep_items contents;
+    struct ep_pair pair;
+    uint32_t count = 77;
     size_t len = 3;
 
     /* as `free` does */
@@ -88,13 +140,15 @@ int main(void)
         WANT(EP_NO_REPLICA, ep_answers(&replica, 0, 0, &value));
         WANT(EP_NO_REPLICA, ep_ask(&replica, key, 1));
         WANT(EP_NO_REPLICA, ep_get(&replica, key, 1, &value));
+        WANT(EP_NO_REPLICA, ep_contents(&replica, &value));
+        WANT(EP_NO_REPLICA, ep_handled(&replica, 1, &count));
         WANT(EP_NO_REPLICA, ep_next_open(&replica, here, &instance));
         WANT(EP_NO_REPLICA, ep_leads(&replica, here, &leading));
         WANT(EP_NO_REPLICA, ep_close(&replica, 3, &value));
         WANT(EP_DONE, ep_free(&replica));
     }
     /* nothing was written */
-    if (place.at != 5 || place.by != 6 || log.len != 7 || value.at != key || is_anew != 7 || instance.number != 9 || leading.phase != 8 || replica.at)
+    if (place.at != 5 || place.by != 6 || log.len != 7 || value.at != key || is_anew != 7 || count != 77 || instance.number != 9 || leading.phase != 8 || replica.at)
         puts("something was written"), wrong = 1;
 
     /* what isn't a replica of a cluster */
@@ -134,6 +188,7 @@ int main(void)
     WANT(EP_LENT, ep_ask(&replica, (const uint8_t *)"\0\0\0\1\13", 5));
     WANT(EP_UNSYNCED, ep_answers(&replica, 0, 0, &value));
     WANT(EP_UNSYNCED, ep_get(&replica, key, 1, &value));
+    WANT(EP_UNSYNCED, ep_contents(&replica, &value));
     WANT(EP_UNSYNCED, ep_next_open(&replica, here, &instance));
     WANT(EP_UNSYNCED, ep_leads(&replica, here, &leading));
     WANT(EP_UNSYNCED, ep_close(&replica, 3, &value));
@@ -164,10 +219,18 @@ int main(void)
     WANT(EP_OUT_OF_RANGE, ep_next_open(&replica, nowhere, &instance));
     WANT(EP_OUT_OF_RANGE, ep_close(&replica, 4, &value));
     WANT(EP_OUT_OF_RANGE, ep_get(&replica, long_key, 256, &value));
+    WANT(EP_OUT_OF_RANGE, ep_handled(&replica, 7, &count));
+    WANT(77, (int)count);
     WANT(EP_NOT_ONE, ep_ask(&replica, (const uint8_t *)"\0\0\0\1\13x", 6));
     WANT(EP_NOT_ONE, ep_ask(&replica, (const uint8_t *)"\0\0\0\2\13", 5));
     WANT(EP_NOT_SEALED, ep_close(&replica, 3, &value));
     WANT(EP_NONE, ep_get(&replica, key, 1, &value));
+    WANT(EP_DONE, ep_handled(&replica, 1, &count));
+    WANT(0, (int)count);
+    WANT(EP_DONE, ep_contents(&replica, &value));
+    WANT(4, (int)value.len);
+    contents = ep_read_contents(value);
+    WANT(0, (int)contents.left + ep_next_pair(&contents, &pair));
     WANT(EP_NONE, ep_leads(&replica, here, &leading));
     WANT(EP_NONE, ep_next_open(&replica, (struct ep_instance){ 0, 0 }, &instance));
 
@@ -197,6 +260,7 @@ int main(void)
         puts("another line says why bytes are no bundle"), wrong = 1;
     WANT(EP_TOO_SHORT, ep_audit(key, 1, none, sizeof none, &len));
     WANT(EP_DONE, ep_free(&replica));
+    wait_no_longer();
     if (!wrong)
         puts("each mistake is a status");
     return wrong;

@@ -319,6 +319,24 @@ class Replica:
         return self._core.get(key)
 
     @_in_turn
+    def contents(self):
+        """What all keys of this replica's map have, by their names: a local read, as `get`. Of the library alone."""
+        fields = _Fields(self._core.contents())
+        return dict(fields.all(lambda: _pair(fields)))
+
+    @_in_turn
+    def handled(self, peer):
+        """How many entries of a peer are known here, by the log: the greatest number among those whose frames were handled, 0 where none were. A peer whose log has
+        fewer has lost what it promised, and must not go on."""
+        return self._core.handled(peer)
+
+    @_in_turn
+    def close(self, replicas):
+        """The opening of the next generation, of so many replicas, once a seal was executed: keep it on the disk, begin each replica with it, and have none act in the
+        generation before. Of the library alone."""
+        return self._core.close(replicas)
+
+    @_in_turn
     def end(self):
         """Ends it; what wasn't synced is gone."""
         self._core.end()
@@ -328,6 +346,11 @@ class Replica:
 
     def __exit__(self, *_):
         self.end()
+
+
+def _pair(fields):
+    key, value = fields.number(1), fields.number(4)
+    return fields.run(key), fields.run(value)
 
 
 def _request(kind, body):
@@ -497,6 +520,17 @@ class _Process:
         fields.run(1)
         return fields.run(fields.number(2)) if fields.number(1) else None
 
+    def handled(self, peer):
+        answer = self.ask(15, _packed(">B", peer))
+        _check(answer)
+        return int.from_bytes(answer[1:], "big")
+
+    def contents(self):
+        raise NotImplementedError("a process doesn't tell its map: take the library")
+
+    def close(self, replicas):
+        raise NotImplementedError("a process closes no generation here: take the library")
+
     def end(self):
         if self.running:
             self.stop()
@@ -506,7 +540,7 @@ class _Process:
 
 # Those parts of bindings/c/epaxos.h that are used here, word for word.
 _DECLARED = """
-#define EP_VERSION 1
+#define EP_VERSION 3
 EP_MEMORY = 1
 EP_OUT_OF_RANGE = 3
 EP_NOT_COMMITTED = 10
@@ -515,6 +549,8 @@ EP_LENT = 34
 EP_UNSYNCED = 35
 EP_NONE = 38
 EP_TOO_SHORT = 39
+EP_NOT_SEALED = 42
+EP_LAST_GENERATION = 43
 EP_NO_LOG = 48
 EP_OTHER_LOG = 50
 EP_NO_HEADER = 51
@@ -538,6 +574,8 @@ struct ep_call { uint64_t seen; uint32_t client; uint32_t request; };
 struct ep_exchange { struct ep_bytes expected; struct ep_bytes desired; uint8_t has_expected; uint8_t has_desired; };
 struct ep_touching { struct ep_bytes first; struct ep_bytes second; uint8_t has_second; uint8_t is_reading; };
 struct ep_instance { uint16_t number; uint8_t replica; };
+struct ep_patience { void *at; };
+struct ep_waits { uint64_t seed; uint32_t granularity; uint32_t initial; uint32_t told; uint32_t longest; uint8_t replicas; uint8_t replica; };
 uint32_t ep_version(void);
 uint8_t ep_open(struct ep_replica *replica, const struct ep_setup *setup, struct ep_place *place);
 uint8_t ep_free(struct ep_replica *replica);
@@ -558,6 +596,17 @@ uint8_t ep_ready(struct ep_replica *replica, struct ep_bytes *log, uint8_t *is_a
 uint8_t ep_synced(struct ep_replica *replica, size_t count);
 uint8_t ep_answers(struct ep_replica *replica, uint32_t told, uint8_t most, struct ep_bytes *answers);
 uint8_t ep_get(struct ep_replica *replica, const uint8_t *key, size_t key_len, struct ep_bytes *value);
+uint8_t ep_contents(struct ep_replica *replica, struct ep_bytes *contents);
+uint8_t ep_handled(struct ep_replica *replica, uint8_t peer, uint32_t *entries);
+uint8_t ep_close(struct ep_replica *replica, uint8_t replicas, struct ep_bytes *opening);
+uint8_t ep_patience_begin(struct ep_patience *patience, const struct ep_waits *waits);
+uint8_t ep_patience_free(struct ep_patience *patience);
+uint8_t ep_patience_measure(struct ep_patience *patience, uint8_t peer, uint32_t took);
+uint8_t ep_patience_reach(struct ep_patience *patience, uint8_t peer, uint8_t is_reached);
+uint8_t ep_patience_hurry(struct ep_patience *patience);
+uint8_t ep_patience_put_off(struct ep_patience *patience, struct ep_instance instance, uint16_t ballot, uint64_t now);
+uint8_t ep_patience_turn(struct ep_patience *patience, uint64_t now, const uint8_t *instances, size_t instances_len, struct ep_bytes *late);
+uint8_t ep_patience_due(struct ep_patience *patience, uint64_t *due);
 uint8_t ep_first_opening(uint8_t replicas, uint8_t *out, size_t out_len, size_t *len);
 """
 _NUMBERS = {"uint8_t": ctypes.c_uint8, "uint16_t": ctypes.c_uint16, "uint32_t": ctypes.c_uint32, "uint64_t": ctypes.c_uint64, "size_t": ctypes.c_size_t}
@@ -588,7 +637,16 @@ def _copied(lent):
 
 
 # Why a call is refused, where that has no number of a fault's name.
-_REFUSED = {_STATUSES["EP_LENT"]: "Unsynced", _STATUSES["EP_UNSYNCED"]: "Unsynced", _STATUSES["EP_NO_REPLICA"]: "NoReplica"}
+_REFUSED = {
+    _STATUSES[name]: fault
+    for name, fault in {
+        "EP_NO_REPLICA": "NoReplica",
+        "EP_LENT": "Unsynced",
+        "EP_UNSYNCED": "Unsynced",
+        "EP_NOT_SEALED": "NotSealed",
+        "EP_LAST_GENERATION": "LastGeneration",
+    }.items()
+}
 
 # Why nothing is opened.
 _UNOPENED = {
@@ -616,7 +674,7 @@ class _Library:
     """The core in this process. What it lends is copied, and freed by itself."""
 
     def __init__(self, replicas, me, opening, log):
-        self.calls, self.lent = _loaded(_library()), 0
+        self.calls, self.lent, self.replicas = _loaded(_library()), 0, replicas
         opening = self.first_opening(replicas) if opening is None else opening
         # (no bytes are no opening; to the library they would be another version)
         if not opening or not 0 <= me < 256:
@@ -719,12 +777,94 @@ class _Library:
             return _copied(value)
         return None
 
+    def lent_by(self, name, *words):
+        """What a call lends."""
+        lent = _STRUCTS["ep_bytes"]()
+        self.call(name, *words, lent)
+        return _copied(lent)
+
+    def contents(self):
+        return self.lent_by("ep_contents")
+
+    def handled(self, peer):
+        entries = ctypes.c_uint32()
+        if not 0 <= peer < self.replicas:
+            raise Fault("OutOfRange")
+        self.call("ep_handled", peer, entries)
+        return entries.value
+
+    def close(self, replicas):
+        return self.lent_by("ep_close", *struct.unpack(">B", _packed(">B", replicas)))
+
     def end(self):
         self.calls.ep_free(self.replica)
 
     def __del__(self):
         if hasattr(self, "replica"):
             self.end()
+
+
+class Patience:
+    """Tells when to give up and when to recover: the library's, which is proved. Times are numbers of a clock of yours; count in microseconds, by which the waits are
+    that stand here (`granularity` and `initial` are those of RFC 6298).
+
+        patience = Patience(3, 0, seed=7)
+        patience.measure(1, took)                        # an answer of peer 1 to an own proposal took so long, whose frame was sent once
+        patience.reach(1, False)                         # its connection is lost
+        for kind, instance in patience.turn(now, output.open): ..      # replica.give_up(instance) where kind is GIVE_UP, else replica.recover(instance)
+    """
+
+    def __init__(self, replicas, me, seed, granularity=100_000, initial=1_000_000, told=1_500_000, longest=20_000_000):
+        path = _library()
+        if not path:
+            raise OpenFault("there is no library, which tells when to wait no longer; ./epaxos --build --unproved, at the top of its repository, makes one")
+        self.calls = _loaded(path)
+        if not 0 <= me < replicas < 256:
+            raise Fault("OutOfRange")
+        waits = _STRUCTS["ep_waits"](seed % 2**64, granularity, initial, told, longest, replicas, me)
+        self.patience = _STRUCTS["ep_patience"]()
+        self.call("ep_patience_begin", waits)
+
+    def call(self, name, *words):
+        _Library.check(getattr(self.calls, name)(self.patience, *words))
+
+    def measure(self, peer, took):
+        self.call("ep_patience_measure", *struct.unpack(">BI", _packed(">BI", peer, took)))
+
+    def reach(self, peer, is_reached):
+        self.call("ep_patience_reach", *struct.unpack(">BB", _packed(">BB", peer, bool(is_reached))))
+
+    def hurry(self):
+        self.call("ep_patience_hurry")
+
+    def put_off(self, instance, ballot, now):
+        """A Prepare or an Accept of this instance was sent or handled here, at a ballot of this counter."""
+        self.call("ep_patience_put_off", _STRUCTS["ep_instance"](instance[1], instance[0]), ballot, now)
+
+    def turn(self, now, open, told=()):
+        """A turn at this time, at which just these are open, and a peer tells that these instances are committed: what the replica is to be asked for."""
+        all = {Instance(*it): (TOLD, 0) for it in told} | {Instance(*it.instance): (it.phase, it.answers) for it in open}
+        bytes_of = b"".join(_packed(">BHIBB", *instance, 0, *how) for instance, how in sorted(all.items()))
+        late = _STRUCTS["ep_bytes"]()
+        self.call("ep_patience_turn", now, bytes_of, len(bytes_of), late)
+        return [(kind, Instance(replica, number)) for kind, replica, number in struct.iter_unpack(">BBH", _copied(late))]
+
+    def next_due(self):
+        """When to have the next turn at the latest; None: nothing is waited for, or too few peers are reached."""
+        due = ctypes.c_uint64()
+        status = self.calls.ep_patience_due(self.patience, due)
+        if status == _STATUSES["EP_NONE"]:
+            return None
+        _Library.check(status)
+        return due.value
+
+    def __del__(self):
+        if hasattr(self, "patience"):
+            self.calls.ep_patience_free(self.patience)
+
+
+# What a turn asks for; and in the place of a phase, that a peer tells that an instance is committed.
+GIVE_UP, RECOVER, TOLD = 3, 4, 4
 
 
 def _loaded(path):

@@ -1,6 +1,6 @@
 -- What becomes of files of logs and of receipts, by their names and the bytes that they gave: first of logs, then of receipts.
 use Rattle.std.specs.Prelude.{◌≡◌, ℕ, List, ◌++◌}
-use Rattle.ep_assemble.specs.Lines.{refusal_line, torn_lines}
+use Rattle.ep_assemble.specs.Lines.{plain_line, torn_lines}
 use Rattle.ep_assemble.specs.Logs.{IsAssembled, IsRefused}
 use Rattle.ep_assemble.specs.declared.assembled.End.{End}
 use Rattle.ep_assemble.specs.declared.assemble_fault.AssembleFault.{AssembleFault}
@@ -26,4 +26,4 @@ pub record IsNotCollected (logs receipts log_bytes receipt_bytes : List (List �
   pub fault : AssembleFault
   pub of : IsOfFiles fault
   pub refused : IsRefused fault log_bytes receipt_bytes
-  pub told : line ≡ refusal_line logs receipts fault
+  pub told : line ≡ plain_line logs receipts fault

@@ -3,7 +3,7 @@ use Rattle.std.specs.Prelude.{◌≡◌, ℕ, List, ◌++◌, Contains}
 use Rattle.ep_assemble.specs.GenerationLines.{generation_line, missing_line}
 use Rattle.ep_assemble.specs.Generations.{IsAssembledOf, IsRefusedIn}
 use Rattle.ep_assemble.specs.Lines.{torn_lines}
-use Rattle.ep_cli.specs.Files.{unread_line, IsUnreadLine}
+use Rattle.ep_cli.specs.Files.{IsUnreadLine, IsUnreadOf}
 use Rattle.ep_assemble.specs.declared.assemble_fault.AssembleFault.TheVariants.{Memory, Log, Collect, Receipts, TooManyReceipts}
 use Rattle.ep_assemble.specs.declared.assembled.End.{End}
 use Rattle.ep_cli.specs.declared.files_fault.FilesFault.{FilesFault}
@@ -52,5 +52,5 @@ IsLacking names (files.Refused line) = IsMissingLine names line.items
 -- want of memory, or the file of this name isn't read or is missing
 abbrev pub IsOfLacking : List ℕ → FilesFault → Type 0
 IsOfLacking name files.Memory = Unit {0}
-IsOfLacking name (files.ReadFailed line) = line.items ≡ unread_line name
+IsOfLacking name (files.ReadFailed line) = IsUnreadOf name line.items
 IsOfLacking name (files.Refused line) = line.items ≡ missing_line name

@@ -1,4 +1,5 @@
 pub mod Files
+pub mod Firsts
 pub mod GenerationFiles
 pub mod GenerationLines
 pub mod Generations

@@ -1,5 +1,5 @@
 -- The lines that are told of logs and receipts, by the names of their files.
-use Rattle.std.specs.Prelude.{ℕ, suc, cond, List, [], ◌∷◌, ◌++◌, codes, decimal, slice_index_or as get_or}
+use Rattle.std.specs.Prelude.{ℕ, Bool, true, false, suc, cond, List, [], ◌∷◌, ◌++◌, codes, decimal, slice_index_or as get_or}
 use Rattle.ep_assemble.specs.declared.collect_fault.CollectFault.{CollectFault}
 use Rattle.ep_assemble.specs.declared.collect_fault.CollectFault.TheVariants.{NoJournal, OtherCluster, Twice, Missing}
 use Rattle.ep_log.specs.declared.log_fault.LogFault.{LogFault}
@@ -47,6 +47,32 @@ refusal_line logs files (Log place fault) = log_line (name_at logs place) fault
 refusal_line logs files (Collect fault) = collect_line logs fault
 refusal_line logs files (Receipts place at) = receipts_line (name_at files place) at
 refusal_line logs files TooManyReceipts = codes "receipts refused: more than 4294967295\n"
+
+-- Of logs that are to be of version 2, one of another generation is of version 3.
+
+abbrev pub is_of_generation : LogFault → Bool
+is_of_generation log.Memory = false
+is_of_generation log.NoHeader = false
+is_of_generation log.OtherVersion = false
+is_of_generation log.OtherGeneration = true
+is_of_generation (log.BadLength at) = false
+is_of_generation (log.BadChecksum at) = false
+is_of_generation (log.BadEntry at) = false
+is_of_generation (log.NotNext at) = false
+is_of_generation (log.Turned at by) = false
+
+abbrev pub late_line : List ℕ → List ℕ
+late_line name = codes "log refused " ++ name ++ codes ": a log of version 3; name its node's folder, with --generation G\n"
+
+abbrev pub plain_log_line : List ℕ → LogFault → List ℕ
+plain_log_line name fault = cond (is_of_generation fault) (late_line name) (log_line name fault)
+
+abbrev pub plain_line : List (List ℕ) → List (List ℕ) → AssembleFault → List ℕ
+plain_line logs files Memory = refusal_line logs files Memory
+plain_line logs files (Log place fault) = plain_log_line (name_at logs place) fault
+plain_line logs files (Collect fault) = refusal_line logs files (Collect fault)
+plain_line logs files (Receipts place at) = refusal_line logs files (Receipts place at)
+plain_line logs files TooManyReceipts = refusal_line logs files TooManyReceipts
 
 abbrev pub torn_line : List ℕ → ℕ → List ℕ
 torn_line name whole = codes "torn end in " ++ name ++ (codes " after byte " ++ decimal whole) ++ codes "\n"

@@ -2,13 +2,14 @@
 
 ghost use Rattle.std.specs.Prelude.{◌≡◌, length, map, string_bytes, IfOk, IfErr, IsErr};
 ghost use Rattle.ep_assemble.specs.Files.{IsCollected, IsNotCollected};
-ghost use Rattle.ep_assemble.specs.Lines.{refusal_line};
+ghost use Rattle.ep_assemble.specs.Lines.{plain_line};
 ghost use Rattle.ep_assemble.specs.Logs.{contents};
 ghost use Rattle.ep_cli.specs.Files.{IsReason};
 
 use crate::assemble_fault::AssembleFault;
 use crate::assembling::assemble;
-use crate::lines::{push_refusal, push_torn};
+use crate::lines::push_torn;
+use crate::plain_lines::push_plain;
 use ep_cli::{FilesFault, Printout};
 use std::alloc::Global;
 
@@ -48,10 +49,10 @@ fn refused(
     receipts: &[String],
     fault: AssembleFault,
 ) -> Result<Printout, FilesFault>
-    ensures line { IfErr result (IsReason (λ line. line ≡ refusal_line (map string_bytes logs.now) (map string_bytes receipts.now) fault)) }
+    ensures line { IfErr result (IsReason (λ line. line ≡ plain_line (map string_bytes logs.now) (map string_bytes receipts.now) fault)) }
     ensures never { IsErr result }
 {
     let mut line = Vec::new(alloc);
-    push_refusal(logs, receipts, fault, &mut line)?;
+    push_plain(logs, receipts, fault, &mut line)?;
     Err(FilesFault::Refused(line))
 }

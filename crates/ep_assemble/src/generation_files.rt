@@ -5,8 +5,10 @@ ghost use Rattle.ep_assemble.specs.GenerationFiles.{IsCollectedOf, IsLacking, Is
 ghost use Rattle.ep_assemble.specs.GenerationLines.{generation_line};
 ghost use Rattle.ep_assemble.specs.Logs.{contents};
 ghost use Rattle.ep_cli.specs.Files.{IsReason};
+ghost use Rattle.ep_cli.specs.declared.files_fault.FilesFault.TheVariants.{Memory};
 
 use crate::assemble_fault::AssembleFault;
+use crate::firsts::first_opening;
 use crate::generation::assemble_generation;
 use crate::generation_fault::GenerationFault;
 use crate::generation_lines::{push_generation_refusal, push_missing};
@@ -15,14 +17,17 @@ use crate::lines::push_torn;
 use crate::opened_log::OpenedLog;
 use ep_base::Generation;
 use ep_cli::{FilesFault, Printout, unread};
+use ep_device::fault_of;
 use std::alloc::Global;
-use std::fs;
 use std::io::ErrorKind;
 use std::rt::Files;
+use std::{fs, io};
 
-/// The bytes of the opening files and logs with these names, where none is missing.
+/// The bytes of the opening files and logs of a generation with these names, where none is missing. Where an opening file of generation 1 is
+/// missing, its bytes are what each of that generation is.
 pub fn read_opened_logs<R: Files + AllocGlobal>(
     rt: &R,
+    generation: Generation,
     openings: &[String],
     logs: &[String],
 ) -> Result<Vec<OpenedLog>, FilesFault>
@@ -32,7 +37,7 @@ pub fn read_opened_logs<R: Files + AllocGlobal>(
 {
     let mut kept = Vec::new(rt.alloc());
     for (place, opening) in openings.iter().enumerate() {
-        let one = read_opened_log(rt, opening, &logs[place])?;
+        let one = read_opened_log(rt, generation, opening, &logs[place])?;
         if kept.push(one).is_err() {
             return Err(FilesFault::Memory);
         }
@@ -43,14 +48,51 @@ pub fn read_opened_logs<R: Files + AllocGlobal>(
 /// The bytes of an opening file and of the log beside it.
 fn read_opened_log<R: Files + AllocGlobal>(
     rt: &R,
+    generation: Generation,
     opening: &str,
     log: &str,
 ) -> Result<OpenedLog, FilesFault>
     ensures { IfErr result (λ e. IsOfLacking opening.now e ⊎ IsOfLacking log.now e) }
 {
-    let opening = read_present(rt, opening)?;
+    let opening = read_opening_file(rt, generation, opening)?;
     let log = read_present(rt, log)?;
-    Ok(OpenedLog { opening, log })
+    opened_log(rt.alloc(), opening, log)
+}
+
+/// Both, or the log with what generation 1 opens with.
+fn opened_log(
+    alloc: Global,
+    opening: Option<Vec<u8>>,
+    log: Vec<u8>,
+) -> Result<OpenedLog, FilesFault>
+    ensures { IfErr result (λ e. e ≡ Memory) }
+{
+    match opening {
+        Some(opening) => Ok(OpenedLog { opening, log }),
+        None => match first_opening(alloc, &log) {
+            Ok(opening) => Ok(OpenedLog { opening, log }),
+            Err(_) => Err(FilesFault::Memory),
+        },
+    }
+}
+
+/// The bytes of an opening file. None where there is no such file, and it is of generation 1.
+fn read_opening_file<R: Files + AllocGlobal>(
+    rt: &R,
+    generation: Generation,
+    name: &str,
+) -> Result<Option<Vec<u8>>, FilesFault>
+    ensures { IfErr result (IsOfLacking name.now) }
+{
+    match fs::read(rt, name) {
+        Ok(bytes) => Ok(Some(bytes)),
+        Err(error) => {
+            if generation == Generation::first() && error.kind() == ErrorKind::NotFound {
+                return Ok(None);
+            }
+            Err(lacking(rt.alloc(), name, &error))
+        }
+    }
 }
 
 /// The bytes of a file, where it isn't missing.
@@ -59,10 +101,18 @@ fn read_present<R: Files + AllocGlobal>(rt: &R, name: &str) -> Result<Vec<u8>, F
 {
     match fs::read(rt, name) {
         Ok(bytes) => Ok(bytes),
-        Err(error) if error.kind() == ErrorKind::OutOfMemory => Err(FilesFault::Memory),
-        Err(error) if error.kind() == ErrorKind::NotFound => Err(missing(rt.alloc(), name)),
-        Err(_) => Err(unread(rt.alloc(), name)),
+        Err(error) => Err(lacking(rt.alloc(), name, &error)),
     }
+}
+
+/// The fault of a file that is missing or can't be read, with its line.
+fn lacking(alloc: Global, name: &str, error: &io::Error) -> FilesFault
+    ensures { IsOfLacking name.now result }
+{
+    if error.kind() == ErrorKind::NotFound {
+        return missing(alloc, name);
+    }
+    unread(alloc, name, fault_of(error))
 }
 
 /// The fault of a file that is missing, with its line.

@@ -7,7 +7,8 @@ ghost use Rattle.ep_assemble.specs.GenerationLines.{cluster_line, differing_line
 use crate::differing::Differing;
 use crate::generation_fault::GenerationFault;
 use crate::generation_names::GenerationNames;
-use crate::lines::{name_of, push_number, push_other, push_refusal};
+use crate::lines::{name_of, push_other, push_refusal};
+use ep_cli::push_number;
 use ep_opening::{OpeningFault, OpeningField};
 use std::alloc::AllocError;
 

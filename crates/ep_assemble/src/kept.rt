@@ -30,11 +30,12 @@ pub(crate) fn read_kept(
     let mut ends = Vec::new(alloc);
     for (place, one) in kept.iter().enumerate() {
         let log = read_opened(alloc, cluster, place, one)?;
-        ends.push(End {
+        let end = End {
             whole: log.whole,
             is_torn: log.behind > 0,
-        })?;
+        };
         journals.push(log.journal)?;
+        ends.push(end)?;
     }
     Ok(Logs { journals, ends })
 }

@@ -7,18 +7,9 @@ use crate::assemble_fault::AssembleFault;
 use crate::assembled::End;
 use crate::collect_fault::CollectFault;
 use ep_base::ReplicaId;
+use ep_cli::push_number;
 use ep_log::LogFault;
-use itoa::Buffer;
 use std::alloc::AllocError;
-
-/// Appends a name and the number after it.
-pub(crate) fn push_number(name: &[u8], number: u64, out: &mut Vec<u8>) -> Result<(), AllocError>
-    ensures { OnOk result (out.new.items ≡ out.old.items ++ (name.now ++ decimal number)) }
-{
-    let mut digits = Buffer::new();
-    out.extend_from_slice(name)?;
-    out.extend_from_slice(digits.format(number).as_bytes())
-}
 
 /// Appends which bytes of a log the device has turned, by which record.
 fn push_turned(at: u64, by: u64, out: &mut Vec<u8>) -> Result<(), AllocError>

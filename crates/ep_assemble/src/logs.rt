@@ -27,11 +27,12 @@ pub fn read_logs(alloc: Global, logs: &[Vec<u8>]) -> Result<Logs, AssembleFault>
     let mut ends = Vec::new(alloc);
     for (place, bytes) in logs.iter().enumerate() {
         let log = read_second(alloc, place, bytes)?;
-        ends.push(End {
+        let end = End {
             whole: log.whole,
             is_torn: log.behind > 0,
-        })?;
+        };
         journals.push(log.journal)?;
+        ends.push(end)?;
     }
     Ok(Logs { journals, ends })
 }

@@ -1,3 +1,4 @@
+pub mod Causes
 pub mod Codes
 pub mod Endings
 pub mod Files

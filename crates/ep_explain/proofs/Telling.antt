@@ -1,7 +1,7 @@
 -- What is told of bytes, by what is read of them and which faults are found.
 use Rattle.std.proofs.Common.{◌≡◌, ℕ, ◌+◌, ◌<◌, List, [], ◌∷◌, ◌++◌, length, take, get_or, append-nil, append_assoc, Option, Result, Ok, Err, IfOk, refl, sym, ap, subst, ◌∙◌}
 use Rattle.std.proofs.lemmas.List.{take_more}
-use Rattle.std.specs.Prelude.{Bool, false, ◌||◌, IfErr, None, Some}
+use Rattle.std.specs.Prelude.{Bool, true, false, ◌||◌, IfErr, None, Some, codes}
 use Rattle.std.specs.Io.KnownBytes.{Keeps}
 use Rattle.ep_explain.specs.Kept.{is_read_failed}
 use Rattle.ep_explain.specs.declared.explain_fault.ExplainFault.{ExplainFault}
@@ -14,9 +14,10 @@ use Rattle.ep_bundle.specs.declared.bundle_fault.BundleFault.{BundleFault}
 use Rattle.ep_bundle.specs.declared.bundle_fault.BundleFault.TheVariants.{Memory, ReadFailed, BadBundle, NotARun}
 use Rattle.ep_report.specs.Reports.{text_of}
 use Rattle.ep_audit.specs.declared.audit_fault.AuditFault.{AuditFault}
-use Rattle.ep_explain.specs.Advice.{IsAdvice, at_line, script_refused}
+use Rattle.ep_explain.specs.Advice.{IsAdvice, at_line, script_read, script_refused}
 use Rattle.ep_explain.specs.Reasons.{section}
 use Rattle.ep_explain.specs.declared.subcommand.Subcommand.{Subcommand}
+use Rattle.ep_explain.specs.declared.subcommand.Subcommand.TheVariants.{Run}
 use Rattle.ep_explain.specs.Explained.{IsNoBundle, IsRefusalTold, IsJudged, IsExplained, unreadable, read, unread}
 use Rattle.ep_explain.specs.Sections.{AreTold, none, more, fault_section}
 use Rattle.ep_explain.specs.declared.explained.Explained.{Explained}
@@ -79,4 +80,15 @@ led_by sub line t t0 r f rest told empty is first = (
   first.0,
   rest,
   told ∙ ap (λ x. x ++ text_of (section r (f ∷ rest))) empty ∙ ap (λ x. text_of (section x (f ∷ rest))) is ∙ ap (λ x. text_of (section (script_refused line) (x ∷ rest))) first.1,
+)
+
+-- a script for run alone is read, and the reason says which line replay refuses
+pub run_read :
+    (t t0 f : List ℕ) (rest : List (List ℕ)) → t ≡ t0 ++ text_of (section (script_read Run) (f ∷ rest)) → t0 ≡ [] → rest ≡ [] → (why : List ℕ) × (f ≡ codes "replay refuses line " ++ why) →
+    IsAdvice Run None true t
+run_read t t0 f rest told empty alone why = (
+  refl,
+  f ∷ [],
+  (why.0, ap (λ (x : List ℕ). x ∷ []) why.1),
+  told ∙ ap (λ (x : List ℕ). x ++ text_of (section (script_read Run) (f ∷ rest))) empty ∙ ap (λ (r : List (List ℕ)). text_of (section (script_read Run) (f ∷ r))) alone,
 )

@@ -27,8 +27,13 @@ script_refused line = codes "script refused at line " ++ decimal line
 abbrev pub at_line : ℕ → List ℕ → List ℕ
 at_line line words = codes "line " ++ decimal line ++ words
 
+-- behind the line of a script for run alone stands which line of it `replay` refuses
+abbrev pub AreNotes : Subcommand → List (List ℕ) → Type 0
+AreNotes Replay notes = notes ≡ []
+AreNotes Run notes = (why : List ℕ) × (notes ≡ (codes "replay refuses line " ++ why) ∷ [])
+
 -- a script that is read, or the line that is refused and reasons, of which the first one names it
 abbrev pub IsAdvice : Subcommand → Option ℕ → Bool → List ℕ → Type 0
-IsAdvice subcommand None is_read text = (is_read ≡ true) × (text ≡ text_of (script_read subcommand ∷ []))
+IsAdvice subcommand None is_read text = (is_read ≡ true) × (notes : List (List ℕ)) × AreNotes subcommand notes × (text ≡ text_of (section (script_read subcommand) notes))
 IsAdvice subcommand (Some line) is_read text =
     (is_read ≡ false) × (words : List ℕ) × (more : List (List ℕ)) × (text ≡ text_of (section (script_refused line) (at_line line words ∷ more)))

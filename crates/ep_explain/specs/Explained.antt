@@ -13,6 +13,7 @@ use Rattle.ep_rules.specs.declared.receipt.Receipt.{Receipt}
 use Rattle.ep_view.specs.Editions.{edition_line}
 use Rattle.ep_audit.specs.Listed.{all_faults, IsFirst}
 use Rattle.ep_explain.specs.Advice.{IsAdvice, refused_at}
+use Rattle.ep_explain.specs.Magic.{HasMagic}
 use Rattle.ep_explain.specs.Reasons.{section}
 use Rattle.ep_explain.specs.declared.subcommand.Subcommand.{Subcommand}
 use Rattle.ep_explain.specs.Sections.{AreTold}
@@ -51,12 +52,16 @@ abbrev pub script_finding : Bool → Finding
 script_finding true = Script
 script_finding false = Unreadable
 
+-- what is told of bytes that are taken for a script for this subcommand
+pub record IsScriptTold (bytes : List ℕ) (subcommand : Subcommand) (finding : Finding) (text : List ℕ) : Type 0 where
+  pub is_read : Bool
+  pub advice : IsAdvice subcommand (refused_at subcommand bytes) is_read text
+  pub found : finding ≡ script_finding is_read
+
 pub data IsExplained (bytes : List ℕ) (finding : Finding) (text : List ℕ) : Type 0 where
   -- they are no bundle
   unreadable : (e : BundleFault) → ReadsBundle (unread bytes) (Err e) → IsRefusalTold e finding text → IsExplained bytes finding text
   -- they are a bundle
   read : (c : Contents) (rest : Left) → ReadsBundle (unread bytes) (Ok (c, rest)) → IsJudged c.0 c.1 finding text → IsExplained bytes finding text
-  -- they are taken for a script for this subcommand
-  script :
-      (subcommand : Subcommand) (is_read : Bool) → IsAdvice subcommand (refused_at subcommand bytes) is_read text → finding ≡ script_finding is_read →
-      IsExplained bytes finding text
+  -- they don't begin as a bundle does, and are taken for a script for this subcommand
+  script : (subcommand : Subcommand) → (¬ HasMagic bytes) → IsScriptTold bytes subcommand finding text → IsExplained bytes finding text

@@ -5,7 +5,7 @@ ghost use Rattle.ep_base.specs.Devices.{FailsAsTold, tells};
 ghost use Rattle.ep_bundle.specs.Reading.{is_read_failed as is_bundle_unread};
 ghost use Rattle.ep_explain.specs.Kept.{is_read_failed, known_left};
 ghost use Rattle.ep_explain.specs.declared.explain_fault.ExplainFault.TheVariants.{Memory};
-ghost use Rattle.ep_explain.specs.Explained.{IsExplained, IsJudged, IsNoBundle, IsRefusalTold, IsVerdictTold, script_finding};
+ghost use Rattle.ep_explain.specs.Explained.{IsExplained, IsJudged, IsNoBundle, IsRefusalTold, IsScriptTold, IsVerdictTold, script_finding};
 ghost use Rattle.ep_explain.specs.Sections.{AreTold, fault_section};
 ghost use Rattle.ep_report.specs.Reports.{text_of};
 ghost use Rattle.ep_view.specs.Editions.{edition_line};
@@ -32,8 +32,8 @@ use std::alloc::{AllocError, Global};
 /// How many bytes are looked at before it is known what they are.
 const AHEAD: usize = 65_536;
 
-/// What is found of the bytes of a source, and why, in words. They are taken for a script by their first 65,536 bytes, as `subcommand_of` says, or
-/// else for a bundle. Past the first field or line at fault nothing is read, so a source without an end is explained too.
+/// What is found of the bytes of a source, and why, in words. They are taken for a script by their first 65,536 bytes, as `subcommand_of` says, and
+/// never where they begin as a bundle does; or else for a bundle. Past the first field or line at fault nothing is read, so a source without an end is explained too.
 ///
 /// First comes what the reader or an audit says: `bundle refused ..`, where they are no bundle; `verdict accepted`, and nothing
 /// else; or `verdict refused`, and then all faults in the audit's order, of which the first is the audit's. Under each fault
@@ -44,15 +44,10 @@ pub fn explain<S: Source>(alloc: Global, source: &mut Kept<S>) -> Result<Explain
     ensures failed { FailsAsTold is_read_failed result (S.has_failed source.old.source) (S.has_failed source.new.source) }
 {
     source.look_ahead(AHEAD)?;
-    match taken_for(source.bytes()) {
+    match subcommand_of(source.ahead()) {
         Some(subcommand) => explain_as(alloc, subcommand, source),
         None => explain_bytes(alloc, source),
     }
-}
-
-/// For which subcommand's script these bytes are taken.
-fn taken_for(bytes: Option<&[u8]>) -> Option<Subcommand> {
-    subcommand_of(bytes?)
 }
 
 /// What is told of a script.
@@ -61,7 +56,7 @@ fn explain_as<S: Source>(
     subcommand: Subcommand,
     source: &mut Kept<S>,
 ) -> Result<Explained, ExplainFault>
-    ensures told { (bytes : List ℕ) → known_left S.left source.old ≡ Some bytes → IfOk result (λ told. IsExplained bytes told.finding told.text.items) }
+    ensures told { (bytes : List ℕ) → known_left S.left source.old ≡ Some bytes → IfOk result (λ told. IsScriptTold bytes subcommand told.finding told.text.items) }
     ensures failed { FailsAsTold is_read_failed result (S.has_failed source.old.source) (S.has_failed source.new.source) }
 {
     let Advice { is_read, text } = explain_script(alloc, subcommand, source)?;

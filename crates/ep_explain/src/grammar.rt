@@ -1,7 +1,7 @@
 //! Why a field of a bundle isn't allowed: the grammar of docs/FORMATS.md, section 2, once more, for the names of its fields.
 
 use crate::allowed::Allowed;
-use crate::guess::is_text;
+use crate::guess::{is_text, is_utf16};
 use crate::reasons::Reasons;
 use crate::spot::Spot;
 use crate::walk::Walk;
@@ -40,6 +40,14 @@ impl Terms {
 
 /// Adds why the reader refuses the field that begins at this place.
 pub(crate) fn add_field(bytes: &[u8], place: u64, reasons: &mut Reasons) {
+    if bytes.is_empty() {
+        add_other(b"found: nothing, as the input is empty", reasons);
+        return;
+    }
+    if is_utf16(bytes) {
+        add_other(b"found: text in UTF-16; a script is in ASCII", reasons);
+        return;
+    }
     if is_text(bytes) {
         add_text(bytes, reasons);
         return;
@@ -326,6 +334,11 @@ fn name_of(bytes: &[u8]) -> &'static [u8] {
 
 /// What to do where text was given for a bundle, and what the text is.
 fn add_text(bytes: &[u8], reasons: &mut Reasons) {
+    add_other(name_of(bytes), reasons);
+}
+
+/// What to do where something else was given for a bundle, and what it is.
+fn add_other(found: &[u8], reasons: &mut Reasons) {
     reasons.tell(
         b"do: give explain a bundle, as `epaxos replay --emit bundle` and `epaxos collect` write it, or a script",
         &[],
@@ -334,7 +347,7 @@ fn add_text(bytes: &[u8], reasons: &mut Reasons) {
         b"likely: another file or another program's output was given",
         &[],
     );
-    reasons.tell(name_of(bytes), &[]);
+    reasons.tell(found, &[]);
 }
 
 /// What it usually means, and the field at which the walk is over: what it may be, and what it is.

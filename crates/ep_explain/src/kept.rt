@@ -1,6 +1,6 @@
 //! A source that can be looked at before it is read, and that keeps what was read of it.
 
-ghost use Rattle.std.specs.Prelude.{◌≡◌, ◌≤◌, ◌<◌, [], false, length, take, IfOk, IfErr};
+ghost use Rattle.std.specs.Prelude.{◌≡◌, ◌≤◌, ◌<◌, [], false, length, take, drop, IfOk, IfErr};
 ghost use Rattle.std.specs.Io.KnownBytes.{Keeps};
 ghost use Rattle.ep_base.specs.Devices.{Pulls, FailsAsTold};
 ghost use Rattle.ep_explain.specs.Kept.{known_left, ends, Gives, is_read_failed};
@@ -104,6 +104,13 @@ impl<S: Source> Kept<S> {
         } else {
             None
         }
+    }
+
+    /// The bytes that are kept and weren't pulled.
+    pub fn ahead(&self) -> &[u8]
+        ensures { result.now ≡ drop self.now.at self.now.bytes }
+    {
+        &self.bytes[self.at..]
     }
 
     // Gives the first bytes that are kept and weren't pulled.

@@ -24,11 +24,6 @@ pub(crate) struct Operands<'a> {
     has_told: bool,
 }
 
-/// A byte as it is told: a question mark where it isn't printed.
-fn shown(byte: u8) -> u8 {
-    if is_printed(byte) { byte } else { b'?' }
-}
-
 fn is_printed(byte: u8) -> bool {
     byte > b' ' && byte <= b'~'
 }
@@ -85,10 +80,19 @@ impl<'a> Operands<'a> {
     /// Appends a word as it is told.
     fn show(&mut self, word: &[u8]) {
         for byte in word.iter().take(SHOWN) {
-            self.line.say(&[shown(*byte)]);
+            self.show_byte(*byte);
         }
         if word.len() > SHOWN {
             self.line.say(b"...");
+        }
+    }
+
+    /// Appends a byte as it is told: by % and two digits where it isn't printed.
+    fn show_byte(&mut self, byte: u8) {
+        if is_printed(byte) {
+            self.line.say(&[byte]);
+        } else {
+            self.line.say(&[b'%', digit(byte / 16), digit(byte % 16)]);
         }
     }
 
@@ -132,6 +136,9 @@ impl<'a> Operands<'a> {
         if !self.has_told && place <= self.len() {
             self.tell(place, b"is one word more than the line has: ", &[]);
             self.line.say(form);
+            if self.word(place).starts_with(b"#") {
+                self.line.say(b"; comments stand on lines of their own");
+            }
         }
     }
 
@@ -303,8 +310,8 @@ fn number_fault(word: &[u8], bounds: &Bounds) -> Option<&'static [u8]> {
     match value {
         Some(value) if bounds.has(value) => None,
         Some(_) => Some(b"is out of range: "),
-        None if is_long && word.len() > 15 => Some(b"has no number of 1 to 15 digits: "),
-        None if !is_long && word.len() > 10 => Some(b"has no number of 1 to 10 digits: "),
+        None if is_long && word.len() > 15 => Some(b"is too long; expected "),
+        None if !is_long && word.len() > 10 => Some(b"is too long; expected "),
         None => Some(b"is no number: "),
     }
 }

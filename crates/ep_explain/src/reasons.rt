@@ -25,7 +25,9 @@ impl Model for Reasons {
 
 impl Reasons {
     /// No reasons yet.
-    pub(crate) fn new(alloc: Global) -> Reasons {
+    pub(crate) fn new(alloc: Global) -> Reasons
+        ensures { result ≡ [] }
+    {
         Reasons {
             lines: Vec::new(alloc),
             is_cut: false,

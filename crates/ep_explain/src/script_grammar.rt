@@ -1,6 +1,7 @@
 //! Why a line of a script is refused: the grammar of docs/FORMATS.md, section 4, once more, for the names of its words.
 
 use crate::bounds::{Bounds, replica_below};
+use crate::guess::ORDER_MARK;
 use crate::lines::words_of;
 use crate::operand::Operand;
 use crate::operands::Operands;
@@ -130,6 +131,9 @@ fn words_fault(
 
 /// Why the first line that isn't skipped isn't `replicas N`.
 fn tell_first(telling: &mut Operands<'_>) {
+    if telling.word(1).starts_with(ORDER_MARK) {
+        telling.fault(1, b"begins with a byte order mark: scripts have none", &[]);
+    }
     if telling.word(1) != b"replicas".as_slice() {
         telling.fault(
             1,
@@ -239,7 +243,7 @@ fn tell_replay(telling: &mut Operands<'_>, count: u64) {
         ),
         _ => telling.fault(
             1,
-            b"is no line: propose, giveup, recover, execute, deliver or flush",
+            b"is unknown; a line begins with propose, giveup, recover, execute, deliver or flush",
             &[],
         ),
     }
@@ -259,7 +263,7 @@ fn tell_run(telling: &mut Operands<'_>, count: u64) {
         ),
         _ => telling.fault(
             1,
-            b"is no line: propose, giveup, recover, section, drop, hold or repeat",
+            b"is unknown; a line begins with propose, giveup, recover, section, drop, hold or repeat",
             &[],
         ),
     }

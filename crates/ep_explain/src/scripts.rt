@@ -1,16 +1,17 @@
 //! What is told of a script.
 
-ghost use Rattle.std.specs.Prelude.{◌≡◌, ◌++◌, ◌∷◌, ℕ, List, Some, false, IfOk, OnOk};
+ghost use Rattle.std.specs.Prelude.{◌≡◌, ◌++◌, ◌∷◌, [], ℕ, List, None, Some, false, true, codes, IfOk, OnOk};
 ghost use Rattle.ep_base.specs.Devices.{FailsAsTold};
 ghost use Rattle.ep_script.specs.Plan.{script_of, run_of};
 ghost use Rattle.ep_explain.specs.Advice.{IsAdvice, at_line, line_refused, refused_at, script_read, script_refused};
 ghost use Rattle.ep_explain.specs.Kept.{is_read_failed, known_left};
+ghost use Rattle.ep_explain.specs.declared.subcommand.Subcommand.TheVariants.{Replay, Run};
 
 use crate::advice::Advice;
 use crate::explain_fault::ExplainFault;
 use crate::guess::deciding_line;
 use crate::kept::Kept;
-use crate::lines::Lines;
+use crate::lines::{Lines, first_word};
 use crate::reasons::{Reasons, push_led};
 use crate::script_grammar::{add_size, line_fault};
 use crate::subcommand::Subcommand;
@@ -85,22 +86,111 @@ fn advice(
     ensures { IfOk result (λ a. IsAdvice subcommand refused a.is_read a.text.items) }
 {
     match refused {
-        None => accepted(alloc, subcommand),
+        None => accepted(alloc, subcommand, bytes),
         Some(line) => declined(alloc, subcommand, bytes, line),
     }
 }
 
-fn accepted(alloc: Global, subcommand: Subcommand) -> Result<Advice, AllocError>
+fn accepted(
+    alloc: Global,
+    subcommand: Subcommand,
+    bytes: Option<&[u8]>,
+) -> Result<Advice, AllocError>
     ensures { IfOk result (λ a. IsAdvice subcommand None a.is_read a.text.items) }
 {
-    let line = match subcommand {
-        Subcommand::Replay => b"script read, for replay\n".as_slice(),
-        Subcommand::Run => b"script read, for run\n".as_slice(),
-    };
+    match subcommand {
+        Subcommand::Replay => replay_accepted(alloc),
+        Subcommand::Run => run_accepted(alloc, bytes),
+    }
+}
+
+fn replay_accepted(alloc: Global) -> Result<Advice, AllocError>
+    ensures { IfOk result (λ a. IsAdvice Replay None a.is_read a.text.items) }
+{
+    let text = read_for_replay(alloc)?;
     Ok(Advice {
         is_read: true,
-        text: Vec::from_slice(alloc, line)?,
+        text,
     })
+}
+
+fn run_accepted(alloc: Global, bytes: Option<&[u8]>) -> Result<Advice, AllocError>
+    ensures { IfOk result (λ a. IsAdvice Run None a.is_read a.text.items) }
+{
+    let text = read_for_run(alloc, bytes)?;
+    Ok(Advice {
+        is_read: true,
+        text,
+    })
+}
+
+fn read_for_replay(alloc: Global) -> Result<Vec<u8>, AllocError>
+    ensures { IfOk result (λ text. IsAdvice Replay None true text.items) }
+{
+    let text = Vec::from_slice(alloc, b"script read, for replay\n")?;
+    Ok(text)
+}
+
+fn read_for_run(alloc: Global, bytes: Option<&[u8]>) -> Result<Vec<u8>, AllocError>
+    ensures { IfOk result (λ text. IsAdvice Run None true text.items) }
+{
+    let reasons = Reasons::new(alloc);
+    let text = told_for_run(alloc, bytes, &reasons);
+    drop(reasons);
+    text
+}
+
+fn told_for_run(
+    alloc: Global,
+    bytes: Option<&[u8]>,
+    reasons: &Reasons,
+) -> Result<Vec<u8>, AllocError>
+    requires { reasons.now ≡ [] }
+    ensures { IfOk result (λ text. IsAdvice Run None true text.items) }
+{
+    let why = run_alone(alloc, bytes.unwrap_or(&[]))?;
+    let mut text = Vec::new(alloc);
+    push_led(&mut text, b"script read, for run", &why, reasons)?;
+    Ok(text)
+}
+
+// Which line makes it a script for run alone.
+fn run_alone(alloc: Global, bytes: &[u8]) -> Result<Vec<u8>, AllocError>
+    ensures { IfOk result (λ text. (why : List ℕ) × (text.items ≡ codes "replay refuses line " ++ why)) }
+{
+    let why = run_line(alloc, bytes);
+    refuses(alloc, &why)
+}
+
+fn refuses(alloc: Global, why: &Wording) -> Result<Vec<u8>, AllocError>
+    ensures { IfOk result (λ text. text.items ≡ codes "replay refuses line " ++ why.now) }
+{
+    let mut text = Vec::from_slice(alloc, b"replay refuses line ")?;
+    text.extend_from_slice(why.words()?)?;
+    Ok(text)
+}
+
+// The number of that line, and its first word.
+fn run_line(alloc: Global, bytes: &[u8]) -> Wording {
+    let mut told = Wording::new(alloc);
+    if let Some((line, _)) = deciding_line(bytes) {
+        told.tell(b"#, as ", &[line]);
+        told.say(word_at(bytes, line));
+        told.say(b" is a line of run alone");
+    }
+    told
+}
+
+// The first word of the line with this number, from 1.
+fn word_at(bytes: &[u8], line: u64) -> &[u8] {
+    let mut lines = Lines::new(bytes);
+    for _ in 1..line {
+        let _line = lines.next_line();
+    }
+    match first_word(lines.next_line().unwrap_or(&[])) {
+        Some((word, _)) => word,
+        None => &[],
+    }
 }
 
 fn declined(
@@ -184,14 +274,14 @@ fn led(alloc: Global, line: u32, fault: &Wording) -> Result<Vec<u8>, AllocError>
 
 // For which subcommand the script is taken, and why.
 fn add_taken_for(subcommand: Subcommand, bytes: &[u8], reasons: &mut Reasons) {
-    let mut told = reasons.line(b"it is taken for a script for ");
+    let mut told = reasons.line(b"read as a script for ");
     told.say(match subcommand {
         Subcommand::Replay => b"replay".as_slice(),
         Subcommand::Run => b"run".as_slice(),
     });
     match deciding_line(bytes) {
         Some((line, other)) if other == subcommand => told.tell(b", by line #", &[line]),
-        _ => told.say(b", as no line near its beginning is one of run alone"),
+        _ => {}
     }
     told.say(b"; docs/FORMATS.md, section 4, has all lines");
     reasons.add(told);

@@ -22,8 +22,8 @@ mod wish;
 
 pub use generation_folder::GenerationFolder;
 pub use log_start::LogStart;
-pub use looking::{has_log, look, read_bytes};
-pub use making::{leave_earlier, lock_folder, make_folder, write_whole};
+pub use looking::{has_generations, has_log, look, read_bytes};
+pub use making::{leave_earlier, lock_folder, make_folder, make_place, write_whole};
 pub use named::{generation_in, left_in};
 pub use paths::{file_path, generation_path, log_path, mark_path, opening_path};
 pub use plan::Plan;

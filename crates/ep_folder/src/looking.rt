@@ -82,6 +82,16 @@ fn is_missing(error: &io::Error) -> bool {
     matches!(error.kind(), ErrorKind::NotFound | ErrorKind::NotADirectory)
 }
 
+/// Whether the folder has a folder `generations`, as that of a store has.
+pub fn has_generations<R: Files + AllocGlobal>(rt: &R, folder: &str) -> Result<bool, DeviceFault> {
+    let mut path = String::from_str(rt.alloc(), folder)?;
+    path.push_str("/generations")?;
+    match fs::metadata(rt, path.as_str()) {
+        Ok(found) => Ok(found.is_dir()),
+        Err(_) => Ok(false),
+    }
+}
+
 /// The later generation that the mark of this name says was begun; 0 where there is none.
 fn left_for<R: Files + AllocGlobal>(
     rt: &R,

@@ -22,6 +22,22 @@ pub fn lock_folder<R: Files<File = File> + AllocGlobal>(
     lock_of(rt.alloc(), rt, name.as_str())
 }
 
+/// Makes the folder of a replica, where it isn't there; the folder that it is in has to be. Its name outlasts a crash.
+pub fn make_place<R: Files<File = File>>(rt: &R, folder: &str) -> Result<(), DeviceFault> {
+    match placed(rt, folder) {
+        Ok(()) => Ok(()),
+        Err(error) => Err(fault_of(&error)),
+    }
+}
+
+fn placed<R: Files<File = File>>(rt: &R, folder: &str) -> io::Result<()> {
+    match fs::create_dir(rt, folder) {
+        Ok(()) => synced(rt, parent_of(folder)),
+        Err(error) if error.kind() == ErrorKind::AlreadyExists => Ok(()),
+        Err(error) => Err(error),
+    }
+}
+
 /// Makes the folder of a generation, where it isn't there. Its name outlasts a crash, and that of the folder that it is in.
 pub fn make_folder<R: Files<File = File> + AllocGlobal>(
     rt: &R,

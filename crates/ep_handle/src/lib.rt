@@ -1,9 +1,11 @@
-//! What a C program holds of a node.
+//! What a C program holds of a node, and of a `Patience`.
 //!
-//! A handle is one pointer: null, or a node on the heap, which it owns. Start with `handle.rt` and specs/Held.antt.
+//! A handle is one pointer: null, or what it stands for on the heap, which it owns. Start with `handle.rt` and specs/Held.antt.
 #![tactic(auto)]
 
 mod handle;
 mod loose;
+mod patience_handle;
 
 pub use handle::Handle;
+pub use patience_handle::PatienceHandle;

@@ -10,6 +10,7 @@ pub mod Following
 pub mod Looking
 pub mod Hosts
 pub mod Releasing
+pub mod Rooming
 pub mod Losing
 pub mod Mailing
 pub mod Naming

@@ -1,5 +1,5 @@
 -- Turns, and looks after them.
-use Rattle.std.proofs.Common.{◌≡◌, ℕ, ◌+◌, ◌<◌, ◌≤◌, Bool, true, List, [], length, get_or, refl, sym, ap, ◌∙◌, subst, arith, add-one, All}
+use Rattle.std.proofs.Common.{◌≡◌, ℕ, suc, ◌+◌, ◌-◌, ◌<◌, ◌≤◌, ◌||◌, Bool, true, false, true≢false, List, [], length, get_or, refl, sym, ap, ◌∙◌, subst, arith, add-one, All}
 use Rattle.std.proofs.lemmas.List.{append-nil}
 use Rattle.ep_replica.specs.Kept.{begun}
 use Rattle.ep_host.specs.Fates.{Carries}
@@ -7,7 +7,7 @@ use Rattle.ep_host.specs.Follows.{Follows, Runs, Settles}
 use Rattle.ep_host.specs.Host.{IsHost, Quiet, Looked}
 use Rattle.ep_host.specs.Node.{Node, fresh_node}
 use Rattle.ep_host.specs.Pointwise.{Each}
-use Rattle.ep_host.specs.Turned.{AreTurns, IsTurned, WereLet}
+use Rattle.ep_host.specs.Turned.{AreTurns, IsTurned, IsTurnIn, AreRounds, WereLet}
 use Rattle.ep_host.specs.Turns.{IsTurn}
 use Rattle.ep_host.specs.declared.link.Link.{Link}
 use Rattle.ep_host.proofs.Following.{follows_follows}
@@ -59,23 +59,43 @@ settles_looked n a b c h k = record { follows = follows_looked a b c h.follows k
 pub turns_more : (n : ℕ) (moved : Bool) (a b c : Node) → AreTurns n a b → IsTurn moved b c → AreTurns (n + 1) a c
 turns_more n moved a b c h t = rw add-one (b, moved, h, t)
 
-pub one_turn : (moved : Bool) (a b : Node) → IsTurn moved a b → AreTurns 1 a b
-one_turn moved a b t = (a, moved, refl, t)
+-- a turn of a round
 
-pub turns_one : (n : ℕ) (a b c : Node) → AreTurns n a b → AreTurns 1 b c → AreTurns (n + 1) a c
-turns_one n a b c h t = turns_more n t.1 a t.0 c (subst (λ (x : Node). AreTurns n a x) (sym t.2) h) t.3
+pub turn_before : (now moved : Bool) (a b : Node) → IsTurnIn moved a b → IsTurnIn (now || moved) a b
+turn_before true moved a b t = (t.0, t.1, λ e. refl)
+turn_before false moved a b t = t
+
+pub turn_now : (now moved : Bool) (a b : Node) → IsTurnIn now a b → IsTurnIn (now || moved) a b
+turn_now true moved a b t = (t.0, t.1, λ e. refl)
+turn_now false moved a b t = (t.0, t.1, λ e. absurd (true≢false (sym (t.2 e))))
+
+-- all rounds, from what is left of them: k, after this one's
+
+abbrev pub AreLeft : ℕ → ℕ → List Node → List Node → Type 0
+AreLeft done limit xs zs = (k : ℕ) (ys : List Node) → k + done ≡ limit → AreRounds k zs ys → AreRounds limit xs ys
+
+pub rounds_none : (limit : ℕ) (xs : List Node) → AreLeft 0 limit xs xs
+rounds_none limit xs k ys e h = subst (λ (n : ℕ). AreRounds n xs ys) (omega (arith, e)) h
+
+pub rounds_more : (done limit : ℕ) (xs zs ws : List Node) → AreLeft done limit xs zs → Each (IsTurnIn true) zs ws → AreLeft (done + 1) limit xs ws
+rounds_more done limit xs zs ws left each k ys e h = left (suc k) ys (omega (arith, e)) (ws, true, each, h)
+
+pub rounds_idle : (done limit : ℕ) (xs zs ws : List Node) → AreLeft done limit xs zs → done < limit → Each (IsTurnIn false) zs ws → AreRounds limit xs ws
+rounds_idle done limit xs zs ws left low each = let k : ℕ = limit - (done + 1) in left (suc k) ws (omega (arith, low)) (ws, false, each, refl)
+
+pub rounds_all : (done limit : ℕ) (xs zs : List Node) → AreLeft done limit xs zs → done ≡ limit → AreRounds limit xs zs
+rounds_all done limit xs zs left at = left 0 zs (omega (arith, at)) refl
 
 -- after so many turns it is noted whether the node ended
-pub turned_end : (n limit : ℕ) (a b : Node) (ended : Bool) → n ≤ limit → AreTurns n a b → IsTurned limit a (record b { ended = ended })
-turned_end n limit a b ended few h = record { count = n; few = few; last = b; turns = h; looked = looked_self (record b { ended = ended }) }
-
-pub turned_of : (n limit : ℕ) (a b : Node) → n ≤ limit → AreTurns n a b → IsTurned limit a b
-turned_of n limit a b few h = turned_end n limit a b b.ended few h
+pub turned_end : (n limit : ℕ) (a b : Node) (ended : Bool) → n ≤ limit → (ended ≡ false → n ≡ limit) → (ended ≡ true → 1 ≤ n) → AreTurns n a b → IsTurned limit a (record b { ended = ended })
+turned_end n limit a b ended few all some h = record { count = n; few = few; all = all; some = some; last = b; turns = h; looked = looked_self (record b { ended = ended }) }
 
 turned_looked : (limit : ℕ) (a b c : Node) → IsTurned limit a b → Looked b c → IsTurned limit a c
 turned_looked limit a b c h k = record {
   count = h.count;
   few = h.few;
+  all = λ e. h.all (sym (ap (λ (n : Node). n.ended) k.is) ∙ e);
+  some = λ e. h.some (sym (ap (λ (n : Node). n.ended) k.is) ∙ e);
   last = h.last;
   turns = h.turns;
   looked = (let e : b.ended ≡ c.ended = sym (ap (λ (n : Node). n.ended) k.is) in subst (λ (v : Bool). Looked (record h.last { ended = v }) c) e (looked_looked (record h.last { ended = b.ended }) b c h.looked k));

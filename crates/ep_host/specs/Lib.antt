@@ -14,6 +14,7 @@ pub mod Acts
 pub mod Turns
 pub mod Setting
 pub mod Outboxes
+pub mod Rooms
 pub mod Follows
 pub mod Host
 pub mod Turned

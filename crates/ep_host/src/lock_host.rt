@@ -3,6 +3,7 @@
 ghost use Rattle.std.specs.Prelude.{◌≡◌, ◌+◌, IfOk, OnOk, vec_len, All};
 ghost use Rattle.ep_base.specs.Quorums.{size};
 ghost use Rattle.ep_host.specs.Finishing.{StartAs};
+ghost use Rattle.ep_host.specs.Rooms.{HaveRoom};
 ghost use Rattle.ep_host.specs.Starts.{CanStart, one_opening, one_version};
 ghost use Rattle.ep_journal.specs.Openings.{Opening as Opened};
 ghost use Rattle.ep_replica.specs.Kept.{start_of};
@@ -27,8 +28,7 @@ use ep_rules::Receipt;
 use std::alloc::{AllocError, Global};
 use std::sync::Wait;
 
-/// Replicas of one cluster, one for each of its numbers, which any thread may call. They all start as the type says.
-#[derive(Drop)]
+/// Replicas of one cluster, one for each of its numbers, which any thread may call. They all start, and their inboxes are as large, as the type says.
 pub struct LockHost<S: Start = Second> {
     cluster: Size,
     /// The version of all replicas.
@@ -40,6 +40,21 @@ pub struct LockHost<S: Start = Second> {
     ghost seated: { vec_len seats ≡ size cluster },
     ghost of_version: { version ≡ S.start.0 } by { one_version _ _ },
     ghost of_opening: { opening ≡ S.start.1 } by { one_opening _ _ },
+}
+
+// (by hand, so that no crate above proves again how the parts are dropped)
+impl<S: Start> Drop for LockHost<S> {
+    fn drop(self) {
+        let LockHost {
+            cluster: _,
+            version: _,
+            opening,
+            seats,
+            alloc: _,
+        } = self;
+        drop(opening);
+        drop(seats);
+    }
 }
 
 /// The journal of the replica, which starts so.
@@ -82,6 +97,7 @@ fn add_seats<S: Start>(
     requires inboxes { vec_len inboxes.now ≡ size cluster }
     requires can_start { CanStart version opening.now }
     requires start { S.start ≡ (version, opening.now) }
+    requires room { HaveRoom S.room inboxes.now.items }
     ensures count { OnOk result (vec_len seats.new ≡ vec_len seats.old + size cluster) }
     ensures opening { IfOk result (λ (o : Opened). o ≡ opening.now) }
 {
@@ -101,6 +117,7 @@ impl<S: Start> LockHost<S> {
     ghost use Rattle.ep_journal.specs.declared.event.Event.TheVariants.{Propose};
     ghost use Rattle.ep_host.specs.Asking.{IsTaken, IsSubmitted, IsPumped, IsRefused, IsUntold, AreTold, IsOutcomeIn};
     ghost use Rattle.ep_host.specs.Finishing.{IsFinished};
+    ghost use Rattle.ep_host.specs.Rooms.{HasRoom};
     ghost use Rattle.ep_host.specs.Setting.{IsUnset};
     ghost use Rattle.ep_host.specs.Starts.{CanStart};
     ghost use Rattle.ep_host.specs.Tending.{event_of};
@@ -111,6 +128,7 @@ impl<S: Start> LockHost<S> {
     pub fn new(alloc: Global, cluster: Size, capacity: usize) -> Result<LockHost<S>, AllocError>
         requires capacity { (1 ≤ capacity) × (capacity ≤ 4096) }
         requires start { S.start ≡ (V2, no_opening) }
+        requires room { HasRoom S.room capacity }
         ensures cluster { IfOk result (λ host. host.cluster ≡ cluster) }
         ensures version { IfOk result (λ host. host.version ≡ V2) }
         ensures opening { IfOk result (λ host. host.opening ≡ no_opening) }
@@ -132,6 +150,7 @@ impl<S: Start> LockHost<S> {
     ) -> Result<LockHost<S>, AllocError>
         requires capacity { (1 ≤ capacity) × (capacity ≤ 4096) }
         requires start { S.start ≡ (V3 generation, opening.now) }
+        requires room { HasRoom S.room capacity }
         ensures cluster { IfOk result (λ host. host.cluster ≡ cluster) }
         ensures version { IfOk result (λ host. host.version ≡ V3 generation) }
         ensures opening { IfOk result (λ host. host.opening ≡ opening.now) }
@@ -151,6 +170,7 @@ impl<S: Start> LockHost<S> {
         requires capacity { (1 ≤ capacity) × (capacity ≤ 4096) }
         requires can_start { CanStart version opening.now }
         requires start { S.start ≡ (version, opening.now) }
+        requires room { HasRoom S.room capacity }
         ensures cluster { IfOk result (λ host. host.cluster ≡ cluster) }
         ensures version { IfOk result (λ host. host.version ≡ version) }
         ensures opening { IfOk result (λ host. host.opening ≡ opening.now) }
@@ -174,19 +194,6 @@ impl<S: Start> LockHost<S> {
         }
     }
 
-    /// Drops the host. Whoever does it by this call needs no proof of how its parts are dropped.
-    pub fn discard(self) {
-        let LockHost {
-            cluster: _,
-            version: _,
-            opening,
-            seats,
-            alloc: _,
-        } = self;
-        drop(opening);
-        drop(seats);
-    }
-
     /// The cluster's size.
     pub fn size(&self) -> Size
         ensures { result ≡ self.now.cluster }
@@ -206,6 +213,15 @@ impl<S: Start> LockHost<S> {
         ensures { result.now ≡ self.now.opening }
     {
         &self.opening
+    }
+
+    /// For how many frames the replica's inbox has room: as many as the type says.
+    pub fn capacity<R: Wait>(&self, rt: &R, replica: ReplicaId) -> Result<usize, HostFault>
+        ensures ok { IfOk result (λ n. (replica < size self.now.cluster) × HasRoom S.room n) }
+        ensures none { IfErr result (λ fault. (fault ≡ OutOfRange) × (size self.now.cluster ≤ replica)) }
+    {
+        let seat = self.seat(replica)?;
+        Ok(seat.sender.lock(rt).capacity())
     }
 
     /// The seat of the replica.

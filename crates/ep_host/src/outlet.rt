@@ -17,8 +17,7 @@ pub struct Outlet {
 }
 
 impl Outlet {
-    ghost use Rattle.std.specs.Prelude.{◌≡◌, [], None, Some, IsFalse};
-    ghost use Rattle.ep_inbox.specs.Ports.{inbox_capacity, WasAt};
+    ghost use Rattle.std.specs.Prelude.{◌≡◌, [], None, Some};
     ghost use Rattle.ep_host.specs.Outboxes.{PutsIn, Posts, LetsGo};
     ghost use Rattle.ep_host.specs.declared.weather_kind.WeatherKind.TheVariants.{Drop, Hold, Repeat};
 
@@ -35,8 +34,7 @@ impl Outlet {
 
     /// Puts the frame into the inbox, at the back. `false` where that is full.
     fn put<R: Wait>(&mut self, rt: &R, frame: HostFrame) -> bool
-        ensures put { PutsIn frame result self.old self.new }
-        ensures full { IsFalse result → WasAt self.old.port (inbox_capacity self.old.port) }
+        ensures { PutsIn frame result self.old self.new }
     {
         self.port.put(rt, frame).is_ok()
     }

@@ -21,7 +21,6 @@ use std::marker::Model;
 ///
 /// What it put into a ring is a frame out of an entry of its journal, and each frame that it handled was taken from one of its rings, at any time
 /// and whatever the other nodes do.
-#[derive(Drop)]
 pub struct RingNode {
     pub(crate) replica: Replica,
     pub(crate) links: Vec<Link>,
@@ -48,6 +47,27 @@ impl Model for RingNode {
     ghost view = { λ n. record { replica = n.replica; links = n.links.items; weather = n.weather.items; agenda = n.agenda.items; refused = n.refused.items; used = n.used; lost = n.lost; ended = n.ended } };
 
     ghost invariant = { λ n. IsBooked n.replica.me n.replica.entries n.links.items × (vec_len n.refused + deque_len n.agenda ≤ vec_capacity n.refused) };
+}
+
+// (by hand, so that no crate above proves again how the parts are dropped)
+impl Drop for RingNode {
+    fn drop(self) {
+        let RingNode {
+            replica,
+            links,
+            weather,
+            agenda,
+            refused,
+            used: _,
+            lost: _,
+            ended: _,
+        } = self;
+        drop(replica);
+        drop(links);
+        drop(weather);
+        drop(agenda);
+        drop(refused);
+    }
 }
 
 impl RingNode {

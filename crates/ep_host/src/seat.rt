@@ -4,12 +4,13 @@ ghost use Rattle.std.specs.Prelude.{◌≡◌, ◌<◌, ◌≤◌, length, All, 
 ghost use Rattle.ep_base.specs.Quorums.{size};
 ghost use Rattle.ep_host.specs.HostFrames.{AreHostFrames};
 ghost use Rattle.ep_host.specs.Outboxes.{IsOpen};
+ghost use Rattle.ep_host.specs.Rooms.{HaveRoom};
 ghost use Rattle.ep_replica.specs.Kept.{start_of};
 
 use crate::frames_out::FramesOut;
 use crate::host_frame::HostFrame;
 use crate::host_replica::HostReplica;
-use crate::sender::Sender;
+use crate::host_sender::HostSender;
 use crate::start::Start;
 use ep_base::Size;
 use ep_inbox::Port;
@@ -24,7 +25,7 @@ pub type ReplicaCell = Mutex<Replica>;
 #[derive(Drop)]
 pub struct Seat<S: Start> {
     pub cell: Mutex<HostReplica<S>>,
-    pub sender: Mutex<Sender>,
+    pub sender: Mutex<HostSender<S>>,
 }
 
 impl<S: Start> Seat<S> {
@@ -37,8 +38,9 @@ impl<S: Start> Seat<S> {
         requires start { start_of replica ≡ S.start }
         requires here { replica.me < size replica.faults }
         requires inboxes { length inboxes.now ≡ size replica.faults }
+        requires room { HaveRoom S.room inboxes.now }
     {
-        match Sender::new(alloc, replica.me(), inboxes) {
+        match HostSender::new(alloc, replica.me(), inboxes) {
             Ok(sender) => Ok(Seat {
                 cell: Mutex::new(HostReplica::new(replica)),
                 sender: Mutex::new(sender),

@@ -40,10 +40,10 @@ impl Model for Sender {
 }
 
 impl Sender {
-    ghost use Rattle.std.specs.Prelude.{◌≡◌, ◌<◌, ◌∷◌, [], length, IfOk, OnOk, OnErr, IfNone};
+    ghost use Rattle.std.specs.Prelude.{◌≡◌, ◌<◌, ◌∷◌, [], length, IfOk, OnOk, OnErr};
     ghost use Rattle.ep_host.specs.Fates.{fate, counted_up};
+    ghost use Rattle.ep_inbox.specs.Ports.{inbox_capacity};
     ghost use Rattle.ep_host.specs.HostFrames.{AreHostFrames};
-    ghost use Rattle.ep_inbox.specs.Ports.{WasAt};
     ghost use Rattle.ep_host.specs.Outboxes.{IsNewOutbox, Mails, IsMailed, SetsOwn, IsLetGo, Receives};
 
     /// The sender of the replica of this number, of which these are the inboxes of the cluster, in order: without weather; nothing is held, counted or
@@ -67,12 +67,18 @@ impl Sender {
         })
     }
 
-    /// Takes the frame at the front of the replica's inbox, in one step; none where the inbox was empty at one moment.
+    /// Takes the frame at the front of the replica's inbox, in one step; none where the inbox is empty.
     pub fn receive<R: Wait>(&mut self, rt: &R) -> Option<HostFrame>
-        ensures taken { Receives result self.old self.new }
-        ensures empty { IfNone result (WasAt self.old.inbox 0) }
+        ensures { Receives result self.old self.new }
     {
         self.inbox.take(rt)
+    }
+
+    /// For how many frames the replica's inbox has room.
+    pub fn capacity(&self) -> usize
+        ensures { result ≡ inbox_capacity self.now.inbox }
+    {
+        self.inbox.capacity()
     }
 
     /// How many frames are lost, counted up to 2^64 - 1.

@@ -4,7 +4,7 @@ ghost use Rattle.std.specs.Prelude.{ℕ};
 ghost use Rattle.ep_host.specs.Pointwise.{Each};
 ghost use Rattle.ep_host.specs.Follows.{Settles, Rounds};
 ghost use Rattle.ep_host.specs.Host.{IsHost, AllBegin, AllFrom};
-ghost use Rattle.ep_host.specs.Turned.{AreTurns, IsTurned};
+ghost use Rattle.ep_host.specs.Turned.{AreRounds, AreSettled, IsTurnIn};
 
 use crate::account::look_at_all;
 use crate::ring_node::RingNode;
@@ -13,7 +13,7 @@ use crate::turn::Turn;
 /// One turn of the node; whether it moved.
 fn turn_of(node: &mut RingNode) -> bool
     ensures rounds { Rounds result node.old node.new }
-    ensures turn { AreTurns 1 node.old node.new }
+    ensures turn { IsTurnIn result node.old node.new }
 {
     match node.turn() {
         Turn::Moved => true,
@@ -24,7 +24,7 @@ fn turn_of(node: &mut RingNode) -> bool
 /// One turn of each node; whether one of them moved.
 fn round(nodes: &mut [RingNode]) -> bool
     ensures rounds { Each (Rounds result) nodes.old nodes.new }
-    ensures turns { Each (AreTurns 1) nodes.old nodes.new }
+    ensures turns { Each (IsTurnIn result) nodes.old nodes.new }
 {
     let mut moved = false;
     for place in 0..nodes.len() {
@@ -37,7 +37,7 @@ fn round(nodes: &mut [RingNode]) -> bool
 /// Turns in rounds, until a round moves nothing or the rounds are used up.
 fn turn_all(nodes: &mut [RingNode], rounds: u32)
     ensures nodes { Each (Settles rounds) nodes.old nodes.new }
-    ensures turns { Each (IsTurned rounds) nodes.old nodes.new }
+    ensures rounds { AreRounds rounds nodes.old nodes.new }
 {
     for _done in 0..rounds {
         if !round(nodes) {
@@ -50,7 +50,7 @@ fn turn_all(nodes: &mut [RingNode], rounds: u32)
 pub fn settle(nodes: &mut [RingNode], rounds: u32)
     requires { (f : ℕ) × IsHost f nodes.old }
     ensures nodes { Each (Settles rounds) nodes.old nodes.new }
-    ensures turns { Each (IsTurned rounds) nodes.old nodes.new }
+    ensures rounds { AreSettled rounds nodes.old nodes.new }
     ensures host { (f : ℕ) → IsHost f nodes.old → IsHost f nodes.new }
     ensures begins { AllBegin nodes.new }
     ensures from { AllFrom nodes.new }

@@ -60,21 +60,6 @@ is_bad how zs wire.ReadFailed told place left is read = subst (λ (f : AskFault)
 is_bad how zs (wire.BadRequest at) told place left is read =
     subst (λ (f : AskFault). IsUnread how zs f) (sym is) (λ other one. failed (next_request how (record { at = 0; bytes = zs })) other read.1 (ap found_of one.read))
 
--- a request that a working node leaves undone has changed nothing, or executed some of all that is ready
-pub undone : (n : Logged HostDevice) (r : Request) (n' : Logged HostDevice) → n.closed ≡ false → IsUndone n r n' → (n' ≡ n) ⊎ ((r ≡ request.ExecuteAll) × StopsShort n.replica n'.replica)
-undone n (request.Event happening) n' works un = inl un.1
-undone n request.BadFrame n' works un = absurd un
-undone n request.Advance n' works un = inl un.1
-undone n (request.Get key) n' works un = absurd un
-undone n (request.NextOpen after) n' works un = absurd un
-undone n (request.Leads i) n' works un = absurd un
-undone n request.Sync n' works un = absurd un
-undone n request.State n' works un = absurd un
-undone n request.ExecuteAll n' works (inl over) = inl over.1
-undone n request.ExecuteAll n' works (inr part) = inr (refl, part)
-undone n (request.Ready after most) n' works un = absurd un
-undone n (request.Malformed m) n' works un = absurd un
-
 -- where its device works, it stopped for want of memory
 pub swept : (n n' : Logged HostDevice) → n.closed ≡ false → IsUndone n request.ExecuteAll n' → StopsShort n.replica n'.replica
 swept n n' works (inl over) = absurd (false≢true (sym works ∙ over.0))

@@ -1,6 +1,5 @@
 -- A node whose replica alone has changed, and the bytes that it lends.
-use Rattle.std.proofs.Common.{◌≡◌, ℕ, Bool, true, false, length, Option, None, Some, Ok, inl, refl, sym, ap, ◌∙◌, subst}
-use Rattle.std.proofs.lemmas.Bool.{false≢true}
+use Rattle.std.proofs.Common.{◌≡◌, ℕ, Bool, false, length, Option, None, Some, inl, refl, sym, ap, ◌∙◌, subst}
 use Rattle.ep_device.specs.declared.host_device.HostDevice.{HostDevice}
 use Rattle.ep_journal.specs.declared.step_fault.StepFault.{StepFault}
 use Rattle.ep_node.specs.Nodes.{Logged}
@@ -8,7 +7,7 @@ use Rattle.ep_opening.specs.Bytes.{opening_bytes}
 use Rattle.ep_opening.specs.Closing.{IsClosing}
 use Rattle.ep_opening.specs.Files.{File}
 use Rattle.ep_replica.specs.Kept.{Kept}
-use Rattle.ep_replica.specs.Pending.{IsHeldUp, IsPending, IsWaiting, TriesNext}
+use Rattle.ep_replica.specs.Pending.{IsHeldUp}
 use Rattle.ep_wire.specs.declared.take_fault.TakeFault.TheVariants.{Step}
 use Rattle.ep_hosted.specs.Hosting.{Buffer, Hosting, IsHosted, IsLent, IsOnDisk}
 use Rattle.ep_hosted.specs.Taking.{IsNotExecuted}
@@ -28,11 +27,6 @@ still_hosted n n' is_anew lent none same is = record {
 -- (h0 is the node h, as its fields tell)
 pub not_executed : (h0 h : Hosting) (n' : Logged HostDevice) (fault : StepFault) → h0 ≡ h → h.lent ≡ None → IsHeldUp h0.node.replica fault × (n' ≡ h0.node) → IsNotExecuted h (Refused (Step fault)) (record h0 { node = n' })
 not_executed h0 h n' fault same none held = (none, subst (λ (x : Hosting). IsHeldUp x.node.replica fault) same held.0, ap (λ (n : Logged HostDevice). record h0 { node = n }) held.1 ∙ same)
-
--- none is ready, and so it stays
-pub none_next : (k k' : Kept) (executed : Bool) → executed ≡ false → TriesNext k (Ok executed) k' → TriesNext k' (Ok false) k'
-none_next k k' true is tries = absurd (false≢true (sym is))
-none_next k k' false is tries = (subst (λ (x : Kept). (j : ℕ) → IsPending x j → IsWaiting x j) (sym tries.1) tries.0, refl)
 
 pub closed : (h0 h : Hosting) (next : ℕ) (file : File) (bytes : Buffer) → h0 ≡ h → IsOnDisk h → IsClosing h0.node.replica next file → bytes.items ≡ opening_bytes file → HasClosed h next (record h0 { answers = bytes })
 closed h0 h next file bytes same on_disk closing told = subst (λ (x : Hosting). HasClosed x next (record h0 { answers = bytes })) same (record {

@@ -1,13 +1,12 @@
 -- What a node does by a request in bytes.
 use Rattle.std.specs.Prelude.{◌≡◌, ◌⊎◌, ℕ, List, [], ◌∷◌, ◌++◌, Some, None, Ok}
 use Rattle.ep_bundle.specs.Reading.{Left}
-use Rattle.ep_serve.specs.Acting.{Acts, StopsShort}
+use Rattle.ep_serve.specs.Acting.{Acts, IsCutShort}
 use Rattle.ep_serve.specs.Serving.{dialect_of}
 use Rattle.ep_serve.specs.declared.due.Due.{Due}
 use Rattle.ep_wire.specs.Requests.{next_request}
 use Rattle.ep_bundle.specs.declared.dialect.Dialect.{Dialect}
 use Rattle.ep_wire.specs.declared.request.Request.{Request}
-use Rattle.ep_wire.specs.declared.request.Request.TheVariants as request
 use Rattle.ep_hosted.specs.Hosting.{Hosting, with_replica}
 use Rattle.ep_hosted.specs.Taking.{IsBusy}
 use Rattle.ep_hosted.specs.declared.ask_fault.AskFault.{AskFault}
@@ -34,10 +33,11 @@ pub record HasAsked (h : Hosting) (bytes : List ℕ) (h' : Hosting) : Type 0 whe
   pub acted : Acts h.node.replica request due h'.node.replica
   pub rest : h' ≡ record (with_replica h h'.node.replica) { dues = h.dues ++ due ∷ [] }
 
--- Of all that is ready, which the request executes, some were executed, each in its turn, and for the next one memory was wanted. No answer waits.
+-- Of all that is ready, own or not, which the request executes, some were executed, each in its turn, and for the next one memory was wanted. No answer waits.
 pub record IsPartly (h : Hosting) (bytes : List ℕ) (h' : Hosting) : Type 0 where
-  pub read : IsRequest (dialect_of h.node.replica) bytes request.ExecuteAll
-  pub part : StopsShort h.node.replica h'.node.replica
+  pub request : Request
+  pub read : IsRequest (dialect_of h.node.replica) bytes request
+  pub part : IsCutShort h.node.replica request h'.node.replica
   pub rest : h' ≡ with_replica h h'.node.replica
 
 -- why it wasn't done

@@ -1,5 +1,6 @@
 -- What a node lends and tells.
 use Rattle.std.specs.Prelude.{◌≡◌, ◌≢◌, ◌⊎◌, ℕ, ◌+◌, ◌<◌, ◌^◌, ◌++◌, Bool, true, false, List, [], length, take, Some, None}
+use Rattle.ep_exec.specs.Bytes.{contents_bytes}
 use Rattle.ep_node.specs.Closing as node
 use Rattle.ep_node.specs.Nodes.{IsLogOf, origin_of, unwritten}
 use Rattle.ep_node.specs.declared.close_fault.CloseFault.{CloseFault}
@@ -71,6 +72,10 @@ IsUntold h Unsynced = ¬ IsOnDisk h
 abbrev pub HasLooked : Hosting → List ℕ → Bool → Hosting → Type 0
 HasLooked h key true h' = IsOnDisk h × (value_at (state_of h.node.replica).store.contents key ≡ Some h'.answers.items) × (h' ≡ record h { answers = h'.answers })
 HasLooked h key false h' = IsOnDisk h × (value_at (state_of h.node.replica).store.contents key ≡ None) × (h' ≡ h)
+
+-- all was on the disk, and what all keys have was told
+abbrev pub HasListed : Hosting → Hosting → Type 0
+HasListed h h' = IsOnDisk h × (h'.answers.items ≡ contents_bytes (state_of h.node.replica).store.contents) × (h' ≡ record h { answers = h'.answers })
 
 -- all was on the disk, a seal was executed, and the file of the generation after is told
 pub record HasClosed (h : Hosting) (next : ℕ) (h' : Hosting) : Type 0 where

@@ -1,11 +1,10 @@
 //! Requests in bytes.
 
 ghost use Rattle.std.specs.Prelude.{◌≡◌, ◌≢◌, ◌⊎◌, ◌++◌, ◌∷◌, [], None, Some, true, false, IfOk, IfErr, OnOk, OnErr};
-ghost use Rattle.ep_serve.specs.Acting.{Acts, StopsShort};
+ghost use Rattle.ep_serve.specs.Acting.{Acts, IsCutShort};
 ghost use Rattle.ep_serve.specs.declared.due.Due.{Due as Answer};
 ghost use Rattle.ep_hosted.specs.Asking.{IsRequest, IsUnread};
 ghost use Rattle.ep_hosted.specs.declared.ask_fault.AskFault.TheVariants.{NotOne};
-ghost use Rattle.ep_wire.specs.declared.request.Request.TheVariants.{ExecuteAll};
 
 use crate::ask_fault::AskFault;
 use crate::hosted::Hosted;
@@ -56,12 +55,12 @@ fn read_one(alloc: Global, bytes: &[u8], dialect: &Dialect) -> Result<Request, A
 }
 
 /// The node does what is asked, and the answer waits behind the others.
-#[tactic(auto, using(crate::proofs::Requests::undone))]
+#[tactic(auto, using(ep_serve::proofs::Stopping::cut_short))]
 fn add(node: &mut Node<HostDevice>, dues: &mut Vec<Due>, request: Request) -> Result<(), AllocError>
     requires { node.old.closed ≡ false }
     ensures ok { OnOk result ((due : Answer) × Acts node.old.replica request due node.new.replica × (dues.new.items ≡ dues.old.items ++ due ∷ [])) }
     ensures same { node.new ≡ record node.old { replica = node.new.replica } }
-    ensures err { OnErr result ((dues.new.items ≡ dues.old.items) × ((node.new ≡ node.old) ⊎ ((request ≡ ExecuteAll) × StopsShort node.old.replica node.new.replica))) }
+    ensures err { OnErr result ((dues.new.items ≡ dues.old.items) × ((node.new ≡ node.old) ⊎ IsCutShort node.old.replica request node.new.replica)) }
 {
     if dues.reserve(1).is_err() {
         drop(request);
@@ -83,8 +82,8 @@ impl Hosted {
     /// Does what one request asks, whose bytes these are, from its length on, as docs/FORMATS.md lays requests out. Its answer waits for the next `answer`,
     /// in the order of requests, also that of a request that is malformed or refused.
     ///
-    /// A fault has changed nothing, with one exception: want of memory may stop a request of kind 12, which executes all that is ready, when some of that has
-    /// been executed.
+    /// A fault has changed nothing, with one exception: want of memory may stop a request of kind 6 or 12, which executes all that is ready, when some of that
+    /// has been executed.
     pub fn ask(&mut self, alloc: Global, bytes: &[u8]) -> Result<(), AskFault>
         ensures ok { OnOk result (HasAsked self.old bytes.now self.new) }
         ensures err { IfErr result (λ fault. IsUnasked self.old bytes.now fault self.new) }

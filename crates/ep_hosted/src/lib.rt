@@ -4,7 +4,7 @@
 //! takes and tells is what `ep_serve` says of a node's requests and answers.
 //!
 //! Start with `hosted.rt` and specs/Hosting.antt; then `opening.rt` (how one begins), `taking.rt` (what it takes), `asking.rt` (requests in bytes) and
-//! `telling.rt` (what it lends and tells), with specs/Beginning.antt and specs/Taking.antt.
+//! `telling.rt` and `listing.rt` (what it lends and tells), with specs/Beginning.antt and specs/Taking.antt.
 #![tactic(auto)]
 
 mod ask_fault;
@@ -12,6 +12,7 @@ mod asking;
 mod blocks;
 mod call;
 mod hosted;
+mod listing;
 mod opening;
 mod seat;
 mod start_fault;

@@ -1,8 +1,7 @@
 //! What a node takes.
 
-ghost use Rattle.std.specs.Prelude.{◌≡◌, ℕ, false, length, None, Some, Ok, IfOk, IfErr, OnOk, OnErr};
-ghost use Rattle.ep_replica.specs.Pending.{IsHeldUp, TriesNext};
-ghost use Rattle.ep_serve.specs.Acting.{ExecutesAll, ExecutesSo, StopsShort, TakesNear};
+ghost use Rattle.std.specs.Prelude.{◌≡◌, false, length, None, Some, IfErr, OnOk, OnErr};
+ghost use Rattle.ep_serve.specs.Acting.{ExecutesAll, StopsShort, TakesNear};
 ghost use Rattle.ep_serve.specs.declared.due.Due.{Due as Answer};
 ghost use Rattle.ep_serve.specs.declared.due.Due.TheVariants.{Refused, Taken};
 ghost use Rattle.ep_hosted.specs.Taking.{refusal_of};
@@ -14,8 +13,8 @@ use ep_base::{Command, CommandFault, InstanceId};
 use ep_device::HostDevice;
 use ep_frame::Frame;
 use ep_journal::{Event, StepFault};
-use ep_node::{Node, NodeFault};
-use ep_serve::{Due, act};
+use ep_node::Node;
+use ep_serve::{Due, act, advance_own, execute_own};
 use ep_wire::{Request, TakeFault};
 use std::alloc::{AllocError, Global};
 
@@ -32,6 +31,7 @@ fn refusal_of(due: &Due) -> Option<TakeFault>
         | Due::Synced
         | Due::State
         | Due::Ready { .. }
+        | Due::Handled(_)
         | Due::Malformed(_) => None,
     }
 }
@@ -62,42 +62,6 @@ fn take_at(node: &mut Node<HostDevice>, event: Event) -> Result<(), TakeFault>
         unreachable!()
     };
     came_of(due)
-}
-
-/// The node executes the least own instance that is ready.
-fn execute_at(node: &mut Node<HostDevice>) -> Result<bool, StepFault>
-    requires { node.old.closed ≡ false }
-    ensures ok { IfOk result (λ executed. TriesNext node.old.replica (Ok executed) node.new.replica) }
-    ensures same { node.new ≡ record node.old { replica = node.new.replica } }
-    ensures err { IfErr result (λ fault. IsHeldUp node.old.replica fault × (node.new ≡ node.old)) }
-{
-    match node.try_next() {
-        Ok(executed) => Ok(executed),
-        Err(NodeFault::Refused(fault)) => Err(fault),
-        Err(_) => unreachable!(),
-    }
-}
-
-/// The node executes all own instances that are ready.
-fn advance_at(node: &mut Node<HostDevice>) -> Result<(), StepFault>
-    requires { node.old.closed ≡ false }
-    ensures some { (times : ℕ) × ExecutesSo times node.old.replica node.new.replica }
-    ensures ok { OnOk result (TriesNext node.new.replica (Ok false) node.new.replica) }
-    ensures same { node.new ≡ record node.old { replica = node.new.replica } }
-    ensures err { IfErr result (IsHeldUp node.new.replica) }
-{
-    for _times in 0..u64::MAX {
-        let executed = match execute_at(node) {
-            Ok(executed) => executed,
-            Err(fault) => return Err(fault),
-        };
-        if !executed {
-            return Ok(());
-        }
-    }
-    // No replica has so many entries.
-    let _entries = node.taken();
-    unreachable!()
 }
 
 /// The node executes all instances that are ready.
@@ -208,7 +172,7 @@ impl Hosted {
         if self.is_lending() {
             return Err(TakingFault::Lent);
         }
-        let executed = match execute_at(&mut self.node) {
+        let executed = match execute_own(&mut self.node) {
             Ok(executed) => executed,
             Err(fault) => return Err(TakingFault::Refused(TakeFault::Step(fault))),
         };
@@ -224,7 +188,7 @@ impl Hosted {
         if self.is_lending() {
             return Err(TakingFault::Lent);
         }
-        advance_at(&mut self.node)?;
+        advance_own(&mut self.node)?;
         Ok(())
     }
 

@@ -5,10 +5,10 @@ use Rattle.std.proofs.lemmas.Bool.Decides.{eqb_tells}
 use Rattle.std.proofs.lemmas.Bool.{ne_eqb}
 use mathlib.Core.Option.{some, some-injective, some-ne-none}
 use lib.ListN.{get_elem?}
-use Rattle.crossbeam_queue.specs.Fifo.{Pushes, Pops, Admits, Learns}
+use Rattle.crossbeam_queue.specs.Fifo.{Pushes, Pops, Admits}
 use Rattle.crossbeam_queue.proofs.Lists.{at_set}
 use Rattle.ep_inbox.specs.declared.hand.Hand.{Hand}
-use Rattle.ep_inbox.specs.Order.{hand, items_of, of_port, Knows, InOrder, Held}
+use Rattle.ep_inbox.specs.Order.{hand, items_of, of_port, Knows, InOrder}
 
 same : (n : ℕ) → eqb n n ≡ true
 same n = ⊎_elim (λ (t : _). t.0) (λ (t : _). absurd (t.1 refl)) (eqb_tells n n)
@@ -100,6 +100,3 @@ module _ {T : Type 0} where
         ),
         refl,
       )
-
-  pub learns : (p : ℕ) (v : Hand T) → Learns InOrder p v (λ items. Held v items)
-  learns p v items ports h at = (h.0, h.1, h.2, (p, h.3 p v at))

@@ -28,7 +28,3 @@ module _ {T : Type 0} where
       (put : List (ℕ × T)) × (taken : List (ℕ × T)) × (items_of put ≡ items_of taken ++ items)
       × ((p : ℕ) (v : Hand T) → get_elem? ports p ≡ some v → Knows put taken p v)
       × ((p : ℕ) → length ports ≤ p → (of_port p put ≡ []) × (of_port p taken ≡ []))
-
-  -- at one moment the inbox held these items: what was put, less what was taken, of both of which a port has this part
-  abbrev pub Held : Hand T → List T → Type 0
-  Held v items = (put : List (ℕ × T)) × (taken : List (ℕ × T)) × (items_of put ≡ items_of taken ++ items) × ((p : ℕ) × Knows put taken p v)

@@ -1,8 +1,7 @@
 -- What a contract sees of a port.
-use Rattle.std.specs.Prelude.{◌≡◌, ℕ, List, length}
+use Rattle.std.specs.Prelude.{◌≡◌, ℕ, List}
 use Rattle.std.specs.Arc.{arc_value}
 use Rattle.crossbeam_queue.specs.Passes.{view, ruled_capacity}
-use Rattle.ep_inbox.specs.Order.{Held}
 use Rattle.ep_inbox.specs.declared.port.Port.{Port}
 
 module _ {T : Type 0} where
@@ -17,10 +16,6 @@ module _ {T : Type 0} where
   -- how many items the inbox holds at most
   abbrev pub inbox_capacity : Port T → ℕ
   inbox_capacity p = ruled_capacity (arc_value p.queue)
-
-  -- at one moment the inbox held so many items
-  abbrev pub WasAt : Port T → ℕ → Type 0
-  WasAt p n = (items : List T) × (length items ≡ n) × Held (view p.pass) items
 
   -- both lead to one inbox
   abbrev pub LeadTogether : Port T → Port T → Type 0

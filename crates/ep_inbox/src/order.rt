@@ -26,10 +26,11 @@ impl<T> Outcome<T, Hand<T>> for Puts {
     ghost then = { λ v x w. w ≡ hand (v.put ++ x ∷ []) v.taken };
 }
 
+/// A put that is refused teaches nothing.
 impl<T> Lesson<T, Hand<T>> for Puts {
-    ghost use Rattle.ep_inbox.specs.Order.{Held};
+    ghost use Rattle.std.specs.Prelude.{⊤};
 
-    ghost fact = { Held };
+    ghost fact = { λ v items. ⊤ };
 }
 
 /// A take: the item is the last that the port has taken.
@@ -42,10 +43,11 @@ impl<T> Outcome<T, Hand<T>> for Takes {
     ghost then = { λ v x w. w ≡ hand v.put (v.taken ++ x ∷ []) };
 }
 
+/// A take of nothing teaches nothing.
 impl<T> Lesson<T, Hand<T>> for Takes {
-    ghost use Rattle.ep_inbox.specs.Order.{Held};
+    ghost use Rattle.std.specs.Prelude.{⊤};
 
-    ghost fact = { Held };
+    ghost fact = { λ v items. ⊤ };
 }
 
 /// A queue under this rule.

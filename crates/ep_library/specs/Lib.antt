@@ -7,3 +7,4 @@ pub mod Syncing
 pub mod Telling
 pub mod Alone
 pub mod Opening
+pub mod Patience

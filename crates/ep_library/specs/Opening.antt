@@ -33,7 +33,7 @@ abbrev pub OpensNew : ℕ → Setup → Place → Option Hosting → Place → T
 OpensNew status setup other new told =
     (IsSeatless setup × Stays out_of_range status None new × (told ≡ other))
     ⊎ ((IsSpare setup × Stays log_exists status None new × (told ≡ other))
-    ⊎ ((seat : Seat) × IsSeat setup.replicas setup.replica seat
+    ⊎ ((seat : Seat) × IsSeat setup.replicas setup.replica seat × (¬ IsSpare setup)
     × ((begun : Result Hosting StartFault) × Begins seat (given setup.opening.now) (log_given setup.is_new setup.log.now) begun × Seats status begun other new told)))
 
 -- there is a replica already; or one is opened

@@ -39,6 +39,12 @@ no_replica = 32
 abbrev pub has_replica : ℕ
 has_replica = 33
 
+abbrev pub no_patience : ℕ
+no_patience = 44
+
+abbrev pub has_patience : ℕ
+has_patience = 45
+
 abbrev pub log_exists : ℕ
 log_exists = 49
 

@@ -1,8 +1,8 @@
 -- What a replica tells, by the status.
-use Rattle.std.specs.Prelude.{◌≡◌, ◌≢◌, ◌⊎◌, ◌<◌, ℕ, zero, suc, true, false, List, length, Option, Some, None}
+use Rattle.std.specs.Prelude.{◌≡◌, ◌≢◌, ◌⊎◌, ◌<◌, ◌≤◌, ℕ, zero, suc, true, false, List, length, Option, Some, None}
 use Rattle.ep_base.specs.Quorums.{size}
 use Rattle.ep_hosted.specs.Hosting.{Hosting, IsOnDisk}
-use Rattle.ep_hosted.specs.Telling.{HasClosed, HasLooked, IsUnclosed, IsUntold}
+use Rattle.ep_hosted.specs.Telling.{HasClosed, HasListed, HasLooked, IsUnclosed, IsUntold}
 use Rattle.ep_hosted.specs.declared.tell_fault.TellFault.{TellFault}
 use Rattle.ep_library.specs.Arguments.{instance_in, IsPlace, IsSize}
 use Rattle.ep_library.specs.Calls.{Stays, Unless}
@@ -12,6 +12,7 @@ use Rattle.ep_library.specs.Syncing.{IsRun}
 use Rattle.ep_library.specs.declared.instance.Instance.{Instance}
 use Rattle.ep_library.specs.declared.leading.Leading.{Leading}
 use Rattle.ep_library.specs.declared.lent.Lent.{Lent}
+use Rattle.ep_node.specs.Handled.{handled_from}
 use Rattle.ep_node.specs.declared.close_fault.CloseFault.{CloseFault}
 use Rattle.ep_phase.specs.Progress.{progress_in}
 use Rattle.ep_phase.specs.declared.progress.LeadPhase.{LeadPhase}
@@ -37,6 +38,18 @@ IsKeyLong key = (length key ≡ 0) ⊎ (255 < length key)
 
 abbrev pub LooksUp : ℕ → Option Hosting → List ℕ → Option Hosting → Lent → Type 0
 LooksUp status old key new run = Stays memory status old new ⊎ ((IsKeyLong key × Stays out_of_range status old new) ⊎ Unless status old new (λ h k. Looks status h key k run))
+
+-- What all keys have, and what was handled of a peer.
+
+-- the map is told whole, or nothing is told
+abbrev pub Lists : ℕ → Hosting → Hosting → Lent → Type 0
+Lists status h k run = ((status ≡ done) × HasListed h k × IsRun k.answers run) ⊎ (IsSilent status h × (k ≡ h))
+
+-- the greatest entry number in the peer's frames that the replica has handled is told; or there is no such peer
+abbrev pub Counts : ℕ → Option Hosting → ℕ → ℕ → Option Hosting → ℕ → Type 0
+Counts status old peer other new told =
+    ((¬ (peer ≤ 6)) × Stays out_of_range status old new × (told ≡ other))
+    ⊎ Unless status old new (λ h k. (status ≡ done) × (told ≡ handled_from peer h.node.replica.entries) × (k ≡ h))
 
 -- What is open.
 

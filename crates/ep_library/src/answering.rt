@@ -2,7 +2,7 @@
 
 ghost use Rattle.std.specs.Prelude.{◌≡◌, ◌≢◌};
 ghost use Rattle.ep_library.specs.Calls.{Unless};
-ghost use Rattle.ep_library.specs.Telling.{phase_number, Closes, ClosesFor, Leads, Looks, LooksAt, LooksOn, LooksUp, NextOpens, Shows, ShowsLead};
+ghost use Rattle.ep_library.specs.Telling.{phase_number, Closes, ClosesFor, Counts, Leads, Lists, Looks, LooksAt, LooksOn, LooksUp, NextOpens, Shows, ShowsLead};
 
 use crate::codes::{close_status, command_status, tell_status};
 use crate::instance::Instance;
@@ -11,7 +11,7 @@ use crate::lent::Lent;
 use crate::making::{instance_in, instance_out};
 use crate::status::{DONE, NO_REPLICA, NONE, OUT_OF_RANGE};
 use crate::syncing::point;
-use ep_base::{InstanceId, Key, Size};
+use ep_base::{InstanceId, Key, ReplicaId, Size};
 use ep_handle::Handle;
 use ep_hosted::Hosted;
 use ep_phase::LeadPhase;
@@ -59,6 +59,59 @@ pub extern "C" fn ep_get(alloc: Global, handle: &mut Handle, key: &[u8], value: 
     match Key::new(alloc, key) {
         Ok(key) => look_up(alloc, handle, &key, value),
         Err(fault) => command_status(fault),
+    }
+}
+
+/// What the replica's map has, whole.
+fn lists(alloc: Global, hosted: &mut Hosted, contents: &mut Lent) -> u8
+    ensures told { Lists result hosted.old hosted.new contents.new }
+    ensures untold { result ≢ 0 → contents.new ≡ contents.old }
+{
+    match hosted.list(alloc) {
+        Ok(()) => {
+            point(hosted.answers(), contents);
+            DONE
+        }
+        Err(fault) => tell_status(fault),
+    }
+}
+
+/// Lends what all keys of the replica's own map have, after all that it executed: a local read, which may be old. First how many keys have a value (4 bytes), and then, in rising
+/// order of keys, each with the length of the key (1), that of the value (4), the key and the value. EP_NO_REPLICA, EP_UNSYNCED, EP_MEMORY.
+#[unsafe(no_mangle)]
+pub extern "C" fn ep_contents(alloc: Global, handle: &mut Handle, contents: &mut Lent) -> u8
+    ensures told { Unless result handle.old.value handle.new.value (λ h k. Lists result h k contents.new) }
+    ensures untold { result ≢ 0 → contents.new ≡ contents.old }
+{
+    let held = mem::replace(handle, Handle::empty());
+    match held.into_box(alloc) {
+        None => NO_REPLICA,
+        Some(mut hosted) => {
+            let status = lists(alloc, &mut hosted, contents);
+            *handle = Handle::of(hosted);
+            status
+        }
+    }
+}
+
+/// Tells how many entries of a peer the replica knows of, by its log: the greatest number among the entries whose frames it has handled; 0 if it has handled none. A peer whose log
+/// has fewer has lost what it promised, or was put back to an older copy, and must not go on. EP_NO_REPLICA; EP_OUT_OF_RANGE: there is no such replica.
+#[unsafe(no_mangle)]
+pub extern "C" fn ep_handled(alloc: Global, handle: &mut Handle, peer: u8, entries: &mut u32) -> u8
+    ensures told { Counts result handle.old.value peer entries.old handle.new.value entries.new }
+    ensures untold { result ≢ 0 → entries.new ≡ entries.old }
+{
+    let Ok(peer) = ReplicaId::new(peer) else {
+        return OUT_OF_RANGE;
+    };
+    let held = mem::replace(handle, Handle::empty());
+    match held.into_box(alloc) {
+        None => NO_REPLICA,
+        Some(hosted) => {
+            *entries = hosted.handled(peer);
+            *handle = Handle::of(hosted);
+            DONE
+        }
     }
 }
 

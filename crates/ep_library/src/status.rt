@@ -54,6 +54,10 @@ pub(crate) const REFUSED: u8 = 41;
 pub(crate) const NOT_SEALED: u8 = 42;
 /// There is no generation after it.
 pub(crate) const LAST_GENERATION: u8 = 43;
+/// Nothing was begun that tells when to wait no longer, it was freed, or another thread is in a call with it.
+pub(crate) const NO_PATIENCE: u8 = 44;
+/// It was begun already.
+pub(crate) const HAS_PATIENCE: u8 = 45;
 /// The log has no bytes, and the replica isn't new.
 pub(crate) const NO_LOG: u8 = 48;
 /// The log has bytes, and the replica is new.

@@ -129,8 +129,8 @@ pub ends_stopped :
     (names : List (List ℕ)) (why : FilesFault) (result : Status) (out fault : Output) → IsStopped names why → TurnsAway why result fault → out.failed ≡ out.had_failed →
     EndsOfFiles result out fault
 ends_stopped names files.Memory result out fault is turns kept = subst (λ s. EndsOfFiles s out fault) (sym turns.0) kept
-ends_stopped names (files.ReadFailed line) result out fault (name, named, same) turns kept =
-    subst (λ s. EndsOfFiles s out fault) (sym turns.0) (inr (kept, (name, subst (Told fault) same turns.1)))
+ends_stopped names (files.ReadFailed line) result out fault (name, named, own) turns kept =
+    subst (λ s. EndsOfFiles s out fault) (sym turns.0) (inr (kept, (name, own.0, subst (Told fault) own.1 turns.1)))
 ends_stopped names (files.Refused line) result out fault is turns kept = subst (λ s. EndsOfFiles s out fault) (sym turns.0) kept
 
 -- one more was read

@@ -1,6 +1,6 @@
 -- Audits of chains: of bundles, and of files with names. No contract can say which bytes a file gives.
 use Rattle.std.specs.Prelude.{◌≡◌, ◌⊎◌, ℕ, List, [], ◌∷◌, ◌++◌, Option, Some, None, true, All, Contains, Ok, Err, codes, length, slice_get}
-use Rattle.ep_cli.specs.Files.{unread_line, IsUnreadLine}
+use Rattle.ep_cli.specs.Files.{unread_line, IsUnreadLine, IsUnreadOf}
 use Rattle.ep_cli.specs.declared.files_fault.FilesFault.{FilesFault}
 use Rattle.ep_cli.specs.declared.files_fault.FilesFault.TheVariants as files
 use Rattle.ep_audit.specs.Chained.{IsChained, IsChainFault, number_of}
@@ -15,6 +15,7 @@ use Rattle.ep_report.specs.Reports.{text_of, chain_refusal_lines}
 use Rattle.ep_audit.specs.declared.chain_fault.ChainFault.{ChainFault}
 use Rattle.ep_audit.specs.declared.verdict.Verdict.{Verdict}
 use Rattle.ep_cli.specs.Lines.{writing_failed}
+use Rattle.ep_device.specs.declared.system_fault.SystemFault.{SystemFault}
 use Rattle.ep_report.specs.Lives.{life_in}
 use Rattle.ep_cli.specs.Endings.{IsOutOfMemory, TurnsAway}
 use Rattle.ep_cli.specs.Outputs.{Output, Told, Wrote, WroteNothing}
@@ -62,7 +63,7 @@ IsNoLink name zs (files.Refused line) = IsBadFile name zs line.items
 -- why a file of this name isn't one
 abbrev pub IsNoFile : List ℕ → FilesFault → Type 0
 IsNoFile name files.Memory = Unit {0}
-IsNoFile name (files.ReadFailed line) = line.items ≡ unread_line name
+IsNoFile name (files.ReadFailed line) = IsUnreadOf name line.items
 IsNoFile name (files.Refused line) = (zs : List ℕ) × IsBadFile name zs line.items
 
 -- why one of the files of these names isn't one
@@ -145,10 +146,10 @@ pub record AreStopped (names : List (List ℕ)) (status : Status) (out fault : O
 abbrev pub ChainsFiles : List (List ℕ) → Status → Output → Output → Type 0
 ChainsFiles names status out fault = AreChained names status out fault ⊎ AreStopped names status out fault
 
--- whatever the files hold: the status is that of a failure exactly where the output failed in this run, or a file isn't read, and the line tells which
+-- whatever the files hold: the status is that of a failure exactly where the output failed in this run, or a file isn't read, and the line tells which, and why
 abbrev pub EndsOfFiles : Status → Output → Output → Type 0
 EndsOfFiles Done out fault = (out.failed ≡ out.had_failed) × (fault.failed ≡ fault.had_failed)
 EndsOfFiles AuditRefused out fault = (out.failed ≡ out.had_failed) × (fault.failed ≡ fault.had_failed)
 EndsOfFiles Refused out fault = out.failed ≡ out.had_failed
 EndsOfFiles OutOfMemory out fault = out.failed ≡ out.had_failed
-EndsOfFiles Failed out fault = ((out.failed ≡ true) × Told fault writing_failed) ⊎ ((out.failed ≡ out.had_failed) × ((name : List ℕ) × Told fault (unread_line name)))
+EndsOfFiles Failed out fault = ((out.failed ≡ true) × Told fault writing_failed) ⊎ ((out.failed ≡ out.had_failed) × ((name : List ℕ) × (cause : SystemFault) × Told fault (unread_line name cause)))

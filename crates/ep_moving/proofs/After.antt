@@ -1,5 +1,5 @@
 -- What the journals of a cluster give.
-use Rattle.std.proofs.Common.{Some, ◌≡◌, ◌≢◌, ◌<◌, ◌≤◌, ◌⊎◌, inl, inr, ℕ, List, [], Option, All, Contains, refl, sym, subst, arith}
+use Rattle.std.proofs.Common.{Some, ◌≡◌, ◌≢◌, ◌<◌, ◌≤◌, ◌⊎◌, inl, inr, ℕ, List, [], Option, All, Contains, refl, sym, subst, arith, max, ◌+◌, ◌∙◌}
 use Rattle.std.proofs.lemmas.Bool.{cases_lt}
 use Rattle.ep_base.specs.Places.{Has}
 use Rattle.ep_base.specs.Quorums.{size}
@@ -16,25 +16,58 @@ use Rattle.ep_rules.specs.Worlds.{In}
 use Rattle.ep_rules.proofs.Sorted.{stamp_reached}
 use Rattle.ep_audit.specs.Verdicts.{left_after}
 use Rattle.ep_audit.specs.declared.verdict.Verdict.{Verdict}
-use Rattle.ep_moving.specs.Ended.{commands_in, state_of, Accepts, IsLate, IsLeftOpen, IsOpeningAfter, IsUnended}
+use Rattle.ep_moving.specs.Ended.{commands_in, state_of, Accepts, IsGreatest, IsLeftOpen, IsOpeningAfter, IsUnended}
 use Rattle.ep_moving.specs.declared.move_fault.MoveFault.{MoveFault}
 use Rattle.ep_moving.specs.declared.move_fault.MoveFault.TheVariants.{Waits, Unexecuted}
 
 -- Stamps.
 
--- the last stamps of the first n replicas aren't above this
-abbrev pub AreLow : Collected → ℕ → ℕ → Type 0
-AreLow c n since = (r : ℕ) → r < n → stamp_after c.opening.since (journals_of c r) ≤ since
+-- this is the greatest of the last stamps of the first n replicas
+pub record IsTop (c : Collected) (n since : ℕ) : Type 0 where
+  pub low : (r : ℕ) → r < n → stamp_after c.opening.since (journals_of c r) ≤ since
+  pub of : ℕ
+  pub below : of < n
+  pub last : since ≡ stamp_after c.opening.since (journals_of c of)
 
-pub low_all : (c : Collected) (n since : ℕ) → AreLocalRuns (opens c.opening) c.faults (journals_of c) → size c.faults ≤ n → AreLow c n since → IsLate c since
-low_all c n since runs all h r e stands = elim (cases_lt r n) [
-  | inl less ↦ (
-      let low : stamp_after c.opening.since (journals_of c r) ≤ since = h r less in
-      let own : e.stamp ≤ stamp_after c.opening.since (journals_of c r) = stamp_reached 1 0 c.opening.since (journals_of c r) e (runs.local r).0 stands in
-      omega arith
-      )
-  | inr ge ↦ absurd (subst (In e) (runs.others r (omega arith)) stands)
-]
+pub top_one : (c : Collected) (since : ℕ) → since ≡ stamp_after c.opening.since (journals_of c 0) → IsTop c 1 since
+top_one c since is = record {
+  low = λ r below.
+      let zero : r ≡ 0 = omega arith in
+      subst (λ (q : ℕ). stamp_after c.opening.since (journals_of c q) ≤ since) (sym zero) (let same : stamp_after c.opening.since (journals_of c 0) ≡ since = sym is in omega arith);
+  of = 0;
+  below = omega arith;
+  last = is;
+}
+
+pub top_more : (c : Collected) (n since next new : ℕ) → IsTop c n since → next ≡ stamp_after c.opening.since (journals_of c n) → new ≡ max since next → IsTop c (n + 1) new
+top_more c n since next new h is most =
+    let lower : (r : ℕ) → r < n + 1 → stamp_after c.opening.since (journals_of c r) ≤ new = λ r below.
+    elim (cases_lt r n) [
+      | inl less ↦ (let low : stamp_after c.opening.since (journals_of c r) ≤ since = h.low r less in omega (arith, most))
+      | inr ge ↦ (
+          let same : n ≡ r = omega arith in
+          subst (λ (q : ℕ). stamp_after c.opening.since (journals_of c q) ≤ new) same (omega (arith, is, most))
+          )
+    ] in
+    elim (cases_lt since next) [
+      | inl less ↦ (let same : new ≡ next = omega (arith, most) in record { low = lower; of = n; below = omega arith; last = same ∙ is })
+      | inr ge ↦ (let same : new ≡ since = omega (arith, most) in let own : h.of < n = h.below in record { low = lower; of = h.of; below = omega arith; last = same ∙ h.last })
+    ]
+
+pub top_all : (c : Collected) (n since : ℕ) → AreLocalRuns (opens c.opening) c.faults (journals_of c) → n ≡ size c.faults → IsTop c n since → IsGreatest c since
+top_all c n since runs all h = record {
+  late = λ r e stands. elim (cases_lt r n) [
+    | inl less ↦ (
+        let low : stamp_after c.opening.since (journals_of c r) ≤ since = h.low r less in
+        let own : e.stamp ≤ stamp_after c.opening.since (journals_of c r) = stamp_reached 1 0 c.opening.since (journals_of c r) e (runs.local r).0 stands in
+        omega arith
+        )
+    | inr ge ↦ absurd (subst (In e) (runs.others r (omega arith)) stands)
+  ];
+  of = h.of;
+  below = subst (λ (k : ℕ). h.of < k) all h.below;
+  last = h.last;
+}
 
 -- Why a command isn't executed.
 
@@ -66,7 +99,7 @@ by_found i j found v e is (inr h) = inl h
 
 pub opening_made :
     (c : Collected) (me : ℕ) (v : Verdict) (executed : List ℕ) (o : Opening) (size : ℕ) (file : File) → Accepts c v → executed ≡ commands_in v.committed.items →
-    All (Has (state_of c me).executed) executed → o.contents ≡ left_after (opens c.opening) v → IsLate c o.since → size ≡ c.faults →
+    All (Has (state_of c me).executed) executed → o.contents ≡ left_after (opens c.opening) v → IsGreatest c o.since → size ≡ c.faults →
     file ≡ record { faults = size; generation = 2; opening = o; seal = Some []; executed = executed } → IsOpeningAfter c me file
 opening_made c me v executed o size file accepted all done contents since same is =
     subst (IsOpeningAfter c me) (sym is)

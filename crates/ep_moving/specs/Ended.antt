@@ -1,10 +1,11 @@
 -- The opening after all that the journals of a cluster commit.
-use Rattle.std.specs.Prelude.{◌≡◌, ◌≢◌, ℕ, ◌≤◌, false, cond, List, [], ◌∷◌, ◌++◌, Some, None, All, Contains}
+use Rattle.std.specs.Prelude.{◌≡◌, ◌≢◌, ℕ, ◌≤◌, ◌<◌, false, cond, List, [], ◌∷◌, ◌++◌, Some, None, All, Contains}
 use Rattle.ep_assemble.specs.declared.assemble_fault.AssembleFault.TheVariants.{Memory, Log as OfLog, Collect, Receipts, TooManyReceipts}
 use Rattle.ep_audit.specs.Audited.{IsAudited}
 use Rattle.ep_audit.specs.Audited.{IsRefused as IsAuditRefused}
 use Rattle.ep_audit.specs.declared.verdict_fault.VerdictFault.TheVariants.{Fault}
 use Rattle.ep_base.specs.Places.{Has}
+use Rattle.ep_base.specs.Quorums.{size}
 use Rattle.ep_base.specs.Sameness.{is_noop}
 use Rattle.ep_base.specs.declared.decree.Decree.{Decree}
 use Rattle.ep_journal.specs.Entries.{Collected, journals_of}
@@ -12,7 +13,7 @@ use Rattle.ep_journal.specs.Openings.{opens}
 use Rattle.ep_opening.specs.Files.{File}
 use Rattle.ep_audit.specs.declared.audit_fault.AuditFault.{AuditFault}
 use Rattle.ep_rules.specs.Graph.{Reaches}
-use Rattle.ep_rules.specs.Journals.{Entry, left}
+use Rattle.ep_rules.specs.Journals.{Entry, left, stamp_after}
 use Rattle.ep_rules.specs.States.{State, fresh_state, graph_in}
 use Rattle.ep_rules.specs.Worlds.{In}
 use Rattle.ep_audit.specs.Verdicts.{left_after}
@@ -37,9 +38,14 @@ state_of c r = left c.faults r (fresh_state (opens c.opening)) (journals_of c r)
 abbrev pub Accepts : Collected → Verdict → Type 0
 Accepts c v = IsAudited (opens c.opening) c.faults (journals_of c) [] v
 
--- no entry of a journal is stamped above this
-abbrev pub IsLate : Collected → ℕ → Type 0
-IsLate c since = (r : ℕ) (e : Entry) → In e (journals_of c r) → e.stamp ≤ since
+-- the greatest stamp of all entries; where there is none, the stamp that the clocks go on from
+pub record IsGreatest (c : Collected) (since : ℕ) : Type 0 where
+  -- no entry of a journal is stamped above it
+  pub late : (r : ℕ) (e : Entry) → In e (journals_of c r) → e.stamp ≤ since
+  -- and it is the last stamp of a replica
+  pub of : ℕ
+  pub below : of < size c.faults
+  pub last : since ≡ stamp_after c.opening.since (journals_of c of)
 
 -- the file of generation 2, after all that these journals commit
 pub record IsOpeningAfter (c : Collected) (me : ℕ) (file : File) : Type 0 where
@@ -52,8 +58,8 @@ pub record IsOpeningAfter (c : Collected) (me : ℕ) (file : File) : Type 0 wher
   pub done : All (Has (state_of c me).executed) file.executed
   -- the map is the rule book's, after the history
   pub contents : file.opening.contents ≡ left_after (opens c.opening) verdict
-  -- clocks go on from the greatest stamp, or a later one
-  pub since : IsLate c file.opening.since
+  -- clocks go on from the greatest stamp
+  pub since : IsGreatest c file.opening.since
   pub faults : file.faults ≡ c.faults
   pub generation : file.generation ≡ 2
   -- no seal began it, and the file tells an empty value

@@ -8,7 +8,7 @@ ghost use Rattle.ep_journal.specs.Leaving.{standing};
 ghost use Rattle.ep_journal.specs.Openings.{opens};
 ghost use Rattle.ep_rules.specs.Journals.{stamp_after};
 ghost use Rattle.ep_audit.specs.Verdicts.{left_after};
-ghost use Rattle.ep_moving.specs.Ended.{commands_in, state_of, Accepts, IsLate, IsOpeningAfter, IsUnended};
+ghost use Rattle.ep_moving.specs.Ended.{commands_in, state_of, Accepts, IsGreatest, IsOpeningAfter, IsUnended};
 ghost use Rattle.ep_moving.specs.declared.move_fault.MoveFault.TheVariants.{Waits, Unexecuted};
 
 use crate::commands::{commands_of, first_undone, is_listed};
@@ -43,22 +43,22 @@ fn last_of(journals: &Journals, index: u8) -> u64
     journals.get(replica).unwrap().last_stamp()
 }
 
-/// A stamp that no entry is above.
+/// The greatest stamp of all entries, or, where there is none, the one that the clocks go on from.
 fn greatest(journals: &Journals) -> u64
-    ensures { IsLate journals.now result }
+    ensures { IsGreatest journals.now result }
 {
     journals.are_local_runs();
-    let mut greatest = 0u64;
-    for index in 0..journals.size().count() {
+    let mut greatest = last_of(journals, 0);
+    for index in 1..journals.size().count() {
         greatest = greatest.max(last_of(journals, index));
     }
     greatest
 }
 
-/// The map after the journals' history, with clocks that go on from all their stamps. Where more than 4,000,000,000 keys have a value, it is refused.
+/// The map after the journals' history, with clocks that go on from the greatest of all stamps. Where more than 4,000,000,000 keys have a value, it is refused.
 fn opening_of(alloc: Global, journals: &Journals, verdict: &Verdict) -> Result<Opening, AllocError>
     ensures contents { IfOk result (λ o. o.contents ≡ left_after (opens journals.now.opening) verdict.now) }
-    ensures since { IfOk result (λ o. IsLate journals.now o.since) }
+    ensures since { IfOk result (λ o. IsGreatest journals.now o.since) }
 {
     let contents = verdict.contents(alloc, journals)?;
     match Opening::new(contents, greatest(journals)) {

@@ -9,3 +9,4 @@ pub mod Executing
 pub mod OpenFaults
 pub mod Opening
 pub mod OpenLaws
+pub mod Handled

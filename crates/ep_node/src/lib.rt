@@ -12,6 +12,7 @@ mod cut;
 mod executing;
 mod extent;
 mod first_entries;
+mod handled;
 mod learning;
 mod node;
 mod node_fault;
@@ -38,6 +39,7 @@ pub use crash_law::{
     crashing_runs_are_runs, handed_out_stays, life_calls_are_moves, played_runs_are_moves,
 };
 pub use cut::Cut;
+pub use handled::handled_from;
 pub use node::Node;
 pub use node_fault::NodeFault;
 pub use open_fault::OpenFault;

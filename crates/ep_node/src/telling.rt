@@ -168,11 +168,12 @@ pub(crate) fn ready_of(
         return Err(AllocError);
     };
     let new = after(entries, count);
-    let frames = frames_of(alloc, new)?;
-    let receipts = replica.receipts_after(alloc, count)?;
+    // What is dear to drop at an exit is made last.
     let committed = commits_by(alloc, &notes.commits, new)?;
     let executed = executed_by(alloc, new)?;
     let still_open = open_in(alloc, replica, &notes.about, most)?;
+    let receipts = replica.receipts_after(alloc, count)?;
+    let frames = frames_of(alloc, new)?;
     Ok(Ready {
         entries: all,
         frames,

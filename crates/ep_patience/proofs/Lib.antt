@@ -1,2 +1,4 @@
-mod First
+mod AskedWritten
+mod OpenRead
+mod Spared
 mod Turning

@@ -1,40 +1,27 @@
--- When a replica waits no longer for an instance: what is asked for then, and how long it waits again.
-use Rattle.std.specs.Prelude.{◌≡◌, ◌≤◌, ◌+◌, ◌*◌, ◌%◌, ℕ, zero, suc, ◌&&◌, eqb, leb, ltb, cond, min, List, [], length, map, find, filter_map, slice_get, All, Contains, Option, Some, None}
+-- How one open instance is waited for, and what is asked for it.
+use Rattle.std.specs.Prelude.{◌≤◌, ◌+◌, ◌*◌, ◌/◌, ◌%◌, ℕ, Bool, true, false, ◌&&◌, ◌||◌, not, eqb, leb, ltb, cond, min, max, List, Option, Some, None}
 use Rattle.ep_base.specs.Instances.{leader_of}
+use Rattle.ep_base.specs.Quorums.{size}
 use Rattle.ep_phase.specs.declared.progress.LeadPhase.{LeadPhase}
 use Rattle.ep_phase.specs.declared.progress.LeadPhase.TheVariants.{Proposing, Accepting, Preparing}
-use Rattle.rand_xoshiro.specs.SplitMix64.{mix_u64, next_state}
-use Rattle.ep_patience.specs.declared.patience.Patience.{Patience}
+use Rattle.rand_xoshiro.specs.SplitMix64.{mix_u64}
+use Rattle.ep_patience.specs.Peers.{count, slowest}
+use Rattle.ep_patience.specs.declared.outlook.Outlook.{Outlook}
+use Rattle.ep_patience.specs.declared.peer.Peer.{Peer}
+use Rattle.ep_patience.specs.declared.peers.Group.TheVariants.{Others, Members}
+use Rattle.ep_patience.specs.declared.peers.Place.{Place}
 use Rattle.ep_patience.specs.declared.remedy.Remedy.{Remedy}
 use Rattle.ep_patience.specs.declared.remedy.Remedy.TheVariants.{GiveUp, Recover}
 use Rattle.ep_patience.specs.declared.seen.Seen.{Seen}
 use Rattle.ep_patience.specs.declared.waiting.Waiting.{Waiting}
 use Rattle.ep_patience.specs.declared.waits.Waits.{Waits}
 
--- What is asked for.
+-- Times, which stop at 2^64 - 1.
 
--- of an own instance for the first time: it is given up where `faults` others have answered, else recovered; in the accept phase it is waited for
-abbrev pub first_remedy : ℕ → ℕ → Option (LeadPhase × ℕ) → Option Remedy
-first_remedy faults i None = Some (Recover i)
-first_remedy faults i (Some (Proposing, n)) = cond (leb faults n) (Some (GiveUp i)) (Some (Recover i))
-first_remedy faults i (Some (Accepting, n)) = None
-first_remedy faults i (Some (Preparing, n)) = Some (Recover i)
+abbrev pub plus : ℕ → ℕ → ℕ
+plus now wait = min (now + wait) 18446744073709551615
 
--- of an instance that is late, by the least wait since something was asked for last, 0 where nothing was
-abbrev pub remedy_of : ℕ → ℕ → ℕ → Seen → Option Remedy
-remedy_of faults me wait x = cond (eqb wait 0 && eqb (leader_of x.instance) me) (first_remedy faults x.instance x.leads) (Some (Recover x.instance))
-
--- How long is waited.
-
--- since it was first seen
-abbrev pub begun_wait : Waits → ℕ → ℕ → ℕ
-begun_wait w me i = cond (eqb (leader_of i) me) w.own w.others
-
--- again: twice as long, up to the longest
-abbrev pub next_wait : Waits → ℕ → ℕ
-next_wait w wait = cond (eqb wait 0) (min w.again w.longest) (min (wait * 2) w.longest)
-
--- when such a wait ends that begins now, by a random number; times stop at 2^64 - 1
+-- when such a wait ends that begins now, by a random number
 unfoldable pub later : ℕ → ℕ → ℕ → ℕ
 later now wait random = min (now + (wait + random % (wait + 1))) 18446744073709551615
 
@@ -42,66 +29,87 @@ later now wait random = min (now + (wait + random % (wait + 1))) 184467440737095
 abbrev pub IsWithin : ℕ → ℕ → ℕ → Type 0
 IsWithin now wait due = (min (now + wait) 18446744073709551615 ≤ due) × (due ≤ now + 2 * wait)
 
--- The random numbers are those of SplitMix64 (Steele, Lea and Flood, 2014), which the seed begins.
+-- the number that SplitMix64 (Steele, Lea and Flood, 2014) gives in the state seed + now + instance, modulo 2^64
+unfoldable pub chance : ℕ → ℕ → ℕ → ℕ
+chance seed now i = (mix_u64 (((seed + now) % 18446744073709551616 + i) % 18446744073709551616)).0
 
--- the generator's state after so many numbers
-abbrev pub state_after : ℕ → ℕ → ℕ
-state_after seed zero = seed
-state_after seed (suc n) = next_state (state_after seed n)
+-- What a turn judges by.
+abbrev pub outlook : Waits → Place → List Peer → ℕ → Outlook
+outlook w place peers now = record {
+  place = place;
+  time = now;
+  own = slowest w place peers Members (size place.size);
+  again = slowest w place peers Others (size place.size);
+  members = count place peers Members (size place.size);
+  most = cond (ltb (count place peers Others (size place.size)) place.size) 0 64;
+}
 
--- the number that it gives in this state
-unfoldable pub random_of : ℕ → ℕ
-random_of state = (mix_u64 state).0
+abbrev pub is_own : Outlook → Seen → Bool
+is_own o x = eqb (leader_of x.instance) o.place.me
 
--- One open instance in a turn at a time, by how it was waited for before, if it was.
+-- The wait.
 
--- how it is waited for from now on: anew where it is seen for the first time, again where its wait is over, else as before
-abbrev pub waiting_after : Waits → ℕ → ℕ → ℕ → Seen → Option Waiting → Waiting
-waiting_after w me now random x None = record { instance = x.instance; due = later now (begun_wait w me x.instance) random; wait = 0 }
-waiting_after w me now random x (Some old) = cond (ltb now old.due) old (record { instance = x.instance; due = later now (next_wait w old.wait) random; wait = next_wait w old.wait })
+-- that begins where an instance is first seen: until a Commit should have come of which a peer tells; for the members' time-out; or once to twice the peers'
+-- time-out and the way to the leader
+abbrev pub begun_due : Outlook → ℕ → ℕ → Seen → ℕ → ℕ
+begun_due o told distance x random =
+    cond x.is_told (later o.time told random) (cond (is_own o x) (plus o.time o.own) (later o.time (min (o.again + distance) 4294967295) random))
 
--- what is asked for, where its wait is over
-abbrev pub remedy_for : ℕ → ℕ → ℕ → Seen → Option Waiting → Option Remedy
-remedy_for faults me now x None = None
-remedy_for faults me now x (Some old) = cond (ltb now old.due) None (remedy_of faults me old.wait x)
+abbrev pub begun : Outlook → ℕ → ℕ → Seen → ℕ → Waiting
+begun o told distance x random = record { due = begun_due o told distance x random; wait = 0; is_asked = false; silent = 0 }
 
--- how the instance is waited for, if it is
-abbrev pub waiting_for : List Waiting → ℕ → Option Waiting
-waiting_for ws i = find (λ (w : Waiting). eqb w.instance i) ws
+-- that of an instance which is hurried
+abbrev pub hurried : Outlook → Waiting → ℕ → Waiting
+hurried o w random = cond (not w.is_asked) w (record { due = min w.due (later o.time o.again random); wait = o.again; is_asked = true; silent = w.silent })
 
--- the same by what is known of it before the turn
-abbrev pub waiting_next : Patience → ℕ → ℕ → Seen → Waiting
-waiting_next p now random x = waiting_after p.waits p.me now random x (waiting_for p.all.items x.instance)
+-- once something is asked for: the peers' time-out, and twice as long each time
+abbrev pub asked_wait : Outlook → ℕ → Waiting → ℕ
+asked_wait o longest w = cond w.is_asked (min (min (w.wait * 2) 4294967295) longest) o.again
 
-abbrev pub remedy_next : Patience → ℕ → Seen → Option Remedy
-remedy_next p now x = remedy_for p.size p.me now x (waiting_for p.all.items x.instance)
+abbrev pub asked : Outlook → ℕ → Waiting → ℕ → Waiting
+asked o longest w random = record { due = later o.time (asked_wait o longest w) random; wait = asked_wait o longest w; is_asked = true; silent = 0 }
 
--- A turn at a time, at which these instances are open: what is waited for after it, what it asks for, and the generator's state.
-pub record Turns (p : Patience) (now : ℕ) (seen : List Seen) (all : List Waiting) (asked : List Remedy) (random : ℕ) : Type 0 where
-  -- each open instance is waited for, at its place, and nothing else is
-  pub many : length all ≡ length seen
-  pub waited : (i : ℕ) (x : Seen) → slice_get seen i ≡ Some x → slice_get all i ≡ Some (waiting_next p now (random_of (state_after p.random i)) x)
-  -- what is late is asked for, in their order
-  pub late : asked ≡ filter_map (remedy_next p now) seen
-  -- each took a random number
-  pub drawn : random ≡ state_after p.random (length seen)
+-- where nothing is asked for: the members' time-out once more
+abbrev pub waited_on : Outlook → Waiting → Waiting
+waited_on o w = record { due = plus o.time o.own; wait = w.wait; is_asked = w.is_asked; silent = cond (ltb w.silent 3) (w.silent + 1) w.silent }
 
--- What is asked for names an open instance.
+-- once somebody has begun to recover the instance, at a ballot of this counter: the peers' time-out, and as long again for each 8 ballots before it, up to 16 times
+abbrev pub put_off_wait : Outlook → ℕ → ℕ → ℕ
+put_off_wait o longest ballot = min (min (o.again * min (1 + ballot / 8) 16) 4294967295) longest
 
-abbrev pub named : Remedy → ℕ
-named (GiveUp i) = i
-named (Recover i) = i
+abbrev pub put_off : Outlook → ℕ → Waiting → ℕ → ℕ → Waiting
+put_off o longest w ballot random = record { due = max w.due (later o.time (put_off_wait o longest ballot) random); wait = w.wait; is_asked = w.is_asked; silent = w.silent }
 
-abbrev pub AreOpen : List Seen → List Remedy → Type 0
-AreOpen seen asked = All (λ (r : Remedy). Contains (map (λ (x : Seen). x.instance) seen) (named r)) asked
+-- What is asked for.
 
--- When something is due next.
+-- an own proposal waits in vain: it has as many answers as the slow path needs, and not all 2F - 1 members are reached; or it has fewer, and too few are reached
+abbrev pub is_hopeless : Outlook → ℕ → Bool
+is_hopeless o answers = cond (leb o.place.size answers) (ltb (o.members + 1) (2 * o.place.size)) (ltb o.members o.place.size)
 
-abbrev pub earlier : Option ℕ → ℕ → ℕ
-earlier None due = due
-earlier (Some other) due = min other due
+abbrev pub hopeless_lead : Outlook → Option (LeadPhase × ℕ) → Bool
+hopeless_lead o None = false
+hopeless_lead o (Some (Proposing, answers)) = is_hopeless o answers
+hopeless_lead o (Some (Accepting, answers)) = false
+hopeless_lead o (Some (Preparing, answers)) = false
 
--- the time at which the first of these waits ends: none of nothing, else that of one of them, and none ends before
-abbrev pub IsFirst : List Waiting → Option ℕ → Type 0
-IsFirst ws None = ws ≡ []
-IsFirst ws (Some due) = Contains (map (λ (w : Waiting). w.due) ws) due × All (λ (w : Waiting). due ≤ w.due) ws
+-- is its wait over, or was nothing asked for, and it waits in vain
+abbrev pub is_late : Outlook → Seen → Waiting → Bool
+is_late o x w = leb w.due o.time || (not w.is_asked && (is_own o x && hopeless_lead o x.leads))
+
+-- an own proposal is given up where F others have answered; else it is waited for, and recovered where too few members are reached, or after 3 waits
+abbrev pub remedy_proposed : Outlook → ℕ → ℕ → ℕ → Option Remedy
+remedy_proposed o i answers silent =
+    cond (leb o.place.size answers) (Some (GiveUp i)) (cond (ltb o.members o.place.size || leb 3 silent) (Some (Recover i)) None)
+
+-- an own instance: in the accept phase it is waited for, and recovered after 3 waits
+abbrev pub remedy_own : Outlook → ℕ → Option (LeadPhase × ℕ) → ℕ → Option Remedy
+remedy_own o i None silent = Some (Recover i)
+remedy_own o i (Some (Proposing, answers)) silent = remedy_proposed o i answers silent
+remedy_own o i (Some (Accepting, answers)) silent = cond (leb 3 silent) (Some (Recover i)) None
+remedy_own o i (Some (Preparing, answers)) silent = Some (Recover i)
+
+abbrev pub remedy_of : Outlook → Seen → Waiting → Option Remedy
+remedy_of o x w = cond (is_own o x) (remedy_own o x.instance x.leads w.silent) (Some (Recover x.instance))
+
+abbrev pub remedy_at : Outlook → Seen → Waiting → Option Remedy
+remedy_at o x w = cond (is_late o x w) (remedy_of o x w) None

@@ -1,62 +1,30 @@
 //! What is asked for, and how long is waited then.
 
 ghost use Rattle.std.specs.Prelude.{◌≡◌, ◌≤◌, ◌+◌, ◌*◌, min};
-ghost use Rattle.ep_patience.specs.Waiting.{begun_wait, first_remedy, later, next_wait, remedy_of, IsWithin};
+ghost use Rattle.ep_patience.specs.Waiting.{asked, asked_wait, begun, chance, hurried, is_hopeless, is_late, is_own, later, put_off, remedy_at, remedy_of, remedy_proposed, waited_on, IsWithin};
 
+use crate::outlook::Outlook;
 use crate::remedy::Remedy;
 use crate::seen::Seen;
+use crate::waiting::Waiting;
 use crate::waits::Waits;
-use ep_base::{InstanceId, ReplicaId, Size};
+use ep_base::InstanceId;
 use ep_phase::LeadPhase;
+use rand_core::SeedableRng;
+use rand_core::utils::NextWord;
+use rand_xoshiro::SplitMix64;
 
-/// What is asked for an own instance that is late for the first time.
-fn first_remedy(faults: u8, instance: InstanceId, leads: &Option<(LeadPhase, u8)>) -> Option<Remedy>
-    ensures { result ≡ first_remedy faults instance leads.now }
-{
-    match leads {
-        Some((LeadPhase::Proposing, answers)) => {
-            if faults <= *answers {
-                Some(Remedy::GiveUp(instance))
-            } else {
-                Some(Remedy::Recover(instance))
-            }
-        }
-        Some((LeadPhase::Accepting, _)) => None,
-        Some((LeadPhase::Preparing, _)) => Some(Remedy::Recover(instance)),
-        None => Some(Remedy::Recover(instance)),
-    }
-}
+/// After so many waits in which nothing was asked for an own instance is recovered.
+const MOST_SILENT: u8 = 3;
 
-/// What is asked for an instance that is late, where so long was waited since something was asked for last; 0 where nothing was.
-pub(crate) fn remedy_of(size: Size, me: ReplicaId, wait: u32, seen: &Seen) -> Option<Remedy>
-    ensures { result ≡ remedy_of size me wait seen.now }
+/// A random number for the instance at this time.
+#[tactic(auto, unfolding(crate::specs::Waiting::chance))]
+pub(crate) fn chance(seed: u64, now: u64, instance: InstanceId) -> u64
+    ensures { result ≡ chance seed now instance }
 {
-    if wait == 0 && seen.instance.replica() == me {
-        return first_remedy(size.faults(), seen.instance, &seen.leads);
-    }
-    Some(Remedy::Recover(seen.instance))
-}
-
-/// How long at least is waited for an instance that is seen open for the first time.
-pub(crate) fn begun_wait(waits: &Waits, me: ReplicaId, instance: InstanceId) -> u32
-    ensures { result ≡ begun_wait waits.now me instance }
-{
-    if instance.replica() == me {
-        waits.own
-    } else {
-        waits.others
-    }
-}
-
-/// How long at least is waited once something is asked for, where the wait before was so long; 0 where none was.
-pub(crate) fn next_wait(waits: &Waits, wait: u32) -> u32
-    ensures { result ≡ next_wait waits.now wait }
-{
-    if wait == 0 {
-        waits.again.min(waits.longest)
-    } else {
-        wait.saturating_mul(2).min(waits.longest)
-    }
+    let place = u64::from(instance.place());
+    let mut random = SplitMix64::seed_from_u64(seed.wrapping_add(now).wrapping_add(place));
+    random.next_word()
 }
 
 /// A time that is at least once and at most twice so long after this one, by this random number.
@@ -67,4 +35,193 @@ pub(crate) fn later(now: u64, wait: u32, random: u64) -> u64
 {
     let least = u64::from(wait);
     now.saturating_add(least + random % (least + 1))
+}
+
+/// Whether the replica leads the instance's numbers.
+fn is_own(outlook: &Outlook, seen: &Seen) -> bool
+    ensures { result ≡ is_own outlook.now seen.now }
+{
+    seen.instance.replica() == outlook.place.me
+}
+
+/// How an instance is waited for that is seen open for the first time, where a message to its leader and back takes so long.
+pub(crate) fn begun(
+    outlook: &Outlook,
+    told: u32,
+    distance: u32,
+    seen: &Seen,
+    random: u64,
+) -> Waiting
+    ensures { result ≡ begun outlook.now told distance seen.now random }
+{
+    let due = if seen.is_told {
+        later(outlook.time, told, random)
+    } else if is_own(outlook, seen) {
+        outlook.time.saturating_add(u64::from(outlook.own))
+    } else {
+        later(outlook.time, outlook.again.saturating_add(distance), random)
+    };
+    Waiting {
+        due,
+        wait: 0,
+        is_asked: false,
+        silent: 0,
+    }
+}
+
+/// How it is waited for once it is hurried, where something was asked for before.
+pub(crate) fn hurried(outlook: &Outlook, waiting: Waiting, random: u64) -> Waiting
+    ensures { result ≡ hurried outlook.now waiting random }
+{
+    if !waiting.is_asked {
+        return waiting;
+    }
+    Waiting {
+        due: waiting.due.min(later(outlook.time, outlook.again, random)),
+        wait: outlook.again,
+        is_asked: true,
+        silent: waiting.silent,
+    }
+}
+
+/// Whether an own proposal that so many have answered can't have the answers any more for which it waits.
+fn is_hopeless(outlook: &Outlook, answers: u8) -> bool
+    ensures { result ≡ is_hopeless outlook.now answers }
+{
+    let faults = outlook.place.size.faults();
+    if faults <= answers {
+        (outlook.members as u16) + 1 < 2 * (faults as u16)
+    } else {
+        outlook.members < faults
+    }
+}
+
+/// Whether the wait is over, or there is nothing to wait for.
+fn is_late(outlook: &Outlook, seen: &Seen, waiting: &Waiting) -> bool
+    ensures { result ≡ is_late outlook.now seen.now waiting.now }
+{
+    if waiting.due <= outlook.time {
+        return true;
+    }
+    if waiting.is_asked || !is_own(outlook, seen) {
+        return false;
+    }
+    match seen.leads {
+        Some((LeadPhase::Proposing, answers)) => is_hopeless(outlook, answers),
+        _ => false,
+    }
+}
+
+/// What is asked for an own instance in the first phase, which so many have answered.
+fn remedy_proposed(
+    outlook: &Outlook,
+    instance: InstanceId,
+    answers: u8,
+    silent: u8,
+) -> Option<Remedy>
+    ensures { result ≡ remedy_proposed outlook.now instance answers silent }
+{
+    let faults = outlook.place.size.faults();
+    if faults <= answers {
+        return Some(Remedy::GiveUp(instance));
+    }
+    if outlook.members < faults || MOST_SILENT <= silent {
+        return Some(Remedy::Recover(instance));
+    }
+    None
+}
+
+/// What is asked for an instance that is late.
+fn remedy_of(outlook: &Outlook, seen: &Seen, waiting: &Waiting) -> Option<Remedy>
+    ensures { result ≡ remedy_of outlook.now seen.now waiting.now }
+{
+    let instance = seen.instance;
+    if !is_own(outlook, seen) {
+        return Some(Remedy::Recover(instance));
+    }
+    match seen.leads {
+        Some((LeadPhase::Proposing, answers)) => {
+            remedy_proposed(outlook, instance, answers, waiting.silent)
+        }
+        Some((LeadPhase::Accepting, _)) => {
+            if MOST_SILENT <= waiting.silent {
+                Some(Remedy::Recover(instance))
+            } else {
+                None
+            }
+        }
+        Some((LeadPhase::Preparing, _)) => Some(Remedy::Recover(instance)),
+        None => Some(Remedy::Recover(instance)),
+    }
+}
+
+/// What is asked for an instance, if it is late and something is.
+pub(crate) fn remedy_at(outlook: &Outlook, seen: &Seen, waiting: &Waiting) -> Option<Remedy>
+    ensures { result ≡ remedy_at outlook.now seen.now waiting.now }
+{
+    if is_late(outlook, seen, waiting) {
+        remedy_of(outlook, seen, waiting)
+    } else {
+        None
+    }
+}
+
+/// How long at least is waited once something is asked for.
+fn asked_wait(outlook: &Outlook, longest: u32, waiting: &Waiting) -> u32
+    ensures { result ≡ asked_wait outlook.now longest waiting.now }
+{
+    if waiting.is_asked {
+        waiting.wait.saturating_mul(2).min(longest)
+    } else {
+        outlook.again
+    }
+}
+
+/// How an instance is waited for that is asked for now.
+pub(crate) fn asked(outlook: &Outlook, longest: u32, waiting: &Waiting, random: u64) -> Waiting
+    ensures { result ≡ asked outlook.now longest waiting.now random }
+{
+    let wait = asked_wait(outlook, longest, waiting);
+    Waiting {
+        due: later(outlook.time, wait, random),
+        wait,
+        is_asked: true,
+        silent: 0,
+    }
+}
+
+/// How an instance is waited for that is late, and for which nothing is asked.
+pub(crate) fn waited_on(outlook: &Outlook, waiting: &Waiting) -> Waiting
+    ensures { result ≡ waited_on outlook.now waiting.now }
+{
+    Waiting {
+        due: outlook.time.saturating_add(u64::from(outlook.own)),
+        wait: waiting.wait,
+        is_asked: waiting.is_asked,
+        silent: if waiting.silent < MOST_SILENT {
+            waiting.silent + 1
+        } else {
+            waiting.silent
+        },
+    }
+}
+
+/// How it is waited for once somebody has begun to recover it, at a ballot of this counter.
+pub(crate) fn put_off(
+    outlook: &Outlook,
+    longest: u32,
+    waiting: Waiting,
+    ballot: u16,
+    random: u64,
+) -> Waiting
+    ensures { result ≡ put_off outlook.now longest waiting ballot random }
+{
+    let times = (1 + u32::from(ballot) / 8).min(16);
+    let wait = outlook.again.saturating_mul(times).min(longest);
+    Waiting {
+        due: waiting.due.max(later(outlook.time, wait, random)),
+        wait: waiting.wait,
+        is_asked: waiting.is_asked,
+        silent: waiting.silent,
+    }
 }

@@ -1,20 +1,32 @@
 //! When to wait no longer.
 //!
 //! Whether an instance is given up or recovered, and when, is a question of time, of which the protocol knows nothing: any answer is safe. `Patience`
-//! is one that is wise: it is handed the time and what is open, and tells what to ask for. It has no clock, no IO and no source of chance but its seed.
+//! is one that is wise: it is handed the time, how long peers take to answer, and what is open, and tells what to ask for. It has no clock, no IO and no
+//! source of chance but its seed.
 //!
-//! Start with `patience.rt` and specs/Patience.antt; then `waits.rt`, `waiting.rt` and `remedy.rt`.
+//! Start with `patience.rt` and specs/Turning.antt; then `trip.rt` and specs/Trips.antt (RFC 6298), `outlook.rt` and `choosing.rt`.
 #![tactic(auto)]
 
 mod choosing;
-mod one_turn;
+mod hosted_patience;
+mod outlook;
 mod patience;
+mod peer;
+mod peers;
+mod reading;
 mod remedy;
 mod seen;
+mod sparing;
+mod trip;
+mod turn_fault;
 mod waiting;
 mod waits;
+mod writing;
 
+pub use hosted_patience::HostedPatience;
 pub use patience::Patience;
 pub use remedy::Remedy;
 pub use seen::Seen;
+pub use sparing::{begins_patient, stays_patient};
+pub use turn_fault::TurnFault;
 pub use waits::Waits;

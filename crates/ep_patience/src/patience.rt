@@ -1,30 +1,39 @@
 //! A machine that tells when to wait no longer.
 
-ghost use Rattle.std.specs.Prelude.{◌≡◌, ◌++◌, option_to_list, OnOk};
-ghost use Rattle.ep_patience.specs.Waiting.{earlier, waiting_for, IsFirst};
+ghost use Rattle.std.specs.Prelude.{◌≡◌, ◌++◌, ℕ, Some, None, cond, length, ltb, nat_eq, option_to_list, OnOk, OnErr};
+ghost use Rattle.ep_patience.specs.Turning.{earlier, waiting_for};
 
-use crate::choosing::{begun_wait, later, next_wait, remedy_of};
-use crate::one_turn::OneTurn;
+use crate::choosing::{asked, begun, chance, hurried, put_off, remedy_at, waited_on};
+use crate::outlook::{Outlook, outlook_at};
+use crate::peer::Peer;
+use crate::peers::{Group, Place, count, distance};
 use crate::remedy::Remedy;
 use crate::seen::Seen;
+use crate::trip::measured;
 use crate::waiting::Waiting;
 use crate::waits::Waits;
 use ep_base::{InstanceId, ReplicaId, Size};
-use rand_core::SeedableRng;
-use rand_core::utils::NextWord;
-use rand_xoshiro::SplitMix64;
+use indexmap::IndexMap;
 use std::alloc::{AllocError, Global};
 
-/// How the instance is waited for, if it is.
-fn waiting_for(all: &[Waiting], instance: InstanceId) -> Option<Waiting>
-    ensures { result ≡ waiting_for all.now instance }
+/// The earlier of two times, where there are two.
+fn earlier(found: Option<u64>, due: u64) -> u64
+    ensures { result ≡ earlier found due }
 {
-    for waiting in all {
-        if waiting.instance == instance {
-            return Some(*waiting);
-        }
+    match found {
+        Some(other) => other.min(due),
+        None => due,
     }
-    None
+}
+
+/// Instances by their places, each as it is waited for.
+type Waitings = IndexMap<u32, Waiting>;
+
+/// How the instance is waited for, if it is.
+fn waiting_for(all: &Waitings, instance: InstanceId) -> Option<Waiting>
+    ensures { result ≡ waiting_for all.now.entries instance }
+{
+    all.get(&instance.place()).copied()
 }
 
 /// Adds what is asked for, if something is.
@@ -37,121 +46,264 @@ fn add(asked: &mut Vec<Remedy>, remedy: Option<Remedy>) -> Result<(), AllocError
     Ok(())
 }
 
-/// The earlier of two times, where there are two.
-fn earlier(found: Option<u64>, due: u64) -> u64
-    ensures { result ≡ earlier found due }
+/// Whether more may be asked for.
+fn has_room(asked: &Vec<Remedy>, most: u8) -> bool
+    ensures { result ≡ ltb (length asked.now.items) most }
 {
-    match found {
-        Some(other) => other.min(due),
-        None => due,
+    asked.len() < usize::from(most)
+}
+
+/// What is asked for, where there is room.
+fn granted(room: bool, remedy: Option<Remedy>) -> Option<Remedy>
+    ensures { result ≡ cond room remedy None }
+{
+    if room { remedy } else { None }
+}
+
+/// Puts this in, or in place of what was there.
+fn put(all: &mut Waitings, instance: InstanceId, waiting: Waiting) -> Result<(), AllocError>
+    ensures ok { OnOk result ((i : ℕ) → waiting_for all.new.entries i ≡ cond (nat_eq instance i) (Some waiting) (waiting_for all.old.entries i)) }
+    ensures err { OnErr result ((all.new.entries ≡ all.old.entries) × (waiting_for all.old.entries instance ≡ None)) }
+{
+    match all.insert(instance.place(), waiting) {
+        Ok(_) => Ok(()),
+        Err(_) => Err(AllocError),
     }
 }
 
-/// When the first of these waits is over.
-fn first_due(all: &[Waiting]) -> Option<u64>
-    ensures { IsFirst all.now result }
-{
-    let mut found = None;
-    for waiting in all {
-        found = Some(earlier(found, waiting.due));
-    }
-    found
-}
-
-/// Which open instances a replica waits for, and until when. Times are numbers of the caller's, in a unit of its own.
+/// Which open instances a replica waits for, and until when, by the round trips to its peers.
+///
+/// Times are numbers of the host's clock, in a unit of its own. The replica's own time is that less the time in which it wasn't turning: where a turn comes later
+/// than it was due by more than the granularity, what the replica waits for may have come long ago, and wait to be handled.
 #[derive(Drop)]
 pub struct Patience {
-    size: Size,
-    me: ReplicaId,
+    place: Place,
     waits: Waits,
-    random: SplitMix64,
-    all: Vec<Waiting>,
+    seed: u64,
+    peers: [Peer; 7],
+    all: Waitings,
+    /// The first time at which a wait is over, by the own time.
+    first: Option<u64>,
+    /// When the last turn was.
+    turned: u64,
+    /// How long the replica wasn't turning, of the time so far.
+    away: u64,
+    /// Whether the next turn hurries all that was asked for.
+    is_hurried: bool,
 }
 
 impl Patience {
-    ghost use Rattle.std.specs.Prelude.{◌≡◌, [], IfOk, OnErr};
-    ghost use Rattle.ep_patience.specs.Waiting.{remedy_next, waiting_next, AreOpen, IsFirst, Turns};
+    ghost use Rattle.std.specs.Prelude.{◌≡◌, ◌↔◌, ◌-◌, ◌<◌, [], None, Some, true, false, ◌||◌, ◌&&◌, not, cond, slice_get, slice_set, IfOk, OnErr, IsOk, IsErr};
+    ghost use Rattle.ep_base.specs.Deps.{IsRising};
+    ghost use Rattle.ep_base.specs.Quorums.{size as size_of};
+    ghost use Rattle.ep_patience.specs.Peers.{peer_of};
+    ghost use Rattle.ep_patience.specs.Trips.{measured};
+    ghost use Rattle.ep_patience.specs.Turning.{after, found_at, has_room, instances, is_alone, next_due, outlook_of, remedy_next, time_at, time_by, with_hurry, with_measured, with_reached, HasTurned, IsNew, PutsOff};
 
-    /// That of this replica of a cluster, which waits so long, by the numbers of SplitMix64 from this seed. Nothing is waited for.
+    /// That of this replica of a cluster, which waits so long, by the numbers of SplitMix64 from this seed. All peers are taken to be reached, none was
+    /// measured, and nothing is waited for. Replicas of a cluster have different seeds.
     pub fn new(alloc: Global, size: Size, me: ReplicaId, waits: Waits, seed: u64) -> Patience
-        ensures given { (result.size ≡ size) × (result.me ≡ me) × (result.waits ≡ waits) × (result.random ≡ seed) }
-        ensures none { result.all.items ≡ [] }
+        ensures { IsNew size me waits seed result }
     {
         Patience {
-            size,
-            me,
+            place: Place { size, me },
             waits,
-            random: SplitMix64::seed_from_u64(seed),
-            all: Vec::new(alloc),
+            seed,
+            peers: [Peer {
+                trip: None,
+                is_reached: true,
+            }; 7],
+            all: IndexMap::new(alloc),
+            first: None,
+            turned: 0,
+            away: 0,
+            is_hurried: false,
         }
     }
 
-    /// What comes of a turn at this time for an open instance, by this random number.
-    fn turn_of(&self, now: u64, seen: &Seen, random: u64) -> OneTurn
-        ensures waiting { result.waiting ≡ waiting_next self.now now random seen.now }
-        ensures asked { result.asked ≡ remedy_next self.now now seen.now }
+    /// An answer of this peer to an own proposal came so long after the proposal was sent to it. Not where that was sent twice: it isn't known then which
+    /// one is answered (Karn's rule).
+    pub fn measure(&mut self, peer: ReplicaId, took: u32)
+        ensures { self.new ≡ with_measured self.old peer took }
     {
-        let instance = seen.instance;
-        let Some(old) = waiting_for(&self.all, instance) else {
-            let wait = begun_wait(&self.waits, self.me, instance);
-            return OneTurn {
-                waiting: Waiting {
-                    instance,
-                    due: later(now, wait, random),
-                    wait: 0,
-                },
-                asked: None,
-            };
-        };
-        if now < old.due {
-            return OneTurn {
-                waiting: old,
-                asked: None,
-            };
+        let place = usize::from(peer.index());
+        let trip = measured(self.peers[place].trip, took);
+        self.peers[place].trip = Some(trip);
+    }
+
+    /// Whether frames to this peer arrive. Where one is reached again, all that was asked for is hurried.
+    pub fn set_reached(&mut self, peer: ReplicaId, is_reached: bool)
+        ensures { self.new ≡ with_reached self.old peer is_reached }
+    {
+        let place = usize::from(peer.index());
+        self.is_hurried = self.is_hurried || is_reached && !self.peers[place].is_reached;
+        self.peers[place].is_reached = is_reached;
+    }
+
+    /// What was asked for needn't be waited for as long any more: the next turn has it wait as if it had been asked for once.
+    pub fn hurry(&mut self)
+        ensures { self.new ≡ with_hurry self.old }
+    {
+        self.is_hurried = true;
+    }
+
+    /// Whether so few peers are reached that nothing can be recovered.
+    fn is_alone(&self) -> bool
+        ensures { result ≡ is_alone self.now }
+    {
+        count(&self.place, &self.peers, Group::Others) < self.place.size.faults()
+    }
+
+    /// The replica's own time.
+    fn time_at(&self, now: u64) -> u64
+        ensures { result ≡ time_at self.now now }
+    {
+        if self.is_alone() {
+            return now.saturating_sub(self.away);
         }
-        let wait = next_wait(&self.waits, old.wait);
-        OneTurn {
-            waiting: Waiting {
-                instance,
-                due: later(now, wait, random),
-                wait,
-            },
-            asked: remedy_of(self.size, self.me, old.wait, seen),
+        match self.first {
+            None => now.saturating_sub(self.away),
+            Some(due) => self.time_by(now, due),
         }
     }
 
-    /// A turn at this time, at which just these instances are open, each once: what to ask the replica for, in their order. One that is seen for the first
-    /// time is waited for; one whose wait is over is asked for, and waited for again, twice as long each time up to the longest wait; one
-    /// that isn't open any more is forgotten. Want of memory leaves all as it was.
+    /// The same where the first wait is over at this own time.
+    fn time_by(&self, now: u64, due: u64) -> u64
+        ensures { result ≡ time_by self.now now due }
+    {
+        let granularity = u64::from(self.waits.granularity);
+        let expected = due.saturating_add(self.away).max(self.turned);
+        if now <= expected.saturating_add(granularity) {
+            return now.saturating_sub(self.away);
+        }
+        let last = self.turned.saturating_sub(self.away);
+        last.saturating_add(granularity)
+            .max(due.saturating_sub(granularity))
+    }
+
+    /// What a turn at this time judges by.
+    fn outlook(&self, now: u64) -> Outlook
+        ensures { result ≡ outlook_of self.now now }
+    {
+        outlook_at(&self.waits, self.place, &self.peers, self.time_at(now))
+    }
+
+    /// Somebody has begun to recover this instance, at a ballot of this counter, or goes on with it. Another recovery would be in its way: it waits a while.
+    /// Nothing changes where the instance isn't waited for.
+    pub fn put_off(&mut self, instance: InstanceId, ballot: u16, now: u64)
+        ensures { PutsOff self.old instance ballot now self.new }
+    {
+        let Some(old) = waiting_for(&self.all, instance) else {
+            return;
+        };
+        let outlook = self.outlook(now);
+        let random = chance(self.seed, outlook.time, instance);
+        let waiting = put_off(&outlook, self.waits.longest, old, ballot, random);
+        match put(&mut self.all, instance, waiting) {
+            Ok(()) => {}
+            Err(_) => unreachable!(),
+        }
+    }
+
+    /// How an open instance is waited for as a turn comes.
+    fn found_at(&self, outlook: &Outlook, seen: &Seen) -> Waiting
+        ensures { result ≡ found_at self.now outlook.now seen.now }
+    {
+        let random = chance(self.seed, outlook.time, seen.instance);
+        match waiting_for(&self.all, seen.instance) {
+            None => {
+                let distance = distance(&self.waits, &self.peers, seen.instance.replica());
+                begun(outlook, self.waits.told, distance, seen, random)
+            }
+            Some(waiting) => {
+                if self.is_hurried {
+                    hurried(outlook, waiting, random)
+                } else {
+                    waiting
+                }
+            }
+        }
+    }
+
+    /// How it is waited for after the turn, by what is to be asked for it, and whether there is room to.
+    fn after(&self, outlook: &Outlook, seen: &Seen, remedy: &Option<Remedy>, room: bool) -> Waiting
+        ensures { result ≡ after self.now outlook.now seen.now (found_at self.now outlook.now seen.now) remedy.now room }
+    {
+        let waiting = self.found_at(outlook, seen);
+        match remedy {
+            None => {
+                if outlook.time < waiting.due {
+                    waiting
+                } else {
+                    waited_on(outlook, &waiting)
+                }
+            }
+            Some(_) => {
+                if !room {
+                    return waiting;
+                }
+                let random = chance(self.seed, outlook.time, seen.instance);
+                asked(outlook, self.waits.longest, &waiting, random)
+            }
+        }
+    }
+
+    /// What is to be asked for it.
+    fn remedy(&self, outlook: &Outlook, seen: &Seen) -> Option<Remedy>
+        ensures { result ≡ remedy_next self.now outlook.now seen.now }
+    {
+        remedy_at(outlook, seen, &self.found_at(outlook, seen))
+    }
+
+    /// A turn at this time, at which just these instances are open, in rising order: what to ask the replica for, at most 64 events. One that is seen for the
+    /// first time is waited for; one whose wait is over is asked for, and waited for again, twice as long each time up to the longest wait; one that isn't open
+    /// any more is forgotten. Want of memory leaves all as it was.
     pub fn turn(
         &mut self,
         alloc: Global,
         now: u64,
         seen: &[Seen],
     ) -> Result<Vec<Remedy>, AllocError>
-        ensures ok { IfOk result (λ asked. Turns self.old now seen.now self.new.all.items asked.items self.new.random) }
-        ensures named { IfOk result (λ asked. AreOpen seen.now asked.items) }
-        ensures same { (self.new.waits ≡ self.old.waits) × (self.new.size ≡ self.old.size) × (self.new.me ≡ self.old.me) }
-        ensures err { OnErr result ((self.new.all.items ≡ self.old.all.items) × (self.new.random ≡ self.old.random)) }
+        requires { IsRising (instances seen.now) }
+        ensures ok { IfOk result (λ asked. HasTurned self.old now seen.now self.new asked.items) }
+        ensures err { OnErr result (self.new ≡ self.old) }
     {
-        let mut all = Vec::new(alloc);
+        let outlook = self.outlook(now);
+        let mut all = IndexMap::with_capacity(alloc, seen.len())?;
         let mut asked = Vec::new(alloc);
-        let mut random = self.random.clone()?;
+        let mut first = None;
         for one in seen {
-            let number = random.next_word();
-            let turn = self.turn_of(now, one, number);
-            all.push(turn.waiting)?;
-            add(&mut asked, turn.asked)?;
+            let room = has_room(&asked, outlook.most);
+            let remedy = self.remedy(&outlook, one);
+            let waiting = self.after(&outlook, one, &remedy, room);
+            first = Some(earlier(first, waiting.due));
+            put(&mut all, one.instance, waiting)?;
+            add(&mut asked, granted(room, remedy))?;
         }
+        self.away = now.saturating_sub(outlook.time);
         self.all = all;
-        self.random = random;
+        self.first = first;
+        self.turned = now;
+        self.is_hurried = false;
         Ok(asked)
     }
 
-    /// When the first wait is over; none where nothing is waited for. Before it a turn with the same open instances asks for nothing.
+    /// When to turn next at the latest, where no instance is opened before. None: nothing is waited for, or too few peers are reached.
     pub fn next_due(&self) -> Option<u64>
-        ensures { IsFirst self.now.all.items result }
+        ensures { result ≡ next_due self.now }
     {
-        first_due(&self.all)
+        if self.is_alone() {
+            return None;
+        }
+        match self.first {
+            None => None,
+            Some(due) => {
+                if self.is_hurried {
+                    Some(self.turned)
+                } else {
+                    Some(due.saturating_add(self.away))
+                }
+            }
+        }
     }
 }

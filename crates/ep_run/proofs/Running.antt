@@ -1,5 +1,5 @@
 -- How a run over rings gets on, from section to section.
-use Rattle.std.proofs.Common.{◌≡◌, ◌≢◌, ℕ, zero, suc, ◌<◌, ◌≤◌, eqb, cond, Bool, true, false, List, [], ◌∷◌, ◌++◌, length, get_or, refl, sym, ap, subst, ◌∙◌, arith, inl, inr, ◌⊎◌, ⊎_elim, All, append_assoc, length-append, set, get_or-set_same, get_or-set_other}
+use Rattle.std.proofs.Common.{◌≡◌, ◌≢◌, ℕ, zero, suc, ◌+◌, ◌<◌, ◌≤◌, eqb, cond, Bool, true, false, List, [], ◌∷◌, ◌++◌, length, take, add-one, get_or, refl, sym, ap, subst, ◌∙◌, arith, inl, inr, ◌⊎◌, ⊎_elim, All, append_assoc, length-append, set, get_or-set_same, get_or-set_other}
 use Rattle.std.proofs.Math.ListN.{length-set}
 use Rattle.std.proofs.lemmas.List.{append-nil, get_or_default}
 use Rattle.std.proofs.lemmas.List.Elements.{Contains-append_left, Contains-push}
@@ -34,7 +34,9 @@ use Rattle.ep_script.specs.declared.agenda_line.AgendaLine.{AgendaLine}
 use Rattle.ep_script.specs.declared.agenda_line.AgendaLine.TheVariants.{Propose, GiveUp, Recover}
 use Rattle.ep_run.specs.Asking.{asked_of, asked_by, asked_in, proposers_after, proposers_of}
 use Rattle.ep_run.specs.Lines.{AreBeginnings, HaveAtMost, count_for, replica_of}
-use Rattle.ep_run.specs.Rings.{tasks_at, AreAssigned, AreOf, Begun, Collects, HasUsed, UsesUp, proposers_in, HasRun}
+use Rattle.ep_run.specs.Rings.{tasks_at, AreAssigned, AreOf, Begun, Collects, HasUsed, UsesUp, proposers_in, HasRun, entry_counts, given_after, given_at}
+use Rattle.ep_run.specs.Sections.{IsSection, AreSections}
+use Rattle.ep_replica.specs.Receipts.{receipts_after}
 use Rattle.ep_run.specs.declared.ring_run.RingRun.{RingRun}
 use Rattle.ep_run.proofs.Turning.{Passes}
 use Rattle.ep_journal.specs.Openings.{Opening, no_opening, opens}
@@ -189,14 +191,51 @@ in_both t (x ∷ xs) ys (inr h) = elim (in_both t xs ys h) [ inl l ↦ inl (inr 
 pub of_both : (nodes : List Node) (xs ys : List Receipt) → AreOf nodes xs → AreOf nodes ys → AreOf nodes (xs ++ ys)
 of_both nodes xs ys h k t is = elim (in_both t xs ys is) [ inl l ↦ h t l | inr r ↦ k t r ]
 
-pub collects_collects :
-    (nodes : List Node) (a b c : Clients) (xs ys zs : List Receipt) → Collects nodes a xs b ys → Collects nodes b ys c zs → Collects nodes a xs c zs
-collects_collects nodes a b c xs ys zs h k = record {
-  more = h.more ++ k.more;
-  is = k.is ∙ ap (λ (l : List Receipt). l ++ k.more) h.is ∙ append_assoc xs h.more k.more;
-  own = of_both nodes h.more k.more h.own k.own;
-  counted = λ ps counted. k.counted ps (h.counted ps counted);
-}
+pub counts_more : (nodes : List Node) (n : Node) → entry_counts (nodes ++ n ∷ []) ≡ entry_counts nodes ++ length n.replica.entries ∷ []
+counts_more [] n = refl
+counts_more (m ∷ ms) n = ap (λ (l : List ℕ). length m.replica.entries ∷ l) (counts_more ms n)
+
+pub counts_long : (nodes : List Node) (marks : List ℕ) → marks ≡ entry_counts nodes → length marks ≡ length nodes
+counts_long nodes marks is = ap (λ (l : List ℕ). length l) is ∙ all nodes
+  where
+    all : (ns : List Node) → length (entry_counts ns) ≡ length ns
+    all [] = refl
+    all (n ∷ ns) = ap (λ (k : ℕ). suc k) (all ns)
+
+-- one node more
+given_more : (k : ℕ) (marks : List ℕ) (nodes : List Node) (d : Node) → k < length marks → length marks ≡ length nodes → given_after (take (suc k) marks) nodes ≡ given_after (take k marks) nodes ++ given_at k marks nodes d
+given_more k [] nodes d low len = absurd (omega (arith, low))
+given_more k (m ∷ ms) [] d low len = absurd (omega (arith, len))
+given_more zero (m ∷ ms) (n ∷ ns) d low len = append-nil (receipts_after n.replica.me m (entries_of n.replica.entries))
+given_more (suc k) (m ∷ ms) (n ∷ ns) d low len =
+    let here = receipts_after n.replica.me m (entries_of n.replica.entries) in
+    ap (λ (l : List Receipt). here ++ l) (given_more k ms ns d (omega (arith, low)) (omega (arith, len))) ∙ sym (append_assoc here (given_after (take k ms) ns) (given_at k ms ns d))
+
+pub collects_more :
+    (k : ℕ) (marks : List ℕ) (nodes : List Node) (d : Node) (a b c : Clients) (xs ys zs : List Receipt) → k < length marks → length marks ≡ length nodes → Collects (given_after (take k marks) nodes) nodes a xs b ys →
+    Collects (given_at k marks nodes d) nodes b ys c zs → Collects (given_after (take (k + 1) marks) nodes) nodes a xs c zs
+collects_more k marks nodes d a b c xs ys zs low len h j =
+    let before = given_after (take k marks) nodes in
+    let now = given_at k marks nodes d in
+    let all : given_after (take (k + 1) marks) nodes ≡ before ++ now = rw add-one (given_more k marks nodes d low len) in
+    let both : Collects (before ++ now) nodes a xs c zs = record {
+      is = j.is ∙ ap (λ (l : List Receipt). l ++ now) h.is ∙ append_assoc xs before now;
+      own = of_both nodes before now h.own j.own;
+      counted = λ ps counted. j.counted ps (h.counted ps counted);
+    } in
+    subst (λ (l : List Receipt). Collects l nodes a xs c zs) (sym all) both
+
+pub collects_none : (marks : List ℕ) (nodes : List Node) (a : Clients) (xs : List Receipt) → Collects (given_after (take 0 marks) nodes) nodes a xs a xs
+collects_none marks nodes a xs = record { is = sym (append-nil xs); own = λ t h. absurd h; counted = λ ps counted. counted }
+
+-- Sections.
+
+pub sections_more :
+    (turns : ℕ) (ss : List SectionPlan) (s : SectionPlan) (ps : List ℕ) (before between after : List Receipt) (xs ys zs : List Node) → AreSections turns ss ps before between xs ys →
+    IsSection turns s (proposers_in ps ss) between after ys zs → AreSections turns (ss ++ s ∷ []) ps before after xs zs
+sections_more turns [] s ps before between after xs ys zs h k =
+    (after, zs, subst (λ (p : List Receipt × List Node). IsSection turns s ps p.0 after p.1 zs) (λ i. (h.0 i, h.1 i)) k, (refl, refl))
+sections_more turns (x ∷ xs') s ps before between after xs ys zs h k = (h.0, h.1, h.2, sections_more turns xs' s (proposers_of ps x.lines) h.0 between after h.1 ys zs h.3 k)
 
 -- Agendas.
 
@@ -259,9 +298,10 @@ uses_more r turns tasks asked xs ys zs u given each none = ⊎_elim
 
 pub has_begun :
     (c : ℕ) (b : Begun) (turns : ℕ) (s : RingRun) → IsHost b.faults s.nodes.items → All (IsFresh c) s.nodes.items → All (StartsAs b.version b.opening) s.nodes.items →
-    s.receipts.items ≡ [] → AreCounted s.clients [] [] → HasRun b turns [] s
-has_begun c b turns s host fresh start none counted = record {
+    s.receipts.items ≡ [] → AreCounted s.clients [] [] → s.collected.items ≡ entry_counts s.nodes.items → HasRun b turns [] s
+has_begun c b turns s host fresh start none counted collected = record {
   host = host;
+  collected = collected;
   start = start;
   own = subst (λ (l : List Receipt). AreOf s.nodes.items l) (sym none) (λ t h. absurd h);
   counted = subst (λ (l : List Receipt). AreCounted s.clients [] l) (sym none) counted;
@@ -300,8 +340,8 @@ pub has_run :
     (b : Begun) (turns : ℕ) (done : List SectionPlan) (s : SectionPlan) (old new : RingRun) (middle : List Node) (clients : Clients) → HasRun b turns done old →
     All (λ (e : ℕ × AgendaLine). FitsCluster (length old.nodes.items) e.1) s.lines → AreAssigned (asked_by (proposers_in [] done) old.receipts.items s.lines) old.nodes.items middle →
     AreCounted clients (proposers_of (proposers_in [] done) s.lines) old.receipts.items → Each (Passes turns) middle new.nodes.items → IsHost b.faults new.nodes.items →
-    Collects new.nodes.items clients old.receipts.items new.clients new.receipts.items → HasRun b turns (done ++ s ∷ []) new
-has_run b turns done s old new middle clients h fit given counted each host collects =
+    (more : List Receipt) → Collects more new.nodes.items clients old.receipts.items new.clients new.receipts.items → new.collected.items ≡ entry_counts new.nodes.items → HasRun b turns (done ++ s ∷ []) new
+has_run b turns done s old new middle clients h fit given counted each host more collects collected =
     let ps = proposers_in [] done in
     let ts = old.receipts.items in
     let asked = asked_by ps ts s.lines in
@@ -310,14 +350,15 @@ has_run b turns done s old new middle clients h fit given counted each host coll
     let of : AreOf new.nodes.items ts = of_passes middle new.nodes.items ts turns each (of_assigned asked old.nodes.items middle ts given h.own) in
     let all : asked_in [] (done ++ s ∷ []) before ≡ asked_in [] done h.before ++ asked = asked_more [] done s h.before ts len in record {
       host = host;
+      collected = collected;
       start = λ i d low.
           let low' : i < length middle = omega (arith, low, each.len) in
           let low'' : i < length old.nodes.items = omega (arith, low', given.len) in
           (each.at i d low').works.start ∙ ap (λ (n : Node). start_of n.replica) (given.at i d low'') ∙ h.start i d low'';
-      own = subst (λ (l : List Receipt). AreOf new.nodes.items l) (sym collects.is) (of_both new.nodes.items ts collects.more of collects.own);
+      own = subst (λ (l : List Receipt). AreOf new.nodes.items l) (sym collects.is) (of_both new.nodes.items ts more of collects.own);
       counted = collects.counted (proposers_in [] (done ++ s ∷ [])) (subst (λ (l : List ℕ). AreCounted clients l ts) (sym (proposers_in_more [] done s)) counted);
       before = before;
-      given = subst (λ (l : List Receipt). AreBeginnings before l) (sym collects.is) (beginnings_longer before ts collects.more (beginnings_more h.before ts h.given));
+      given = subst (λ (l : List Receipt). AreBeginnings before l) (sym collects.is) (beginnings_longer before ts more (beginnings_more h.before ts h.given));
       sectioned = omega (arith, len, length-append h.before (ts ∷ []), length-append done (s ∷ []));
       used = λ r.
           subst (λ (l : List Task). UsesUp r l new.nodes.items) (sym (ap (tasks_at r) all ∙ tasks_at_both r (asked_in [] done h.before) asked))

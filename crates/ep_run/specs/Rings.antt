@@ -5,6 +5,7 @@ use Rattle.ep_host.specs.Host.{IsHost, StartsAs}
 use Rattle.ep_host.specs.Node.{Node}
 use Rattle.ep_host.specs.Pointwise.{Each}
 use Rattle.ep_host.specs.Setting.{IsReleased}
+use Rattle.ep_host.specs.Turned.{IsTurned, AreSettled}
 use Rattle.ep_host.specs.Tasks.{Use, tasks_in, events_in, refusals_in, place_after}
 use Rattle.ep_host.specs.declared.task.Task.{Task}
 use Rattle.ep_host.specs.declared.weather.Weather.{Weather}
@@ -20,6 +21,7 @@ use Rattle.ep_rules.specs.Journals.{asked_in as asked_in_entries}
 use Rattle.ep_rules.specs.Verdicts.{IsOwn}
 use Rattle.ep_rules.specs.Worlds.{In}
 use Rattle.ep_rules.specs.declared.receipt.Receipt.{Receipt}
+use Rattle.ep_replica.specs.Receipts.{receipts_after}
 use Rattle.ep_script.specs.Plan.{SectionPlan}
 use Rattle.ep_run.specs.Asking.{asked_in, proposers_of}
 use Rattle.ep_run.specs.Lines.{Fate, made, refused, left, Line, AreBeginnings, HaveAtMost}
@@ -60,17 +62,19 @@ pub record Begins (asked : List (ℕ × (ℕ × Task))) (weather : List Weather)
   pub assigns : AreAssigned asked xs assigned
   pub sets : Each (SetsOwn weather) assigned ys
 
--- held frames are put, and then there are rounds
-pub record SettlesReleased (rounds : ℕ) (xs ys : List Node) : Type 0 where
+-- held frames are put, and then there are rounds, so many or up to the first in which nothing moves
+pub record SettlesReleased (limit : ℕ) (xs ys : List Node) : Type 0 where
   pub released : List Node
   pub releases : Each IsReleased xs released
-  pub settles : Each (Settles rounds) released ys
+  pub settles : Each (Settles limit) released ys
+  pub rounds : AreSettled limit released ys
 
--- a section's turns in threads; then held frames are put, and there are as many rounds
-pub record Turns (turns : ℕ) (xs ys : List Node) : Type 0 where
+-- a section's turns in threads, so many of each node or until it has ended; then held frames are put, and there are rounds
+pub record Turns (limit : ℕ) (xs ys : List Node) : Type 0 where
   pub turned : List Node
   pub follows : Each Follows xs turned
-  pub settles : SettlesReleased turns turned ys
+  pub turns : Each (IsTurned limit) xs turned
+  pub settles : SettlesReleased limit turned ys
 
 -- each is a receipt of one of the nodes' own
 abbrev pub AreOf : List Node → List Receipt → Type 0
@@ -78,9 +82,23 @@ AreOf nodes receipts =
     (t : Receipt) → In t receipts → (i : ℕ) × (i < length nodes)
     × ((d : Node) → IsOwn (opens (get_or nodes i d).replica.opening) (get_or nodes i d).replica.faults (get_or nodes i d).replica.me (entries_of (get_or nodes i d).replica.entries) t)
 
--- receipts of the nodes' own are collected, and their clients have seen them
-pub record Collects (nodes : List Node) (clients : Clients) (receipts : List Receipt) (clients' : Clients) (receipts' : List Receipt) : Type 0 where
-  pub more : List Receipt
+-- how many entries each node has
+abbrev pub entry_counts : List Node → List ℕ
+entry_counts [] = []
+entry_counts (n ∷ ns) = length n.replica.entries ∷ entry_counts ns
+
+-- the receipts that the nodes have given after so many entries of each: by node, and then in the order of execution
+abbrev pub given_after : List ℕ → List Node → List Receipt
+given_after [] ns = []
+given_after (k ∷ ks) [] = []
+given_after (k ∷ ks) (n ∷ ns) = receipts_after n.replica.me k (entries_of n.replica.entries) ++ given_after ks ns
+
+-- the same of the node at a place
+abbrev pub given_at : ℕ → List ℕ → List Node → Node → List Receipt
+given_at place marks nodes d = receipts_after (get_or nodes place d).replica.me (get_or marks place 0) (entries_of (get_or nodes place d).replica.entries)
+
+-- these receipts, of the nodes' own, are collected, and their clients have seen them
+pub record Collects (more : List Receipt) (nodes : List Node) (clients : Clients) (receipts : List Receipt) (clients' : Clients) (receipts' : List Receipt) : Type 0 where
   pub is : receipts' ≡ receipts ++ more
   pub own : AreOf nodes more
   pub counted : (ps : List ℕ) → AreCounted clients ps receipts → AreCounted clients' ps receipts'
@@ -126,6 +144,8 @@ pub record HasRun (b : Begun) (turns : ℕ) (sections : List SectionPlan) (s : R
   pub start : (i : ℕ) (d : Node) → i < length s.nodes.items → StartsAs b.version b.opening (get_or s.nodes.items i d)
   pub own : AreOf s.nodes.items s.receipts.items
   pub counted : AreCounted s.clients (proposers_in [] sections) s.receipts.items
+  -- up to where receipts were collected: there are none but of later entries
+  pub collected : s.collected.items ≡ entry_counts s.nodes.items
   -- the receipts that had been given before each section
   pub before : List (List Receipt)
   pub given : AreBeginnings before s.receipts.items

@@ -1,5 +1,9 @@
 //! Up to which entries receipts were collected.
 
+ghost use Rattle.std.specs.Prelude.{◌≡◌, IfOk, length};
+ghost use Rattle.ep_run.specs.Rings.{entry_counts};
+
+use ep_host::RingNode;
 use ep_rules::Receipt;
 use std::alloc::{AllocError, Global};
 
@@ -25,4 +29,26 @@ pub(crate) fn note_last(collected: &mut [u32], place: usize, entry: u32) {
     if let Some(last) = collected.get_mut(place) {
         *last = entry;
     }
+}
+
+/// How many entries the node has. A replica takes no more than a `u32` counts.
+fn entry_count(node: &RingNode) -> Result<u32, AllocError>
+    ensures { IfOk result (λ n. n ≡ length node.now.replica.entries) }
+{
+    match u32::try_from(node.replica().journal().entries().len()) {
+        Ok(count) => Ok(count),
+        Err(_) => Err(AllocError),
+    }
+}
+
+/// How many entries each node has.
+pub(crate) fn entry_counts(alloc: Global, nodes: &[RingNode]) -> Result<Vec<u32>, AllocError>
+    ensures { IfOk result (λ counts. counts.items ≡ entry_counts nodes.now) }
+{
+    let mut counts = Vec::new(alloc);
+    for node in nodes {
+        let count = entry_count(node)?;
+        counts.push(count)?;
+    }
+    Ok(counts)
 }

@@ -8,14 +8,14 @@ ghost use Rattle.ep_rules.specs.declared.receipt.Receipt.{Receipt as Told};
 ghost use Rattle.ep_script.specs.Fits.{FitsCluster, FitsSection};
 ghost use Rattle.ep_script.specs.declared.agenda_line.AgendaLine.{AgendaLine as Line};
 ghost use Rattle.ep_run.specs.Asking.{asked_by as asks_of, asked_of, proposers_after, proposers_of};
-ghost use Rattle.ep_run.specs.Rings.{AreAssigned, Begins, SettlesReleased, Turns, Collects, HasRun};
+ghost use Rattle.ep_run.specs.Rings.{AreAssigned, Begins, SettlesReleased, Turns};
 ghost use Rattle.ep_host.specs.Host.{IsFresh, StartsAs};
 ghost use Rattle.ep_replay.specs.Heads.{opening_of};
 ghost use Rattle.ep_run.specs.Lines.{AreDone};
 ghost use Rattle.ep_run.specs.Weathers.{weather_in, HasOwn};
 
 use crate::asking::asked_by;
-use crate::collecting::{last_entry, none_collected, note_last};
+use crate::collecting::entry_counts;
 use crate::ran::Ran;
 use crate::refusals::refused_lines;
 use crate::ring_weather::set_weather;
@@ -46,7 +46,7 @@ pub(crate) struct RingRun {
     nodes: Vec<RingNode>,
     clients: Clients,
     receipts: Vec<Receipt>,
-    /// For each node the number of the last entry whose receipts were collected.
+    /// For each node how many entries it had when receipts were collected last.
     collected: Vec<u32>,
     alloc: Global,
 }
@@ -148,16 +148,28 @@ impl RingRun {
     ghost use Rattle.ep_script.specs.Fits.{FitsSection};
     ghost use Rattle.ep_script.specs.Plan.{SectionPlan};
     ghost use Rattle.ep_run.specs.Lines.{AreDone};
-    ghost use Rattle.ep_run.specs.Rings.{Begun, Collects, HasRun, IsBegun, begun_of};
+    ghost use Rattle.ep_host.specs.Host.{IsFresh};
+    ghost use Rattle.ep_host.specs.Node.{Node};
+    ghost use Rattle.ep_host.specs.RingFinishing.{replicas_in, entries_in};
+    ghost use Rattle.ep_run.specs.Rings.{Begun, Collects, HasRun, IsBegun, begun_of, entry_counts, given_after, given_at, proposers_in};
+    ghost use Rattle.ep_run.specs.Sections.{IsSection, AreSections};
     ghost use Rattle.ep_run.specs.Weathers.{weather_in, HasOwn};
 
     /// A run before any section.
     pub(crate) fn new(alloc: Global, head: &Head, capacity: usize) -> Result<RingRun, AllocError>
         requires { (1 ≤ capacity) × (capacity ≤ 4096) }
-        ensures { IfOk result (λ s. (turns : ℕ) → HasRun (begun_of head.now) turns [] s) }
+        ensures run { IfOk result (λ s. (turns : ℕ) → HasRun (begun_of head.now) turns [] s) }
+        ensures fresh { IfOk result (λ s. All (IsFresh capacity) s.nodes.items) }
+        ensures none { IfOk result (λ s. s.receipts.items ≡ []) }
     {
-        let collected = none_collected(alloc, head.size().count() as usize)?;
         let nodes = nodes_of(alloc, head, capacity)?;
+        let collected = match entry_counts(alloc, &nodes) {
+            Ok(counts) => counts,
+            Err(fault) => {
+                RingHost::discard(nodes);
+                return Err(fault);
+            }
+        };
         Ok(RingRun {
             nodes,
             clients: Clients::new(alloc),
@@ -176,7 +188,8 @@ impl RingRun {
     ) -> Result<(), AllocError>
         requires run { (b : Begun) × HasRun b turns [] self.old }
         requires size { length self.old.nodes.items ≡ size_with script.now.head.faults }
-        ensures { OnOk result ((b : Begun) → HasRun b turns [] self.old → HasRun b turns script.now.sections self.new) }
+        ensures run { OnOk result ((b : Begun) → HasRun b turns [] self.old → HasRun b turns script.now.sections self.new) }
+        ensures sections { OnOk result ((b : Begun) → HasRun b turns [] self.old → AreSections turns script.now.sections [] self.old.receipts.items self.new.receipts.items self.old.nodes.items self.new.nodes.items) }
     {
         for section in script.sections() {
             self.run(rt, section, turns)?;
@@ -194,6 +207,7 @@ impl RingRun {
         requires run { (b : Begun) × (done : List SectionPlan) × HasRun b turns done self.old }
         requires fits { FitsSection (length self.old.nodes.items) section.now }
         ensures run { OnOk result ((b : Begun) (done : List SectionPlan) → HasRun b turns done self.old → HasRun b turns (done ++ section.now ∷ []) self.new) }
+        ensures section { OnOk result ((b : Begun) (done : List SectionPlan) → HasRun b turns done self.old → IsSection turns section.now (proposers_in [] done) self.old.receipts.items self.new.receipts.items self.old.nodes.items self.new.nodes.items) }
         ensures weather { OnOk result (All (HasOwn (weather_in section.now.weather)) self.new.nodes.items) }
     {
         begin(
@@ -212,28 +226,36 @@ impl RingRun {
 
     /// Collects the receipts that the nodes have given since the last section, by node.
     fn collect_all(&mut self) -> Result<(), AllocError>
+        requires { length self.old.collected.items ≡ length self.old.nodes.items }
         ensures nodes { self.new.nodes ≡ self.old.nodes }
-        ensures receipts { OnOk result (Collects self.old.nodes.items self.old.clients self.old.receipts.items self.new.clients self.new.receipts.items) }
+        ensures receipts { OnOk result (Collects (given_after self.old.collected.items self.old.nodes.items) self.old.nodes.items self.old.clients self.old.receipts.items self.new.clients self.new.receipts.items) }
+        ensures collected { OnOk result (self.new.collected.items ≡ entry_counts self.old.nodes.items) }
     {
         for place in 0..self.nodes.len() {
             self.collect(place)?;
         }
+        self.note_collected()
+    }
+
+    /// The receipts of all entries that there are were collected.
+    fn note_collected(&mut self) -> Result<(), AllocError>
+        ensures same { (self.new.nodes ≡ self.old.nodes) × (self.new.clients ≡ self.old.clients) × (self.new.receipts ≡ self.old.receipts) }
+        ensures collected { OnOk result (self.new.collected.items ≡ entry_counts self.old.nodes.items) }
+    {
+        self.collected = entry_counts(self.alloc, &self.nodes)?;
         Ok(())
     }
 
     /// Collects the receipts that the node at this place has given since the last section.
     fn collect(&mut self, place: usize) -> Result<(), AllocError>
-        requires { place < length self.old.nodes.items }
+        requires place { place < length self.old.nodes.items }
+        requires collected { length self.old.collected.items ≡ length self.old.nodes.items }
         ensures nodes { self.new.nodes ≡ self.old.nodes }
-        ensures receipts { OnOk result (Collects self.old.nodes.items self.old.clients self.old.receipts.items self.new.clients self.new.receipts.items) }
+        ensures collected { self.new.collected ≡ self.old.collected }
+        ensures receipts { OnOk result ((d : Node) → Collects (given_at place self.old.collected.items self.old.nodes.items d) self.old.nodes.items self.old.clients self.old.receipts.items self.new.clients self.new.receipts.items) }
     {
-        let before = self.collected.get(place).copied().unwrap_or(0);
+        let before = self.collected[place];
         let mut new = self.nodes[place].receipts_after(self.alloc, before)?;
-        note_last(
-            self.collected.as_mut_slice(),
-            place,
-            last_entry(&new, before),
-        );
         self.clients.note_all(&new)?;
         self.receipts.append(&mut new)?;
         Ok(())
@@ -261,6 +283,8 @@ impl RingRun {
         ensures accepted { IfOk result (λ r. IsOk r.finished.verdict) }
         ensures begun { IfOk result (λ r. (b : Begun) (turns : ℕ) → HasRun b turns sections.now self → IsBegun b r.finished.journals) }
         ensures lines { IfOk result (λ r. (b : Begun) (turns : ℕ) → HasRun b turns sections.now self → AreDone turns sections.now r) }
+        ensures receipts { IfOk result (λ r. r.receipts.items ≡ self.receipts.items) }
+        ensures journals { IfOk result (λ r. r.finished.journals.entries ≡ entries_in (replicas_in self.nodes.items)) }
     {
         let RingRun {
             nodes,

@@ -4,6 +4,7 @@ ghost use Rattle.std.specs.Prelude.{◌≡◌, IfOk, IsOk};
 ghost use Rattle.ep_host.specs.Finishing.{IsFinished};
 ghost use Rattle.ep_run.specs.Lines.{AreDone};
 ghost use Rattle.ep_run.specs.Rings.{IsBegun, begun_of};
+ghost use Rattle.ep_run.specs.Sections.{IsRun};
 
 use crate::limits::Limits;
 use crate::ran::Ran;
@@ -34,6 +35,7 @@ pub fn run_rings<R: Threads + Sync>(
     ensures accepted { IfOk result (λ r. IsOk r.finished.verdict) }
     ensures begun { IfOk result (λ r. IsBegun (begun_of script.now.head) r.finished.journals) }
     ensures lines { IfOk result (AreDone limits.now.turns script.now.sections) }
+    ensures run { IfOk result (IsRun script.now.head limits.now.capacity limits.now.turns script.now.sections) }
 {
     let mut run = RingRun::new(alloc, script.head(), limits.capacity)?;
     match run.run_all(rt, script, limits.turns) {

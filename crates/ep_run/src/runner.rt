@@ -1,6 +1,6 @@
 //! Runs.
 
-ghost use Rattle.std.specs.Prelude.{◌≡◌, ℕ, List, IfOk, OnOk};
+ghost use Rattle.std.specs.Prelude.{◌≡◌, ℕ, List, Some, IfOk, OnOk};
 ghost use Rattle.ep_base.specs.Quorums.{size as size_with};
 ghost use Rattle.ep_host.specs.Finishing.{IsFinished};
 ghost use Rattle.ep_replay.specs.Tables.{AreCounted};
@@ -58,7 +58,8 @@ fn submissions_of(
 
 /// The replicas that the head tells of, before any event.
 fn host_of<S: Start>(alloc: Global, head: &Head, limits: &Limits) -> Result<LockHost<S>, AllocError>
-    requires { S.start ≡ (head.now.version, opening_of head.now.opening) }
+    requires start { S.start ≡ (head.now.version, opening_of head.now.opening) }
+    requires room { S.room ≡ Some limits.now.capacity }
     ensures { IfOk result (λ host. HasBegun head.now host.cluster host.version host.opening) }
 {
     let opening = opening_of(alloc, head.opening())?;
@@ -76,7 +77,8 @@ fn host_of<S: Start>(alloc: Global, head: &Head, limits: &Limits) -> Result<Lock
 impl<S: Start + Send + Sync> Runner<S> {
     /// A runner before any section.
     fn new(alloc: Global, head: &Head, limits: &Limits) -> Result<Runner<S>, AllocError>
-        requires { S.start ≡ (head.now.version, opening_of head.now.opening) }
+        requires start { S.start ≡ (head.now.version, opening_of head.now.opening) }
+        requires room { S.room ≡ Some limits.now.capacity }
         ensures { IfOk result (λ runner. HasBegun head.now runner.host.cluster runner.host.version runner.host.opening) }
     {
         let collected = none_collected(alloc, head.size().count() as usize)?;
@@ -227,7 +229,7 @@ impl<S: Start + Send + Sync> Runner<S> {
             collected,
             alloc: _,
         } = self;
-        host.discard();
+        drop(host);
         drop(clients);
         drop(receipts);
         drop(refused);
@@ -266,14 +268,15 @@ impl<S: Start + Send + Sync> Runner<S> {
     }
 }
 
-/// Runs the script over replicas that start so.
+/// Runs the script over replicas that start so, with inboxes of this size.
 fn run_as<S: Start + Send + Sync, R: Threads + Wait + Sync>(
     rt: &R,
     alloc: Global,
     script: &RunScript,
     limits: &Limits,
 ) -> Result<Ran, RunFault>
-    requires { S.start ≡ (script.now.head.version, opening_of script.now.head.opening) }
+    requires start { S.start ≡ (script.now.head.version, opening_of script.now.head.opening) }
+    requires room { S.room ≡ Some limits.now.capacity }
     ensures finished { IfOk result (λ r. IsFinished r.receipts.items r.finished) }
     ensures begun { IfOk result (λ r. IsBegun (begun_of script.now.head) r.finished.journals) }
 {

@@ -11,7 +11,7 @@ use Rattle.ep_serve.specs.Acting.{Acts, ExecutesEach, ExecutesSo, TakesOrRefuses
 use Rattle.ep_serve.specs.Serving.{AllWait, AreServed, IsBatch, Waiting}
 use Rattle.ep_serve.specs.Lasting.{Crashes}
 use Rattle.ep_serve.specs.declared.due.Due.{Due}
-use Rattle.ep_serve.specs.declared.due.Due.TheVariants.{Taken, Refused, Value, Open, Leads, Synced, State, Ready, Malformed}
+use Rattle.ep_serve.specs.declared.due.Due.TheVariants.{Taken, Refused, Value, Open, Leads, Synced, State, Ready, Handled, Malformed}
 use Rattle.ep_serve.specs.declared.mode.Mode.{Mode}
 use Rattle.ep_bundle.specs.declared.dialect.Dialect.{Dialect}
 use Rattle.ep_wire.specs.declared.request.Request.{Request}
@@ -40,6 +40,7 @@ takes_or_not k k' e (Leads i) h = absurd h
 takes_or_not k k' e Synced h = absurd h
 takes_or_not k k' e State h = absurd h
 takes_or_not k k' e (Ready after most) h = absurd h
+takes_or_not k k' e (Handled r) h = absurd h
 takes_or_not k k' e (Malformed m) h = absurd h
 
 executes : (n : ℕ) (k k' : Kept) → ExecutesSo n k k' → Extends k k'
@@ -64,6 +65,7 @@ acts_more k k' request.Sync d h = extends_same k k' h.1
 acts_more k k' request.State d h = extends_same k k' h.1
 acts_more k k' request.ExecuteAll d h = executes_each k k' h.0 h.1
 acts_more k k' (request.Ready after most) d h = extends_same k k' h.1
+acts_more k k' (request.Handled r) d h = extends_same k k' h.1
 acts_more k k' (request.Malformed m) d h = extends_same k k' h.1
 
 wait_more : (mode : Mode) (n : ℕ) (k k' : Kept) (rs : List Request) (ds : List Due) → AllWait mode n k rs ds k' → Extends k k'

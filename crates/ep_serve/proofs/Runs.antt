@@ -1,5 +1,5 @@
 -- Runs of requests, one more at their end.
-use Rattle.std.proofs.Common.{◌≡◌, ℕ, zero, suc, ◌+◌, ◌<◌, length, take, get_or, List, [], ◌∷◌, ◌++◌, append-nil, append_assoc, Option, Some, None, Result, Ok, Err, inl, inr, refl, sym, ap, ◌∙◌, subst}
+use Rattle.std.proofs.Common.{◌≡◌, ◌⊎◌, ℕ, zero, suc, ◌+◌, ◌<◌, length, take, get_or, List, [], ◌∷◌, ◌++◌, append-nil, append_assoc, Option, Some, None, Result, Ok, Err, inl, inr, refl, sym, ap, ◌∙◌, subst}
 use Rattle.std.specs.Prelude.{IsErrAnd}
 use Rattle.std.proofs.KnownBytes.{Appends-nil, Appends-trans}
 use Rattle.ep_bundle.specs.Reading.{Left}
@@ -13,7 +13,7 @@ use Rattle.ep_serve.specs.Acting.{Acts}
 use Rattle.ep_serve.specs.Answering.{AllTold, IsTold, Tell, Tells}
 use Rattle.ep_serve.specs.Faults.{of_request}
 use Rattle.ep_serve.specs.Lasting.{Crashes, Lasts, LastsFrom}
-use Rattle.ep_serve.specs.Serving.{AllWait, AreRead, AreServed, Ends, InService, IsBatch, IsSilent, MayWait, Serves, ServesAll}
+use Rattle.ep_serve.specs.Serving.{AllWait, AreRead, AreServed, BreaksOff, DoesNext, Ends, InService, IsBatch, IsSilent, MayWait, Serves, ServesAll}
 use Rattle.ep_serve.specs.declared.due.Due.{Due}
 use Rattle.ep_serve.specs.declared.mode.Mode.{Mode}
 use Rattle.ep_serve.specs.declared.serve_fault.ServeFault.{ServeFault}
@@ -127,17 +127,31 @@ tell_next k i ds d old mid new lt is s t = subst (λ (xs : List Due). Tell k xs 
 pub all_served : (mode : Mode) (how : Dialect) (w : Crashes) (k k' : Kept) (l l' : Left) (old held new : Option (List ℕ)) (ds : List Due) → InService mode how w k l old held k' l' ds → Lasts w k' → Tell k' ds held new → ServesAll mode how w k l old new k' l'
 all_served mode how w k k' l l' old held new ds s lasts t = record { dues = ds; held = held; before = s; lasts = lasts; told = t }
 
-short : (mode : Mode) (how : Dialect) (w : Crashes) (k k' m : Kept) (l l' : Left) (old held new : Option (List ℕ)) (ds : List Due) (e : ServeFault) → InService mode how w k l old held k' l' ds → IsSilent e held new → (e ≡ WriteFailed → Lasts w m) → Ends mode how w k l old new (Err e) m
-short mode how w k k' m l l' old held new ds Memory s is lasts = inl (s.replica, s.from, subst (λ (x : Option (List ℕ)). Serves mode how w k l old x s.replica s.from) (sym is) s.served)
-short mode how w k k' m l l' old held new ds ReadFailed s is lasts = absurd is
-short mode how w k k' m l l' old held new ds (BadRequest at) s is lasts = absurd is
-short mode how w k k' m l l' old held new ds WriteFailed s is lasts = (s.replica, s.from, held, s.served, lasts refl)
-short mode how w k k' m l l' old held new ds (LogFailed cause) s is lasts = (s.replica, s.from, subst (λ (x : Option (List ℕ)). Serves mode how w k l old x s.replica s.from) (sym is) s.served)
+-- at most one request more was done
+abbrev pub DoesLast : Dialect → Kept → Left → Kept → Type 0
+DoesLast how k l k' = (k' ≡ k) ⊎ DoesNext how k l k'
 
-pub cut_short : (mode : Mode) (how : Dialect) (w : Crashes) (k k' m : Kept) (l l' : Left) (old held new : Option (List ℕ)) (ds : List Due) (r : Result Unit ServeFault) (e : ServeFault) → InService mode how w k l old held k' l' ds → IsSilent e held new → (e ≡ WriteFailed → Lasts w m) → IsErrAnd r (λ x. x ≡ e)
-    → Ends mode how w k l old new r m
-cut_short mode how w k k' m l l' old held new ds (Ok x) e s silent lasts is = absurd is
-cut_short mode how w k k' m l l' old held new ds (Err f) e s silent lasts is = subst (λ (x : ServeFault). Ends mode how w k l old new (Err x) m) (sym is) (short mode how w k k' m l l' old held new ds e s silent lasts)
+breaks_off : (mode : Mode) (how : Dialect) (w : Crashes) (k k' m : Kept) (l l' : Left) (old held new : Option (List ℕ)) (ds : List Due) → InService mode how w k l old held k' l' ds → new ≡ held → DoesLast how k' l' m → BreaksOff mode how w k l old new m
+breaks_off mode how w k k' m l l' old held new ds s is last = record {
+  before = k';
+  from = l';
+  dues = ds;
+  service = subst (λ (x : Option (List ℕ)). InService mode how w k l old x k' l' ds) (sym is) s;
+  last = last;
+}
+
+short : (mode : Mode) (how : Dialect) (w : Crashes) (k k' m : Kept) (l l' : Left) (old held new : Option (List ℕ)) (ds : List Due) (e : ServeFault) → InService mode how w k l old held k' l' ds → IsSilent e held new → DoesLast how k' l' m → (e ≡ WriteFailed → Lasts w m)
+    → Ends mode how w k l old new (Err e) m
+short mode how w k k' m l l' old held new ds Memory s is last lasts = inl (breaks_off mode how w k k' m l l' old held new ds s is last)
+short mode how w k k' m l l' old held new ds ReadFailed s is last lasts = absurd is
+short mode how w k k' m l l' old held new ds (BadRequest at) s is last lasts = absurd is
+short mode how w k k' m l l' old held new ds WriteFailed s is last lasts = (held, breaks_off mode how w k k' m l l' old held held ds s refl last, lasts refl)
+short mode how w k k' m l l' old held new ds (LogFailed cause) s is last lasts = breaks_off mode how w k k' m l l' old held new ds s is last
+
+pub cut_short : (mode : Mode) (how : Dialect) (w : Crashes) (k k' m : Kept) (l l' : Left) (old held new : Option (List ℕ)) (ds : List Due) (r : Result Unit ServeFault) (e : ServeFault) → InService mode how w k l old held k' l' ds → IsSilent e held new → DoesLast how k' l' m → (e ≡ WriteFailed → Lasts w m)
+    → IsErrAnd r (λ x. x ≡ e) → Ends mode how w k l old new r m
+cut_short mode how w k k' m l l' old held new ds (Ok x) e s silent last lasts is = absurd is
+cut_short mode how w k k' m l l' old held new ds (Err f) e s silent last lasts is = subst (λ (x : ServeFault). Ends mode how w k l old new (Err x) m) (sym is) (short mode how w k k' m l l' old held new ds e s silent last lasts)
 
 pub ends_well : (mode : Mode) (how how' : Dialect) (w : Crashes) (k k' : Kept) (l l' : Left) (old new : Option (List ℕ)) (found : Option Request) (p : ℕ) (left : Option (List ℕ)) → how' ≡ how → ServesAll mode how w k l old new k' l' → ReadsRequest how' l' (Ok found) p left → found ≡ None
     → Ends mode how w k l old new (Ok tt) k'
@@ -157,5 +171,5 @@ ends_badly mode how how' w k k' l l' old new f e p left size_is all read is = su
     go (request.BadRequest at) h = (l', all, h.0, h.1)
 
 -- the loop's end, which no input reaches
-pub ends_never : (mode : Mode) (how : Dialect) (w : Crashes) (k k' m : Kept) (l l' : Left) (old held : Option (List ℕ)) (ds : List Due) → InService mode how w k l old held k' l' ds → Ends mode how w k l old held (Err Memory) m
-ends_never mode how w k k' m l l' old held ds s = inl (s.replica, s.from, s.served)
+pub ends_never : (mode : Mode) (how : Dialect) (w : Crashes) (k k' : Kept) (l l' : Left) (old held : Option (List ℕ)) (ds : List Due) → InService mode how w k l old held k' l' ds → Ends mode how w k l old held (Err Memory) k'
+ends_never mode how w k k' l l' old held ds s = inl (breaks_off mode how w k k' k' l l' old held held ds s refl (inl refl))

@@ -5,13 +5,14 @@ use Rattle.std.proofs.lemmas.Bool.{false≢true}
 use Rattle.ep_device.specs.Device.{LeavesOnly}
 use Rattle.ep_node.specs.Nodes.{IsCut, IsQuiet, Logged}
 use Rattle.ep_replica.specs.Kept.{Kept}
+use Rattle.ep_bundle.specs.Reading.{Left}
 use Rattle.ep_wire.specs.Requests.{next_request, ReadsRequest}
 use Rattle.ep_bundle.specs.declared.dialect.Dialect.{Dialect}
 use Rattle.ep_wire.specs.declared.request.Request.{Request}
 use Rattle.ep_serve.specs.Acting.{Acts}
 use Rattle.ep_serve.specs.Answering.{Tell}
 use Rattle.ep_serve.specs.Lasting.{crashes, Crashes, GoesOn, IsKept, Lasts, StaysKnown}
-use Rattle.ep_serve.specs.Serving.{Ends, IfSettled, IfUnwritten, InService, IsSilent, MayWait, ServesAll, Waits, dialect_of, is_sync}
+use Rattle.ep_serve.specs.Serving.{DoesOne, Ends, IfSettled, IfUnwritten, InService, IsSilent, MayWait, ServesAll, Waits, dialect_of, is_sync}
 use Rattle.ep_serve.specs.declared.due.Due.{Due}
 use Rattle.ep_serve.specs.declared.mode.Mode.{Mode}
 use Rattle.ep_serve.specs.declared.serve_fault.ServeFault.{ServeFault}
@@ -76,6 +77,11 @@ written_on seen moment left_since mode start node node' zs old held new left p q
       synced = quiet.synced;
     }
 
+-- the request that was read, in the service's dialect
+read_as : (how how' : Dialect) (l : Left) (found : Option Request) (r : Request) (q : ℕ) (left' : Option (List ℕ)) → how ≡ how' → (read : ReadsRequest how l (Ok found) q left') → found ≡ Some r → next_request how' l ≡ Ok (Some r, record { at = q; bytes = read.0 })
+read_as how how' l found r q left' same read is =
+    subst (λ (x : Dialect). next_request x l ≡ Ok (Some r, record { at = q; bytes = read.0 })) same (read.2 ∙ ap (λ (f : Option Request). Ok (f, record { at = q; bytes = read.0 })) is)
+
 pub stands_next : {D : Type 0} (seen : D → Option (List ℕ)) (moment : D → ℕ) (left_since : D → ℕ → List ℕ → Type 0) (mode : Mode) (start node node' : Logged D) (zs : List ℕ) (old held new left left' : Option (List ℕ)) (p q : ℕ) (how : Dialect) (before after : List Due) (found : Option Request) (r : Request)
     → (s : Stands seen moment left_since mode start node zs old held p left before) → node.digest ≡ start.digest → how ≡ dialect_of start.replica → ReadsRequest how (record { at = p; bytes = s.ys }) (Ok found) q left' → found ≡ Some r
     → (m : Mode) → m ≡ mode → Waits m node r before held node' after new (IsKept node.digest seen moment left_since node.device node'.device node'.replica) → GoesOn node.digest seen moment left_since node.device node'.device node.replica node.synced → StaysKnown seen start.device node.device
@@ -87,14 +93,11 @@ stands_next {D = D} seen moment left_since mode start node node' zs old held new
           subst (λ (x : Logged D). Stands seen moment left_since mode start x zs old new q (Some read.0) after) (sym a.3)
           (subst (λ (x : Option (List ℕ)). Stands seen moment left_since mode start (record node { replica = node'.replica }) zs old x q (Some read.0) after) (sym a.2)
           (subst (λ (x : List Due). Stands seen moment left_since mode start (record node { replica = node'.replica }) zs old held q (Some read.0) x) (sym a.1)
-          (waits_on seen moment left_since mode start node node'.replica zs old held left p q before r w.0 read.0 s (next how same read.2) w.1 a.0)))
+          (waits_on seen moment left_since mode start node node'.replica zs old held left p q before r w.0 read.0 s (read_as how (dialect_of start.replica) (record { at = p; bytes = s.ys }) found r q left' same read is) w.1 a.0)))
       | inr a ↦
           subst (λ (x : List Due). Stands seen moment left_since mode start node' zs old new q (Some read.0) x) (sym a.1)
-          (written_on seen moment left_since mode start node node' zs old held new left p q before r w.0 read.0 s own (next how same read.2) w.1 a.0 a.2 a.3 a.4 goes known)
+          (written_on seen moment left_since mode start node node' zs old held new left p q before r w.0 read.0 s own (read_as how (dialect_of start.replica) (record { at = p; bytes = s.ys }) found r q left' same read is) w.1 a.0 a.2 a.3 a.4 goes known)
     ])
-  where
-    next : (how : Dialect) → how ≡ dialect_of start.replica → next_request how (record { at = p; bytes = s.ys }) ≡ Ok (found, record { at = q; bytes = read.0 }) → next_request (dialect_of start.replica) (record { at = p; bytes = s.ys }) ≡ Ok (Some r, record { at = q; bytes = read.0 })
-    next how same e = subst (λ (x : Dialect). next_request x (record { at = p; bytes = s.ys }) ≡ Ok (Some r, record { at = q; bytes = read.0 })) same (e ∙ ap (λ (f : Option Request). Ok (f, record { at = q; bytes = read.0 })) is)
 
 -- the service after a call that may have failed
 pub goes_on_to : {D : Type 0} (seen : D → Option (List ℕ)) (moment : D → ℕ) (left_since : D → ℕ → List ℕ → Type 0) (mode : Mode) (start node node' : Logged D) (zs : List ℕ) (old held left : Option (List ℕ)) (p : ℕ) (before : List Due)
@@ -113,13 +116,14 @@ pub settled_so : (e : ServeFault) (P : Type 0) → IfSettled (Err e) P → e ≡
 settled_so e P h is = subst (λ (x : ServeFault). IfSettled (Err x) P) is h
 
 -- a fault at a request
-pub stopped : {D : Type 0} (seen : D → Option (List ℕ)) (moment : D → ℕ) (left_since : D → ℕ → List ℕ → Type 0) (mode : Mode) (start node node' : Logged D) (zs : List ℕ) (old held new left : Option (List ℕ)) (p : ℕ) (before : List Due) (e : ServeFault) (r : Result Unit ServeFault)
-    (s : Stands seen moment left_since mode start node zs old held p left before) → node.digest ≡ start.digest → IsSilent e held new → IfUnwritten (Err e) (IsQuiet node' × IsKept node.digest seen moment left_since node.device node'.device node'.replica)
+pub stopped : {D : Type 0} (seen : D → Option (List ℕ)) (moment : D → ℕ) (left_since : D → ℕ → List ℕ → Type 0) (mode : Mode) (start node node' : Logged D) (zs : List ℕ) (old held new left left' : Option (List ℕ)) (p q : ℕ) (how : Dialect) (before : List Due) (found : Option Request) (asked : Request) (e : ServeFault) (r : Result Unit ServeFault)
+    (s : Stands seen moment left_since mode start node zs old held p left before) → node.digest ≡ start.digest → how ≡ dialect_of start.replica → ReadsRequest how (record { at = p; bytes = s.ys }) (Ok found) q left' → found ≡ Some asked → DoesOne node.replica asked node'.replica → IsSilent e held new → IfUnwritten (Err e) (IsQuiet node' × IsKept node.digest seen moment left_since node.device node'.device node'.replica)
     → GoesOn node.digest seen moment left_since node.device node'.device node.replica node.synced → StaysKnown seen start.device node.device → IsErrAnd r (λ x. x ≡ e)
     → Ends mode (dialect_of start.replica) (crashes start.digest seen moment left_since start.device node'.device) start.replica (record { at = 0; bytes = zs }) old new r node'.replica
-stopped seen moment left_since mode start node node' zs old held new left p before e r s own silent unwritten goes known is =
+stopped seen moment left_since mode start node node' zs old held new left left' p q how before found asked e r s own same read is_asked done silent unwritten goes known is =
     cut_short mode (dialect_of start.replica) (crashes start.digest seen moment left_since start.device node'.device) start.replica node.replica node'.replica (record { at = 0; bytes = zs }) (record { at = p; bytes = s.ys }) old held new before r e
     (goes_on_to seen moment left_since mode start node node' zs old held left p before s own goes known) silent
+    (inr (asked, record { at = q; bytes = read.0 }, read_as how (dialect_of start.replica) (record { at = p; bytes = s.ys }) found asked q left' same read is_asked, done))
     (λ failed. lasts_now start.digest seen moment left_since start.device node.device node'.device node'.replica known (subst (λ (x : List ℕ). IsKept x seen moment left_since node.device node'.device node'.replica) own (unwritten_so e (IsQuiet node' × IsKept node.digest seen moment left_since node.device node'.device node'.replica) unwritten failed).1)) is
 
 -- a fault where all that waits was to be written
@@ -129,7 +133,7 @@ pub stopped_settling : {D : Type 0} (seen : D → Option (List ℕ)) (moment : D
     → Ends mode (dialect_of start.replica) (crashes start.digest seen moment left_since start.device node'.device) start.replica (record { at = 0; bytes = zs }) old new r node'.replica
 stopped_settling seen moment left_since mode start node node' zs old held new left p before e r s own same silent kept goes known is =
     cut_short mode (dialect_of start.replica) (crashes start.digest seen moment left_since start.device node'.device) start.replica node.replica node'.replica (record { at = 0; bytes = zs }) (record { at = p; bytes = s.ys }) old held new before r e
-    (goes_on_to seen moment left_since mode start node node' zs old held left p before s own goes known) silent
+    (goes_on_to seen moment left_since mode start node node' zs old held left p before s own goes known) silent (inl same)
     (λ failed. subst (λ (x : Kept). Lasts (crashes start.digest seen moment left_since start.device node'.device) x) (sym same)
     (lasts_now start.digest seen moment left_since start.device node.device node'.device node.replica known (subst (λ (x : List ℕ). IsKept x seen moment left_since node.device node'.device node.replica) own (settled_so e (IsKept node.digest seen moment left_since node.device node'.device node.replica) kept failed)))) is
 
@@ -199,3 +203,10 @@ settled_of (Err ReadFailed) P p = p
 settled_of (Err (BadRequest at)) P p = p
 settled_of (Err WriteFailed) P p = p
 settled_of (Err (LogFailed cause)) P p = tt
+
+pub settled_kept : {D : Type 0} (digest : List ℕ) (seen : D → Option (List ℕ)) (moment : D → ℕ) (left_since : D → ℕ → List ℕ → Type 0) (old : D) (n n' : Logged D) (k : Kept) (r : Result Unit ServeFault) → n' ≡ n → IsKept digest seen moment left_since old n.device k
+    → IfSettled r (IsKept digest seen moment left_since old n'.device k)
+settled_kept {D = D} digest seen moment left_since old n n' k r same kept = settled_of r (IsKept digest seen moment left_since old n'.device k) (subst (λ (x : Logged D). IsKept digest seen moment left_since old x.device k) (sym same) kept)
+
+pub settled_quiet : {D : Type 0} (n n' : Logged D) (r : Result Unit ServeFault) → n' ≡ n → IsQuiet n → IfSettled r (IsQuiet n')
+settled_quiet {D = D} n n' r same quiet = settled_of r (IsQuiet n') (subst (λ (x : Logged D). IsQuiet x) (sym same) quiet)

@@ -1,5 +1,5 @@
 -- An execution commits nothing: what waits for an instance that isn't committed waits still, and one try of each instance leaves none that is ready.
-use Rattle.std.proofs.Common.{◌≡◌, ℕ, ◌+◌, ◌≤◌, ◌<◌, Bool, true, false, List, [], ◌∷◌, ◌++◌, append_assoc, Some, None, inl, inr, refl, sym, ap, ◌∙◌, subst, arith}
+use Rattle.std.proofs.Common.{◌≡◌, ℕ, ◌+◌, ◌≤◌, ◌<◌, Bool, true, false, length, List, [], ◌∷◌, ◌++◌, append_assoc, Some, None, inl, inr, refl, sym, ap, ◌∙◌, subst, arith}
 use Rattle.std.specs.List.{flat_map}
 use Rattle.std.specs.Prelude.{OnErr, Result, Ok, Err}
 use Rattle.std.proofs.lemmas.Bool.{cases_lt}
@@ -23,7 +23,8 @@ use Rattle.ep_rules.specs.Graph.Reaches.{itself, onward}
 use Rattle.ep_rules.specs.Order.{InBlocks, IsPlan}
 use Rattle.ep_rules.specs.States.{State, attrs_of, committed_in, graph_in}
 use Rattle.ep_rules.specs.Steps.{Executes as Executed, leaves, order_of}
-use Rattle.ep_serve.specs.Acting.{ExecutesEach, IsStampless, IsSwept, LedWantsMemory, NoneIsReady, StopsShort, TriesOne}
+use Rattle.ep_serve.specs.Acting.{made_since, stopped_since, AreSwept, ExecutesAll, ExecutesEach, IsStampless, IsSwept, LedWantsMemory, NoneIsReady, StopsShort, TriesOne}
+use Rattle.ep_serve.specs.declared.due.Due.{Due}
 
 -- One execution.
 
@@ -186,12 +187,12 @@ every_next start k k' n r true told is s w h = (
   ],
 )
 
-pub every_stops : (start k k' : Kept) (r : ℕ) (swept : Bool) → swept ≡ false → ExecutesSome start k → (roots : List ℕ) × ExecutesEach k roots k' × IsSwept r swept k' → (roots : List ℕ) × ExecutesEach start roots k' × NoneIsReady k'
+pub every_stops : (start k k' : Kept) (r : ℕ) (swept : Bool) → swept ≡ false → ExecutesSome start k → (roots : List ℕ) × ExecutesEach k roots k' × IsSwept r swept k' → (roots : List ℕ) × ExecutesEach start roots k' × IsStampless k'
 every_stops start k k' r true told s h = absurd (let e : true ≡ false = told in cc)
-every_stops start k k' r false told s h = let all : ExecutesSome start k' = some_both start k k' s (h.0, h.1) in (all.0, all.1, inr h.2)
+every_stops start k k' r false told s h = let all : ExecutesSome start k' = some_both start k k' s (h.0, h.1) in (all.0, all.1, h.2)
 
 pub every_all : (start k : Kept) (n : ℕ) → 7 ≤ n → ExecutesSome start k → AllWait n k → (roots : List ℕ) × ExecutesEach start roots k × NoneIsReady k
-every_all start k n past s w = (s.0, s.1, inl (λ i p. w i (let le = p.named.0 in omega arith) p))
+every_all start k n past s w = (s.0, s.1, λ i p. w i (let le = p.named.0 in omega arith) p)
 
 pub every_short : (start k k' : Kept) (n r : ℕ) → r ≡ n → ExecutesSome start k → AllWait n k → (roots : List ℕ) × ExecutesEach k roots k' × LedWantsMemory r k' → StopsShort start k'
 every_short start k k' n r is s w h =
@@ -208,3 +209,13 @@ every_short start k k' n r is s w h =
         ];
       },
     )
+
+-- What is told.
+
+pub all_swept : (k k' : Kept) (swept : Bool) (from : ℕ) (due : Due) → swept ≡ true → (roots : List ℕ) × ExecutesEach k roots k' × AreSwept swept k' → from ≡ length k.entries → due ≡ made_since from k' → ExecutesAll k due k'
+all_swept k k' false from due is all starts told = absurd (let e : false ≡ true = is in cc)
+all_swept k k' true from due is all starts told = (all.0, all.1, inl (all.2, told ∙ ap (λ n. made_since n k') starts))
+
+pub stopped_sweep : (k k' : Kept) (swept : Bool) (from : ℕ) (due : Due) → swept ≡ false → (roots : List ℕ) × ExecutesEach k roots k' × AreSwept swept k' → from ≡ length k.entries → due ≡ stopped_since from k' → ExecutesAll k due k'
+stopped_sweep k k' true from due is all starts told = absurd (let e : true ≡ false = is in cc)
+stopped_sweep k k' false from due is all starts told = (all.0, all.1, inr (all.2, told ∙ ap (λ n. stopped_since n k') starts))

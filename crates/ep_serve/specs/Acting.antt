@@ -1,18 +1,18 @@
 -- What a request does to a node's replica, and the answer that is due for it.
-use Rattle.std.specs.Prelude.{◌≡◌, ◌⊎◌, ℕ, zero, suc, ◌+◌, ◌-◌, ◌<◌, ◌^◌, Bool, true, false, List, [], ◌∷◌, length}
+use Rattle.std.specs.Prelude.{◌≡◌, ◌⊎◌, ℕ, zero, suc, ◌+◌, ◌-◌, ◌<◌, ◌^◌, Bool, true, false, cond, eqb, List, [], ◌∷◌, length}
 use Rattle.ep_base.specs.Instances.{leader_of}
 use Rattle.ep_journal.specs.Entries.{entries_of}
 use Rattle.ep_journal.specs.declared.event.Event.{Event as Happening}
 use Rattle.ep_journal.specs.declared.event.Event.TheVariants as event
-use Rattle.ep_journal.specs.declared.step_fault.StepFault.TheVariants.{StampFull}
+use Rattle.ep_journal.specs.declared.step_fault.StepFault.TheVariants.{Memory, StampFull}
 use Rattle.ep_node.specs.Executing.{IsOutstanding, IsTried}
 use Rattle.ep_node.specs.Nodes.{Logged, Takes}
 use Rattle.ep_replica.specs.Applied.{IsDeclined}
 use Rattle.ep_replica.specs.Kept.{Kept}
-use Rattle.ep_replica.specs.Pending.{ExecutesNext, IsWaiting}
+use Rattle.ep_replica.specs.Pending.{ExecutesNext, IsHeldUp, IsPending, IsWaiting}
 use Rattle.ep_rules.specs.Journals.{stamp_after}
 use Rattle.ep_serve.specs.declared.due.Due.{Due}
-use Rattle.ep_serve.specs.declared.due.Due.TheVariants.{Taken, Refused, Value, Open, Leads, Synced, State, Ready, Malformed}
+use Rattle.ep_serve.specs.declared.due.Due.TheVariants.{Taken, Refused, Value, Open, Leads, Synced, State, Ready, Handled, Malformed}
 use Rattle.ep_wire.specs.declared.take_fault.TakeFault.{TakeFault}
 use Rattle.ep_wire.specs.declared.take_fault.TakeFault.TheVariants.{BadFrame, Step}
 use Rattle.ep_wire.specs.declared.request.Request.{Request}
@@ -33,6 +33,7 @@ TakesOrRefuses k happening (Leads i) k' = ⊥
 TakesOrRefuses k happening Synced k' = ⊥
 TakesOrRefuses k happening State k' = ⊥
 TakesOrRefuses k happening (Ready after most) k' = ⊥
+TakesOrRefuses k happening (Handled r) k' = ⊥
 TakesOrRefuses k happening (Malformed m) k' = ⊥
 
 -- the stamp that a client has seen is more than 2^40 above that of the replica's last entry
@@ -51,6 +52,16 @@ seen_by (event.Execute i) = 0
 abbrev pub TakesNear : Kept → Happening → Due → Kept → Type 0
 TakesNear k happening due k' = (IsFarAhead k (seen_by happening) × (due ≡ Refused (Step StampFull)) × (k' ≡ k)) ⊎ ((¬ IsFarAhead k (seen_by happening)) × TakesOrRefuses k happening due k')
 
+-- How it is told that all that was ready was executed.
+
+-- the entries that were made behind the first ones, so many
+abbrev pub made_since : ℕ → Kept → Due
+made_since from k = Taken from (length k.entries - from)
+
+-- where no stamp is left for the next one: the entries that were made; or, if none was, that refusal
+abbrev pub stopped_since : ℕ → Kept → Due
+stopped_since from k = cond (eqb (length k.entries) from) (Refused (Step StampFull)) (made_since from k)
+
 -- Executing own instances.
 
 -- so many were executed, each the least that was ready
@@ -58,9 +69,18 @@ abbrev pub ExecutesSo : ℕ → Kept → Kept → Type 0
 ExecutesSo zero k k' = k' ≡ k
 ExecutesSo (suc n) k k' = (m : Kept) × ExecutesSo n k m × ExecutesNext m true k'
 
--- so many, and then none is ready, or one is refused for want of memory or a full stamp
+-- each that is committed and not executed waits for one that isn't committed
+abbrev pub NoOwnIsReady : Kept → Type 0
+NoOwnIsReady k = (i : ℕ) → IsPending k i → IsWaiting k i
+
+-- so many, and then none is ready, or no stamp is left for the next one
 abbrev pub AdvancesAll : Kept → Due → Kept → Type 0
-AdvancesAll k due k' = (times : ℕ) × ExecutesSo times k k' × ExecutesNext k' false k' × (due ≡ Taken (length k.entries) (length k'.entries - length k.entries))
+AdvancesAll k due k' =
+    (times : ℕ) × ExecutesSo times k k' × ((NoOwnIsReady k' × (due ≡ made_since (length k.entries) k')) ⊎ (IsHeldUp k' StampFull × (due ≡ stopped_since (length k.entries) k')))
+
+-- so many, and for the next one memory was wanted
+abbrev pub AdvancesShort : Kept → Kept → Type 0
+AdvancesShort k k' = (times : ℕ) × ExecutesSo times k k' × IsHeldUp k' Memory
 
 -- Executing all that is ready, own or not.
 
@@ -73,12 +93,13 @@ ExecutesEach k (i ∷ is) k' = (m : Kept) × IsOutstanding k i × Takes k (event
 abbrev pub IsStampless : Kept → Type 0
 IsStampless k = (i : ℕ) × IsOutstanding k i × IsDeclined k (event.Execute i) StampFull
 
--- each that is committed and not executed waits for one that isn't committed; or no stamp is left
+-- each that is committed and not executed waits for one that isn't committed
 abbrev pub NoneIsReady : Kept → Type 0
-NoneIsReady k = ((i : ℕ) → IsOutstanding k i → IsWaiting k i) ⊎ IsStampless k
+NoneIsReady k = (i : ℕ) → IsOutstanding k i → IsWaiting k i
 
 abbrev pub ExecutesAll : Kept → Due → Kept → Type 0
-ExecutesAll k due k' = (roots : List ℕ) × ExecutesEach k roots k' × NoneIsReady k' × (due ≡ Taken (length k.entries) (length k'.entries - length k.entries))
+ExecutesAll k due k' =
+    (roots : List ℕ) × ExecutesEach k roots k' × ((NoneIsReady k' × (due ≡ made_since (length k.entries) k')) ⊎ (IsStampless k' × (due ≡ stopped_since (length k.entries) k')))
 
 -- Memory was wanted to execute one that is committed and not executed. Each lesser one waits for one that isn't committed.
 pub record WantsMemory (k : Kept) : Type 0 where
@@ -102,6 +123,11 @@ abbrev pub IsSwept : ℕ → Bool → Kept → Type 0
 IsSwept r true k = (i : ℕ) → leader_of i ≡ r → IsOutstanding k i → IsWaiting k i
 IsSwept r false k = IsStampless k
 
+-- all leaders' were swept; or no stamp is left
+abbrev pub AreSwept : Bool → Kept → Type 0
+AreSwept true k = NoneIsReady k
+AreSwept false k = IsStampless k
+
 -- memory was wanted to execute one of this leader's; each lesser one of the leader's waits
 pub record LedWantsMemory (r : ℕ) (k : Kept) : Type 0 where
   pub next : ℕ
@@ -124,23 +150,40 @@ Acts k request.Sync due k' = Asks k Synced due k'
 Acts k request.State due k' = Asks k State due k'
 Acts k request.ExecuteAll due k' = ExecutesAll k due k'
 Acts k (request.Ready after most) due k' = Asks k (Ready after most) due k'
+Acts k (request.Handled r) due k' = Asks k (Handled r) due k'
 Acts k (request.Malformed m) due k' = Asks k (Malformed m) due k'
 
 -- the device has failed, and nothing changed
 abbrev pub IsPassedOver : {D : Type 0} → Logged D → Logged D → Type 0
 IsPassedOver n n' = (n.closed ≡ true) × (n' ≡ n)
 
--- Why a request wasn't done: a node whose device has failed passes over what would change it; executing all that is ready may stop for want of memory, when
--- some were executed; and no other fails.
+-- a request to execute all that is ready stopped for want of memory, when some were executed
+abbrev pub IsCutShort : Kept → Request → Kept → Type 0
+IsCutShort k (request.Event happening) k' = ⊥
+IsCutShort k request.BadFrame k' = ⊥
+IsCutShort k request.Advance k' = AdvancesShort k k'
+IsCutShort k (request.Get key) k' = ⊥
+IsCutShort k (request.NextOpen after) k' = ⊥
+IsCutShort k (request.Leads i) k' = ⊥
+IsCutShort k request.Sync k' = ⊥
+IsCutShort k request.State k' = ⊥
+IsCutShort k request.ExecuteAll k' = StopsShort k k'
+IsCutShort k (request.Ready after most) k' = ⊥
+IsCutShort k (request.Handled r) k' = ⊥
+IsCutShort k (request.Malformed m) k' = ⊥
+
+-- Why a request wasn't done: a node whose device has failed passes over what would change it; executing all that is ready may stop for want of memory; and no
+-- other fails.
 abbrev pub IsUndone : {D : Type 0} → Logged D → Request → Logged D → Type 0
 IsUndone n (request.Event happening) n' = IsPassedOver n n'
 IsUndone n request.BadFrame n' = ⊥
-IsUndone n request.Advance n' = IsPassedOver n n'
+IsUndone n request.Advance n' = IsPassedOver n n' ⊎ IsCutShort n.replica request.Advance n'.replica
 IsUndone n (request.Get key) n' = ⊥
 IsUndone n (request.NextOpen after) n' = ⊥
 IsUndone n (request.Leads i) n' = ⊥
 IsUndone n request.Sync n' = ⊥
 IsUndone n request.State n' = ⊥
-IsUndone n request.ExecuteAll n' = IsPassedOver n n' ⊎ StopsShort n.replica n'.replica
+IsUndone n request.ExecuteAll n' = IsPassedOver n n' ⊎ IsCutShort n.replica request.ExecuteAll n'.replica
 IsUndone n (request.Ready after most) n' = ⊥
+IsUndone n (request.Handled r) n' = ⊥
 IsUndone n (request.Malformed m) n' = ⊥

@@ -15,6 +15,7 @@ use Rattle.ep_phase.specs.declared.progress.LeadPhase.{LeadPhase}
 use Rattle.ep_phase.specs.declared.progress.LeadPhase.TheVariants as phase
 use Rattle.ep_replica.specs.Kept.{Kept}
 use Rattle.ep_replica.specs.Pending.{state_of}
+use Rattle.ep_node.specs.Handled.{handled_from}
 use Rattle.ep_node.specs.Telling.{commits_by, executed_by, AreOpen}
 use Rattle.ep_node.specs.declared.open_instance.OpenInstance.{OpenInstance}
 use Rattle.ep_replica.specs.Receipts.{receipts_after, receipts_of}
@@ -26,8 +27,8 @@ use Rattle.ep_rules.specs.declared.receipt.Receipt.{Receipt}
 use Rattle.ep_rules.specs.declared.record.Record.{Record}
 use Rattle.ep_space.specs.Open.{IsNextOpen}
 use Rattle.ep_serve.specs.declared.due.Due.{Due}
-use Rattle.ep_serve.specs.declared.due.Due.TheVariants.{Taken, Refused, Value, Open, Leads, Synced, State, Ready, Malformed}
-use Rattle.ep_wire.specs.Answers.{entry_bytes, instance_bytes, instances_bytes, leading_bytes, malformed_bytes, open_bytes, ready_bytes, refused_bytes, sealed_code, sent_bytes, state_bytes, synced_bytes, taken_as, taken_bytes, told_receipts_bytes, value_bytes}
+use Rattle.ep_serve.specs.declared.due.Due.TheVariants.{Taken, Refused, Value, Open, Leads, Synced, State, Ready, Handled, Malformed}
+use Rattle.ep_wire.specs.Answers.{entry_bytes, handled_bytes, instance_bytes, instances_bytes, leading_bytes, malformed_bytes, open_bytes, ready_bytes, refused_bytes, sealed_code, sent_bytes, state_bytes, synced_bytes, taken_as, taken_bytes, told_receipts_bytes, value_bytes}
 use Rattle.ep_wire.specs.declared.lead_progress.LeadProgress.{LeadProgress}
 use Rattle.ep_wire.specs.declared.lead_progress.LeadProgress.TheVariants.{Proposing, Accepting, Preparing}
 use Rattle.ep_wire.specs.declared.node_state.NodeState.{NodeState}
@@ -118,6 +119,7 @@ IsTold k (Leads i) bytes = bytes ≡ leading_bytes (option_map leading_of (progr
 IsTold k Synced bytes = bytes ≡ synced_bytes (length k.entries)
 IsTold k State bytes = bytes ≡ state_bytes (told_state k)
 IsTold k (Ready after most) bytes = (xs : List OpenInstance) × AreOpen k most None xs × (bytes ≡ ready_bytes (told_ready k after xs))
+IsTold k (Handled r) bytes = bytes ≡ handled_bytes (handled_from r k.entries)
 IsTold k (Malformed m) bytes = bytes ≡ malformed_bytes m
 
 -- each of the answers, one after the other

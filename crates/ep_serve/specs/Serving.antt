@@ -6,7 +6,7 @@ use Rattle.ep_bundle.specs.Reading.{Left}
 use Rattle.ep_device.specs.declared.system_fault.SystemFault.{SystemFault}
 use Rattle.ep_node.specs.Nodes.{IsQuiet, Logged}
 use Rattle.ep_replica.specs.Kept.{Kept}
-use Rattle.ep_serve.specs.Acting.{Acts}
+use Rattle.ep_serve.specs.Acting.{Acts, IsCutShort}
 use Rattle.ep_serve.specs.Answering.{AllTold, Tell}
 use Rattle.ep_serve.specs.Lasting.{Crashes, Lasts, LastsFrom}
 use Rattle.ep_serve.specs.declared.due.Due.{Due}
@@ -41,6 +41,7 @@ is_sync request.Sync = true
 is_sync request.State = false
 is_sync request.ExecuteAll = false
 is_sync (request.Ready after most) = false
+is_sync (request.Handled r) = false
 is_sync (request.Malformed m) = false
 
 -- At a node with so many entries on the disk, which the request leaves so: its answer may wait. It isn't that of each request that is wanted, no sync is
@@ -107,16 +108,32 @@ pub record ServesAll (mode : Mode) (how : Dialect) (w : Crashes) (k : Kept) (l :
 abbrev pub IsOver : Dialect → Left → Type 0
 IsOver how l = (m : Left) × (next_request how l ≡ Ok (None, m))
 
+-- one request more was done, or it stopped for want of memory
+abbrev pub DoesOne : Kept → Request → Kept → Type 0
+DoesOne k r k' = ((d : Due) × Acts k r d k') ⊎ IsCutShort k r k'
+
+-- the next request, where it is one
+abbrev pub DoesNext : Dialect → Kept → Left → Kept → Type 0
+DoesNext how k l k' = (r : Request) × (m : Left) × (next_request how l ≡ Ok (Some r, m)) × DoesOne k r k'
+
+-- Batches of requests were answered, others that were done waited for their answers, and then at most one more was done.
+pub record BreaksOff (mode : Mode) (how : Dialect) (w : Crashes) (k : Kept) (l : Left) (old new : Option (List ℕ)) (k' : Kept) : Type 0 where
+  pub before : Kept
+  pub from : Left
+  pub dues : List Due
+  pub service : InService mode how w k l old new before from dues
+  pub last : (k' ≡ before) ⊎ DoesNext how before from k'
+
 -- What is written when a node no longer serves, of its replica k' then: at the end of the input, where it can't be read, and where its bytes are no request,
--- all requests before were answered; for want of memory all, or some batches of them; where the log failed, some batches; where writing failed, these and what the sink made of one
--- more, of which nothing is known but that what it tells is on the disk.
+-- all requests before were answered; for want of memory all, or some batches of those that were done; where the log failed, some batches; where writing failed, these
+-- and what the sink made of one more, of which nothing is known but that what it tells is on the disk.
 abbrev pub Ends : Mode → Dialect → Crashes → Kept → Left → Option (List ℕ) → Option (List ℕ) → Result Unit ServeFault → Kept → Type 0
 Ends mode how w k l old new (Ok x) k' = (l' : Left) × ServesAll mode how w k l old new k' l' × IsOver how l'
-Ends mode how w k l old new (Err Memory) k' = ((m : Kept) × (l' : Left) × Serves mode how w k l old new m l') ⊎ ((l' : Left) × ServesAll mode how w k l old new k' l')
+Ends mode how w k l old new (Err Memory) k' = BreaksOff mode how w k l old new k' ⊎ ((l' : Left) × ServesAll mode how w k l old new k' l')
 Ends mode how w k l old new (Err ReadFailed) k' = (l' : Left) × ServesAll mode how w k l old new k' l'
 Ends mode how w k l old new (Err (BadRequest at)) k' = (l' : Left) × ServesAll mode how w k l old new k' l' × (at ≡ l'.at) × IsErr (next_request how l')
-Ends mode how w k l old new (Err WriteFailed) k' = (m : Kept) × (l' : Left) × (held : Option (List ℕ)) × Serves mode how w k l old held m l' × Lasts w k'
-Ends mode how w k l old new (Err (LogFailed cause)) k' = (m : Kept) × (l' : Left) × Serves mode how w k l old new m l'
+Ends mode how w k l old new (Err WriteFailed) k' = (held : Option (List ℕ)) × BreaksOff mode how w k l old held k' × Lasts w k'
+Ends mode how w k l old new (Err (LogFailed cause)) k' = BreaksOff mode how w k l old new k'
 
 -- Where all was answered, as far as the sink took it.
 abbrev pub IfSettled : Result Unit ServeFault → Type 0 → Type 0

@@ -3,8 +3,9 @@
 ghost use Rattle.std.specs.Prelude.{◌≡◌, ◌↔◌, ℕ, true, false, IsTrue, IfOk, OnErr};
 ghost use Rattle.ep_node.specs.Nodes.{Logged};
 ghost use Rattle.ep_replica.specs.Kept.{Kept};
-ghost use Rattle.ep_serve.specs.Acting.{seen_by, Acts, AdvancesAll, IsFarAhead, IsPassedOver, IsUndone, TakesNear, TakesOrRefuses};
+ghost use Rattle.ep_serve.specs.Acting.{seen_by, Acts, IsFarAhead, IsPassedOver, IsUndone, TakesNear, TakesOrRefuses};
 
+use crate::advancing::advance_all;
 use crate::due::Due;
 use crate::executing::execute_all;
 use ep_device::Device;
@@ -69,43 +70,9 @@ fn take_near<D: Device>(node: &mut Node<D>, event: Event) -> Result<Due, AllocEr
     take(node, event)
 }
 
-/// The node, whose device works, executes all own instances that are ready, in rising order, until none is.
-fn advance<D: Device>(node: &mut Node<D>) -> Due
-    requires { node.old.closed ≡ false }
-    ensures all { AdvancesAll node.old.replica result node.new.replica }
-    ensures same { node.new ≡ record node.old { replica = node.new.replica } }
-{
-    let from = node.taken();
-    for _times in 0..u64::MAX {
-        let executed = match node.execute_next() {
-            Ok(executed) => executed,
-            Err(_) => unreachable!(),
-        };
-        if !executed {
-            let count = node.taken().saturating_sub(from);
-            return Due::Taken { from, count };
-        }
-    }
-    // No replica has so many entries.
-    let _entries = node.taken();
-    unreachable!()
-}
-
-/// The same of any node; `Err` where its device has failed.
-fn try_advance<D: Device>(node: &mut Node<D>) -> Result<Due, AllocError>
-    ensures ok { IfOk result (λ due. AdvancesAll node.old.replica due node.new.replica) }
-    ensures same { node.new ≡ record node.old { replica = node.new.replica } }
-    ensures err { OnErr result (IsPassedOver node.old node.new) }
-{
-    if node.is_closed() {
-        return Err(AllocError);
-    }
-    Ok(advance(node))
-}
-
 /// Does what the request asks, none of which is on the disk yet, and tells the answer that is due for it. `Err` where the node's device has failed, and
-/// nothing changed; and for want of memory in executing all that is ready, of which some may have been executed. No other request fails at a node whose
-/// device works.
+/// nothing changed; and for want of memory in executing all that is ready, own or not, of which some may have been executed. No other request fails at a
+/// node whose device works.
 pub fn act<D: Device>(node: &mut Node<D>, request: Request) -> Result<Due, AllocError>
     ensures ok { IfOk result (λ due. Acts node.old.replica request due node.new.replica) }
     ensures same { node.new ≡ record node.old { replica = node.new.replica } }
@@ -114,7 +81,7 @@ pub fn act<D: Device>(node: &mut Node<D>, request: Request) -> Result<Due, Alloc
     match request {
         Request::Event(event) => take_near(node, event),
         Request::BadFrame => Ok(Due::Refused(TakeFault::BadFrame)),
-        Request::Advance => try_advance(node),
+        Request::Advance => advance_all(node),
         Request::Get(key) => Ok(Due::Value(key)),
         Request::NextOpen(after) => Ok(Due::Open(after)),
         Request::Leads(instance) => Ok(Due::Leads(instance)),
@@ -122,6 +89,7 @@ pub fn act<D: Device>(node: &mut Node<D>, request: Request) -> Result<Due, Alloc
         Request::State => Ok(Due::State),
         Request::ExecuteAll => execute_all(node),
         Request::Ready { after, most } => Ok(Due::Ready { after, most }),
+        Request::Handled(peer) => Ok(Due::Handled(peer)),
         Request::Malformed(malformed) => Ok(Due::Malformed(malformed)),
     }
 }

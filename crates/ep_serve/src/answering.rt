@@ -1,13 +1,17 @@
 //! What an answer tells, once all that its node took is on the disk.
 
-ghost use Rattle.std.specs.Prelude.{◌≡◌, ◌<◌, ◌≤◌, ◌+◌, ◌^◌, true, ℕ, List, Some, OnOk, IfOk, length, slice_get};
+ghost use Rattle.std.specs.Prelude.{◌≡◌, ◌<◌, ◌≤◌, ◌+◌, ◌++◌, ◌^◌, [], true, ℕ, List, Some, OnOk, IfOk, length, slice_get};
 ghost use Rattle.std.specs.Io.KnownBytes.{Appends};
+ghost use Rattle.ep_frame.specs.Fields.{number_bytes};
 ghost use Rattle.ep_journal.specs.declared.entry.Entry.{Entry as Written};
 ghost use Rattle.ep_serve.specs.Answering.{told_entry, told_from, AllAnswered, AllTold, Tell, Tells};
 ghost use Rattle.ep_serve.specs.declared.due.Due.TheVariants.{Synced, Taken};
+ghost use Rattle.ep_wire.specs.Answers.{entry_bytes, taken_bytes};
 
 use crate::answer_fault::AnswerFault;
-use crate::asked::{put_asked_lead, put_asked_open, put_asked_state, put_asked_value};
+use crate::asked::{
+    put_asked_handled, put_asked_lead, put_asked_open, put_asked_state, put_asked_value,
+};
 use crate::due::Due;
 use crate::readying::put_ready;
 use ep_base::{Noted, Sink};
@@ -15,11 +19,32 @@ use ep_bundle::{learn_entry, put_u32};
 use ep_device::Device;
 use ep_node::Node;
 use ep_replica::Replica;
+use ep_rules::Receipt;
 use ep_wire::{put_entry, write_malformed, write_refused, write_synced, write_taken};
 use std::alloc::{AllocError, Global};
 
 /// Answers are begun with room for so many bytes, as most have fewer, so that they needn't grow.
 const ROOM: usize = 1_024;
+
+/// The entry at this place, with these receipts.
+fn put_with<K: Sink>(
+    sink: &mut K,
+    replica: &Replica,
+    place: usize,
+    receipts: &[Receipt],
+) -> Result<(), AnswerFault>
+    requires { place < length replica.now.entries }
+    ensures { (e : Written) → slice_get replica.now.entries place ≡ Some e → OnOk result (Appends (K.held sink.old) (K.held sink.new) (entry_bytes replica.now.version e receipts.now)) }
+{
+    let journal = replica.journal();
+    learn_entry(journal, place);
+    if receipts.len() >= 0x1_0000 {
+        return Err(AnswerFault);
+    }
+    let version = replica.version();
+    put_entry(sink, version, &journal.entries()[place], receipts)?;
+    Ok(())
+}
 
 /// The entry at this place, with its receipts.
 fn put_told_entry<K: Sink>(
@@ -31,15 +56,10 @@ fn put_told_entry<K: Sink>(
     requires { place < length replica.now.entries }
     ensures { (e : Written) → slice_get replica.now.entries place ≡ Some e → OnOk result (Appends (K.held sink.old) (K.held sink.new) (told_entry replica.now e)) }
 {
-    let journal = replica.journal();
-    learn_entry(journal, place);
     let receipts = replica.receipts_of(alloc, place)?;
-    if receipts.len() >= 0x1_0000 {
-        return Err(AnswerFault);
-    }
-    let version = replica.version();
-    put_entry(sink, version, &journal.entries()[place], &receipts)?;
-    Ok(())
+    let told = put_with(sink, replica, place, &receipts);
+    drop(receipts);
+    told
 }
 
 /// So many entries from this place on.
@@ -69,6 +89,37 @@ fn are_there(replica: &Replica, from: usize, count: usize) -> bool
     from <= entries && count <= entries - from
 }
 
+/// The count of so many entries from this place on, and the entries.
+fn taken_body(
+    alloc: Global,
+    replica: &Replica,
+    from: usize,
+    count: usize,
+) -> Result<Vec<u8>, AnswerFault>
+    requires there { from + count ≤ length replica.now.entries }
+    requires fits { from + count < 2 ^ 64 }
+    ensures { IfOk result (λ body. Appends (Some []) (Some body.items) (number_bytes 4 count ++ told_from replica.now from count)) }
+{
+    let Ok(number) = u32::try_from(count) else {
+        return Err(AnswerFault);
+    };
+    let mut body = Noted::new(Vec::with_capacity(alloc, ROOM)?);
+    put_u32(&mut body, number)?;
+    put_told_entries(alloc, &mut body, replica, from, count)?;
+    Ok(body.into_inner())
+}
+
+/// These bytes, as the answer that they are the body of.
+fn put_taken_body<K: Sink>(sink: &mut K, body: &[u8]) -> Result<(), AnswerFault>
+    ensures { OnOk result (Appends (K.held sink.old) (K.held sink.new) (taken_bytes body.now)) }
+{
+    if body.len() >= 0xffff_ffff {
+        return Err(AnswerFault);
+    }
+    write_taken(sink, body)?;
+    Ok(())
+}
+
 /// That so many entries were taken from this place on.
 fn put_taken<K: Sink>(
     alloc: Global,
@@ -79,22 +130,12 @@ fn put_taken<K: Sink>(
 ) -> Result<(), AnswerFault>
     ensures { OnOk result (Tells replica.now (Taken from count) (K.held sink.old) (K.held sink.new)) }
 {
-    let mut body = Noted::new(Vec::with_capacity(alloc, ROOM)?);
-    let Ok(number) = u32::try_from(count) else {
-        return Err(AnswerFault);
-    };
     // What was taken is there.
     if !are_there(replica, from, count) {
         return Err(AnswerFault);
     }
-    put_u32(&mut body, number)?;
-    put_told_entries(alloc, &mut body, replica, from, count)?;
-    let body = body.into_inner();
-    if body.len() >= 0xffff_ffff {
-        return Err(AnswerFault);
-    }
-    write_taken(sink, &body)?;
-    Ok(())
+    let body = taken_body(alloc, replica, from, count)?;
+    put_taken_body(sink, &body)
 }
 
 /// How many entries are on the disk.
@@ -127,6 +168,7 @@ fn put_asked<K: Sink>(
         Due::State => put_asked_state(sink, replica),
         // What there is to tell the node tells.
         Due::Ready { .. } => Err(AnswerFault),
+        Due::Handled(peer) => put_asked_handled(sink, replica, *peer),
         Due::Malformed(malformed) => Ok(write_malformed(sink, *malformed)?),
     }
 }
@@ -207,8 +249,7 @@ fn answers_and_ready<D: Device>(
     ensures same { node.new ≡ node.old }
     ensures told { IfOk result (λ out. AllAnswered node.old.replica dues.now after most out.items) }
 {
-    let mut sink = Noted::new(Vec::with_capacity(alloc, ROOM)?);
-    put_dues(alloc, &mut sink, node, dues)?;
+    let mut sink = Noted::new(answers_of(alloc, node, dues)?);
     put_ready(alloc, &mut sink, node, after, most)?;
     Ok(sink.into_inner())
 }

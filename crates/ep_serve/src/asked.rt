@@ -2,15 +2,17 @@
 
 ghost use Rattle.std.specs.Prelude.{◌≡◌, ℕ, List, OnOk};
 ghost use Rattle.ep_serve.specs.Answering.{leading_of, Tells};
-ghost use Rattle.ep_serve.specs.declared.due.Due.TheVariants.{Leads, Open, State, Value};
+ghost use Rattle.ep_serve.specs.declared.due.Due.TheVariants.{Handled, Leads, Open, State, Value};
 
 use crate::answer_fault::AnswerFault;
 use crate::telling::told_state;
-use ep_base::{InstanceId, Key, Sink};
+use ep_base::{InstanceId, Key, ReplicaId, Sink};
+use ep_node::handled_from;
 use ep_phase::LeadPhase;
 use ep_replica::Replica;
 use ep_wire::{
-    LeadProgress, write_instance, write_leading, write_no_value, write_state, write_value,
+    LeadProgress, write_handled, write_instance, write_leading, write_no_value, write_state,
+    write_value,
 };
 
 /// What the replica's map has at the key.
@@ -65,6 +67,18 @@ pub(crate) fn put_asked_lead<K: Sink>(
         None => None,
     };
     write_leading(sink, &leading)?;
+    Ok(())
+}
+
+/// The greatest number of an entry of this other replica of which a frame was handled.
+pub(crate) fn put_asked_handled<K: Sink>(
+    sink: &mut K,
+    replica: &Replica,
+    peer: ReplicaId,
+) -> Result<(), AnswerFault>
+    ensures { OnOk result (Tells replica.now (Handled peer) (K.held sink.old) (K.held sink.new)) }
+{
+    write_handled(sink, handled_from(peer, replica.journal().entries()))?;
     Ok(())
 }
 

@@ -1,6 +1,6 @@
 //! Answers that wait.
 
-use ep_base::{InstanceId, Key};
+use ep_base::{InstanceId, Key, ReplicaId};
 use ep_wire::{Malformed, TakeFault};
 
 /// An answer that waits until all that its node took is on the disk.
@@ -23,6 +23,8 @@ pub enum Due {
     /// What there is to tell is asked, of the entries after the first ones, of which so many were told before, and of at most so many
     /// open instances.
     Ready { after: u32, most: u8 },
+    /// The greatest number of an entry of this replica of which a frame was handled is asked.
+    Handled(ReplicaId),
     /// The request is malformed.
     Malformed(Malformed),
 }

@@ -1,13 +1,14 @@
 //! Executing all that is ready, own or not.
 
-ghost use Rattle.std.specs.Prelude.{◌≡◌, ◌≤◌, ◌⊎◌, false, ℕ, List, IfOk, OnOk, OnErr};
+ghost use Rattle.std.specs.Prelude.{◌≡◌, ◌≤◌, ◌⊎◌, false, ℕ, List, IfOk, OnErr};
 ghost use Rattle.ep_base.specs.Instances.{instance_of, highest_number};
 ghost use Rattle.ep_journal.specs.declared.step_fault.StepFault.TheVariants as step;
 ghost use Rattle.ep_node.specs.Executing.{IsOutstanding};
 ghost use Rattle.ep_node.specs.Nodes.{Logged};
-ghost use Rattle.ep_serve.specs.Acting.{ExecutesAll, ExecutesEach, IsPassedOver, IsSwept, LedWantsMemory, NoneIsReady, StopsShort, TriesOne};
+ghost use Rattle.ep_serve.specs.Acting.{AreSwept, ExecutesAll, ExecutesEach, IsPassedOver, IsSwept, LedWantsMemory, StopsShort, TriesOne};
 
 use crate::due::Due;
+use crate::making::{made_since, stopped_since};
 use ep_base::{InstanceId, ReplicaId};
 use ep_device::Device;
 use ep_journal::StepFault;
@@ -62,20 +63,20 @@ fn execute_led<D: Device>(node: &mut Node<D>, leader: ReplicaId) -> Result<bool,
     Ok(true)
 }
 
-/// Executes all instances that are ready, in rising order. One try of each suffices: an execution commits nothing.
-fn execute_every<D: Device>(node: &mut Node<D>) -> Result<(), AllocError>
+/// Executes all instances that are ready, in rising order; `false` where no stamp is left for one. One try of each suffices: an execution commits nothing.
+fn execute_every<D: Device>(node: &mut Node<D>) -> Result<bool, AllocError>
     requires { node.old.closed ≡ false }
-    ensures ok { OnOk result ((roots : List ℕ) × ExecutesEach node.old.replica roots node.new.replica × NoneIsReady node.new.replica) }
+    ensures ok { IfOk result (λ swept. (roots : List ℕ) × ExecutesEach node.old.replica roots node.new.replica × AreSwept swept node.new.replica) }
     ensures same { node.new ≡ record node.old { replica = node.new.replica } }
     ensures err { OnErr result (StopsShort node.old.replica node.new.replica) }
 {
     for index in 0..7 {
         let swept = execute_led(node, ReplicaId::known(index))?;
         if !swept {
-            return Ok(());
+            return Ok(false);
         }
     }
-    Ok(())
+    Ok(true)
 }
 
 /// The node executes all that is committed and waits for nothing that isn't, own or not. `Err` where its device has failed, and where memory is wanted.
@@ -88,7 +89,9 @@ pub(crate) fn execute_all<D: Device>(node: &mut Node<D>) -> Result<Due, AllocErr
         return Err(AllocError);
     }
     let from = node.taken();
-    execute_every(node)?;
-    let count = node.taken().saturating_sub(from);
-    Ok(Due::Taken { from, count })
+    let swept = execute_every(node)?;
+    if !swept {
+        return Ok(stopped_since(node, from));
+    }
+    Ok(made_since(node, from))
 }

@@ -2,7 +2,7 @@
 //!
 //! It keeps to docs/FORMATS.md, section 10.
 //!
-//! Start with `serving.rt` and specs/Serving.antt; then `acting.rt` and `executing.rt` (what a request does), `queue.rt` (the
+//! Start with `serving.rt` and specs/Serving.antt; then `acting.rt`, `advancing.rt` and `executing.rt` (what a request does), `queue.rt` (the
 //! answers that wait), `durable.rt` (what is on the disk from then on), `answering.rt` and `telling.rt` (what an answer tells).
 //!
 //! An answer that waits says what happened; its bytes are made when all that the node took is on the disk, from the replica
@@ -10,12 +10,14 @@
 #![tactic(auto)]
 
 mod acting;
+mod advancing;
 mod answer_fault;
 mod answering;
 mod asked;
 mod due;
 mod durable;
 mod executing;
+mod making;
 mod mode;
 mod queue;
 mod readying;
@@ -24,6 +26,7 @@ mod serving;
 mod telling;
 
 pub use acting::{act, is_far_ahead};
+pub use advancing::{advance_own, execute_own};
 pub use answering::all_answers;
 pub use due::Due;
 pub use mode::Mode;

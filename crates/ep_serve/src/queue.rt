@@ -34,13 +34,13 @@ pub(crate) struct Queue {
 }
 
 impl Queue {
-    ghost use Rattle.std.specs.Prelude.{◌≡◌, ◌↔◌, ◌≤◌, ◌++◌, ◌∷◌, [], length, false, OnOk, IfErr, IsTrue};
+    ghost use Rattle.std.specs.Prelude.{◌≡◌, ◌↔◌, ◌≤◌, ◌++◌, ◌∷◌, [], length, false, OnOk, OnErr, IfErr, IsTrue};
     ghost use Rattle.ep_base.specs.Devices.{FailsAsTold};
     ghost use Rattle.ep_node.specs.Nodes.{IsQuiet};
     ghost use Rattle.ep_serve.specs.Acting.{Acts};
     ghost use Rattle.ep_serve.specs.Answering.{Tell};
     ghost use Rattle.ep_serve.specs.Lasting.{GoesOn, IsKept, StaysKnown};
-    ghost use Rattle.ep_serve.specs.Serving.{is_log_failed, is_sync, is_write_failed, IfSettled, IfUnwritten, IsSilent, MayWait, Names, Waits};
+    ghost use Rattle.ep_serve.specs.Serving.{is_log_failed, is_sync, is_write_failed, DoesOne, IfSettled, IfUnwritten, IsSilent, MayWait, Names, Waits};
     ghost use Rattle.ep_serve.specs.declared.due.Due.{Due};
     ghost use Rattle.ep_wire.specs.declared.request.Request.{Request};
     ghost use Rattle.ep_serve.specs.declared.serve_fault.ServeFault.TheVariants.{Memory};
@@ -57,10 +57,12 @@ impl Queue {
     }
 
     /// The node does what is asked, and the answer waits.
+    #[tactic(auto, using(crate::proofs::Stopping::cut_short))]
     fn add<D: Device>(&mut self, node: &mut Node<D>, request: Request) -> Result<(), ServeFault>
+        requires { node.old.closed ≡ false }
         ensures ok { OnOk result ((d : Due) × Acts node.old.replica request d node.new.replica × (self.new.dues.items ≡ self.old.dues.items ++ d ∷ [])) }
         ensures same { (node.new ≡ record node.old { replica = node.new.replica }) × (self.new.mode ≡ self.old.mode) }
-        ensures err { IfErr result (λ fault. fault ≡ Memory) }
+        ensures err { IfErr result (λ fault. (fault ≡ Memory) × DoesOne node.old.replica request node.new.replica) }
     {
         let due = act(node, request)?;
         self.dues.push(due)?;
@@ -74,7 +76,29 @@ impl Queue {
         !asks && self.mode == Mode::Asked && node.unsynced() > 0
     }
 
+    /// Writes the answers that wait. All that the node took is on the disk.
+    fn put_answers<D: Device, K: Sink>(
+        &mut self,
+        node: &mut Node<D>,
+        sink: &mut K,
+    ) -> Result<(), ServeFault>
+        requires quiet { IsQuiet node.old }
+        ensures same { node.new ≡ node.old }
+        ensures mode { self.new.mode ≡ self.old.mode }
+        ensures ok { OnOk result (Tell node.old.replica self.old.dues.items (K.held sink.old) (K.held sink.new) × (self.new.dues.items ≡ [])) }
+        ensures silent { IfErr result (λ fault. IsSilent fault (K.held sink.old) (K.held sink.new)) }
+        ensures sink_cause { FailsAsTold is_write_failed result (K.has_failed sink.old) (K.has_failed sink.new) }
+        ensures log_cause { FailsAsTold is_log_failed result (D.has_failed node.old.device) (D.has_failed node.new.device) }
+        ensures log_why { IfErr result (λ fault. Names fault (D.why node.new.device)) }
+    {
+        let answers = answers_of(self.alloc, node, &self.dues)?;
+        sink.put(&answers)?;
+        self.dues.clear();
+        Ok(())
+    }
+
     /// Writes what the node took to the disk, and then the answers that wait. A fault but that of writing writes none of them.
+    #[tactic(auto, using(crate::proofs::States::settled_kept, crate::proofs::States::settled_quiet))]
     pub(crate) fn settle<D: Device, K: Sink>(
         &mut self,
         node: &mut Node<D>,
@@ -95,10 +119,7 @@ impl Queue {
         ensures log_why { IfErr result (λ fault. Names fault (D.why node.new.device)) }
     {
         put_on_disk(node)?;
-        let answers = answers_of(self.alloc, node, &self.dues)?;
-        sink.put(&answers)?;
-        self.dues.clear();
-        Ok(())
+        self.put_answers(node, sink)
     }
 
     /// The node does what is asked. The answers are written where it asks for that, after each request in that mode, and where
@@ -115,6 +136,7 @@ impl Queue {
         ensures own { node.new.digest ≡ node.old.digest }
         ensures ok { OnOk result (Waits self.old.mode node.old request self.old.dues.items (K.held sink.old) node.new self.new.dues.items (K.held sink.new) (IsKept node.old.digest D.seen D.moment D.left_since node.old.device node.new.device node.new.replica)) }
         ensures silent { IfErr result (λ fault. IsSilent fault (K.held sink.old) (K.held sink.new)) }
+        ensures done { OnErr result (DoesOne node.old.replica request node.new.replica) }
         ensures unwritten { IfUnwritten result (IsQuiet node.new × IsKept node.old.digest D.seen D.moment D.left_since node.old.device node.new.device node.new.replica) }
         ensures known { OnOk result (StaysKnown D.seen node.old.device node.new.device) }
         ensures onward { GoesOn node.old.digest D.seen D.moment D.left_since node.old.device node.new.device node.old.replica node.old.synced }

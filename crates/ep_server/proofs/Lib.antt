@@ -1,3 +1,4 @@
 mod FilesGiven
 mod InFolders
+mod Named
 mod Serving

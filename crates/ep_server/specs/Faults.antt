@@ -1,10 +1,10 @@
 -- How the program ends at a fault, and the line that it then tells.
 use Rattle.std.specs.Prelude.{ℕ, List, [], ◌++◌, codes, decimal}
+use Rattle.ep_cli.specs.Causes.{cause_text}
 use Rattle.ep_cli.specs.Lines.{numbered, out_of_memory, reading_failed, writing_failed}
 use Rattle.ep_cli.specs.declared.status.Status.{Status}
 use Rattle.ep_cli.specs.declared.status.Status.TheVariants.{Refused, OutOfMemory, Failed}
 use Rattle.ep_device.specs.declared.system_fault.SystemFault.{SystemFault}
-use Rattle.ep_device.specs.declared.system_fault.SystemFault.TheVariants as cause
 use Rattle.ep_device.specs.declared.device_fault.DeviceFault.{DeviceFault}
 use Rattle.ep_device.specs.declared.device_fault.DeviceFault.TheVariants as device
 use Rattle.ep_folder.specs.declared.start_fault.StartFault.{StartFault}
@@ -23,23 +23,8 @@ use Rattle.ep_server.specs.declared.server_fault.ServerFault.TheVariants.{Open, 
 use Rattle.ep_server.specs.declared.folder_fault.FolderFault.{FolderFault}
 use Rattle.ep_server.specs.declared.folder_fault.FolderFault.TheVariants as folder
 
--- why a device failed
-abbrev pub words_of : SystemFault → List ℕ
-words_of cause.NotFound = codes "no such file or directory"
-words_of cause.NotAllowed = codes "permission denied"
-words_of cause.NotAFile = codes "not a regular file"
-words_of cause.Locked = codes "another process has it open"
-words_of cause.NoSpace = codes "no space left on device"
-words_of cause.OverQuota = codes "disk quota exceeded"
-words_of cause.TooLarge = codes "file too large"
-words_of cause.ReadOnly = codes "read-only file system"
-words_of cause.InputOutput = codes "input/output error"
-words_of cause.NoMemory = codes "out of memory"
-words_of (cause.System number) = numbered (codes "system error ") number []
-words_of cause.Unknown = codes "unknown error"
-
 abbrev pub log_failed : SystemFault → List ℕ
-log_failed cause = codes "log failed: " ++ words_of cause ++ codes "\n"
+log_failed cause = codes "log failed: " ++ cause_text cause ++ codes "\n"
 
 -- what was cut off a log
 abbrev pub line_of_cut : Cut → List ℕ
@@ -94,8 +79,8 @@ line_of_refusal (Other g) = numbered (codes "opening refused: generation ") g (c
 
 abbrev pub line_of_folder : FolderFault → List ℕ
 line_of_folder folder.Memory = out_of_memory
-line_of_folder (folder.Failed cause) = codes "folder failed: " ++ words_of cause ++ codes "\n"
-line_of_folder (folder.Unread cause) = codes "opening failed: " ++ words_of cause ++ codes "\n"
+line_of_folder (folder.Failed cause) = codes "folder failed: " ++ cause_text cause ++ codes "\n"
+line_of_folder (folder.Unread cause) = codes "opening failed: " ++ cause_text cause ++ codes "\n"
 line_of_folder (folder.Refused why) = line_of_refusal why
 line_of_folder (folder.NoLog g) = numbered (codes "folder refused: generation ") g (codes " has no log; repeat the --take that was broken off, or go on with the opening of a later one by --take FILE\n")
 line_of_folder (folder.Opening g why) = numbered (codes "folder refused: the opening of generation ") g (codes ": ") ++ line_of_opening why
@@ -104,6 +89,15 @@ line_of_folder (folder.OtherSize g n) = numbered (codes "folder refused: generat
 line_of_folder (folder.NoOpening why) = codes "opening refused: " ++ line_of_opening why
 line_of_folder (folder.OtherCluster n) = numbered (codes "opening refused: it is for --replicas ") n (codes "\n")
 line_of_folder folder.Last = codes "folder refused: the last generation is closed, and there is none after it\n"
+
+-- the folder of this name can't be had
+abbrev pub line_of_place : List ℕ → DeviceFault → List ℕ
+line_of_place folder device.Memory = out_of_memory
+line_of_place folder (device.Failed cause) = codes "folder failed: " ++ folder ++ (codes ": " ++ cause_text cause ++ codes "\n")
+
+abbrev pub status_of_place : DeviceFault → Status
+status_of_place device.Memory = OutOfMemory
+status_of_place (device.Failed cause) = Failed
 
 abbrev pub line_of : ServerFault → List ℕ
 line_of (Open why) = line_of_open why

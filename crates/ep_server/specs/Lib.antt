@@ -1,3 +1,4 @@
+pub mod Absent
 pub mod Faults
 pub mod NamedFiles
 pub mod Served

@@ -5,11 +5,11 @@ ghost use Rattle.ep_cli.specs.Files.{IsOfFile};
 ghost use Rattle.ep_cli.specs.Outputs.{became};
 ghost use Rattle.ep_server.specs.NamedFiles.{ShowsFiles};
 
+use crate::absent::{empty, held_in};
 use ep_assemble::{OpenedLog, OpenedNames, show_files};
 use ep_base::{Generation, Sink};
-use ep_cli::{FilesFault, Status, Streams, put_printout, read_file, turned_away, unread};
-use ep_device::DeviceFault;
-use ep_folder::{log_path, look, newest_in, opening_path};
+use ep_cli::{FilesFault, Status, Streams, put_printout, read_file, turned_away};
+use ep_folder::{log_path, newest_in, opening_path};
 use std::alloc::{AllocError, Global};
 use std::fs;
 use std::io::ErrorKind;
@@ -32,22 +32,11 @@ fn newest_of<R: Files + AllocGlobal>(
     rt: &R,
     folder: &str,
 ) -> Result<(Generation, OpenedNames), FilesFault> {
-    let held = match look(rt, folder) {
-        Ok(held) => held,
-        Err(DeviceFault::Memory) => return Err(FilesFault::Memory),
-        Err(DeviceFault::Failed(_)) => return Err(unread(rt.alloc(), folder)),
-    };
+    let held = held_in(rt, folder)?;
     match Generation::new(newest_in(&held)) {
         Ok(generation) => Ok((generation, names_of(rt.alloc(), folder, generation)?)),
-        Err(_) => Err(FilesFault::Refused(empty_line(rt.alloc(), folder)?)),
+        Err(_) => Err(empty(rt, folder)),
     }
-}
-
-/// The line of a folder without a generation.
-fn empty_line(alloc: Global, folder: &str) -> Result<Vec<u8>, AllocError> {
-    let mut line = Vec::from_slice(alloc, folder.as_bytes())?;
-    line.extend_from_slice(b" has no generation\n")?;
-    Ok(line)
 }
 
 /// The names of its two files of the generation.

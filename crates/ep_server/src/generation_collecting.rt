@@ -6,6 +6,7 @@ ghost use Rattle.ep_cli.specs.Files.{IsUnread};
 ghost use Rattle.ep_cli.specs.Outputs.{became};
 ghost use Rattle.ep_server.specs.NamedFiles.{paths_in, CollectsGeneration};
 
+use crate::absent::check_all;
 use crate::generation_asked::GenerationAsked;
 use crate::generation_gathered::GenerationGathered;
 use ep_assemble::{GenerationNames, collect_generation, read_opened_logs};
@@ -24,6 +25,9 @@ pub(crate) fn collect_folders<R: Files + AllocGlobal, S, W: Sink, F: Sink>(
     streams: &mut Streams<S, W, F>,
 ) -> Status {
     let generation = asked.generation;
+    if let Err(fault) = check_all(rt, &asked.folders, generation) {
+        return turned_away(fault, &mut streams.fault_writer);
+    }
     match names_in(rt.alloc(), asked) {
         Ok(names) => collect_of(rt, generation, &names, streams),
         Err(fault) => decline(WordsFault::from(fault), &mut streams.fault_writer),
@@ -81,7 +85,7 @@ pub fn collect_of<R: Files + AllocGlobal, S, W: Sink, F: Sink>(
     ensures { CollectsGeneration generation (map string_bytes names.now.openings.items) (map string_bytes names.now.logs.items) (map string_bytes names.now.receipts.items) result
         (became W.held W.has_failed streams.old.writer streams.new.writer) (became F.held F.has_failed streams.old.fault_writer streams.new.fault_writer) }
 {
-    match gather_generation(rt, names) {
+    match gather_generation(rt, generation, names) {
         Ok(gathered) => {
             let collected = collect_generation(
                 rt.alloc(),
@@ -99,6 +103,7 @@ pub fn collect_of<R: Files + AllocGlobal, S, W: Sink, F: Sink>(
 /// The bytes of the files with these names.
 fn gather_generation<R: Files + AllocGlobal>(
     rt: &R,
+    generation: Generation,
     names: &GenerationNames,
 ) -> Result<GenerationGathered, FilesFault>
     requires { length names.now.logs.items ≡ length names.now.openings.items }
@@ -106,7 +111,7 @@ fn gather_generation<R: Files + AllocGlobal>(
     ensures receipts { IfOk result (λ g. length g.receipts.items ≡ length names.now.receipts.items) }
     ensures err { IfErr result (λ e. IsLacking (map string_bytes names.now.openings.items) e ⊎ IsLacking (map string_bytes names.now.logs.items) e ⊎ IsUnread (map string_bytes names.now.receipts.items) e) }
 {
-    let kept = read_opened_logs(rt, &names.openings, &names.logs)?;
+    let kept = read_opened_logs(rt, generation, &names.openings, &names.logs)?;
     let receipts = read_files(rt, &names.receipts)?;
     Ok(GenerationGathered { kept, receipts })
 }

@@ -13,6 +13,7 @@
 //! output and one status (`server_fault.rt`, `telling.rt`, `ep_cli`), as docs/FORMATS.md, sections 6.1 and 10, list them.
 #![tactic(auto)]
 
+mod absent;
 mod asks;
 mod collect_names;
 mod collecting;
@@ -35,10 +36,10 @@ mod staging;
 mod telling;
 mod upgrading;
 
+use crate::asks::Asks;
 use crate::collecting::collect_named;
 use crate::command_line::read_words;
 use crate::contents::show_contents;
-use crate::folder_fault::FolderFault;
 use crate::folder_options::FolderOptions;
 use crate::generation_collecting::collect_folders;
 use crate::in_folder::serve_folder;
@@ -46,11 +47,12 @@ use crate::options::Options;
 use crate::program::{concluded, serve_log};
 use crate::server_asked::ServerAsked;
 use crate::server_fault::ServerFault;
+use crate::telling::tell_place;
 use crate::upgrading::upgrade_named;
 use ep_base::{Noted, Sink, Source};
 use ep_cli::{Status, Streams, WordsFault, decline, read_ahead, told, words};
-use ep_device::{FileDevice, SystemFault};
-use ep_folder::lock_folder;
+use ep_device::{DeviceFault, FileDevice, SystemFault};
+use ep_folder::{lock_folder, make_place};
 use ep_node::OpenFault;
 use std::fs::{File, Files};
 use std::process::ExitCode;
@@ -166,17 +168,25 @@ fn serve_locked<R: AllocGlobal + Files<File = File>, S: Source, W: Sink, F: Sink
     options: &FolderOptions<'_>,
     streams: &mut Streams<S, W, F>,
 ) -> Status {
-    match lock_folder(rt, options.folder) {
+    match locked(rt, options) {
         Ok(lock) => {
             let status = serve_folder(rt, options, streams);
             drop(lock);
             status
         }
-        Err(fault) => concluded(
-            Err(ServerFault::Folder(FolderFault::from(fault))),
-            &mut streams.fault_writer,
-        ),
+        Err(fault) => tell_place(options.folder, fault, &mut streams.fault_writer),
     }
+}
+
+/// The lock of the folder, which is made for a new replica.
+fn locked<R: AllocGlobal + Files<File = File>>(
+    rt: &R,
+    options: &FolderOptions<'_>,
+) -> Result<File, DeviceFault> {
+    if let Asks::New = options.asks {
+        make_place(rt, options.folder)?;
+    }
+    lock_folder(rt, options.folder)
 }
 
 /// Files in the places of standard streams that are closed, so that the log's file takes none of them: answers would be written

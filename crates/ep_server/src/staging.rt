@@ -1,21 +1,22 @@
 //! Which generation is opened, and with what.
 
 ghost use Rattle.std.specs.Prelude.{◌≡◌, IfOk};
+ghost use Rattle.ep_assemble.specs.Firsts.{first_file};
 ghost use Rattle.ep_opening.specs.Bytes.{opening_bytes};
 
 use crate::asks::Asks;
 use crate::folder_fault::FolderFault;
 use crate::folder_options::FolderOptions;
 use crate::generation_start::GenerationStart;
-use ep_base::{Deps, Generation, Size};
+use ep_assemble::first_file;
+use ep_base::{Generation, Size};
 use ep_device::DeviceFault;
 use ep_folder::{
     GenerationFolder, Plan, Wish, has_log, look, make_folder, newest_in, opening_path, plan_for,
     read_bytes, write_whole,
 };
-use ep_journal::Opening;
 use ep_node::Begin;
-use ep_opening::{OpeningFault, OpeningFile, SpelledFile};
+use ep_opening::{OpeningFault, SpelledFile};
 use std::alloc::Global;
 use std::fs::File;
 use std::rt::Files;
@@ -29,27 +30,9 @@ fn generation_of(number: u32) -> Result<Generation, FolderFault> {
     }
 }
 
-/// The file that generation 1 opens with, in a cluster of this size.
-fn first_file(alloc: Global, size: Size) -> Result<OpeningFile, FolderFault>
-    ensures size { IfOk result (λ f. f.faults ≡ size) }
-    ensures first { IfOk result (λ f. f.generation ≡ 1) }
-{
-    match OpeningFile::new(
-        size,
-        Generation::first(),
-        Opening::none(alloc),
-        None,
-        Deps::new(alloc),
-    ) {
-        Ok(file) => Ok(file),
-        Err(_) => Err(FolderFault::Memory),
-    }
-}
-
 /// What a new replica begins with.
 fn first_opening(alloc: Global, size: Size) -> Result<SpelledFile, FolderFault>
-    ensures size { IfOk result (λ f. f.faults ≡ size) }
-    ensures first { IfOk result (λ f. f.generation ≡ 1) }
+    ensures { IfOk result (λ f. f ≡ first_file size) }
 {
     let file = first_file(alloc, size)?;
     Ok(SpelledFile::write(alloc, file)?)

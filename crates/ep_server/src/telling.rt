@@ -1,16 +1,18 @@
 //! Faults on the fault output.
 
-ghost use Rattle.std.specs.Prelude.{◌++◌, codes};
+ghost use Rattle.std.specs.Prelude.{◌≡◌, ◌++◌, codes};
 ghost use Rattle.ep_base.specs.Devices.{Puts};
 ghost use Rattle.ep_log.specs.declared.log_fault.LogFault.TheVariants.{Turned};
-ghost use Rattle.ep_server.specs.Faults.{line_of, line_of_cut, line_of_folder, line_of_log, line_of_open, line_of_opening, line_of_refusal, line_of_serve, log_failed, words_of};
+ghost use Rattle.ep_server.specs.Faults.{line_of, line_of_cut, line_of_folder, line_of_log, line_of_open, line_of_opening, line_of_place, line_of_refusal, line_of_serve, log_failed, status_of_place};
+ghost use Rattle.ep_cli.specs.Causes.{cause_text};
+ghost use Rattle.ep_cli.specs.Outputs.{became, Told};
 ghost use Rattle.ep_server.specs.declared.folder_fault.FolderFault.TheVariants.{NoOpening, Opening, OtherGeneration, OtherSize};
 
 use crate::folder_fault::FolderFault;
 use crate::server_fault::ServerFault;
 use ep_base::{Sink, WriteFailed};
-use ep_cli::tell_number;
-use ep_device::SystemFault;
+use ep_cli::{Status, tell_number};
+use ep_device::{DeviceFault, SystemFault};
 use ep_folder::StartFault;
 use ep_log::LogFault;
 use ep_node::{Cut, OpenFault};
@@ -235,11 +237,36 @@ fn tell_other_size<F: Sink>(generation: u32, count: u32, sink: &mut F) -> Result
 
 /// Writes what failed, and why.
 fn tell_failure<F: Sink>(what: &[u8], cause: SystemFault, sink: &mut F) -> Result<(), WriteFailed>
-    ensures { Puts (F.held sink.old) (F.held sink.new) (F.has_failed sink.old) (F.has_failed sink.new) result (what.now ++ words_of cause ++ codes "\n") }
+    ensures { Puts (F.held sink.old) (F.held sink.new) (F.has_failed sink.old) (F.has_failed sink.new) result (what.now ++ cause_text cause ++ codes "\n") }
 {
     sink.put(what)?;
     tell_cause(cause, sink)?;
     sink.put(b"\n")
+}
+
+/// How the program ends where the folder of this name can't be had. Why is told on the fault output; where that fails, the status stays.
+pub(crate) fn tell_place<F: Sink>(folder: &str, why: DeviceFault, sink: &mut F) -> Status
+    ensures status { result ≡ status_of_place why }
+    ensures told { Told (became F.held F.has_failed sink.old sink.new) (line_of_place folder.now why) }
+{
+    match why {
+        DeviceFault::Memory => {
+            let _ = sink.put(b"out of memory\n");
+            Status::OutOfMemory
+        }
+        DeviceFault::Failed(cause) => {
+            let _ = tell_named(folder, cause, sink);
+            Status::Failed
+        }
+    }
+}
+
+fn tell_named<F: Sink>(folder: &str, cause: SystemFault, sink: &mut F) -> Result<(), WriteFailed>
+    ensures { Puts (F.held sink.old) (F.held sink.new) (F.has_failed sink.old) (F.has_failed sink.new) result (codes "folder failed: " ++ folder.now ++ (codes ": " ++ cause_text cause ++ codes "\n")) }
+{
+    sink.put(b"folder failed: ")?;
+    sink.put(folder.as_bytes())?;
+    tell_failure(b": ", cause, sink)
 }
 
 /// Writes that the log failed, and why.
@@ -251,7 +278,7 @@ fn tell_failed<F: Sink>(cause: SystemFault, sink: &mut F) -> Result<(), WriteFai
 
 /// Writes why a device failed.
 fn tell_cause<F: Sink>(cause: SystemFault, sink: &mut F) -> Result<(), WriteFailed>
-    ensures { Puts (F.held sink.old) (F.held sink.new) (F.has_failed sink.old) (F.has_failed sink.new) result (words_of cause) }
+    ensures { Puts (F.held sink.old) (F.held sink.new) (F.has_failed sink.old) (F.has_failed sink.new) result (cause_text cause) }
 {
     match cause {
         SystemFault::NotFound => sink.put(b"no such file or directory"),

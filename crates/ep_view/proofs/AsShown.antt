@@ -4,14 +4,15 @@ use Rattle.ep_journal.specs.Entries.{Collected}
 use Rattle.ep_view.specs.Editions.{edition_line}
 use Rattle.ep_view.specs.declared.selection.Selection.{Selection}
 use Rattle.ep_view.specs.Handled.{is_in, is_handled, AreHandled}
-use Rattle.ep_view.specs.Shown.{lines_at, none_kept, or_none, IsInOrder, IsShown}
+use Rattle.ep_view.specs.Shown.{entry_line, none_kept, or_none, IsInOrder, IsShown}
+use Rattle.ep_view.specs.Walks.{told_at}
 use Rattle.ep_view.specs.declared.handled.Handled.{Handled}
 
 pub is_shown :
     (c : Collected) (part : Selection) (h : Handled) (all : List (ℕ × ℕ)) (text : List ℕ) → AreHandled c h → IsInOrder c all →
-    text ≡ edition_line c.version c.opening ++ or_none (length all) (lines_at (is_in h) part c all) → IsShown c part text
+    text ≡ edition_line c.version c.opening ++ or_none (length all) (told_at (entry_line (is_in h)) part c all) → IsShown c part text
 is_shown c part h all text are ordered lines =
-    record { all = all; ordered = ordered; lines = lines ∙ ap (λ (f : List ℕ → Bool). edition_line c.version c.opening ++ or_none (length all) (lines_at f part c all)) (λ i b. are b i) }
+    record { all = all; ordered = ordered; lines = lines ∙ ap (λ (f : List ℕ → Bool). edition_line c.version c.opening ++ or_none (length all) (told_at (entry_line f) part c all)) (λ i b. are b i) }
 
 -- lines were appended, so some entry is kept
 pub some_kept :

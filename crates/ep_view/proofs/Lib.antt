@@ -2,3 +2,10 @@ pub mod Inserting
 pub mod AsShown
 pub mod Sending
 pub mod Joining
+pub mod ReadBack
+pub mod Traced
+pub mod Fronts
+pub mod AsLabels
+pub mod Sequenced
+pub mod Graphed
+pub mod Agreeing

@@ -1,7 +1,15 @@
 pub mod Handled
 pub mod Wanted
 pub mod Lines
+pub mod Walks
 pub mod Shown
 pub mod Kept
 pub mod Words
 pub mod Editions
+pub mod Strings
+pub mod Pages
+pub mod TraceEvents
+pub mod TraceFiles
+pub mod Labels
+pub mod Sequences
+pub mod Graphs

@@ -1,26 +1,18 @@
 -- What is shown of journals.
-use Rattle.std.specs.Prelude.{◌≡◌, ℕ, Bool, cond, eqb, length, List, [], ◌∷◌, ◌++◌, Option, Some, None, codes, decimal}
-use Rattle.ep_journal.specs.Entries.{Collected, entries_at, journals_of}
+use Rattle.std.specs.Prelude.{◌≡◌, ℕ, Bool, cond, eqb, length, List, [], ◌∷◌, ◌++◌, codes, decimal}
+use Rattle.ep_journal.specs.Entries.{Collected, journals_of}
 use Rattle.ep_journal.specs.declared.entry.Entry.{Entry}
 use Rattle.ep_rules.specs.Journals.{Scheduled, IsSchedule}
 use Rattle.ep_audit.specs.Verdicts.{places_of}
 use Rattle.ep_view.specs.Editions.{edition_line}
-use Rattle.ep_view.specs.Kept.{keeps}
 use Rattle.ep_view.specs.declared.selection.Selection.{Selection}
 use Rattle.ep_view.specs.Handled.{is_handled}
 use Rattle.ep_view.specs.Lines.{entry_text}
-use Rattle.ep_audit.specs.Lookups.{entry_at}
+use Rattle.ep_view.specs.Walks.{told_at}
 
-module _ (handled : List ℕ → Bool) (part : Selection) where
-  -- the line of an entry, if it is asked for
-  abbrev pub line_of : ℕ → Option Entry → List ℕ
-  line_of r None = []
-  line_of r (Some e) = cond (keeps part r e) (entry_text handled r e ++ codes "\n") []
-
-  -- the lines of the entries at these places, each as its replica and number
-  abbrev pub lines_at : Collected → List (ℕ × ℕ) → List ℕ
-  lines_at c [] = []
-  lines_at c (p ∷ ps) = line_of p.0 (entry_at (entries_at c p.0) p.1) ++ lines_at c ps
+-- the line of an entry, where `handled` is the test for frames that some entry handles
+abbrev pub entry_line : (List ℕ → Bool) → ℕ → Entry → List ℕ
+entry_line handled r e = entry_text handled r e ++ codes "\n"
 
 -- that of so many entries none is kept, if there are any
 abbrev pub none_kept : ℕ → List ℕ
@@ -42,4 +34,4 @@ pub record IsInOrder (c : Collected) (all : List (ℕ × ℕ)) : Type 0 where
 pub record IsShown (c : Collected) (part : Selection) (text : List ℕ) : Type 0 where
   pub all : List (ℕ × ℕ)
   pub ordered : IsInOrder c all
-  pub lines : text ≡ edition_line c.version c.opening ++ or_none (length all) (lines_at (is_handled c) part c all)
+  pub lines : text ≡ edition_line c.version c.opening ++ or_none (length all) (told_at (entry_line (is_handled c)) part c all)

@@ -1,13 +1,13 @@
 //! What journals are of, and what they begin with, in words.
 
-ghost use Rattle.std.specs.Prelude.{◌≡◌, ◌++◌, OnOk, codes, decimal};
+ghost use Rattle.std.specs.Prelude.{◌≡◌, ◌++◌, OnOk, IfOk, codes, decimal};
 ghost use Rattle.ep_report.specs.Contents.{contents_text};
 ghost use Rattle.ep_view.specs.Editions.{generation_text, opening_text, edition_text, edition_line};
 
 use ep_base::{Version, VersionKind};
 use ep_journal::Opening;
 use ep_report::{push_contents, push_number};
-use std::alloc::AllocError;
+use std::alloc::{AllocError, Global};
 
 // Appends version 3 with this generation.
 #[tactic(auto, unfolding(crate::specs::Editions::generation_text))]
@@ -53,6 +53,19 @@ pub fn push_generation(
 {
     push_numbered(text, generation)?;
     push_opening(text, opening)
+}
+
+/// The words of a generation and of what it begins with.
+pub(crate) fn generation_words(
+    alloc: Global,
+    generation: u32,
+    opening: &Opening,
+) -> Result<Vec<u8>, AllocError>
+    ensures { IfOk result (λ words. words.items ≡ edition_text generation opening.now) }
+{
+    let mut words = Vec::new(alloc);
+    push_generation(&mut words, generation, opening)?;
+    Ok(words)
 }
 
 /// Appends the line that begins what is told of journals: of version 3 their generation and what they begin with. Of versions 1 and 2 there

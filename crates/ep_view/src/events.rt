@@ -1,8 +1,8 @@
 //! Events in words.
 
-ghost use Rattle.std.specs.Prelude.{◌≡◌, ◌++◌, OnOk};
+ghost use Rattle.std.specs.Prelude.{◌≡◌, ◌++◌, IfOk, OnOk};
 ghost use Rattle.ep_journal.specs.declared.event.Event.TheVariants as event;
-ghost use Rattle.ep_report.specs.Parts.{instance_text};
+ghost use Rattle.ep_report.specs.Parts.{command_text, instance_text};
 ghost use Rattle.ep_view.specs.Words.{event_text};
 
 use crate::messages::{push_message, push_origin};
@@ -10,7 +10,7 @@ use ep_base::{Command, InstanceId};
 use ep_frame::Frame;
 use ep_journal::Event;
 use ep_report::{push_command, push_instance, push_number};
-use std::alloc::AllocError;
+use std::alloc::{AllocError, Global};
 
 fn push_proposal(
     text: &mut Vec<u8>,
@@ -67,4 +67,13 @@ pub fn push_event(text: &mut Vec<u8>, event: &Event) -> Result<(), AllocError>
         Event::Recover(instance) => push_named(text, b"recover ", *instance),
         Event::Execute(instance) => push_named(text, b"execute ", *instance),
     }
+}
+
+/// The words of a command, alone.
+pub(crate) fn command_words(alloc: Global, command: &Command) -> Result<Vec<u8>, AllocError>
+    ensures { IfOk result (λ words. words.items ≡ command_text command.now) }
+{
+    let mut words = Vec::new(alloc);
+    push_command(&mut words, command)?;
+    Ok(words)
 }

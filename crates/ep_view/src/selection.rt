@@ -24,7 +24,7 @@ pub struct Selection {
 }
 
 /// Whether the instance is one of these.
-fn is_one_of(instances: &[InstanceId], instance: InstanceId) -> bool
+pub(crate) fn is_one_of(instances: &[InstanceId], instance: InstanceId) -> bool
     ensures { result ≡ is_one_of instances.now instance }
 {
     for other in instances {

@@ -1,16 +1,17 @@
 //! The entries of journals, a line each.
 
-ghost use Rattle.std.specs.Prelude.{◌≡◌, ◌++◌, [], cond, eqb, length, codes, decimal, Some, IfOk, OnOk};
-ghost use Rattle.ep_journal.specs.Entries.{AreJournals, entries_at};
+ghost use Rattle.std.specs.Prelude.{◌≡◌, ◌++◌, [], cond, eqb, length, codes, decimal, IfOk, OnOk};
+ghost use Rattle.ep_journal.specs.Entries.{AreJournals};
 ghost use Rattle.ep_view.specs.Handled.{is_in, AreHandled};
-ghost use Rattle.ep_audit.specs.Lookups.{entry_at};
-ghost use Rattle.ep_view.specs.Shown.{line_of, lines_at, none_kept, or_none, IsInOrder, IsShown};
+ghost use Rattle.ep_view.specs.Shown.{entry_line, none_kept, or_none, IsInOrder, IsShown};
+ghost use Rattle.ep_view.specs.Walks.{told_at};
 
 use crate::editions::push_edition;
 use crate::handled::Handled;
 use crate::lines::push_entry;
 use crate::selection::Selection;
-use ep_audit::{Verdict, entry_at};
+use crate::walk::{Printer, push_kept};
+use ep_audit::Verdict;
 use ep_base::ReplicaId;
 use ep_journal::{Entry, Journals};
 use ep_report::push_number;
@@ -33,57 +34,25 @@ pub fn schedule(alloc: Global, journals: &Journals) -> Result<Vec<(ReplicaId, u3
     Ok(schedule)
 }
 
-// Appends the line of an entry, if it is asked for.
-fn push_kept(
-    text: &mut Vec<u8>,
-    handled: &Handled,
-    part: &Selection,
-    replica: ReplicaId,
-    entry: &Entry,
-) -> Result<(), AllocError>
-    ensures { OnOk result (text.new.items ≡ text.old.items ++ line_of (is_in handled.now) part.now replica (Some entry.now)) }
-{
-    if !part.keeps(replica, entry) {
-        return Ok(());
-    }
-    push_entry(text, handled, replica, entry)?;
-    text.push(b'\n')?;
-    Ok(())
+/// Tells an entry as its line.
+#[derive(Clone, Copy)]
+struct Lines<'a> {
+    handled: &'a Handled,
 }
 
-// Appends the line of the entry at this place, if it is asked for.
-fn push_place(
-    text: &mut Vec<u8>,
-    journals: &Journals,
-    handled: &Handled,
-    part: &Selection,
-    place: &(ReplicaId, u32),
-) -> Result<(), AllocError>
-    requires { AreJournals journals.now }
-    ensures { OnOk result (text.new.items ≡ text.old.items ++ line_of (is_in handled.now) part.now place.now.0 (entry_at (entries_at journals.now place.now.0) place.now.1)) }
-{
-    let (replica, number) = place;
-    match entry_at(journals, *replica, *number) {
-        None => Ok(()),
-        Some(entry) => push_kept(text, handled, part, *replica, entry),
-    }
-}
+impl<'a> Printer for Lines<'a> {
+    ghost told = { λ p r e. entry_line (is_in p.handled.now) r e };
 
-// Appends the lines of the entries at these places.
-fn push_lines(
-    text: &mut Vec<u8>,
-    journals: &Journals,
-    handled: &Handled,
-    part: &Selection,
-    places: &[(ReplicaId, u32)],
-) -> Result<(), AllocError>
-    requires { AreJournals journals.now }
-    ensures { OnOk result (text.new.items ≡ text.old.items ++ lines_at (is_in handled.now) part.now journals.now places.now) }
-{
-    for place in places {
-        push_place(text, journals, handled, part, place)?;
+    fn push(
+        &self,
+        text: &mut Vec<u8>,
+        replica: ReplicaId,
+        entry: &Entry,
+    ) -> Result<(), AllocError> {
+        push_entry(text, self.handled, replica, entry)?;
+        text.push(b'\n')?;
+        Ok(())
     }
-    Ok(())
 }
 
 /// Appends that of so many entries none is kept, if there are any.
@@ -108,10 +77,10 @@ fn push_shown(
     places: &[(ReplicaId, u32)],
 ) -> Result<(), AllocError>
     requires { AreJournals journals.now }
-    ensures { OnOk result (text.new.items ≡ text.old.items ++ or_none (length places.now) (lines_at (is_in handled.now) part.now journals.now places.now)) }
+    ensures { OnOk result (text.new.items ≡ text.old.items ++ or_none (length places.now) (told_at (entry_line (is_in handled.now)) part.now journals.now places.now)) }
 {
     let before = text.len();
-    push_lines(text, journals, handled, part, places)?;
+    push_kept(text, journals, part, &Lines { handled }, places)?;
     if before < text.len() {
         return Ok(());
     }

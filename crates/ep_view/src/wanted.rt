@@ -142,8 +142,8 @@ impl Wanted {
     }
 }
 
-// Adds the instance that a proposal took.
-fn add_taken(alloc: Global, taken: &mut Deps, frames: &[Frame]) -> Result<(), AllocError>
+/// Adds the instance that a proposal took.
+pub(crate) fn add_taken(alloc: Global, taken: &mut Deps, frames: &[Frame]) -> Result<(), AllocError>
     ensures { OnOk result (taken.new ≡ with_taken frames.now taken.old) }
 {
     let [first, ..] = frames else {

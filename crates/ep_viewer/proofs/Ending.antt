@@ -16,30 +16,22 @@ use Rattle.ep_script.specs.Plan.{script_of}
 use Rattle.ep_script.specs.Faults.{is_read_failed as is_script_read}
 use Rattle.ep_script.specs.declared.script_fault.ScriptFault.{ScriptFault}
 use Rattle.ep_script.specs.declared.script_fault.ScriptFault.TheVariants as script
-use Rattle.ep_viewer.specs.Faults.{of_bundle, of_diagram, of_explained, of_graph, of_script, is_read, is_write}
+use Rattle.ep_viewer.specs.Faults.{of_bundle, of_explained, of_script, is_read, is_write}
 use Rattle.ep_rules.specs.declared.receipt.Receipt.{Receipt}
 use Rattle.ep_cli.proofs.Printed.{not_made, put_to}
 use Rattle.ep_cli.specs.Outputs.{Output, Wrote, WroteNothing, became}
 use Rattle.ep_cli.specs.Printed.{IsPut, IsTextPut, Makes}
 use Rattle.ep_cli.specs.declared.made.Made.{Made}
-use Rattle.ep_viewer.specs.Views.{Concludes, Does, IsNoText, Prints, Tells}
-use Rattle.ep_view.specs.Wanted.{part_of}
+use Rattle.ep_viewer.specs.Views.{Concludes, Does, Prints, Tells}
 use Rattle.ep_view.specs.declared.wanted.Wanted.{Wanted}
-use Rattle.ep_view.specs.declared.selection.Selection.{Selection}
 use Rattle.ep_viewer.specs.declared.viewer_asked.ViewerAsked.{ViewerAsked}
 use Rattle.ep_viewer.specs.declared.viewer_asked.ViewerAsked.TheVariants.{View as OfBundle, Trace, Explain, Version, Help}
 use Rattle.ep_viewer.specs.declared.view.View.{View}
-use Rattle.ep_viewer.specs.declared.view.View.TheVariants.{Columns, Draw, Graph}
-use Rattle.ep_draw.specs.Drawn.{IsTooMany, IsRefused}
-use Rattle.ep_draw.specs.declared.draw_fault.DrawFault.{DrawFault}
-use Rattle.ep_draw.specs.declared.draw_fault.DrawFault.TheVariants as draw
-use Rattle.ep_draw.specs.Graphs.{IsMore}
-use Rattle.ep_draw.specs.declared.graph_fault.GraphFault.{GraphFault}
-use Rattle.ep_draw.specs.declared.graph_fault.GraphFault.TheVariants as graph
+use Rattle.ep_viewer.specs.declared.view.View.TheVariants.{Columns}
 use Rattle.ep_cli.specs.declared.status.Status.{Status}
 use Rattle.ep_cli.specs.declared.status.Status.TheVariants.{Done}
 use Rattle.ep_viewer.specs.declared.viewer_fault.ViewerFault.{ViewerFault}
-use Rattle.ep_viewer.specs.declared.viewer_fault.ViewerFault.TheVariants.{Script, BadBundle, NotARun, TooMany, TooManyEvents, Memory, Read, Write}
+use Rattle.ep_viewer.specs.declared.viewer_fault.ViewerFault.TheVariants.{Script, BadBundle, NotARun, Memory, Read, Write}
 
 -- where the output fails, nothing more is promised
 free : (asked : ViewerAsked) (zs : List ℕ) (out : Output) → Does asked (Err Write) zs out
@@ -98,67 +90,21 @@ pub viewed :
 viewed view journals receipts end zs text out read tells wrote =
     (refl, record { journals = journals; receipts = receipts; end = end; read = read; text = text; tells = tells; wrote = wrote })
 
--- or there is none
-pub not_viewed :
-    (view : View) (journals : Collected) (receipts : List Receipt) (end : Left) (zs : List ℕ) (e : ViewerFault) (out : Output) → ReadsBundle (record { at = 0; bytes = zs }) (Ok ((journals, receipts), end)) →
-    IsNoText view journals e → WroteNothing out → Does (OfBundle view) (Err e) zs out
-not_viewed view journals receipts end zs (Script line) out read why silent = absurd why
-not_viewed view journals receipts end zs (BadBundle offset) out read why silent = absurd why
-not_viewed view journals receipts end zs (NotARun replica entry) out read why silent = absurd why
-not_viewed view journals receipts end zs (TooMany count) out read why silent = record { journals = journals; receipts = receipts; end = end; read = read; crowds = why; silent = silent }
-not_viewed view journals receipts end zs (TooManyEvents count lines) out read why silent = record { journals = journals; receipts = receipts; end = end; read = read; crowds = why; silent = silent }
-not_viewed view journals receipts end zs Memory out read why silent = silent
-not_viewed view journals receipts end zs Read out read why silent = absurd why
-not_viewed view journals receipts end zs Write out read why silent = absurd why
+-- or there is none, for want of memory
+pub not_viewed : (view : View) (zs : List ℕ) (e : ViewerFault) (out : Output) → e ≡ Memory → WroteNothing out → Does (OfBundle view) (Err e) zs out
+not_viewed view zs e out is silent = subst (λ (x : ViewerFault). Does (OfBundle view) (Err x) zs out) (sym is) silent
 
 -- and then neither the reader nor the output has failed
-no_text_not_read : (view : View) (journals : Collected) (e : ViewerFault) → IsNoText view journals e → is_read e ≡ false
-no_text_not_read view journals (Script line) why = refl
-no_text_not_read view journals (BadBundle offset) why = refl
-no_text_not_read view journals (NotARun replica entry) why = refl
-no_text_not_read view journals (TooMany count) why = refl
-no_text_not_read view journals (TooManyEvents count lines) why = refl
-no_text_not_read view journals Memory why = refl
-no_text_not_read view journals Read why = absurd why
-no_text_not_read view journals Write why = refl
+pub no_text_read : (e : ViewerFault) (had has : Bool) → e ≡ Memory → has ≡ (false || had) → FailsAsTold {T = Made} is_read (Err e) had has
+no_text_read e had has is flag = flag ∙ ap (λ (b : Bool). b || had) (sym (ap is_read is))
 
-pub no_text_read : (view : View) (journals : Collected) (e : ViewerFault) (had has : Bool) → IsNoText view journals e → has ≡ (false || had) → FailsAsTold {T = Made} is_read (Err e) had has
-no_text_read view journals e had has why flag = flag ∙ ap (λ (b : Bool). b || had) (sym (no_text_not_read view journals e why))
-
-pub no_text_not_written : (view : View) (journals : Collected) (e : ViewerFault) → IsNoText view journals e → is_write e ≡ false
-no_text_not_written view journals (Script line) why = refl
-no_text_not_written view journals (BadBundle offset) why = refl
-no_text_not_written view journals (NotARun replica entry) why = refl
-no_text_not_written view journals (TooMany count) why = refl
-no_text_not_written view journals (TooManyEvents count lines) why = refl
-no_text_not_written view journals Memory why = refl
-no_text_not_written view journals Read why = refl
-no_text_not_written view journals Write why = absurd why
+pub no_text_not_written : (e : ViewerFault) → e ≡ Memory → is_write e ≡ false
+no_text_not_written e is = ap is_write is
 
 -- of columns nothing is promised
 pub any_text : (wanted : Wanted) (journals : Collected) (r : Result (Vec ℕ) ViewerFault) → IfOk r (λ t. Tells (Columns wanted) journals t.items)
 any_text wanted journals (Ok text) = tt
 any_text wanted journals (Err e) = tt
-
--- want of memory
-pub no_memory : (view : View) (journals : Collected) (r : Result (Vec ℕ) ViewerFault) → IfErr r (λ e. e ≡ Memory) → IfErr r (IsNoText view journals)
-no_memory view journals (Ok text) is = tt
-no_memory view journals (Err e) is = subst (λ (x : ViewerFault). IsNoText view journals x) (sym is) tt
-
--- what isn't drawn
-pub crowded : (wanted : Wanted) (part : Selection) (d : DrawFault) (e : ViewerFault) (journals : Collected) → e ≡ of_diagram d → part ≡ part_of journals wanted → IsRefused journals part d → IsNoText (Draw wanted) journals e
-crowded wanted part d e journals is same why = subst (λ (x : ViewerFault). IsNoText (Draw wanted) journals x) (sym is) (go d why)
-  where
-    go : (d : DrawFault) → IsRefused journals part d → IsNoText (Draw wanted) journals (of_diagram d)
-    go draw.Memory why = tt
-    go (draw.TooMany n told) why = subst (λ (p : Selection). IsTooMany journals p n told.items) same why
-
-pub graph_crowded : (d : GraphFault) (e : ViewerFault) (journals : Collected) → e ≡ of_graph d → IsMore 2000 d → IsNoText Graph journals e
-graph_crowded d e journals is why = subst (λ (x : ViewerFault). IsNoText Graph journals x) (sym is) (go d why)
-  where
-    go : (d : GraphFault) → IsMore 2000 d → IsNoText Graph journals (of_graph d)
-    go graph.Memory why = tt
-    go (graph.TooMany n) why = (why, refl)
 
 read_of_bundle : (b : BundleFault) → is_read (of_bundle b) ≡ is_read_failed b
 read_of_bundle bundle.Memory = refl

@@ -1,29 +1,31 @@
 -- What the program does, of the bytes zs that it reads, its output and its fault output.
-use Rattle.std.specs.Prelude.{◌≡◌, ◌<◌, ℕ, List, [], Result, Ok, Err, codes, string_bytes}
+use Rattle.std.specs.Prelude.{◌≡◌, ℕ, List, Result, Ok, Err, codes, string_bytes}
 use Rattle.ep_bundle.specs.Journals.{ReadsBundle}
 use Rattle.ep_bundle.specs.Reading.{Left}
 use Rattle.ep_bundle.specs.declared.bundle_fault.BundleFault.TheVariants as bundle
-use Rattle.ep_draw.specs.Drawn.{IsDrawn, IsTooMany}
-use Rattle.ep_browser.specs.Files.{IsTraceFile}
 use Rattle.ep_explain.specs.Explained.{IsExplained}
 use Rattle.ep_explain.specs.declared.finding.Finding.{Finding}
-use Rattle.ep_draw.specs.Graphs.{IsGraphFile}
 use Rattle.ep_journal.specs.Entries.{Collected}
-use Rattle.ep_browser.specs.Pages.{IsPage}
 use Rattle.ep_rules.specs.declared.receipt.Receipt.{Receipt}
 use Rattle.ep_script.specs.Plan.{Plan, script_of}
 use Rattle.ep_trace.specs.Traced.{IsTraced}
+use Rattle.ep_view.specs.Graphs.{IsGraph}
+use Rattle.ep_view.specs.Pages.{IsPage}
+use Rattle.ep_view.specs.Sequences.{IsSequence}
 use Rattle.ep_view.specs.Shown.{IsShown}
+use Rattle.ep_view.specs.TraceFiles.{IsTraceFile}
 use Rattle.ep_view.specs.Wanted.{part_of}
+use Rattle.ep_view.specs.declared.selection.Selection.{Selection}
+use Rattle.ep_viewer.specs.declared.parts.TheConstants.{HEAD, TAIL}
 use Rattle.ep_base.specs.Devices.{FailsAsTold}
 use Rattle.ep_viewer.specs.Faults.{line_of, status_of, status_found, is_read, is_write}
 use Rattle.ep_cli.specs.Outputs.{Input, Output, Wrote, WroteNothing, Told}
 use Rattle.ep_viewer.specs.declared.viewer_asked.ViewerAsked.{ViewerAsked}
 use Rattle.ep_viewer.specs.declared.viewer_asked.ViewerAsked.TheVariants.{View as OfBundle, Trace, Explain, Version, Help}
 use Rattle.ep_viewer.specs.declared.view.View.{View}
-use Rattle.ep_viewer.specs.declared.view.View.TheVariants.{Show, Columns, Draw, Graph, Page, Events}
+use Rattle.ep_viewer.specs.declared.view.View.TheVariants.{Show, Columns, Page, Sequence, Graph, Events}
 use Rattle.ep_viewer.specs.declared.viewer_fault.ViewerFault.{ViewerFault}
-use Rattle.ep_viewer.specs.declared.viewer_fault.ViewerFault.TheVariants.{Script, BadBundle, NotARun, TooMany, TooManyEvents, Memory, Read, Write}
+use Rattle.ep_viewer.specs.declared.viewer_fault.ViewerFault.TheVariants.{Script, BadBundle, NotARun, Memory, Read, Write}
 use Rattle.ep_cli.specs.declared.status.Status.{Status}
 use Rattle.ep_cli.specs.declared.status.Status.TheVariants.{Done}
 
@@ -37,26 +39,15 @@ pub record IsView (Tells : Collected → List ℕ → Type 0) (zs : List ℕ) (o
   pub tells : Tells journals text
   pub wrote : Wrote out text
 
--- The bytes are one bundle, of whose journals so many entries are asked for that nothing was written.
-pub record IsCrowded (Crowds : Collected → Type 0) (zs : List ℕ) (out : Output) : Type 0 where
-  pub journals : Collected
-  pub receipts : List Receipt
-  pub end : Left
-  pub read : ReadsBundle (record { at = 0; bytes = zs }) (Ok ((journals, receipts), end))
-  pub crowds : Crowds journals
-  pub silent : WroteNothing out
-
 -- a bundle is viewed, or is refused, and then nothing is written
-abbrev pub Views : (Collected → List ℕ → Type 0) → (ℕ → List ℕ → Collected → Type 0) → Result Status ViewerFault → List ℕ → Output → Type 0
-Views Tells Crowds (Ok status) zs out = (status ≡ Done) × IsView Tells zs out
-Views Tells Crowds (Err (Script line)) zs out = ⊥
-Views Tells Crowds (Err (BadBundle offset)) zs out = ReadsBundle (record { at = 0; bytes = zs }) (Err (bundle.BadBundle offset)) × WroteNothing out
-Views Tells Crowds (Err (NotARun replica entry)) zs out = ReadsBundle (record { at = 0; bytes = zs }) (Err (bundle.NotARun replica entry)) × WroteNothing out
-Views Tells Crowds (Err (TooMany count)) zs out = IsCrowded (Crowds count []) zs out
-Views Tells Crowds (Err (TooManyEvents count lines)) zs out = IsCrowded (Crowds count lines.items) zs out
-Views Tells Crowds (Err Memory) zs out = WroteNothing out
-Views Tells Crowds (Err Read) zs out = WroteNothing out
-Views Tells Crowds (Err Write) zs out = Unit {0}
+abbrev pub Views : (Collected → List ℕ → Type 0) → Result Status ViewerFault → List ℕ → Output → Type 0
+Views Tells (Ok status) zs out = (status ≡ Done) × IsView Tells zs out
+Views Tells (Err (Script line)) zs out = ⊥
+Views Tells (Err (BadBundle offset)) zs out = ReadsBundle (record { at = 0; bytes = zs }) (Err (bundle.BadBundle offset)) × WroteNothing out
+Views Tells (Err (NotARun replica entry)) zs out = ReadsBundle (record { at = 0; bytes = zs }) (Err (bundle.NotARun replica entry)) × WroteNothing out
+Views Tells (Err Memory) zs out = WroteNothing out
+Views Tells (Err Read) zs out = WroteNothing out
+Views Tells (Err Write) zs out = Unit {0}
 
 -- The bytes are a script, and what was written is its trace.
 pub record IsTrace (zs : List ℕ) (out : Output) : Type 0 where
@@ -72,8 +63,6 @@ Traces (Ok status) zs out = (status ≡ Done) × IsTrace zs out
 Traces (Err (Script line)) zs out = (script_of zs ≡ Err line) × WroteNothing out
 Traces (Err (BadBundle offset)) zs out = ⊥
 Traces (Err (NotARun replica entry)) zs out = ⊥
-Traces (Err (TooMany count)) zs out = ⊥
-Traces (Err (TooManyEvents count lines)) zs out = ⊥
 Traces (Err Memory) zs out = WroteNothing out
 Traces (Err Read) zs out = WroteNothing out
 Traces (Err Write) zs out = Unit {0}
@@ -83,8 +72,6 @@ Prints (Ok status) text out = (status ≡ Done) × Wrote out text
 Prints (Err (Script line)) text out = ⊥
 Prints (Err (BadBundle offset)) text out = ⊥
 Prints (Err (NotARun replica entry)) text out = ⊥
-Prints (Err (TooMany count)) text out = ⊥
-Prints (Err (TooManyEvents count lines)) text out = ⊥
 Prints (Err Memory) text out = ⊥
 Prints (Err Read) text out = ⊥
 Prints (Err Write) text out = Unit {0}
@@ -104,43 +91,25 @@ Explains (Ok status) zs out = IsExplanation status zs out
 Explains (Err (Script line)) zs out = ⊥
 Explains (Err (BadBundle offset)) zs out = ⊥
 Explains (Err (NotARun replica entry)) zs out = ⊥
-Explains (Err (TooMany count)) zs out = ⊥
-Explains (Err (TooManyEvents count lines)) zs out = ⊥
 Explains (Err Memory) zs out = WroteNothing out
 Explains (Err Read) zs out = WroteNothing out
 Explains (Err Write) zs out = Unit {0}
+
+-- a page with the program's own fixed parts
+unfoldable pub IsOwnPage : Collected → Selection → List ℕ → Type 0
+IsOwnPage journals part text = IsPage HEAD.now TAIL.now journals part text
 
 -- what is told of a bundle's journals; of columns nothing is promised
 abbrev pub Tells : View → Collected → List ℕ → Type 0
 Tells (Show wanted) journals text = IsShown journals (part_of journals wanted) text
 Tells (Columns wanted) journals text = Unit {0}
-Tells (Draw wanted) journals text = IsDrawn journals (part_of journals wanted) text
-Tells Graph journals text = IsGraphFile text
-Tells (Page wanted) journals text = IsPage journals (part_of journals wanted) text
+Tells (Page wanted) journals text = IsOwnPage journals (part_of journals wanted) text
+Tells (Sequence wanted) journals text = IsSequence journals (part_of journals wanted) text
+Tells (Graph wanted) journals text = IsGraph journals (part_of journals wanted) text
 Tells (Events wanted) journals text = IsTraceFile journals (part_of journals wanted) text
 
--- so many entries or instances are asked for that nothing is drawn, and these lines say what there is
-abbrev pub Crowds : View → ℕ → List ℕ → Collected → Type 0
-Crowds (Show wanted) count lines journals = ⊥
-Crowds (Columns wanted) count lines journals = ⊥
-Crowds (Draw wanted) count lines journals = IsTooMany journals (part_of journals wanted) count lines
-Crowds Graph count lines journals = (2000 < count) × (lines ≡ [])
-Crowds (Page wanted) count lines journals = ⊥
-Crowds (Events wanted) count lines journals = ⊥
-
--- why there is no text of these journals
-abbrev pub IsNoText : View → Collected → ViewerFault → Type 0
-IsNoText view journals (Script line) = ⊥
-IsNoText view journals (BadBundle offset) = ⊥
-IsNoText view journals (NotARun replica entry) = ⊥
-IsNoText view journals (TooMany count) = Crowds view count [] journals
-IsNoText view journals (TooManyEvents count lines) = Crowds view count lines.items journals
-IsNoText view journals Memory = Unit {0}
-IsNoText view journals Read = ⊥
-IsNoText view journals Write = ⊥
-
 abbrev pub Does : ViewerAsked → Result Status ViewerFault → List ℕ → Output → Type 0
-Does (OfBundle view) outcome zs out = Views (Tells view) (Crowds view) outcome zs out
+Does (OfBundle view) outcome zs out = Views (Tells view) outcome zs out
 Does Explain outcome zs out = Explains outcome zs out
 Does Trace outcome zs out = Traces outcome zs out
 Does Version outcome zs out = Prints outcome (codes "epaxos 0.1.0\n") out

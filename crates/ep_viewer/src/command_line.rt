@@ -50,37 +50,23 @@ fn asked_by(alloc: Global, matches: &ArgMatches<'_>) -> Result<ViewerAsked, Word
     Err(WordsFault::Words(String::new(alloc)))
 }
 
-/// A graph is of all that is committed, so no part of it is kept.
+/// How journals are drawn: one way at most is named.
 fn drawn_by(alloc: Global, options: &ArgMatches<'_>) -> Result<ViewerAsked, WordsFault> {
-    if options.get_flag("graph") {
-        return graph_by(alloc, options);
+    let (mermaid, dot) = (options.get_flag("mermaid"), options.get_flag("dot"));
+    if mermaid && dot {
+        return Err(refused(alloc, "'--mermaid' and '--dot' don't go together"));
+    }
+    if options.get_flag("page") && (mermaid || dot) {
+        return Err(refused(alloc, "'--page' doesn't go with '--mermaid' or '--dot'"));
     }
     let wanted = wanted_by(alloc, options)?;
-    if options.get_flag("page") {
-        Ok(ViewerAsked::View(View::Page(wanted)))
+    if mermaid {
+        Ok(ViewerAsked::View(View::Sequence(wanted)))
+    } else if dot {
+        Ok(ViewerAsked::View(View::Graph(wanted)))
     } else {
-        Ok(ViewerAsked::View(View::Draw(wanted)))
+        Ok(ViewerAsked::View(View::Page(wanted)))
     }
-}
-
-fn graph_by(alloc: Global, options: &ArgMatches<'_>) -> Result<ViewerAsked, WordsFault> {
-    if options.get_flag("page") {
-        return Err(refused(alloc, "'--graph' and '--page' don't go together"));
-    }
-    if keeps_part(options) {
-        return Err(refused(alloc, "with '--graph' no part is kept"));
-    }
-    Ok(ViewerAsked::View(View::Graph))
-}
-
-/// Whether an option is there that keeps a part.
-fn keeps_part(options: &ArgMatches<'_>) -> bool {
-    for name in ["instance", "key", "client", "replica", "from", "to"] {
-        if options.get_str(name).is_some() {
-            return true;
-        }
-    }
-    false
 }
 
 /// Of a replay only its trace is asked for here.

@@ -41,20 +41,20 @@ Exit status:
 
 /// What the help of `draw` says at its end.
 const AFTER_DRAW: &str = "\
-Standard input, to its end, is a bundle, as `replay --emit bundle` writes it. Printed is one SVG file: a line a replica, a dot an
-event, an arrow from where a frame was sent to where it was handled, a cross where it never was, and in red what the audit finds
-at fault. With --graph: the dependency graph of what is committed, components boxed, without what is implied. More than 2,000
-events or instances are refused, and standard error says what there is: keep a part of the events, or take --page, which shows
-10,000 and more: one HTML file that needs no network, with the diagram to zoom and move in, its instances and a box for words.
-Nothing is printed before the end is read.
+Standard input, to its end, is a bundle, as `replay --emit bundle` writes it. Printed is one HTML file that needs no network: the
+space-time diagram and the dependency graph to zoom and move in, the instances, and a box for words; both are saved as SVG there.
+With --mermaid: a sequence diagram, which GitHub and editors render. With --dot: the dependency graph of what is committed, for
+Graphviz, without what is implied: of the entries that are kept, those instances that they propose or recover. There is no limit
+but memory. --page is what is printed without options, and goes with the next version. Nothing is printed before the end is read.
 
 Example:
-  epaxos replay --emit bundle < examples/one_put.script | epaxos draw > one_put.svg
-  epaxos replay --emit bundle < examples/one_put.script | epaxos draw --page > one_put.html
+  epaxos replay --emit bundle < examples/one_put.script | epaxos draw > one_put.html
+  epaxos replay --emit bundle < examples/one_put.script | epaxos draw --mermaid > one_put.mmd
+  epaxos replay --emit bundle < examples/conflict.script | epaxos draw --dot | dot -Tsvg > conflict.svg
 
 Exit status:
-  0  the picture is printed
-  2  the command line or the bundle is refused, or too many events are asked for; standard error says where
+  0  the page, the diagram or the graph is printed
+  2  the command line or the bundle is refused; standard error says where
   3  memory was refused
   4  reading or writing failed";
 
@@ -104,18 +104,25 @@ const SHOW: &[ArgRow] = &[ArgRow {
 /// The options of `draw`.
 const DRAW: &[ArgRow] = &[
     ArgRow {
-        name: "graph",
+        name: "mermaid",
         kind: ArgKind::Flag,
         action: ArgAction::SetTrue,
         is_required: false,
-        help: "Draws the dependency graph of what is committed, of all journals, in place of the diagram",
+        help: "Prints a sequence diagram for Mermaid in place of the page",
+    },
+    ArgRow {
+        name: "dot",
+        kind: ArgKind::Flag,
+        action: ArgAction::SetTrue,
+        is_required: false,
+        help: "Prints the dependency graph for Graphviz in place of the page",
     },
     ArgRow {
         name: "page",
         kind: ArgKind::Flag,
         action: ArgAction::SetTrue,
         is_required: false,
-        help: "Makes a page for a browser, one HTML file, in place of the picture",
+        help: "Prints the page, as without options; goes with the next version",
     },
 ];
 
@@ -202,7 +209,7 @@ fn explain() -> CommandRow {
 fn draw() -> CommandRow {
     CommandRow {
         name: "draw",
-        about: "Reads a bundle on standard input, and prints the space-time diagram of its journals, an SVG file",
+        about: "Reads a bundle on standard input, and prints a page for a browser that draws its journals, or a text that other tools draw",
         after_help: AFTER_DRAW,
         args: DRAW,
         more: parts(),

@@ -9,12 +9,12 @@ pub enum View {
     Show(Wanted),
     /// These entries, in a column a replica.
     Columns(Wanted),
-    /// A diagram of these entries.
-    Draw(Wanted),
-    /// The dependency graph of what the journals commit.
-    Graph,
     /// A page for a browser, of these entries.
     Page(Wanted),
+    /// A sequence diagram of these entries, for Mermaid.
+    Sequence(Wanted),
+    /// The dependency graph of what these entries propose and recover, for Graphviz.
+    Graph(Wanted),
     /// These entries, as trace events.
     Events(Wanted),
 }

@@ -1,13 +1,12 @@
 //! Why the program ends before its work is done.
 
 ghost use Rattle.std.specs.Prelude.{◌≡◌};
-ghost use Rattle.ep_viewer.specs.Faults.{of_bundle, of_diagram, of_explained, of_graph, of_script, status_of};
+ghost use Rattle.ep_viewer.specs.Faults.{of_bundle, of_explained, of_script, status_of};
 ghost use Rattle.ep_viewer.specs.declared.viewer_fault.ViewerFault.TheVariants.{Memory, Read, Write};
 
 use ep_base::{ReadFailed, ReplicaId, WriteFailed};
 use ep_bundle::BundleFault;
 use ep_cli::Status;
-use ep_draw::{DrawFault, GraphFault};
 use ep_explain::ExplainFault;
 use ep_script::ScriptFault;
 use std::alloc::AllocError;
@@ -21,10 +20,6 @@ pub enum ViewerFault {
     BadBundle(u64),
     /// The bundle is refused; this entry of this replica, counted from 1, is the first that isn't its replica's next step.
     NotARun(ReplicaId, u32),
-    /// So many instances are there, more than a graph shows.
-    TooMany(usize),
-    /// So many entries are asked for, more than a diagram shows. These lines say what there is, and what can be drawn.
-    TooManyEvents(usize, Vec<u8>),
     /// Memory was refused.
     Memory,
     /// Reading failed.
@@ -41,7 +36,6 @@ impl ViewerFault {
         match self {
             ViewerFault::Script(_) | ViewerFault::BadBundle(_) | ViewerFault::NotARun(_, _) =>
                 Status::Refused,
-            ViewerFault::TooMany(_) | ViewerFault::TooManyEvents(_, _) => Status::Refused,
             ViewerFault::Memory => Status::OutOfMemory,
             ViewerFault::Read | ViewerFault::Write => Status::Failed,
         }
@@ -80,28 +74,6 @@ impl From<ExplainFault> for ViewerFault {
         match fault {
             ExplainFault::Memory => ViewerFault::Memory,
             ExplainFault::ReadFailed => ViewerFault::Read,
-        }
-    }
-}
-
-impl From<DrawFault> for ViewerFault {
-    ghost from_gives = { λ d e. e ≡ of_diagram d };
-
-    fn from(fault: DrawFault) -> ViewerFault {
-        match fault {
-            DrawFault::Memory => ViewerFault::Memory,
-            DrawFault::TooMany(count, lines) => ViewerFault::TooManyEvents(count, lines),
-        }
-    }
-}
-
-impl From<GraphFault> for ViewerFault {
-    ghost from_gives = { λ d e. e ≡ of_graph d };
-
-    fn from(fault: GraphFault) -> ViewerFault {
-        match fault {
-            GraphFault::Memory => ViewerFault::Memory,
-            GraphFault::TooMany(count) => ViewerFault::TooMany(count),
         }
     }
 }

@@ -4,20 +4,19 @@ ghost use Rattle.std.specs.Prelude.{◌≡◌, ℕ, List, Some, IfOk, IfErr, fal
 ghost use Rattle.ep_base.specs.Devices.{FailsAsTold};
 ghost use Rattle.ep_cli.specs.Printed.{Makes};
 ghost use Rattle.ep_viewer.specs.Faults.{is_read, is_write};
-ghost use Rattle.ep_viewer.specs.Views.{Does, IsNoText, Tells};
+ghost use Rattle.ep_viewer.specs.Views.{Does, Tells};
 ghost use Rattle.ep_viewer.specs.declared.viewer_asked.ViewerAsked.TheVariants.{View as OfBundle};
 ghost use Rattle.ep_viewer.specs.declared.viewer_fault.ViewerFault.TheVariants.{Memory};
-ghost use Rattle.ep_viewer.specs.declared.view.View.TheVariants.{Show, Draw, Graph, Page, Events};
+ghost use Rattle.ep_viewer.specs.declared.view.View.TheVariants.{Show, Page, Sequence, Graph, Events};
 
+use crate::parts::{HEAD, TAIL};
 use crate::view::View;
 use crate::viewer_fault::ViewerFault;
 use ep_base::Source;
-use ep_browser::{page, trace_events};
 use ep_bundle::read_bundle;
 use ep_cli::{Made, Status};
-use ep_draw::{diagram, graph};
 use ep_journal::Journals;
-use ep_view::{Wanted, columns, show};
+use ep_view::{Wanted, columns, graph, page, sequence, show, trace_events};
 use std::alloc::Global;
 use std::mem::forget;
 
@@ -47,14 +46,14 @@ pub(crate) fn view_of<S: Source>(
 /// What is printed of the journals.
 fn text_of(alloc: Global, view: &View, journals: &Journals) -> Result<Vec<u8>, ViewerFault>
     ensures tells { IfOk result (λ text. Tells view.now journals.now text.items) }
-    ensures refused { IfErr result (IsNoText view.now journals.now) }
+    ensures refused { IfErr result (λ e. e ≡ Memory) }
 {
     match view {
         View::Show(wanted) => lines_of(alloc, wanted, journals),
         View::Columns(wanted) => columns_of(alloc, wanted, journals),
-        View::Draw(wanted) => diagram_of(alloc, wanted, journals),
-        View::Graph => graph_of(alloc, journals),
         View::Page(wanted) => page_of(alloc, wanted, journals),
+        View::Sequence(wanted) => sequence_of(alloc, wanted, journals),
+        View::Graph(wanted) => graph_of(alloc, wanted, journals),
         View::Events(wanted) => events_of(alloc, wanted, journals),
     }
 }
@@ -78,36 +77,33 @@ fn columns_of(alloc: Global, wanted: &Wanted, journals: &Journals) -> Result<Vec
     Ok(text)
 }
 
-/// A diagram of the entries that are wanted.
-fn diagram_of(alloc: Global, wanted: &Wanted, journals: &Journals) -> Result<Vec<u8>, ViewerFault>
-    ensures tells { IfOk result (λ text. Tells (Draw wanted.now) journals.now text.items) }
-    ensures refused { IfErr result (IsNoText (Draw wanted.now) journals.now) }
-{
-    let part = wanted.part(alloc, journals)?;
-    match diagram(alloc, journals, &part) {
-        Ok(text) => Ok(text),
-        Err(fault) => Err(ViewerFault::from(fault)),
-    }
-}
-
-/// The dependency graph of what the journals commit.
-fn graph_of(alloc: Global, journals: &Journals) -> Result<Vec<u8>, ViewerFault>
-    ensures tells { IfOk result (λ text. Tells Graph journals.now text.items) }
-    ensures refused { IfErr result (IsNoText Graph journals.now) }
-{
-    match graph(alloc, journals) {
-        Ok(text) => Ok(text),
-        Err(fault) => Err(ViewerFault::from(fault)),
-    }
-}
-
 /// A page for a browser, of the entries that are wanted.
 fn page_of(alloc: Global, wanted: &Wanted, journals: &Journals) -> Result<Vec<u8>, ViewerFault>
     ensures tells { IfOk result (λ text. Tells (Page wanted.now) journals.now text.items) }
     ensures refused { IfErr result (λ e. e ≡ Memory) }
 {
     let part = wanted.part(alloc, journals)?;
-    let text = page(alloc, journals, &part)?;
+    let text = page(alloc, journals, &part, HEAD, TAIL)?;
+    Ok(text)
+}
+
+/// A sequence diagram of the entries that are wanted, for Mermaid.
+fn sequence_of(alloc: Global, wanted: &Wanted, journals: &Journals) -> Result<Vec<u8>, ViewerFault>
+    ensures tells { IfOk result (λ text. Tells (Sequence wanted.now) journals.now text.items) }
+    ensures refused { IfErr result (λ e. e ≡ Memory) }
+{
+    let part = wanted.part(alloc, journals)?;
+    let text = sequence(alloc, journals, &part)?;
+    Ok(text)
+}
+
+/// The dependency graph of what the entries propose and recover that are wanted, for Graphviz.
+fn graph_of(alloc: Global, wanted: &Wanted, journals: &Journals) -> Result<Vec<u8>, ViewerFault>
+    ensures tells { IfOk result (λ text. Tells (Graph wanted.now) journals.now text.items) }
+    ensures refused { IfErr result (λ e. e ≡ Memory) }
+{
+    let part = wanted.part(alloc, journals)?;
+    let text = graph(alloc, journals, &part)?;
     Ok(text)
 }
 

@@ -134,6 +134,10 @@ leading_bytes (Some l) = number_bytes 4 4 ++ number_bytes 1 5 ++ number_bytes 1 
 abbrev pub synced_bytes : ℕ → List ℕ
 synced_bytes n = number_bytes 4 5 ++ number_bytes 1 6 ++ number_bytes 4 n
 
+-- the greatest number of an entry of another replica of which a frame was handled
+abbrev pub handled_bytes : ℕ → List ℕ
+handled_bytes n = number_bytes 4 5 ++ number_bytes 1 10 ++ number_bytes 4 n
+
 -- the number of a field
 abbrev pub field_code : RequestField → ℕ
 field_code Kind = 1

@@ -18,7 +18,7 @@ use Rattle.ep_bundle.specs.declared.dialect.Dialect.{Dialect}
 use Rattle.ep_wire.specs.declared.request_field.RequestField.{RequestField}
 use Rattle.ep_wire.specs.declared.request_field.RequestField.TheVariants.{Kind, Client, ClientRequest, Seen, Op, KeyLength, ValueLength, Key, Value, Replica, Number, Rest, FirstLength, SecondLength, BodyLength, FirstKey, SecondKey, Body, After, Most}
 use Rattle.ep_wire.specs.declared.request.Request.{Request}
-use Rattle.ep_wire.specs.declared.request.Request.TheVariants.{Event, BadFrame, Advance, Get, NextOpen, Leads, Sync, State, ExecuteAll, Ready, Malformed}
+use Rattle.ep_wire.specs.declared.request.Request.TheVariants.{Event, BadFrame, Advance, Get, NextOpen, Leads, Sync, State, ExecuteAll, Ready, Handled, Malformed}
 use Rattle.ep_wire.specs.declared.request_fault.RequestFault.{RequestFault}
 use Rattle.ep_wire.specs.declared.request_fault.RequestFault.TheVariants.{Memory, ReadFailed, BadRequest}
 
@@ -75,7 +75,22 @@ next_open how bs = cond (same_list bs (0 ∷ 0 ∷ 0 ∷ [])) (Ok (NextOpen None
 abbrev pub ready : Left → Reading Request
 ready l = and_then (field 4 0 4294967295 l) (λ after l. and_then (field 1 0 255 l) (λ most l. Ok (Ready after most, l)))
 
--- the request of this kind, 1 to 13, with this body, or where the first field begins that is at fault
+-- a byte of a body, 0 where it isn't there
+abbrev pub byte_at : List ℕ → ℕ → ℕ
+byte_at bs i = get_or bs i 0
+
+-- a replica of the cluster alone
+abbrev pub handled : Dialect → List ℕ → Result Request ℕ
+handled how bs =
+    cond (eqb (length bs) 0 || leb (size how.size) (byte_at bs 0)) (Err 5)
+    (cond (eqb (length bs) 1) (Ok (Handled (byte_at bs 0)))
+    (Err 6))
+
+-- there is such a kind
+abbrev pub is_kind : ℕ → Bool
+is_kind kind = leb 1 kind && leb kind 13 || eqb kind 15
+
+-- the request of such a kind with this body, or where the first field begins that is at fault
 abbrev pub body_of : Dialect → ℕ → List ℕ → Result Request ℕ
 body_of how kind bs =
     cond (eqb kind 1) (given (alone (proposal how.version (whole bs))))
@@ -87,7 +102,8 @@ body_of how kind bs =
     (cond (eqb kind 11) (bare State bs)
     (cond (eqb kind 12) (bare ExecuteAll bs)
     (cond (eqb kind 13) (given (alone (ready (whole bs))))
-    (map_ok (about kind) (named how bs))))))))))
+    (cond (eqb kind 15) (handled how bs)
+    (map_ok (about kind) (named how bs)))))))))))
 
 -- Fields, each with the place behind it: the one in which this place is, or what stands behind them.
 abbrev pub field_in : List (RequestField × ℕ) → ℕ → RequestField
@@ -106,11 +122,7 @@ late_fields k m n =
 abbrev pub instance_fields : List (RequestField × ℕ)
 instance_fields = (Replica, 6) ∷ (Number, 8) ∷ []
 
--- a byte of a body, 0 where it isn't there
-abbrev pub byte_at : List ℕ → ℕ → ℕ
-byte_at bs i = get_or bs i 0
-
--- two of them as a number, and four
+-- two bytes of a body as a number, and four
 abbrev pub two_at : List ℕ → ℕ → ℕ
 two_at bs i = 256 * byte_at bs i + byte_at bs (i + 1)
 
@@ -125,6 +137,9 @@ proposal_fields (V3 g) bs = late_fields (byte_at bs 17) (byte_at bs 18) (four_at
 abbrev pub ready_fields : List (RequestField × ℕ)
 ready_fields = (After, 9) ∷ (Most, 10) ∷ []
 
+abbrev pub handled_fields : List (RequestField × ℕ)
+handled_fields = (Replica, 6) ∷ []
+
 -- the kinds that have no body, of 1 to 12
 abbrev pub is_bare : ℕ → Bool
 is_bare kind = eqb kind 6 || leb 10 kind
@@ -135,8 +150,9 @@ fields_of v kind bs =
     cond (eqb kind 1) (proposal_fields v bs)
     (cond (eqb kind 7) ((Key, 260) ∷ [])
     (cond (eqb kind 13) ready_fields
+    (cond (eqb kind 15) handled_fields
     (cond (is_bare kind) []
-    instance_fields)))
+    instance_fields))))
 
 -- what it is, or that it is malformed, with the field that begins there
 abbrev pub or_malformed : Version → ℕ → List ℕ → Result Request ℕ → Request
@@ -145,7 +161,7 @@ or_malformed v kind bs (Err at) = Malformed (record { field = field_in (fields_o
 
 -- the request of this kind with this body
 abbrev pub request_of : Dialect → ℕ → List ℕ → Request
-request_of how kind bs = cond (ltb kind 1 || ltb 13 kind) (Malformed (record { field = Kind; at = 4 })) (or_malformed how.version kind bs (body_of how kind bs))
+request_of how kind bs = cond (is_kind kind) (or_malformed how.version kind bs (body_of how kind bs)) (Malformed (record { field = Kind; at = 4 }))
 
 -- the kind and the body, in so many bytes
 abbrev pub sized : Dialect → ℕ → Left → Reading Request

@@ -6,7 +6,7 @@ ghost use Rattle.ep_base.specs.Devices.{Puts};
 ghost use Rattle.ep_bundle.specs.Bytes.{receipt_bytes};
 ghost use Rattle.ep_frame.specs.Fields.{number_bytes};
 ghost use Rattle.ep_bundle.specs.Writing.{All, FrameFits, FramesFit};
-ghost use Rattle.ep_wire.specs.Answers.{answer_count, code_of, counts_bytes, entry_bytes, first_about, frames_bytes, head_bytes, instance_bytes, field_code, instance_or_none, leading_bytes, malformed_bytes, names, phase_code, receipts_bytes, refused_bytes, sealed_code, sent_bytes, space_bytes, state_bytes, step_code, synced_bytes, taken_as, taken_bytes, value_bytes, Fits};
+ghost use Rattle.ep_wire.specs.Answers.{answer_count, code_of, counts_bytes, entry_bytes, first_about, frames_bytes, handled_bytes, head_bytes, instance_bytes, field_code, instance_or_none, leading_bytes, malformed_bytes, names, phase_code, receipts_bytes, refused_bytes, sealed_code, sent_bytes, space_bytes, state_bytes, step_code, synced_bytes, taken_as, taken_bytes, value_bytes, Fits};
 
 use crate::lead_progress::LeadProgress;
 use crate::malformed::Malformed;
@@ -280,6 +280,15 @@ pub fn write_synced<K: Sink>(sink: &mut K, entries: u32) -> Result<(), WriteFail
     put_u32(sink, 5)?;
     put_u8(sink, 6)?;
     put_u32(sink, entries)
+}
+
+/// Writes the greatest number of an entry of another replica of which the node has handled a frame; 0 where there is none.
+pub fn write_handled<K: Sink>(sink: &mut K, entry: u32) -> Result<(), WriteFailed>
+    ensures { Puts (K.held sink.old) (K.held sink.new) (K.has_failed sink.old) (K.has_failed sink.new) result (handled_bytes entry) }
+{
+    put_u32(sink, 5)?;
+    put_u8(sink, 10)?;
+    put_u32(sink, entry)
 }
 
 /// The field's number.

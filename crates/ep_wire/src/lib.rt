@@ -24,9 +24,9 @@ mod take_fault;
 mod telling;
 
 pub use answers::{
-    put_entry, put_sent, sealed_code, step_code, taken_as, write_instance, write_leading,
-    write_malformed, write_no_value, write_refused, write_state, write_synced, write_taken,
-    write_value,
+    put_entry, put_sent, sealed_code, step_code, taken_as, write_handled, write_instance,
+    write_leading, write_malformed, write_no_value, write_refused, write_state, write_synced,
+    write_taken, write_value,
 };
 pub use ep_bundle::Dialect;
 pub use lead_progress::LeadProgress;

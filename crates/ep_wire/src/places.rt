@@ -1,7 +1,7 @@
 //! Which field of a request stands at a place.
 
 ghost use Rattle.std.specs.Prelude.{◌≡◌, ◌<◌, ◌+◌, ◌^◌, ◌∷◌, []};
-ghost use Rattle.ep_wire.specs.Requests.{byte_at, early_fields, field_in, fields_of, four_at, instance_fields, is_bare, late_fields, proposal_fields, ready_fields, two_at};
+ghost use Rattle.ep_wire.specs.Requests.{byte_at, early_fields, field_in, fields_of, four_at, handled_fields, instance_fields, is_bare, late_fields, proposal_fields, ready_fields, two_at};
 ghost use Rattle.ep_wire.specs.declared.request_field.RequestField.TheVariants.{Key};
 
 use crate::malformed::Malformed;
@@ -9,7 +9,7 @@ use crate::request_field::RequestField;
 use ep_base::{Version, VersionKind};
 
 /// A byte of a body, 0 where it isn't there.
-fn byte_at(body: &[u8], place: usize) -> u8
+pub(crate) fn byte_at(body: &[u8], place: usize) -> u8
     ensures { result ≡ byte_at body.now place }
 {
     match body.get(place) {
@@ -158,6 +158,17 @@ fn ready_field(at: u64) -> RequestField
     }
 }
 
+/// The field at this place of a request that names a replica.
+fn handled_field(at: u64) -> RequestField
+    ensures { result ≡ field_in handled_fields at }
+{
+    if at < 6 {
+        RequestField::Replica
+    } else {
+        RequestField::Rest
+    }
+}
+
 /// Whether a request of this kind, 1 to 12, has no body.
 fn is_bare(kind: u8) -> bool
     ensures { result ≡ is_bare kind }
@@ -177,6 +188,9 @@ fn field_at(version: Version, kind: u8, body: &[u8], at: u64) -> RequestField
     }
     if kind == 13 {
         return ready_field(at);
+    }
+    if kind == 15 {
+        return handled_field(at);
     }
     if is_bare(kind) {
         RequestField::Rest

@@ -1,7 +1,7 @@
 //! What a node is asked.
 
 use crate::malformed::Malformed;
-use ep_base::{InstanceId, Key};
+use ep_base::{InstanceId, Key, ReplicaId};
 use ep_journal::Event;
 
 /// What a node is asked.
@@ -28,6 +28,8 @@ pub enum Request {
     /// What there is to tell of the node's entries after the first ones, of which so many were told before, and of the least instances
     /// that are open, at most so many.
     Ready { after: u32, most: u8 },
+    /// The greatest number of an entry of this replica of which the node has handled a frame.
+    Handled(ReplicaId),
     /// None of these: a request whose bytes all came, but of no such kind, or with a body that isn't one of its kind.
     Malformed(Malformed),
 }

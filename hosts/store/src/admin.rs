@@ -9,6 +9,7 @@ use crate::peers::{Membership, who_is_at};
 use crate::replies::Due;
 use crate::resp::{Input, Reply, Version, read_command};
 use crate::teller::Teller;
+use crate::timed::read_some;
 use crate::wishes::Manage;
 use std::fmt;
 use std::fs;
@@ -203,7 +204,7 @@ impl Session<'_> {
                 Input::Partial => {
                     let patience = if self.is_known { SILENCE } else { GREETING_PATIENCE };
                     stream.set_patience(patience, WRITE_PATIENCE)?;
-                    match stream.read(&mut chunk)? {
+                    match read_some(&mut *stream, &mut chunk)? {
                         0 => return Ok(()),
                         length => bytes.extend(&chunk[..length]),
                     }

@@ -4,6 +4,7 @@ use crate::actions::Action;
 use crate::command_fault::CommandFault;
 use crate::commands::{self, Asked, Hello, understand};
 use crate::connections::{Connection, Connections};
+use crate::door;
 use crate::driver::{Ask, Event, Told, What};
 use crate::keys::Keys;
 use crate::listing::Listing;
@@ -12,16 +13,17 @@ use crate::metrics::Metrics;
 use crate::password::Password;
 use crate::replies::{Combine, Due, Message, Over, Part, Replies, ReplyTo, Slot, Window};
 use crate::resp::{Input, Reply, Version, read_command};
-use crate::say::say;
+use crate::say::warn;
 use crate::stored::{self, Stored};
 use crate::teller::Teller;
+use crate::timed::read_some;
 use crate::transactions::Transaction;
 use crate::wishes::Manage;
-use std::io::{self, BufWriter, Read, Write};
+use std::io::{self, BufWriter, Write};
 use std::net::{Shutdown, TcpListener, TcpStream};
 use std::sync::Arc;
 use std::sync::atomic::{AtomicU64, Ordering};
-use std::sync::mpsc::{Receiver, Sender, SyncSender, channel};
+use std::sync::mpsc::{Receiver, SendError, Sender, SyncSender, channel, sync_channel};
 use std::thread;
 use std::time::{Duration, Instant};
 
@@ -29,8 +31,6 @@ use std::time::{Duration, Instant};
 const WRITE_PATIENCE: Duration = Duration::from_secs(30);
 /// A client that asks nothing for so long is gone, or connects again.
 const SILENCE: Duration = Duration::from_secs(3_600);
-/// (none is no wait without an end)
-const LEAST_SILENCE: Duration = Duration::from_millis(1);
 const STACK: usize = 256 << 10;
 /// So much is read at once.
 const CHUNK: usize = 16 << 10;
@@ -40,6 +40,8 @@ const MOST_UNKNOWN: usize = 16 << 10;
 const WRONG: Duration = Duration::from_millis(200);
 /// After so long INFO is answered without the driver.
 const INFO_PATIENCE: Duration = Duration::from_secs(1);
+/// So many connections may be on their way to the door.
+const MOST_COMING: usize = 8;
 /// What a command takes beside its words.
 const OVERHEAD: usize = 256;
 
@@ -47,7 +49,7 @@ const OVERHEAD: usize = 256;
 pub struct Shared {
     pub events: SyncSender<Event>,
     pub keys: Arc<Keys>,
-    pub listing: Listing,
+    pub listing: Arc<Listing>,
     pub patience: Duration,
     pub password: Option<Password>,
     /// Where operators ask.
@@ -72,14 +74,21 @@ impl Shared {
             ("commands_answered", self.metrics.answered.get()),
             ("commands_refused", self.metrics.refused.get()),
             ("takes_part", self.metrics.takes_part.get()),
+            ("expired_kept", self.metrics.expired.get()),
         ];
         let lines: String = numbers.into_iter().map(|(name, number)| format!("{name}:{number}\r\n")).collect();
         format!("store_version:{version}\r\n{lines}")
     }
 }
 
-/// Takes connections, each in two threads.
+/// Takes connections, each in two threads. Those that find no place wait at the door.
 pub fn listen(listener: TcpListener, shared: Arc<Shared>) {
+    let (door, coming) = sync_channel(MOST_COMING);
+    let at_door = shared.clone();
+    let looking = thread::Builder::new().name("door".into()).spawn(move || door::look_after(&coming, &at_door));
+    if let Err(error) = looking {
+        warn(&format!("no thread for the door: {error}"));
+    }
     for stream in listener.incoming() {
         let Ok(stream) = stream else {
             thread::sleep(Duration::from_millis(20));
@@ -87,22 +96,36 @@ pub fn listen(listener: TcpListener, shared: Arc<Shared>) {
         };
         let stream = Arc::new(stream);
         let id = shared.served.fetch_add(1, Ordering::Relaxed) + 1;
-        let Some(connection) = shared.connections.take(id, &stream) else {
-            // (who doesn't take it at once isn't waited for)
-            let _ = stream.set_nonblocking(true);
-            let _ = write!(&*stream, "-{}\r\n", CommandFault::NoPlace);
-            continue;
-        };
-        let served = shared.clone();
-        let started = thread::Builder::new().name("client".into()).stack_size(STACK).spawn(move || {
-            served.metrics.clients.set(served.connections.count() as u64);
-            let _ = serve(&served, &stream, id, connection);
-            served.metrics.clients.set(served.connections.count() as u64);
-        });
-        if let Err(error) = started {
-            say(&format!("no thread for a client: {error}"));
+        match shared.connections.take(id, &stream) {
+            Some(connection) => begin(&shared, &stream, id, connection),
+            None => {
+                // (no more are taken than the door looks after: the rest waits in the system's queue)
+                if let Err(SendError((_, stream))) = door.send((id, stream)) {
+                    turn_away(&stream);
+                }
+            }
         }
     }
+}
+
+/// Serves a connection that has a place, in threads of its own.
+pub(crate) fn begin(shared: &Arc<Shared>, stream: &Arc<TcpStream>, id: u64, connection: Connection) {
+    let (served, stream) = (shared.clone(), stream.clone());
+    let started = thread::Builder::new().name("client".into()).stack_size(STACK).spawn(move || {
+        served.metrics.clients.set(served.connections.count() as u64);
+        let _ = serve(&served, &stream, id, connection);
+        served.metrics.clients.set(served.connections.count() as u64);
+    });
+    if let Err(error) = started {
+        warn(&format!("no thread for a client: {error}"));
+    }
+}
+
+/// Tells a connection that there is no place for it. Who doesn't take it at once isn't waited for.
+pub(crate) fn turn_away(stream: &TcpStream) {
+    let _ = stream.set_nonblocking(true);
+    let mut stream = stream;
+    let _ = write!(stream, "-{}\r\n", CommandFault::NoPlace);
 }
 
 /// Serves a connection until its client ends it, and all that it has asked is answered.
@@ -189,7 +212,6 @@ impl Session {
     fn read(&mut self, mut stream: &TcpStream) -> io::Result<()> {
         let (mut bytes, mut start) = (Vec::new(), 0);
         let mut chunk = vec![0; CHUNK];
-        let mut ends_at = None;
         let Some(mut share) = self.shared.memory.share(CHUNK) else {
             let _ = self.fail(CommandFault::NoMemory);
             return Ok(());
@@ -214,12 +236,7 @@ impl Session {
                         let _ = self.fail(CommandFault::NoMemory);
                         return Ok(());
                     }
-                    if ends_at != self.transaction.ends_at() {
-                        ends_at = self.transaction.ends_at();
-                        let left = ends_at.map(|at| at.saturating_duration_since(Instant::now()).max(LEAST_SILENCE));
-                        stream.set_read_timeout(left.or(Some(SILENCE)))?;
-                    }
-                    match stream.read(&mut chunk)? {
+                    match read_some(&mut stream, &mut chunk)? {
                         0 => return Ok(()),
                         length => bytes.extend(&chunk[..length]),
                     }
@@ -353,7 +370,7 @@ impl Session {
     }
 
     fn reply_to(&self, command: u64, part: usize) -> ReplyTo {
-        ReplyTo { messages: self.messages.clone(), command, part }
+        ReplyTo { messages: self.messages.clone(), connection: self.id, command, part }
     }
 
     /// Answers at once. What can't wait to be written isn't told.
@@ -423,26 +440,10 @@ impl Session {
     /// Lists keys, once all that is known to be committed is executed. What this connection has asked before is done by then.
     fn list(&mut self, list: commands::List) -> Result<(), Over> {
         self.settle()?;
-        let patience = self.shared.patience;
-        let reply = match self.execute_all(patience) {
-            Ok(()) => self.shared.listing.answer(&list),
-            Err(fault) => Err(fault),
-        };
-        self.answer(reply.unwrap_or_else(Reply::Error))
-    }
-
-    /// Has all executed that this replica knows to be committed.
-    fn execute_all(&self, patience: Duration) -> Result<(), CommandFault> {
-        let (sender, told) = channel();
-        let reply = Teller::new(move |told| _ = sender.send(told));
-        // (any local read does it)
-        let what = What::Read(vec![0]);
-        let _ = self.shared.events.send(Event::Ask(Ask { what, reply }));
-        match told.recv_timeout(patience) {
-            Ok(Told::Value(_)) => Ok(()),
-            Ok(told) => Err(fault_of(told)),
-            Err(_) => Err(CommandFault::NotInTime),
-        }
+        let listed = self.shared.listing.answer(&list);
+        let (reply, hidden) = listed.unwrap_or_else(|fault| (Reply::Error(fault), Vec::new()));
+        hidden.into_iter().for_each(|key| tidy(&self.shared.keys, key));
+        self.answer(reply)
     }
 
     fn greet(&mut self, hello: Hello) -> Result<(), Over> {
@@ -498,11 +499,15 @@ fn local(keys: &Arc<Keys>, key: Vec<u8>, action: &Action, told: Told) -> Reply {
     let Told::Value(value) = told else { return Reply::Error(fault_of(told)) };
     let (current, now) = (value.map(Stored::read), stored::now());
     if current.as_ref().is_some_and(|stored| stored.is_over(now)) {
-        // (nobody waits for it)
-        let to = ReplyTo { messages: channel().0, command: 0, part: 0 };
-        keys.ask(keys.id(), key, Action::Tidy, to);
+        tidy(keys, key);
     }
     action.apply(current, now).1
+}
+
+/// Has what is past its deadline removed from the key. Nobody waits for it.
+pub(crate) fn tidy(keys: &Arc<Keys>, key: Vec<u8>) {
+    let to = ReplyTo { messages: channel().0, connection: 0, command: 0, part: 0 };
+    keys.ask(keys.id(), key, Action::Tidy, to);
 }
 
 /// What a client is told where another answer was expected.
@@ -511,6 +516,7 @@ pub(crate) fn fault_of(told: Told) -> CommandFault {
         Told::Refused(fault) => CommandFault::Node(fault),
         Told::Alone => CommandFault::NoMajority,
         Told::Late => CommandFault::Waiting,
+        Told::Ending => CommandFault::Ending,
         _ => CommandFault::StoreEnds,
     }
 }

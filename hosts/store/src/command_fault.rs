@@ -24,6 +24,8 @@ pub enum CommandFault {
     Lost,
     /// It wasn't done: at each try others had changed the key.
     Contended,
+    /// It wasn't done: the store ends, and hadn't proposed it.
+    Ending,
     /// It wasn't done: its time was over before it was proposed, since others wait before it.
     Waiting,
     /// It wasn't done: its time is over, and it would have had to look first.
@@ -85,7 +87,7 @@ pub enum CommandFault {
     Apart,
     NoScript,
     Script,
-    /// MULTI is refused, and what follows it.
+    /// MULTI is refused, and what follows it; WATCH alone.
     Multi,
     Watch,
     Behind,
@@ -116,6 +118,7 @@ impl fmt::Display for CommandFault {
             CommandFault::Lost => f.write_str("TRYAGAIN the command wasn't done: others have taken its places"),
             CommandFault::Contended => f.write_str("TRYAGAIN the command wasn't done: others changed the key at each try"),
             CommandFault::Waiting => f.write_str("TRYAGAIN the command wasn't done: too many others wait"),
+            CommandFault::Ending => f.write_str("TRYAGAIN the command wasn't done: the store ends"),
             CommandFault::NotInTime => f.write_str("TRYAGAIN the command wasn't done: no majority has answered in time"),
             CommandFault::Node(fault) => match fault {
                 Fault::SpaceFull => f.write_str("FULL this replica has used all of its instances; ask another one"),
@@ -182,13 +185,11 @@ impl fmt::Display for CommandFault {
             CommandFault::Multi => {
                 f.write_str("ERR MULTI isn't supported; nothing that follows is done until EXEC or DISCARD")
             }
-            CommandFault::Watch => f.write_str(
-                "ERR WATCH isn't supported, nor is MULTI; nothing that follows is done until EXEC, DISCARD or UNWATCH",
-            ),
-            CommandFault::Behind => f.write_str(
-                "ERR it wasn't done: it is behind MULTI or WATCH, which aren't supported, until EXEC, DISCARD or UNWATCH",
-            ),
-            CommandFault::ExecAborted => f.write_str("EXECABORT nothing was done: MULTI and WATCH aren't supported"),
+            CommandFault::Watch => f.write_str("ERR WATCH isn't supported, nor is MULTI"),
+            CommandFault::Behind => {
+                f.write_str("ERR it wasn't done: it follows MULTI, which isn't supported, until EXEC or DISCARD")
+            }
+            CommandFault::ExecAborted => f.write_str("EXECABORT nothing was done: MULTI isn't supported"),
             CommandFault::WithoutMulti(name) => write!(f, "ERR {name} without MULTI"),
             CommandFault::Http => f.write_str("ERR this is no web server"),
         }

@@ -303,13 +303,14 @@ fn epaxos(mut words: Words) -> Result<Asked, CommandFault> {
         }
         (b"unlock", [key, owner]) => (key, Action::Unlock { owner: named(owner)? }),
         (b"holder", [key]) => (key, Action::Holder),
+        (b"help", []) => return Ok(Asked::Answered(help())),
         (b"seal", []) => return Ok(Asked::Manage(Manage::Seal)),
         (b"members", []) => return Ok(Asked::Manage(Manage::Members)),
         (b"replace", [replica, identity, rest @ ..]) if rest.len() <= 2 => {
             return Ok(Asked::Manage(replace(replica, identity, rest)?));
         }
         (b"resize", [size, new @ ..]) if new.len() % 3 == 0 => return Ok(Asked::Manage(resize(size, new)?)),
-        (b"lock" | b"renew" | b"unlock" | b"holder" | b"seal" | b"members" | b"replace" | b"resize", _) => {
+        (b"help" | b"lock" | b"renew" | b"unlock" | b"holder" | b"seal" | b"members" | b"replace" | b"resize", _) => {
             return Err(CommandFault::WrongCount(format!("epaxos|{}", printable(&sub))));
         }
         _ => return Err(CommandFault::UnknownSubcommand("EPAXOS", printable(&sub))),
@@ -318,6 +319,23 @@ fn epaxos(mut words: Words) -> Result<Asked, CommandFault> {
         return Err(CommandFault::KeyLength);
     }
     Ok(Asked::Keys(Combine::One, vec![(key.clone(), action)]))
+}
+
+/// What EPAXOS HELP tells: a line for each subcommand.
+fn help() -> Reply {
+    let lines = [
+        "EPAXOS LOCK key owner milliseconds -- takes the lock, unless another one has it",
+        "EPAXOS RENEW key owner milliseconds -- keeps it for longer, where this owner has it",
+        "EPAXOS UNLOCK key owner -- lets go of it",
+        "EPAXOS HOLDER key -- who has it, its token, and for how long",
+        "EPAXOS MEMBERS -- who takes part, and who waits to be let in",
+        "EPAXOS HELP -- this text",
+        "At the admin socket (--admin) alone:",
+        "EPAXOS SEAL -- the next generation begins",
+        "EPAXOS REPLACE replica identity [host:port] [FORCE] -- another machine has the replica's number from the next generation on",
+        "EPAXOS RESIZE 3|5|7 [replica identity host:port ..] -- so many replicas from the next generation on, and who is new",
+    ];
+    Reply::Array(lines.into_iter().map(Reply::text).collect())
 }
 
 /// Behind the identity stands the address, where one is told, and `FORCE` at the end.

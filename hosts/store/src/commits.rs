@@ -3,8 +3,8 @@ use epaxos::{Fields, Instance, MOST_INSTANCES};
 use std::collections::{BTreeMap, BTreeSet};
 use std::time::{Duration, Instant};
 
-/// A Commit that was sent so long ago, and hasn't come, is lost.
-const FLIGHT: Duration = Duration::from_secs(1);
+/// A Commit that was sent so long ago, and hasn't come, is lost, whatever else the peer has seen.
+const FLIGHT: Duration = Duration::from_secs(10);
 
 /// Some numbers of one replica's instances: all from 1 to `through`, and some above.
 #[derive(Clone, Default, PartialEq, Eq, Debug)]
@@ -102,8 +102,8 @@ pub struct Commits {
     pub here: Committed,
     /// Those whose Commits its node has sent: in which entry, and when. None: before this start.
     sent: BTreeMap<Instance, (u32, Option<Instant>)>,
-    /// When each replica was sent Commits again last.
-    again: Vec<Option<Instant>>,
+    /// Of each replica the Commits that it was sent again last, and when.
+    again: Vec<Option<(Instant, BTreeSet<Instance>)>>,
     /// When the connection to each one was opened last: what was sent before isn't on its way any more.
     opened: Vec<Option<Instant>>,
 }
@@ -119,8 +119,8 @@ pub struct Lacking {
 impl Commits {
     /// None, of so many replicas.
     pub fn new(replicas: usize) -> Commits {
-        let never = vec![None; replicas];
-        Commits { here: Committed::new(replicas), sent: BTreeMap::new(), again: never.clone(), opened: never }
+        let (again, opened) = (vec![None; replicas], vec![None; replicas]);
+        Commits { here: Committed::new(replicas), sent: BTreeMap::new(), again, opened }
     }
 
     /// A connection to a peer was opened.
@@ -137,18 +137,31 @@ impl Commits {
         self.sent.entry(instance).or_insert((entry, when));
     }
 
-    /// A peer has told what is committed there: what this replica has sent, and what should have come by now. None where that is nothing, or
-    /// where as much was sent again just now.
-    pub fn lacking(&mut self, peer: u8, there: &Committed, now: Instant) -> Option<Lacking> {
-        let (again, opened) = (self.again.get_mut(usize::from(peer))?, *self.opened.get(usize::from(peer))?);
-        let is_past = |when: Option<Instant>| {
-            when.is_none_or(|when| now >= when + FLIGHT || opened.is_some_and(|opened| when < opened))
+    /// A peer has told what is committed there, and the greatest entry of this replica that it has seen: what this replica has sent, and what should
+    /// have come by now. Frames of one connection come in the order of their entries, however long they take. None where that is nothing, or where
+    /// what was sent again is on its way.
+    pub fn lacking(&self, peer: u8, there: &Committed, seen: u32, now: Instant) -> Option<Lacking> {
+        let (again, opened) = (self.again.get(usize::from(peer))?, *self.opened.get(usize::from(peer))?);
+        let is_coming = |(when, instances): &(Instant, BTreeSet<Instance>)| {
+            now < *when + FLIGHT && !instances.iter().all(|instance| there.has(*instance))
         };
-        let lacks = |instance: &Instance, when| is_past(when) && !there.has(*instance);
-        let all = self.sent.iter().filter(|(instance, (_, when))| lacks(instance, *when));
-        let entry = all.clone().map(|(_, (entry, _))| *entry).min().filter(|_| is_past(*again))?;
-        *again = Some(now);
+        if again.as_ref().is_some_and(is_coming) {
+            return None;
+        }
+        let is_past = |entry: u32, when: Option<Instant>| {
+            let is_old = |when: Instant| now >= when + FLIGHT || opened.is_some_and(|opened| when < opened);
+            entry < seen || when.is_none_or(is_old)
+        };
+        let all = self.sent.iter().filter(|(instance, (entry, when))| is_past(*entry, *when) && !there.has(**instance));
+        let entry = all.clone().map(|(_, (entry, _))| *entry).min()?;
         Some(Lacking { entry, instances: all.map(|(instance, _)| *instance).collect() })
+    }
+
+    /// A peer was sent these once more.
+    pub fn send_again(&mut self, peer: u8, instances: BTreeSet<Instance>, now: Instant) {
+        if let Some(again) = self.again.get_mut(usize::from(peer)) {
+            *again = Some((now, instances));
+        }
     }
 }
 
@@ -200,26 +213,31 @@ mod tests {
         let start = Instant::now();
         let of = |replica, number| Instance { replica, number };
         let mut commits = Commits::new(3);
-        assert_eq!(commits.lacking(1, &set(&[]), start), None);
+        assert_eq!(commits.lacking(1, &set(&[]), 0, start), None);
         commits.send(of(0, 1), 12, None);
         commits.send(of(0, 2), 9, None);
         commits.send(of(1, 4), 15, Some(start));
         let lacking =
             |entry, instances: &[Instance]| Some(Lacking { entry, instances: instances.iter().copied().collect() });
-        // What was sent just now is on its way.
-        assert_eq!(commits.lacking(1, &set(&[(0, 2)]), start), lacking(12, &[of(0, 1)]));
+        // What was sent and not seen is on its way, unless that was long ago.
+        assert_eq!(commits.lacking(1, &set(&[(0, 2)]), 15, start), lacking(12, &[of(0, 1)]));
         let later = start + FLIGHT;
-        assert_eq!(commits.lacking(1, &set(&[(0, 2)]), later - Duration::from_millis(1)), None);
-        assert_eq!(commits.lacking(2, &set(&[(0, 1), (2, 9)]), later), lacking(9, &[of(0, 2), of(1, 4)]));
-        assert_eq!(commits.lacking(1, &set(&[(0, 2)]), later), lacking(12, &[of(0, 1), of(1, 4)]));
+        assert_eq!(commits.lacking(2, &set(&[(0, 1), (0, 2)]), 15, later - Duration::from_millis(1)), None);
+        assert_eq!(commits.lacking(2, &set(&[(0, 1), (0, 2)]), 16, start), lacking(15, &[of(1, 4)]));
+        assert_eq!(commits.lacking(2, &set(&[(0, 1), (2, 9)]), 0, later), lacking(9, &[of(0, 2), of(1, 4)]));
+        // What was sent again likewise; once it is there, there may be more.
+        commits.send_again(1, [of(0, 1)].into(), start);
+        assert_eq!(commits.lacking(1, &set(&[(0, 2)]), 16, later - Duration::from_millis(1)), None);
+        assert_eq!(commits.lacking(1, &set(&[(0, 1), (0, 2)]), 16, start), lacking(15, &[of(1, 4)]));
+        assert_eq!(commits.lacking(1, &set(&[(0, 2)]), 0, later), lacking(12, &[of(0, 1), of(1, 4)]));
         // What was sent on another connection isn't on its way.
         commits.send(of(2, 1), 20, Some(later));
         let all_but_it = set(&[(0, 1), (0, 2), (1, 4)]);
-        assert_eq!(commits.lacking(2, &all_but_it, later), None);
+        assert_eq!(commits.lacking(2, &all_but_it, 20, later), None);
         commits.open(2, later + Duration::from_millis(1));
-        assert_eq!(commits.lacking(2, &all_but_it, later + Duration::from_millis(1)), lacking(20, &[of(2, 1)]));
+        assert_eq!(commits.lacking(2, &all_but_it, 20, later + Duration::from_millis(1)), lacking(20, &[of(2, 1)]));
         let all = commits.here.clone();
-        assert_eq!(commits.lacking(2, &all, later + FLIGHT), None);
-        assert_eq!(commits.lacking(3, &set(&[]), later), None);
+        assert_eq!(commits.lacking(2, &all, 30, later + FLIGHT), None);
+        assert_eq!(commits.lacking(3, &set(&[]), 30, later), None);
     }
 }

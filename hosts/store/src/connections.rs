@@ -52,19 +52,34 @@ impl Connections {
     /// Takes a connection under this number; None where there is no room.
     pub fn take(self: &Arc<Connections>, id: u64, stream: &Arc<TcpStream>) -> Option<Connection> {
         let mut all = self.all();
-        if all.len() >= self.most {
+        if count(&all, false) >= self.most {
             self.make_room(&mut all, self.silence, |_| true);
         }
-        if all.len() >= self.most + KEPT {
+        (count(&all, false) < self.most).then(|| self.insert(all, id, stream, false))
+    }
+
+    /// Takes one for who asks how the store is, where no other place is free; None where these are taken too.
+    pub fn take_kept(self: &Arc<Connections>, id: u64, stream: &Arc<TcpStream>) -> Option<Connection> {
+        let mut all = self.all();
+        if count(&all, false) < self.most {
+            return Some(self.insert(all, id, stream, false));
+        }
+        if count(&all, true) >= KEPT {
             self.make_room(&mut all, KEPT_SILENCE, |taken| taken.is_kept);
         }
-        if all.len() >= self.most + KEPT {
-            return None;
-        }
-        let is_kept = all.len() >= self.most;
+        (count(&all, true) < KEPT).then(|| self.insert(all, id, stream, true))
+    }
+
+    fn insert(
+        self: &Arc<Connections>,
+        mut all: MutexGuard<'_, HashMap<u64, Arc<Taken>>>,
+        id: u64,
+        stream: &Arc<TcpStream>,
+        is_kept: bool,
+    ) -> Connection {
         let taken = Arc::new(Taken { stream: stream.clone(), heard: AtomicU64::new(self.now()), is_kept });
         all.insert(id, taken.clone());
-        Some(Connection { all: self.clone(), id, taken })
+        Connection { all: self.clone(), id, taken }
     }
 
     /// Closes which of these was silent for longest, if it was for so long.
@@ -88,6 +103,11 @@ impl Connections {
     fn all(&self) -> MutexGuard<'_, HashMap<u64, Arc<Taken>>> {
         self.taken.lock().unwrap_or_else(PoisonError::into_inner)
     }
+}
+
+/// How many there are that are kept for who asks how the store is, or of the others.
+fn count(all: &HashMap<u64, Arc<Taken>>, is_kept: bool) -> usize {
+    all.values().filter(|taken| taken.is_kept == is_kept).count()
 }
 
 impl Connection {
@@ -146,16 +166,20 @@ mod tests {
         let listener = TcpListener::bind("127.0.0.1:0").unwrap();
         let connections = Arc::new(Connections::new(2, Duration::from_secs(3_600)));
         let mut ends: Vec<_> = (0..2 + KEPT).map(|_| connect(&listener)).collect();
-        let all: Vec<_> =
-            ends.iter().enumerate().map(|(id, end)| connections.take(id as u64, &end.1).unwrap()).collect();
+        let take = |(id, end): (usize, &(TcpStream, Arc<TcpStream>))| {
+            let id = id as u64;
+            connections.take(id, &end.1).or_else(|| connections.take_kept(id, &end.1)).unwrap()
+        };
+        let all: Vec<_> = ends.iter().enumerate().map(take).collect();
         assert!(all.iter().enumerate().all(|(place, it)| it.is_kept() == (place >= 2)));
         let more = connect(&listener);
         all.iter().for_each(Connection::hear);
-        assert!(connections.take(100, &more.1).is_none());
+        assert!(connections.take(100, &more.1).is_none() && connections.take_kept(100, &more.1).is_none());
         // The one that was silent for longest makes room, but for those that came first.
         thread::sleep(KEPT_SILENCE);
         all[3..].iter().for_each(Connection::hear);
-        assert!(connections.take(101, &more.1).unwrap().is_kept());
+        assert!(connections.take(101, &more.1).is_none());
+        assert!(connections.take_kept(101, &more.1).unwrap().is_kept());
         assert_eq!(ends[2].0.read(&mut [0]).unwrap(), 0);
         assert_eq!(connections.count(), 1 + KEPT);
     }

@@ -4,6 +4,9 @@ use crate::outcome::{Asked, Outcome, Report};
 use epaxos::{Instance, State};
 use std::path::PathBuf;
 
+/// Keys with their values.
+pub type Pairs = Vec<(Vec<u8>, Vec<u8>)>;
+
 /// A replica's core, in one generation after the other.
 pub trait Core {
     /// Takes all that is asked, executes what is ready, and puts it on the disk: what came of it, of which nothing is told before.
@@ -18,6 +21,12 @@ pub trait Core {
 
     /// How far it is in its generation, once all that it has taken is on the disk.
     fn state(&mut self) -> Result<State, NodeFault>;
+
+    /// The greatest number of an entry of this peer whose frames its log has handled in this generation; 0 where there is none.
+    fn handled(&mut self, peer: u8) -> Result<u32, NodeFault>;
+
+    /// What all keys have, in their order, after all that was executed. None where another program has to be asked, `epaxos contents`.
+    fn contents(&mut self) -> Result<Option<Pairs>, NodeFault>;
 
     /// Ends it, once it has answered all, and starts it again: so it goes on to the next generation, where it has executed a seal. How far it is then.
     fn start_again(&mut self, begin: &Begin) -> Result<State, NodeFault>;
@@ -64,6 +73,14 @@ impl<C: Core + ?Sized> Core for Box<C> {
 
     fn state(&mut self) -> Result<State, NodeFault> {
         (**self).state()
+    }
+
+    fn handled(&mut self, peer: u8) -> Result<u32, NodeFault> {
+        (**self).handled(peer)
+    }
+
+    fn contents(&mut self) -> Result<Option<Pairs>, NodeFault> {
+        (**self).contents()
     }
 
     fn start_again(&mut self, begin: &Begin) -> Result<State, NodeFault> {

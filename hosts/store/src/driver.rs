@@ -1,6 +1,6 @@
 //! The one thread that drives the core: it gathers what is waiting, asks the core all of it, and hands out the answers.
 use crate::commits::{Commits, Committed, Lacking};
-use crate::core::Core;
+use crate::core::{Core, Pairs};
 use crate::directory::Directory;
 use crate::frames::Head;
 use crate::generation::{Generation, Limits, Stage};
@@ -17,29 +17,32 @@ use crate::plants::{Plant, changed};
 use crate::receipts::Receipts;
 use crate::stop_fault::StopFault;
 use crate::teller::Teller;
-use crate::timers::{Due, Timers};
+use crate::under_way::UnderWay;
+use crate::watch::Watch;
 use crate::wishes::{Manage, Wish};
-use epaxos::{Answer, Call, Fault, Instance, MOST_COMMANDS, OwnedAnswer, OwnedCommand, Proposed, State};
-use std::collections::{HashMap, VecDeque};
+use epaxos::{Answer, Call, Fault, Instance, MOST_COMMANDS, OpenInstance, OwnedAnswer, OwnedCommand, Proposed, State};
+use std::collections::{BTreeSet, HashMap, VecDeque};
 use std::fmt::Write;
 use std::path::PathBuf;
 use std::sync::mpsc::{Receiver, RecvTimeoutError};
 use std::sync::{Arc, Mutex};
+use std::thread;
 use std::time::{Duration, Instant};
 
-/// At most so many events share one sync.
+/// At most so many events share one sync, and those that come once there are so many bytes wait for the next one.
 const MOST_EVENTS: usize = 512;
-/// At most so many open instances are found in one look.
-const MOST_FOUND: u8 = 64;
+const MOST_BYTES: usize = 1 << 20;
+/// So many open instances are told at once, and so many behind these one by one, in one look.
+const MOST_FOUND: u8 = 255;
+const MOST_MORE: usize = 64;
 /// For INFO the core is asked at most that often: many may ask for it.
 const BETWEEN_INFOS: Duration = Duration::from_millis(50);
 /// INFO counts at most so many.
 const MOST_TOLD: u8 = 255;
 /// Where no majority is reached, what clients propose is held for so long since then: a peer may just be starting.
 const ALONE_PATIENCE: Duration = Duration::from_secs(1);
-/// At most so many own commands are under way: what is cut off uses up no more numbers.
-const MOST_OPEN: usize = 1_000;
-
+/// At most so many commands are handed to another replica.
+const MOST_HANDED: usize = 1_000;
 /// Commits that nobody here waits for may wait so long for something that their sync is shared with.
 const COMMITS_PATIENCE: Duration = Duration::from_millis(3);
 /// So many bytes of Commits are sent a peer again at once.
@@ -75,6 +78,8 @@ pub enum What {
         command: OwnedCommand,
     },
     Read(Vec<u8>),
+    /// What all keys have here, after all that is known to be committed.
+    Contents,
     Info,
     /// What somebody who runs the store asks for, and what is wrong with the addresses in it, where something is.
     Manage(Manage, Option<ManageFault>),
@@ -98,7 +103,11 @@ pub enum Told {
     Alone,
     /// It wasn't proposed, as it waited for too long.
     Late,
+    /// It wasn't proposed, as the store ends.
+    Ending,
     Value(Option<Vec<u8>>),
+    /// None where `epaxos contents` has to be asked.
+    Contents(Option<Pairs>),
     Info(String),
     Managed(Result<String, ManageFault>),
     /// The driver has ended: what was proposed may still be done.
@@ -144,25 +153,31 @@ impl Request {
 #[derive(Default)]
 pub(crate) struct Batch {
     requests: Vec<Request>,
+    /// How many bytes the frames among them have.
+    bytes: usize,
     /// Local reads come last, and tell of all that was executed before them.
     reads: Vec<(Vec<u8>, Teller)>,
+    /// Who asks for all keys, likewise.
+    lists: Vec<Teller>,
 }
 
 impl Batch {
     fn append(&mut self, more: Batch) {
         self.requests.extend(more.requests);
+        self.bytes += more.bytes;
         self.reads.extend(more.reads);
+        self.lists.extend(more.lists);
     }
 
     fn is_empty(&self) -> bool {
-        self.requests.is_empty() && self.reads.is_empty()
+        self.requests.is_empty() && self.reads.is_empty() && self.lists.is_empty()
     }
 
     /// Whether it has nothing but commits of peers, of which none is a seal's.
     fn is_commits(&self) -> bool {
         let is_it = |head: &Head| head.is_commit() && !head.is_seal_committed();
         let is_commit = |request: &Request| matches!(request, Request::Frame { head, .. } if is_it(head));
-        self.reads.is_empty() && self.requests.iter().all(is_commit)
+        self.reads.is_empty() && self.lists.is_empty() && self.requests.iter().all(is_commit)
     }
 }
 
@@ -182,6 +197,8 @@ pub struct Held {
 pub struct Waiting {
     pub instance: Instance,
     pub reply: Teller,
+    /// How many bytes its key and its value have.
+    pub bytes: usize,
 }
 
 /// What a driver begins with.
@@ -192,7 +209,7 @@ pub struct Parts<C> {
     pub directory: Directory,
     pub membership: Arc<Membership>,
     pub receipts: Receipts,
-    pub timers: Timers,
+    pub watch: Watch,
     pub events: Receiver<Event>,
     pub plant: Option<Plant>,
     pub limits: Limits,
@@ -212,7 +229,7 @@ pub struct Driver<C> {
     pub(crate) directory: Directory,
     pub(crate) membership: Arc<Membership>,
     pub(crate) receipts: Receipts,
-    pub(crate) timers: Timers,
+    pub(crate) watch: Watch,
     pub(crate) events: Receiver<Event>,
     pub(crate) plant: Option<Plant>,
     pub(crate) limits: Limits,
@@ -230,8 +247,8 @@ pub struct Driver<C> {
     /// Who asks for INFO, and when the core may be asked for them.
     pub(crate) infos: Vec<Teller>,
     pub(crate) next_info: Instant,
-    /// The clients that wait, by client and request.
-    pub(crate) waiting: HashMap<(u32, u32), Waiting>,
+    /// The clients that wait for what this replica has proposed.
+    pub(crate) waiting: UnderWay,
     pub(crate) generation: Generation,
     pub(crate) others: Others,
     pub(crate) commits: Commits,
@@ -257,9 +274,28 @@ pub struct Driver<C> {
     pub(crate) ends_at: Option<Instant>,
 }
 
+/// How many bytes the keys and values of a command have.
+fn length(command: &OwnedCommand) -> usize {
+    let of = |value: &Option<Vec<u8>>| value.as_ref().map_or(0, Vec::len);
+    match command {
+        OwnedCommand::Get { key } | OwnedCommand::Del { key } => key.len(),
+        OwnedCommand::Put { key, value } => key.len() + value.len(),
+        OwnedCommand::Cas { key, expected, new } => key.len() + of(expected) + of(new),
+        OwnedCommand::Seal { value } => value.len(),
+        _ => 0,
+    }
+}
+
+/// The driver has ended, and what is asked isn't done.
+fn refuse(event: Event) {
+    if let Event::Ask(Ask { what: What::Propose { .. } | What::Read(_) | What::Contents, reply }) = event {
+        reply.send(Told::Ending);
+    }
+}
+
 impl<C: Core> Driver<C> {
     pub fn new(parts: Parts<C>) -> Driver<C> {
-        let Parts { node, state, peers, directory, membership, receipts, timers, events, .. } = parts;
+        let Parts { node, state, peers, directory, membership, receipts, watch, events, .. } = parts;
         let place = membership.place;
         let now = Instant::now();
         let others = Others::open(directory.path(), place.replicas, state.generation);
@@ -270,7 +306,7 @@ impl<C: Core> Driver<C> {
             directory,
             membership,
             receipts,
-            timers,
+            watch,
             events,
             plant: parts.plant,
             limits: parts.limits,
@@ -283,7 +319,7 @@ impl<C: Core> Driver<C> {
             delayed: (Batch::default(), None),
             infos: Vec::new(),
             next_info: now,
-            waiting: HashMap::new(),
+            waiting: UnderWay::default(),
             generation: Generation::new(state, Duration::ZERO, now),
             others,
             commits: Commits::new(place.replicas),
@@ -308,10 +344,23 @@ impl<C: Core> Driver<C> {
         if let Err(stop) = self.meet_members().and_then(|()| self.recollect()) {
             return stop;
         }
-        loop {
+        let stop = loop {
             if let Err(stop) = self.turn() {
-                return stop;
+                break stop;
             }
+        };
+        self.refuse_the_rest();
+        // (what is dropped at the end of this may bring the next one of its key, and clients may ask until the process ends)
+        let Driver { events, .. } = self;
+        let _ = thread::Builder::new().name("end".into()).spawn(move || events.into_iter().for_each(refuse));
+        stop
+    }
+
+    /// What came and wasn't proposed isn't done any more.
+    pub(crate) fn refuse_the_rest(&mut self) {
+        self.held.drain(..).for_each(|held| held.reply.send(Told::Ending));
+        while let Ok(event) = self.events.try_recv() {
+            refuse(event);
         }
     }
 
@@ -337,12 +386,14 @@ impl<C: Core> Driver<C> {
     fn tell_metrics(&self) {
         let (metrics, generation) = (&self.metrics, &self.generation);
         let reached = self.peer_numbers().filter(|replica| self.is_reached(*replica)).count();
+        let far = self.quorum(self.place.replica).filter_map(|peer| self.watch.shortest_round_trip(peer)).max();
         for (number, value) in [
             (&metrics.generation, generation.number.into()),
             (&metrics.entries, generation.entries.into()),
             (&metrics.log_bytes, generation.log),
-            (&metrics.open_instances, self.timers.count() as u64),
+            (&metrics.open_instances, self.watch.count() as u64),
             (&metrics.peers_reached, reached as u64),
+            (&metrics.quorum_round_trip, far.unwrap_or_default().as_micros() as u64),
             (&metrics.frames_lost, self.peers.lost()),
             (&metrics.commits_sent_again, self.sent_again),
             (&metrics.frames_refused, self.refused_frames),
@@ -366,6 +417,9 @@ impl<C: Core> Driver<C> {
             self.take_frame(from, bytes, &mut batch);
         }
         for _ in 1..MOST_EVENTS {
+            if batch.bytes >= MOST_BYTES {
+                break;
+            }
             let Ok(event) = self.events.try_recv() else {
                 break;
             };
@@ -392,7 +446,7 @@ impl<C: Core> Driver<C> {
     }
 
     fn wait(&mut self) -> Result<Option<Event>, StopFault> {
-        let due = if self.generation.is_sealed() { None } else { self.timers.next(self.is_alone()) };
+        let due = if self.generation.is_sealed() { None } else { self.watch.next() };
         let all = [due, self.delayed.1, self.info_due(), self.next_of_life()];
         let next = all.into_iter().flatten().min().unwrap_or(self.next_tick);
         match self.events.recv_timeout(next.saturating_duration_since(Instant::now())) {
@@ -417,9 +471,10 @@ impl<C: Core> Driver<C> {
             Event::End => self.end(),
             Event::Ask(Ask { what, reply }) => match what {
                 What::Read(key) => batch.reads.push((key, reply)),
+                What::Contents => batch.lists.push(reply),
                 What::Info => self.infos.push(reply),
                 What::Manage(manage, fault) => self.manage(manage, fault, reply),
-                What::Propose { .. } if self.ends_at.is_some() => reply.send(Told::Late),
+                What::Propose { .. } if self.ends_at.is_some() => reply.send(Told::Ending),
                 What::Propose { client, request, seen, command } => {
                     self.held.push_back(Held {
                         since: Instant::now(),
@@ -445,6 +500,7 @@ impl<C: Core> Driver<C> {
         };
         if head.generation == self.generation.number {
             if !head.is_commit() || !self.commits.here.has(head.instance) {
+                batch.bytes += bytes.len();
                 batch.requests.push(Request::Frame { from, head, bytes });
             }
         } else if head.generation < self.generation.number {
@@ -472,12 +528,12 @@ impl<C: Core> Driver<C> {
             return;
         }
         self.hand_on(now);
-        let mut count = 0;
-        while self.generation.has_room(count) && self.waiting.len() + count < MOST_OPEN {
+        let (mut count, mut bytes) = (0, 0);
+        while self.generation.has_room(count) && self.waiting.has_room(count, bytes) {
             let Some(Held { client, request, seen, command, reply, .. }) = self.held.pop_front() else {
                 break;
             };
-            count += 1;
+            (count, bytes) = (count + 1, bytes + length(&command));
             let call = Call { client, request, seen };
             batch.requests.push(Request::Propose { call, command, reply });
         }
@@ -503,27 +559,36 @@ impl<C: Core> Driver<C> {
     /// Looks for open instances, for a while: for the least ones by one question, which mostly tells all, and for those behind them one by one.
     fn look(&mut self) -> Result<(), StopFault> {
         let start = Instant::now();
-        if !self.timers.is_look_due(start) {
+        if !self.watch.is_look_due(start) {
             return Ok(());
         }
-        let is_hopeless = self.is_hopeless();
-        let mut left = usize::from(MOST_FOUND);
-        while left > 0 {
-            let (found, wanted) = match self.timers.after() {
-                None => (self.report(u32::MAX, MOST_FOUND)?.open, usize::from(MOST_FOUND)),
+        let mut left = MOST_MORE;
+        loop {
+            let is_over = match self.watch.after() {
+                None => {
+                    let found = self.report(u32::MAX, MOST_FOUND)?.open;
+                    self.watch.find(&found);
+                    found.len() < usize::from(MOST_FOUND)
+                }
                 Some(after) => {
                     self.metrics.asks.add(1);
-                    (self.node.next_open(after).map_err(StopFault::Node)?.into_iter().collect(), 1)
+                    let found = self.node.next_open(after).map_err(StopFault::Node)?;
+                    found
+                        .into_iter()
+                        .for_each(|instance| self.watch.find(&[OpenInstance { instance, since: None, led: None }]));
+                    left -= 1;
+                    found.is_none()
                 }
             };
-            self.timers.find(&found, is_hopeless, start);
-            if found.len() < wanted {
-                self.timers.find_no_more();
+            if is_over {
+                self.watch.find_no_more();
                 break;
             }
-            left -= wanted;
+            if left == 0 {
+                break;
+            }
         }
-        self.timers.end_look(start.elapsed(), Instant::now());
+        self.watch.end_look(start.elapsed(), Instant::now());
         Ok(())
     }
 
@@ -549,11 +614,16 @@ impl<C: Core> Driver<C> {
         !self.is_whole(self.place.replica)
     }
 
-    /// Whether all of a replica's fast quorum is reached, as far as this one knows: all replicas but the one just below.
-    fn is_whole(&self, replica: u8) -> bool {
+    /// The other members of a replica's fast quorum than this one: all replicas but the one just below it.
+    fn quorum(&self, replica: u8) -> impl Iterator<Item = u8> + use<C> {
         let replicas = self.place.replicas as u8;
         let below = (replica + replicas - 1) % replicas;
-        self.peer_numbers().all(|peer| peer == below || self.is_reached(peer))
+        self.peer_numbers().filter(move |peer| *peer != below)
+    }
+
+    /// Whether all of a replica's fast quorum is reached, as far as this one knows.
+    fn is_whole(&self, replica: u8) -> bool {
+        self.quorum(replica).all(|peer| self.is_reached(peer))
     }
 
     /// Where a member of this replica's fast quorum is gone, commands are handed to a replica whose quorum is whole, if there is one: here
@@ -562,7 +632,7 @@ impl<C: Core> Driver<C> {
         let helper = self.peer_numbers().find(|peer| self.is_reached(*peer) && self.is_whole(*peer));
         let Some(helper) = helper.filter(|_| self.is_hopeless()) else { return };
         for held in std::mem::take(&mut self.held) {
-            if held.is_handed || self.handed.len() >= MOST_OPEN {
+            if held.is_handed || self.handed.len() >= MOST_HANDED {
                 self.held.push_back(held);
                 continue;
             }
@@ -577,14 +647,17 @@ impl<C: Core> Driver<C> {
         self.peer_numbers().filter(|replica| self.is_reached(*replica)).count() < self.place.replicas / 2
     }
 
-    /// Has what is late recovered; an own instance that is late for the first time is given up, where enough have answered.
+    /// Has what is late given up or recovered.
     fn remedy_late(&mut self, batch: &mut Batch) {
-        if self.is_alone() {
-            return;
+        for peer in self.peer_numbers() {
+            self.watch.reach(peer, self.is_reached(peer));
         }
-        for Due { instance, is_first } in self.timers.take_due(Instant::now()) {
-            let gives_up = is_first && instance.replica == self.place.replica;
-            batch.requests.push(if gives_up { Request::GiveUp(instance) } else { Request::Recover(instance) });
+        for event in self.watch.take_late(Instant::now()) {
+            match event {
+                epaxos::Event::GiveUp(instance) => batch.requests.push(Request::GiveUp(instance)),
+                epaxos::Event::Recover(instance) => batch.requests.push(Request::Recover(instance)),
+                _ => {}
+            }
         }
     }
 
@@ -594,7 +667,7 @@ impl<C: Core> Driver<C> {
             return Ok(());
         }
         // A local read tells of all that is known to be committed.
-        let executes_all = !batch.reads.is_empty() && self.is_unexecuted;
+        let executes_all = !(batch.reads.is_empty() && batch.lists.is_empty()) && self.is_unexecuted;
         self.is_unexecuted &= !executes_all;
         let asked = Asked {
             events: batch.requests.iter().map(Request::event).collect(),
@@ -609,6 +682,11 @@ impl<C: Core> Driver<C> {
         }
         for ((_, reply), value) in batch.reads.into_iter().zip(std::mem::take(&mut outcome.values)) {
             reply.send(Told::Value(value));
+        }
+        if !batch.lists.is_empty() {
+            // (a copy for each: few ask at once)
+            let contents = self.node.contents().map_err(StopFault::Node)?;
+            batch.lists.into_iter().for_each(|reply| reply.send(Told::Contents(contents.clone())));
         }
         self.hand_out(outcome)
     }
@@ -631,7 +709,7 @@ impl<C: Core> Driver<C> {
     fn hand_out(&mut self, mut outcome: Outcome) -> Result<(), StopFault> {
         if let Some(entries) = outcome.entries {
             self.generation.entries = self.generation.entries.max(entries);
-            self.timers.change();
+            self.watch.change();
             self.is_unexecuted = true;
         }
         if self.plant == Some(Plant::Changed) {
@@ -639,8 +717,9 @@ impl<C: Core> Driver<C> {
         }
         self.receipts.append(&outcome.receipts).map_err(StopFault::Receipts)?;
         let mut frames: Vec<Vec<Vec<u8>>> = vec![Vec::new(); self.place.replicas];
+        let first = self.peer_numbers().next();
         for Outgoing { to, frame } in outcome.frames {
-            self.note_own_frame(&frame);
+            self.note_own_frame(&frame, to, first);
             if let (true, Some(frames)) = (self.others.is_heard(to), frames.get_mut(usize::from(to))) {
                 frames.push(frame);
             }
@@ -653,7 +732,7 @@ impl<C: Core> Driver<C> {
                 self.note_own_seal(receipt.answer);
             }
             // A receipt for nobody is of a proposal before this start, or its client waits no longer.
-            if let Some(waiting) = self.waiting.remove(&(receipt.client, receipt.request)) {
+            if let Some(waiting) = self.waiting.remove((receipt.client, receipt.request)) {
                 let is_undone = self.plant == Some(Plant::Again) && receipt.entry % 8 == 0;
                 let reply = if is_undone { OwnedAnswer::Closed } else { receipt.answer.to_owned() };
                 waiting.reply.send(Told::Done { stamp: receipt.stamp, reply });
@@ -667,6 +746,11 @@ impl<C: Core> Driver<C> {
         self.commits = Commits::new(self.place.replicas);
         if self.generation.entries == 0 {
             return Ok(());
+        }
+        // (the file of what was seen isn't forced to the disk; the log is)
+        for peer in self.peer_numbers() {
+            let handled = self.node.handled(peer).map_err(StopFault::Node)?;
+            self.others.see(peer, handled);
         }
         let Report { frames, committed, .. } = self.report(0, 0)?;
         committed.into_iter().for_each(|instance| self.commits.here.insert(instance));
@@ -682,33 +766,40 @@ impl<C: Core> Driver<C> {
             return Ok(());
         }
         let now = Instant::now();
-        self.timers.hear(there.beyond(&self.commits.here), now);
-        let Some(Lacking { entry, instances }) = self.commits.lacking(from, there, now) else { return Ok(()) };
-        let mut bytes = 0;
+        self.watch.hear(there.beyond(&self.commits.here));
+        let lacking = self.commits.lacking(from, there, self.others.sees(from), now);
+        let Some(Lacking { entry, instances }) = lacking else { return Ok(()) };
+        let (mut bytes, mut again) = (0, BTreeSet::new());
         for Outgoing { to, frame } in self.report(entry.saturating_sub(1), 0)?.frames {
-            let is_lost = |head: Head| head.is_commit() && instances.contains(&head.instance);
-            if to != from || !Head::read(&frame).is_some_and(is_lost) {
-                continue;
-            }
+            let is_lost = |head: &Head| head.is_commit() && instances.contains(&head.instance);
+            let Some(head) = Head::read(&frame).filter(is_lost).filter(|_| to == from) else { continue };
             bytes += frame.len();
             if bytes > MOST_AGAIN {
                 break;
             }
             self.peers.send(to, frame);
             self.sent_again += 1;
+            again.insert(head.instance);
         }
+        self.commits.send_again(from, again, now);
         Ok(())
     }
 
-    /// What a frame of this replica tells of the generation.
-    fn note_own_frame(&mut self, frame: &[u8]) {
+    /// What a frame of this replica to a peer tells of the generation. `first`: the first of all peers.
+    fn note_own_frame(&mut self, frame: &[u8], to: u8, first: Option<u8>) {
         let Some(head) = Head::read(frame) else { return };
         let now = Instant::now();
         if head.is_commit() {
             self.commits.send(head.instance, head.entry, Some(now));
-            self.timers.forget(head.instance);
-        } else if head.is_prepare() {
-            self.timers.put_off(head.instance, head.ballot, now);
+            self.watch.forget(head.instance);
+        } else if head.is_pre_accept() {
+            self.watch.ask(head.instance, to, now);
+        } else if head.is_accept() || head.is_prepare() {
+            self.watch.pass_first(head.instance);
+            self.watch.put_off(head.instance, head.ballot, now);
+            // (it goes to all others, and counts once)
+            let number = if head.is_accept() { &self.metrics.accepts } else { &self.metrics.recoveries };
+            number.add(u64::from(Some(to) == first));
         }
         if head.instance.replica == self.place.replica {
             self.generation.dependencies = self.generation.dependencies.max(head.dependencies);
@@ -721,7 +812,7 @@ impl<C: Core> Driver<C> {
     /// A seal of this value is committed. What it stands behind has to be committed too, so that nothing that is open waits for long.
     fn commit_seal(&mut self, value: Option<&[u8]>) {
         if self.generation.commit_seal() {
-            self.timers.hurry(Instant::now());
+            self.watch.hurry();
         }
         if let Some(members) = value.and_then(Members::read) {
             self.generation.next_size = Some(members.0.len());
@@ -748,7 +839,8 @@ impl<C: Core> Driver<C> {
                 if matches!(command, OwnedCommand::Put { .. }) && self.plant == Some(Plant::Early) {
                     reply.send(Told::Done { stamp: call.seen, reply: OwnedAnswer::Absent });
                 } else {
-                    self.waiting.insert((call.client, call.request), Waiting { instance, reply });
+                    let bytes = length(&command);
+                    self.waiting.insert((call.client, call.request), Waiting { instance, reply, bytes });
                 }
             }
             (Request::Seal { call, .. }, Ok(())) => _ = self.own_instance(call, proposed)?,
@@ -756,9 +848,11 @@ impl<C: Core> Driver<C> {
                 self.others.see(from, head.entry);
                 if head.is_commit() {
                     self.commits.here.insert(head.instance);
-                    self.timers.forget(head.instance);
-                } else if head.is_prepare() && !self.commits.here.has(head.instance) {
-                    self.timers.put_off(head.instance, head.ballot, Instant::now());
+                    self.watch.forget(head.instance);
+                } else if head.is_pre_accept_ok() {
+                    self.watch.answer(head.instance, from, Instant::now());
+                } else if (head.is_prepare() || head.is_accept()) && !self.commits.here.has(head.instance) {
+                    self.watch.put_off(head.instance, head.ballot, Instant::now());
                 }
                 if head.is_seal_committed() {
                     self.commit_seal(head.seal(&bytes));
@@ -778,9 +872,7 @@ impl<C: Core> Driver<C> {
             // Nothing of such a frame is believed.
             (Request::Frame { .. }, Err(_)) => self.refused_frames += 1,
             (Request::GiveUp(instance) | Request::Recover(instance), Err(fault)) => match fault {
-                Fault::AlreadyCommitted => self.timers.forget(instance),
-                // It can't be given up, and is recovered.
-                Fault::TooFewAnswers => self.timers.retry(instance, Instant::now()),
+                Fault::AlreadyCommitted => self.watch.forget(instance),
                 _ => {}
             },
             (Request::GiveUp(_) | Request::Recover(_), Ok(())) => {}
@@ -823,8 +915,8 @@ impl<C: Core> Driver<C> {
     }
 
     /// What INFO tells, where these instances are open.
-    fn info(&self, open: &[Instance]) -> String {
-        let open = self.timers.count_with(open).min(MOST_TOLD.into());
+    fn info(&self, open: &[OpenInstance]) -> String {
+        let open = self.watch.count_with(open).min(MOST_TOLD.into());
         let mut text = String::new();
         let mut line = |name: &str, value: &dyn std::fmt::Display| {
             let _ = write!(text, "{name}:{value}\r\n");
@@ -841,14 +933,19 @@ impl<C: Core> Driver<C> {
         line("instances_total", &MOST_COMMANDS);
         line("dependencies", &self.generation.dependencies);
         line("log_bytes", &self.generation.log);
-        line("commands_waiting", &(self.waiting.len() + self.handed.len() + self.held.len()));
+        line("commands_waiting", &(self.waiting.count() + self.handed.len() + self.held.len()));
         line("instances_open", &open);
         line("frames_refused", &self.refused_frames);
         line("frames_lost", &self.peers.lost());
         line("commits_sent_again", &self.sent_again);
+        line("accepts_begun", &self.metrics.accepts.get());
+        line("recoveries_begun", &self.metrics.recoveries.get());
         for replica in self.peer_numbers() {
             let state = if self.is_reached(replica) { "reached" } else { "lost" };
             line(&format!("peer_{replica}"), &state);
+            if let Some(far) = self.watch.shortest_round_trip(replica) {
+                line(&format!("peer_{replica}_round_trip_ms"), &format_args!("{:.1}", far.as_secs_f64() * 1e3));
+            }
         }
         text
     }

@@ -2,7 +2,6 @@
 use super::*;
 use crate::identities::Identities;
 use crate::plain::{Plain, World};
-use crate::random::Random;
 use crate::receipts;
 use crate::sealed::Key;
 use crate::waiting::Waiting;
@@ -35,7 +34,7 @@ pub(crate) fn driver_over(name: &str, place: Place, peers: Peers) -> (Driver<Pla
         membership,
         receipts: receipts::Receipts::open(&directory.receipts(1)).unwrap(),
         directory,
-        timers: Timers::new(place.replica, Instant::now(), Random::from_seed(1)),
+        watch: Watch::new(place, Instant::now(), 1),
         events,
         plant: None,
         limits: Limits { numbers: 10, dependencies: 100, log: u64::MAX },
@@ -204,20 +203,20 @@ fn a_commit_is_asked_for_once_and_sent_again_to_who_lacks_it() {
     let frames =
         vec![outgoing(0, commit(2)), outgoing(1, commit(2)), outgoing(0, commit(3)), outgoing(0, frame(1, 1, 3))];
     let instance = |number| Instance { replica: 0, number };
-    driver.node.report =
-        Report { frames, committed: vec![instance(1), instance(2), instance(3)], open: vec![instance(9)] };
+    let open = |number| OpenInstance { instance: instance(number), since: None, led: None };
+    driver.node.report = Report { frames, committed: vec![instance(1), instance(2), instance(3)], open: vec![open(9)] };
     driver.recollect().unwrap();
     let mut committed = Committed::new(1);
     [3, 5].into_iter().for_each(|number| committed.insert(instance(number)));
     let told = |generation| Message::Committed { generation, committed: committed.clone() }.write();
     came(told(2));
     driver.turn().unwrap();
-    assert_eq!((driver.sent_again, driver.timers.count_with(&[])), (0, 0));
+    assert_eq!((driver.sent_again, driver.watch.count_with(&[])), (0, 0));
     came(told(1));
     driver.turn().unwrap();
     assert_eq!(driver.node.reported.last(), Some(&6));
     // What it tells of and isn't here is open too.
-    assert_eq!((driver.sent_again, driver.timers.count_with(&[])), (1, 1));
+    assert_eq!((driver.sent_again, driver.watch.count_with(&[])), (1, 1));
     let (told, answers) = channel();
     let reply = Teller::new(move |it| _ = told.send(it));
     assert!(sender.send(Event::Ask(Ask { what: What::Info, reply })).is_ok());
@@ -267,7 +266,34 @@ fn a_full_generation_is_waited_for_and_an_end_is_told() {
     sender.send(Event::End).unwrap();
     ask(&sender, &told, 4, put(4));
     assert!(matches!(driver.turn(), Err(StopFault::Asked)));
-    assert!(matches!(answers.try_recv(), Ok((4, Told::Late))));
+    assert!(matches!(answers.try_recv(), Ok((4, Told::Ending))));
+    fs::remove_dir_all(&folder).unwrap();
+}
+
+#[test]
+fn what_the_log_has_handled_was_seen() {
+    let place = Place { replicas: 3, replica: 2 };
+    let (mut driver, _sender, folder) = driver_at("handled", place);
+    driver.generation.entries = 9;
+    driver.node.handled = vec![7, 3, 99];
+    driver.others.see(1, 5);
+    driver.recollect().unwrap();
+    // The file had more of replica 1, and nothing of replica 0.
+    assert_eq!([0, 1].map(|peer| driver.others.seen(peer)), [7, 5]);
+    fs::remove_dir_all(&folder).unwrap();
+}
+
+#[test]
+fn what_came_as_the_store_ended_is_told_that_it_was_not_done() {
+    let (mut driver, sender, folder) = driver("ending");
+    let (told, answers) = channel();
+    for number in 0..60 {
+        ask(&sender, &told, number, put(number));
+    }
+    sender.send(Event::End).unwrap();
+    driver.refuse_the_rest();
+    let told: Vec<_> = answers.try_iter().collect();
+    assert!(told.len() == 60 && told.iter().all(|(_, told)| matches!(told, Told::Ending)));
     fs::remove_dir_all(&folder).unwrap();
 }
 

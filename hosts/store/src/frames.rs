@@ -4,6 +4,8 @@ use epaxos::{Fields, Instance};
 const MAGIC: &[u8] = b"EP";
 const VERSION: u8 = 3;
 const PRE_ACCEPT: u8 = 1;
+const PRE_ACCEPT_OK: u8 = 2;
+const ACCEPT: u8 = 3;
 const COMMIT: u8 = 5;
 const PREPARE: u8 = 6;
 /// The op of a seal.
@@ -51,6 +53,21 @@ impl Head {
         self.kind == COMMIT
     }
 
+    /// Whether it asks a member of the fast quorum for its vote.
+    pub fn is_pre_accept(&self) -> bool {
+        self.kind == PRE_ACCEPT
+    }
+
+    /// Whether it is a member's vote.
+    pub fn is_pre_accept_ok(&self) -> bool {
+        self.kind == PRE_ACCEPT_OK
+    }
+
+    /// Whether its sender begins the second phase of the slow path.
+    pub fn is_accept(&self) -> bool {
+        self.kind == ACCEPT
+    }
+
     /// Whether its sender begins to recover the instance.
     pub fn is_prepare(&self) -> bool {
         self.kind == PREPARE
@@ -58,7 +75,7 @@ impl Head {
 
     /// Whether it tells of a seal that is under way.
     pub fn is_seal_proposed(&self) -> bool {
-        self.kind == PRE_ACCEPT && self.op == SEAL
+        self.is_pre_accept() && self.op == SEAL
     }
 
     /// Whether it tells of a seal that is committed.
@@ -108,6 +125,13 @@ mod tests {
         assert!(Head::read(&frame).unwrap().is_seal_proposed());
         frame[34] = 3;
         assert!(!Head::read(&frame).unwrap().is_seal_proposed());
+        let kinds = |head: &Head| [head.is_pre_accept(), head.is_pre_accept_ok(), head.is_accept()];
+        for (kind, is_one) in
+            [(1, [true, false, false]), (2, [false, true, false]), (3, [false, false, true]), (4, [false; 3])]
+        {
+            frame[3] = kind;
+            assert_eq!(kinds(&Head::read(&frame).unwrap()), is_one);
+        }
         assert_eq!(Head::read(&frame[..43]), None);
         frame[2] = 2;
         assert_eq!(Head::read(&frame), None);

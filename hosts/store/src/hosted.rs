@@ -1,5 +1,5 @@
 //! The core without a disk of its own: in this process, or in one beside it. Its logs are the store's to keep, in the folder that a node would have.
-use crate::core::{Begin, Core};
+use crate::core::{Begin, Core, Pairs};
 use crate::file_fault::FileFault;
 use crate::generations::{Generations, Opened, opened};
 use crate::generations_fault::GenerationsFault;
@@ -205,14 +205,23 @@ impl Core for Hosted {
 
     fn report(&mut self, after: u32, most: u8) -> Result<Report, NodeFault> {
         let output = self.acting()?.replica.report(after, most).map_err(NodeFault::Core)?;
-        let open = output.open().map(|open| open.instance).collect();
+        let open = output.open().collect();
         Ok(Report { frames: outgoing(&output).collect(), committed: output.committed().collect(), open })
     }
 
     /// Of more than 255 that are open, those behind the first ones are found once these are closed.
     fn next_open(&mut self, after: Instance) -> Result<Option<Instance>, NodeFault> {
         let open = self.report(u32::MAX, u8::MAX)?.open;
-        Ok(open.into_iter().find(|instance| *instance > after))
+        Ok(open.into_iter().map(|open| open.instance).find(|instance| *instance > after))
+    }
+
+    fn handled(&mut self, peer: u8) -> Result<u32, NodeFault> {
+        self.acting()?.replica.handled(peer).map_err(NodeFault::Core)
+    }
+
+    fn contents(&mut self) -> Result<Option<Pairs>, NodeFault> {
+        let contents = self.acting()?.replica.contents().map_err(NodeFault::Core)?;
+        Ok(Some(contents.map(|(key, value)| (key.to_vec(), value.to_vec())).collect()))
     }
 
     fn state(&mut self) -> Result<State, NodeFault> {

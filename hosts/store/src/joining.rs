@@ -5,6 +5,7 @@ use crate::driver::{Ask, Event, Told, What};
 use crate::identities::{Identity, digits};
 use crate::manage_fault::ManageFault;
 use crate::messages::Message;
+use crate::notify;
 use crate::opening::Opening;
 use crate::openings::{Fetch, Step};
 use crate::peers::{Membership, Peers};
@@ -33,6 +34,7 @@ impl Joining<'_> {
             "it waits to be let in, by EPAXOS REPLACE {replica} {} at another replica's admin socket, or EPAXOS RESIZE",
             digits(&own)
         ));
+        notify::ready("waits to be let in");
         // The last generation that was looked at and doesn't name this machine.
         let mut looked = 0;
         let mut fetch: Option<Fetch> = None;
@@ -106,7 +108,7 @@ fn refuse(ask: Ask, own: Identity) {
     let told = match ask.what {
         What::Info => Told::Info(format!("state:joining\r\nidentity:{}\r\n", digits(&own))),
         What::Manage(..) => Told::Managed(Err(ManageFault::Joining(own))),
-        What::Propose { .. } | What::Read(_) => Told::Alone,
+        What::Propose { .. } | What::Read(_) | What::Contents => Told::Alone,
     };
     ask.reply.send(told);
 }

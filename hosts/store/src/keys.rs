@@ -1,31 +1,40 @@
 //! What clients ask of keys, made into commands of the protocol.
 //!
-//! Of each key at most one command of this replica is under way. All that is asked of the key meanwhile waits, and the next command does it
+//! Of each key one command of this replica is under way, or two where the replicas are far apart: then what is asked while the first is on its way
+//! needn't wait until that is back. All that is asked of the key meanwhile waits, and the next command does it
 //! all: where it is only read one `get`, where something is written whatever was there one `put` or `del`, else a comparison (`cas`) from
 //! what is there to what is to be there. So all of it happens at the command's place in the history, one after the other in the order in
-//! which it was asked. A comparison that finds another value is tried again with that one.
+//! which it was asked. A comparison that finds another value is tried again with that one. Of two commands either may be done first, so they never both
+//! have something of one connection.
 use crate::actions::Action;
 use crate::command_fault::CommandFault;
 use crate::driver::{Ask, Event, Told, What};
+use crate::metrics::Metrics;
 use crate::numbers::Numbers;
 use crate::numbers_fault::NumbersFault;
 use crate::replies::ReplyTo;
 use crate::resp::Reply;
-use crate::say::say;
+use crate::say::warn;
 use crate::stored::{self, Stored};
 use crate::teller::Teller;
 use epaxos::{OwnedAnswer, OwnedCommand};
-use std::collections::{HashMap, VecDeque};
+use std::collections::{HashMap, HashSet, VecDeque};
 use std::io;
 use std::sync::atomic::{AtomicU64, Ordering};
-use std::sync::mpsc::{Sender, SyncSender, TrySendError, channel};
-use std::sync::{Arc, Mutex, MutexGuard, PoisonError};
+use std::sync::mpsc::{Receiver, Sender, SyncSender, TrySendError, channel};
+use std::sync::{Arc, Mutex, MutexGuard, PoisonError, Weak};
 use std::thread;
+use std::time::{Duration, Instant};
 
 /// A command in whose place a no-op was committed is proposed at most so often.
 const MOST_LOST: usize = 5;
 /// A comparison that finds another value is proposed at most so often.
 const MOST_TRIES: usize = 100;
+/// Where the fast quorum's round trip is so long at least, two commands of a key may be under way; and once one is done that was for several, its clients
+/// are waited for, so that they go together again: for one part in so many of the round trip, at most for so long.
+const FAR: Duration = Duration::from_millis(20);
+const SHARE_OF_REST: u32 = 16;
+const LONGEST_REST: Duration = Duration::from_millis(10);
 /// At most so much is done by one command.
 const MOST_TOGETHER: usize = 512;
 /// So many keys' last values are kept, of at most so many bytes, as what a comparison may find.
@@ -46,6 +55,9 @@ struct State {
     /// What some keys had when their last command was done. Others may have changed it.
     known: HashMap<Vec<u8>, Option<Vec<u8>>>,
     numbers: Arc<Mutex<Numbers>>,
+    metrics: Arc<Metrics>,
+    /// Where keys go that rest, with the end of that.
+    resting: Sender<(Instant, Vec<u8>)>,
     /// Clients of the protocol with nothing under way.
     free: Vec<Client>,
     /// The greatest stamp that was told here.
@@ -63,8 +75,33 @@ struct Client {
 
 #[derive(Default)]
 struct Key {
-    flight: Option<Flight>,
+    /// The oldest first.
+    flights: Vec<Flight>,
     waiting: VecDeque<Asked>,
+    /// Whether clients are waited for before the next one.
+    rests: bool,
+}
+
+impl Key {
+    fn flight(&mut self, number: u64) -> Option<&mut Flight> {
+        self.flights.iter_mut().find(|flight| flight.number == number)
+    }
+
+    /// Takes what waits, at most so much, but for what is of a connection that has something in another flight than this one.
+    fn take_waiting(&mut self, number: u64, most: usize) -> Vec<Asked> {
+        let others = self.flights.iter().filter(|flight| flight.number != number);
+        let others: HashSet<u64> = others.flat_map(|flight| &flight.asked).map(|asked| asked.to.connection).collect();
+        if others.is_empty() {
+            return self.waiting.drain(..most.min(self.waiting.len())).collect();
+        }
+        let (mut taken, mut left) = (Vec::new(), VecDeque::new());
+        for asked in std::mem::take(&mut self.waiting) {
+            let may_go = taken.len() < most && !others.contains(&asked.to.connection);
+            if may_go { taken.push(asked) } else { left.push_back(asked) }
+        }
+        self.waiting = left;
+        taken
+    }
 }
 
 /// What a client asks of a key.
@@ -80,7 +117,11 @@ struct Asked {
 struct Flight {
     number: u64,
     asked: Vec<Asked>,
+    /// How many that were when it was proposed.
+    together: usize,
     step: Step,
+    /// What the key then has, where it is done as is expected. None: nobody knows.
+    after: Option<Option<Vec<u8>>>,
     /// The time by which deadlines are judged.
     now: u64,
     lost: usize,
@@ -106,14 +147,22 @@ struct Launch {
 }
 
 impl Keys {
-    pub fn start(events: SyncSender<Event>, numbers: Arc<Mutex<Numbers>>) -> io::Result<Arc<Keys>> {
+    pub fn start(
+        events: SyncSender<Event>,
+        numbers: Arc<Mutex<Numbers>>,
+        metrics: Arc<Metrics>,
+    ) -> io::Result<Arc<Keys>> {
         let (overflow, waiting) = channel();
         let later = events.clone();
         let hand_on = move || _ = waiting.into_iter().try_for_each(|event| later.send(event));
         thread::Builder::new().name("overflow".into()).spawn(hand_on)?;
+        let (resting, rests) = channel();
         let (keys, known, free) = (HashMap::new(), HashMap::new(), Vec::new());
-        let state = State { keys, known, numbers, free, seen: 0, flights: 0 };
-        Ok(Arc::new(Keys { state: Mutex::new(state), events, overflow, given: AtomicU64::new(0) }))
+        let state = State { keys, known, numbers, metrics, resting, free, seen: 0, flights: 0 };
+        let keys = Arc::new(Keys { state: Mutex::new(state), events, overflow, given: AtomicU64::new(0) });
+        let weak = Arc::downgrade(&keys);
+        thread::Builder::new().name("rests".into()).spawn(move || wake_all(&weak, &rests))?;
+        Ok(keys)
     }
 
     /// A number for what is asked, by which it can be withdrawn.
@@ -126,7 +175,7 @@ impl Keys {
         let mut state = self.state();
         let waits = state.keys.entry(key.clone()).or_default();
         waits.waiting.push_back(Asked { id, action, to, is_over: false });
-        let launch = if waits.flight.is_none() { state.begin(key) } else { None };
+        let launch = state.begin(key);
         drop(state);
         self.launch(launch);
     }
@@ -139,16 +188,26 @@ impl Keys {
             found.waiting.remove(place);
             return Some(CommandFault::Waiting);
         }
-        let flight = found.flight.as_mut()?;
+        let has_it = |flight: &&mut Flight| flight.asked.iter().any(|asked| asked.id == id);
+        let flight = found.flights.iter_mut().find(has_it)?;
         let asked = flight.asked.iter_mut().find(|asked| asked.id == id)?;
         asked.is_over = true;
         let changes = !asked.action.only_reads() && flight.step != Step::Read;
         // A command that nobody waits for is left to itself.
         let is_left = flight.asked.iter().all(|asked| asked.is_over);
-        let launch = if is_left { state.next(key.to_vec()) } else { None };
+        let number = flight.number;
+        let launch = if is_left { state.next(key.to_vec(), number) } else { None };
         drop(state);
         self.launch(launch);
         Some(if changes { CommandFault::Unanswered } else { CommandFault::NotInTime })
+    }
+
+    /// The rest of a key is over.
+    fn wake(self: &Arc<Keys>, key: Vec<u8>) {
+        let mut state = self.state();
+        let launch = state.wake(key);
+        drop(state);
+        self.launch(launch);
     }
 
     fn state(&self) -> MutexGuard<'_, State> {
@@ -164,7 +223,8 @@ impl Keys {
         let reply = Teller::new(move |told| keys.take(key, flight, client, told));
         match self.events.try_send(Event::Ask(Ask { what, reply })) {
             Err(TrySendError::Full(event)) => _ = self.overflow.send(event),
-            // (where the driver has ended, the teller tells it as it is dropped)
+            // (where the driver has ended it isn't proposed any more)
+            Err(TrySendError::Disconnected(Event::Ask(ask))) => ask.reply.send(Told::Ending),
             Err(TrySendError::Disconnected(_)) | Ok(()) => {}
         }
     }
@@ -182,50 +242,101 @@ impl Keys {
     }
 }
 
+/// Wakes each key once its rest is over, until there are no keys any more.
+fn wake_all(keys: &Weak<Keys>, rests: &Receiver<(Instant, Vec<u8>)>) {
+    for (end, key) in rests {
+        thread::sleep(end.saturating_duration_since(Instant::now()));
+        let Some(keys) = keys.upgrade() else { return };
+        keys.wake(key);
+    }
+}
+
 impl State {
-    /// Begins a command for what waits.
-    fn begin(&mut self, key: Vec<u8>) -> Option<Launch> {
-        self.flights += 1;
-        let (number, now) = (self.flights, stored::now());
-        let found = self.keys.get_mut(&key)?;
-        found.flight = Some(Flight { number, asked: Vec::new(), step: Step::Read, now, lost: 0, tries: 0 });
-        let known = self.known.get(&key).cloned();
-        self.propose(key, known)
+    /// The round trip to the fast quorum, where that is far.
+    fn far(&self) -> Option<Duration> {
+        Some(Duration::from_micros(self.metrics.quorum_round_trip.get())).filter(|it| *it >= FAR)
     }
 
-    /// The key's command is over: the next one, where something waits.
-    fn next(&mut self, key: Vec<u8>) -> Option<Launch> {
+    /// Begins a command for what waits, where there may be another one.
+    fn begin(&mut self, key: Vec<u8>) -> Option<Launch> {
+        let most = if self.far().is_some() { 2 } else { 1 };
         let found = self.keys.get_mut(&key)?;
-        found.flight = None;
-        if found.waiting.is_empty() {
+        if found.rests || found.flights.len() >= most {
+            return None;
+        }
+        let asked = found.take_waiting(0, MOST_TOGETHER);
+        if asked.is_empty() {
+            return None;
+        }
+        self.flights += 1;
+        let (number, now) = (self.flights, stored::now());
+        // (what the one before it leaves, where it is done)
+        let before = found.flights.last().and_then(|flight| flight.after.clone());
+        found.flights.push(Flight {
+            number,
+            asked,
+            together: 0,
+            step: Step::Read,
+            after: None,
+            now,
+            lost: 0,
+            tries: 0,
+        });
+        let known = before.or_else(|| self.known.get(&key).cloned());
+        self.propose(key, number, known)
+    }
+
+    /// A command of the key is over: the next one, where something waits.
+    fn next(&mut self, key: Vec<u8>, number: u64) -> Option<Launch> {
+        let far = self.far();
+        let found = self.keys.get_mut(&key)?;
+        let place = found.flights.iter().position(|flight| flight.number == number)?;
+        let over = found.flights.remove(place);
+        if let Some(far) = far.filter(|_| over.together > 1 && !found.rests) {
+            let end = Instant::now() + (far / SHARE_OF_REST).min(LONGEST_REST);
+            found.rests = self.resting.send((end, key.clone())).is_ok();
+        }
+        self.go_on(key)
+    }
+
+    fn wake(&mut self, key: Vec<u8>) -> Option<Launch> {
+        self.keys.get_mut(&key)?.rests = false;
+        self.go_on(key)
+    }
+
+    /// Begins a command of the key, or forgets it, where that is due.
+    fn go_on(&mut self, key: Vec<u8>) -> Option<Launch> {
+        let found = self.keys.get_mut(&key)?;
+        if found.flights.is_empty() && found.waiting.is_empty() && !found.rests {
             self.keys.remove(&key);
             return None;
         }
         self.begin(key)
     }
 
-    /// Proposes the command of the key's flight, of all that waits and isn't over. `current` is what the key may have now.
-    fn propose(&mut self, key: Vec<u8>, current: Option<Option<Vec<u8>>>) -> Option<Launch> {
+    /// Proposes the command of a flight of the key, of all that waits and isn't over. `current` is what the key may have now.
+    fn propose(&mut self, key: Vec<u8>, number: u64, current: Option<Option<Vec<u8>>>) -> Option<Launch> {
         let found = self.keys.get_mut(&key)?;
-        let flight = found.flight.as_mut()?;
+        let flight = found.flight(number)?;
         flight.asked.retain(|asked| !asked.is_over);
-        let room = MOST_TOGETHER.saturating_sub(flight.asked.len()).min(found.waiting.len());
-        flight.asked.extend(found.waiting.drain(..room));
+        let room = MOST_TOGETHER.saturating_sub(flight.asked.len());
+        let more = found.take_waiting(number, room);
+        let flight = found.flight(number)?;
+        flight.asked.extend(more);
         if flight.asked.is_empty() {
-            return self.next(key);
+            return self.next(key, number);
         }
         flight.now = stored::now();
-        let (step, command) = command(&flight.asked, &key, current, flight.now);
-        flight.step = step;
-        let flight = flight.number;
+        let (step, after, command) = command(&flight.asked, &key, current, flight.now);
+        (flight.step, flight.after, flight.together) = (step, after, flight.asked.len());
         let client = match self.client() {
             Ok(client) => client,
             Err(fault) => {
-                say(&fault.to_string());
-                return self.fail(key, CommandFault::Numbers(fault));
+                warn(&fault.to_string());
+                return self.fail(key, number, CommandFault::Numbers(fault));
             }
         };
-        Some(Launch { key, flight, client, seen: self.seen, command })
+        Some(Launch { key, flight: number, client, seen: self.seen, command })
     }
 
     /// A client of the protocol with a new request. One whose requests are all made isn't used any more.
@@ -240,39 +351,44 @@ impl State {
     }
 
     fn take(&mut self, key: Vec<u8>, number: u64, told: Told) -> Option<Launch> {
-        let flight = self.keys.get_mut(&key)?.flight.as_mut().filter(|flight| flight.number == number)?;
+        let flight = self.keys.get_mut(&key)?.flight(number)?;
         match told {
             Told::Done { reply, .. } => match reply {
-                OwnedAnswer::Absent => self.done(key, None),
-                OwnedAnswer::Present(value) => self.done(key, Some(value)),
-                OwnedAnswer::Closed => self.propose_again(key),
+                OwnedAnswer::Absent => self.done(key, number, None),
+                OwnedAnswer::Present(value) => self.done(key, number, Some(value)),
+                OwnedAnswer::Closed => self.propose_again(key, number),
                 OwnedAnswer::Lost | OwnedAnswer::Ordered => {
                     flight.lost += 1;
-                    if flight.lost < MOST_LOST { self.propose_again(key) } else { self.fail(key, CommandFault::Lost) }
+                    if flight.lost < MOST_LOST {
+                        self.propose_again(key, number)
+                    } else {
+                        self.fail(key, number, CommandFault::Lost)
+                    }
                 }
             },
-            Told::DoneUnseen { .. } | Told::Doubtful if flight.step == Step::Read => self.propose_again(key),
-            Told::DoneUnseen { .. } if flight.step == Step::Write => self.done_unseen(key),
-            Told::DoneUnseen { .. } | Told::Doubtful => self.fail(key, CommandFault::Doubtful),
-            Told::Refused(fault) => self.fail(key, CommandFault::Node(fault)),
-            Told::Alone => self.fail(key, CommandFault::NoMajority),
-            Told::Late => self.fail(key, CommandFault::Waiting),
-            _ => self.fail(key, CommandFault::StoreEnds),
+            Told::DoneUnseen { .. } | Told::Doubtful if flight.step == Step::Read => self.propose_again(key, number),
+            Told::DoneUnseen { .. } if flight.step == Step::Write => self.done_unseen(key, number),
+            Told::DoneUnseen { .. } | Told::Doubtful => self.fail(key, number, CommandFault::Doubtful),
+            Told::Refused(fault) => self.fail(key, number, CommandFault::Node(fault)),
+            Told::Alone => self.fail(key, number, CommandFault::NoMajority),
+            Told::Late => self.fail(key, number, CommandFault::Waiting),
+            Told::Ending => self.fail(key, number, CommandFault::Ending),
+            _ => self.fail(key, number, CommandFault::StoreEnds),
         }
     }
 
     /// Nothing was done: the same again, with what else waits by now.
-    fn propose_again(&mut self, key: Vec<u8>) -> Option<Launch> {
-        let current = match &self.keys.get(&key)?.flight.as_ref()?.step {
+    fn propose_again(&mut self, key: Vec<u8>, number: u64) -> Option<Launch> {
+        let current = match &self.keys.get_mut(&key)?.flight(number)?.step {
             Step::Compare(expected) => Some(expected.clone()),
             Step::Read | Step::Write => None,
         };
-        self.propose(key, current)
+        self.propose(key, number, current)
     }
 
     /// The command was done, where the key had this.
-    fn done(&mut self, key: Vec<u8>, before: Option<Vec<u8>>) -> Option<Launch> {
-        let flight = self.keys.get_mut(&key)?.flight.as_mut()?;
+    fn done(&mut self, key: Vec<u8>, number: u64, before: Option<Vec<u8>>) -> Option<Launch> {
+        let flight = self.keys.get_mut(&key)?.flight(number)?;
         let is_written = match &flight.step {
             Step::Read => false,
             Step::Write => true,
@@ -286,18 +402,22 @@ impl State {
         if !is_written && after != current {
             flight.tries += usize::from(flight.step != Step::Read);
             let is_hopeless = flight.tries == MOST_TRIES;
-            return if is_hopeless { self.fail(key, CommandFault::Contended) } else { self.propose(key, Some(before)) };
+            return if is_hopeless {
+                self.fail(key, number, CommandFault::Contended)
+            } else {
+                self.propose(key, number, Some(before))
+            };
         }
         for (asked, reply) in std::mem::take(&mut flight.asked).into_iter().zip(replies) {
             asked.answer(reply);
         }
         self.know(&key, if is_written { after.map(Stored::into_bytes) } else { before });
-        self.next(key)
+        self.next(key, number)
     }
 
     /// What was written whatever was there was done, and nobody knows what was there.
-    fn done_unseen(&mut self, key: Vec<u8>) -> Option<Launch> {
-        let flight = self.keys.get_mut(&key)?.flight.as_mut()?;
+    fn done_unseen(&mut self, key: Vec<u8>, number: u64) -> Option<Launch> {
+        let flight = self.keys.get_mut(&key)?.flight(number)?;
         let first = flight.asked.iter().position(|asked| asked.action.is_blind())?;
         let (_, replies) = fold(&flight.asked[first..], None, flight.now);
         let mut asked = std::mem::take(&mut flight.asked);
@@ -307,7 +427,7 @@ impl State {
         }
         asked.into_iter().for_each(|asked| asked.answer(Reply::Error(CommandFault::Unseen)));
         self.known.remove(&key);
-        self.next(key)
+        self.next(key, number)
     }
 
     fn know(&mut self, key: &[u8], value: Option<Vec<u8>>) {
@@ -322,13 +442,13 @@ impl State {
     }
 
     /// Nothing more is done for what the key's flight has asked.
-    fn fail(&mut self, key: Vec<u8>, fault: CommandFault) -> Option<Launch> {
-        let flight = self.keys.get_mut(&key)?.flight.as_mut()?;
+    fn fail(&mut self, key: Vec<u8>, number: u64, fault: CommandFault) -> Option<Launch> {
+        let flight = self.keys.get_mut(&key)?.flight(number)?;
         for asked in std::mem::take(&mut flight.asked) {
             asked.answer(Reply::Error(fault.clone()));
         }
         self.known.remove(&key);
-        self.next(key)
+        self.next(key, number)
     }
 }
 
@@ -352,25 +472,31 @@ fn fold(asked: &[Asked], current: Option<Stored>, now: u64) -> (Option<Stored>, 
     (current.filter(|stored| !stored.is_over(now)), replies)
 }
 
-/// The command that does all of this. `current` is what may be there.
-fn command(asked: &[Asked], key: &[u8], current: Option<Option<Vec<u8>>>, now: u64) -> (Step, OwnedCommand) {
+/// The command that does all of this, and what the key then has, where that can be told. `current` is what may be there.
+fn command(
+    asked: &[Asked],
+    key: &[u8],
+    current: Option<Option<Vec<u8>>>,
+    now: u64,
+) -> (Step, Option<Option<Vec<u8>>>, OwnedCommand) {
     let key = key.to_vec();
     if let Some(first) = asked.iter().position(|asked| asked.action.is_blind()) {
         let (after, _) = fold(&asked[first..], None, now);
-        let command = match after.map(Stored::into_bytes) {
+        let after = after.map(Stored::into_bytes);
+        let command = match after.clone() {
             Some(value) => OwnedCommand::Put { key, value },
             None => OwnedCommand::Del { key },
         };
-        return (Step::Write, command);
+        return (Step::Write, Some(after), command);
     }
-    let Some(before) = current else { return (Step::Read, OwnedCommand::Get { key }) };
+    let Some(before) = current else { return (Step::Read, None, OwnedCommand::Get { key }) };
     let stored = before.clone().map(Stored::read);
     let (after, _) = fold(asked, stored.clone(), now);
     if after == stored {
-        return (Step::Read, OwnedCommand::Get { key });
+        return (Step::Read, Some(before), OwnedCommand::Get { key });
     }
     let new = after.map(Stored::into_bytes);
-    (Step::Compare(before.clone()), OwnedCommand::Cas { key, expected: before, new })
+    (Step::Compare(before.clone()), Some(new.clone()), OwnedCommand::Cas { key, expected: before, new })
 }
 
 #[cfg(test)]
@@ -384,12 +510,12 @@ mod tests {
     use std::collections::BTreeSet;
     use std::path::PathBuf;
     use std::sync::atomic::AtomicBool;
-    use std::sync::mpsc::{Receiver, sync_channel};
-    use std::time::Duration;
+    use std::sync::mpsc::sync_channel;
 
     /// The keys of a store, whose driver is the test; its folder is removed in the end.
     struct Store {
         keys: Arc<Keys>,
+        metrics: Arc<Metrics>,
         events: Mutex<Receiver<Event>>,
         folder: PathBuf,
         messages: Sender<Message>,
@@ -403,15 +529,22 @@ mod tests {
             let folder = std::env::temp_dir().join(format!("store-keys-{}-{place}", std::process::id()));
             std::fs::create_dir_all(&folder).unwrap();
             let (sender, events) = sync_channel(64);
-            let keys = Keys::start(sender, Arc::new(Mutex::new(Numbers::new(&folder, 0)))).unwrap();
+            let metrics = Arc::<Metrics>::default();
+            let keys = Keys::start(sender, Arc::new(Mutex::new(Numbers::new(&folder, 0))), metrics.clone()).unwrap();
             let (messages, told) = channel();
-            Store { keys, events: Mutex::new(events), folder, messages, told: Mutex::new(told) }
+            Store { keys, metrics, events: Mutex::new(events), folder, messages, told: Mutex::new(told) }
         }
 
         /// Asks; its reply is told under this number.
         fn ask(&self, command: u64, key: &str, action: Action) -> u64 {
+            self.ask_by(1, command, key, action)
+        }
+
+        /// The same, on this connection.
+        fn ask_by(&self, connection: u64, command: u64, key: &str, action: Action) -> u64 {
             let id = self.keys.id();
-            self.keys.ask(id, key.into(), action, ReplyTo { messages: self.messages.clone(), command, part: 0 });
+            let messages = self.messages.clone();
+            self.keys.ask(id, key.into(), action, ReplyTo { messages, connection, command, part: 0 });
             id
         }
 
@@ -629,6 +762,7 @@ mod tests {
             (Some(Told::Refused(Fault::Memory)), CommandFault::Node(Fault::Memory)),
             (Some(Told::Alone), CommandFault::NoMajority),
             (Some(Told::Late), CommandFault::Waiting),
+            (Some(Told::Ending), CommandFault::Ending),
             (Some(Told::Ended), CommandFault::StoreEnds),
             // (the driver drops it)
             (None, CommandFault::StoreEnds),
@@ -687,6 +821,45 @@ mod tests {
         other.send(done(6, present("9")));
         store.proposed().4.send(done(7, present("9")));
         assert_eq!(store.told(), [(6, Reply::Integer(10))]);
+    }
+
+    #[test]
+    fn far_away_two_commands_of_a_key_are_under_way() {
+        let store = Store::new();
+        store.metrics.quorum_round_trip.set(19_999);
+        store.ask_by(1, 0, "x", Action::Add(1));
+        store.ask_by(2, 1, "x", Action::Add(1));
+        store.proposed().4.send(done(1, present("5")));
+        let (.., command, first) = store.proposed();
+        assert_eq!(command, cas("x", Some("5"), Some("7")));
+        assert!(store.is_idle());
+        store.metrics.quorum_round_trip.set(20_000);
+        // What its connection asks behind it waits; another one's goes at once, and expects what the first one leaves.
+        store.ask_by(2, 2, "x", Action::Add(10));
+        assert!(store.is_idle());
+        store.ask_by(3, 3, "x", Action::Add(100));
+        let (client, .., command, second) = store.proposed();
+        assert_eq!((client, command), (9, cas("x", Some("7"), Some("107"))));
+        store.ask_by(4, 4, "x", Action::Add(1_000));
+        assert!(store.is_idle());
+        // The second one was done first: it is tried again, with what may go with it by now.
+        second.send(done(2, present("5")));
+        let (.., command, second) = store.proposed();
+        assert_eq!(command, cas("x", Some("5"), Some("1105")));
+        first.send(done(3, present("5")));
+        assert_eq!(store.told(), [(0, Reply::Integer(6)), (1, Reply::Integer(7))]);
+        // Now nothing of that connection is under way.
+        let (.., command, third) = store.proposed();
+        assert_eq!(command, cas("x", Some("1105"), Some("1115")));
+        second.send(done(4, present("7")));
+        let (.., command, second) = store.proposed();
+        assert_eq!(command, cas("x", Some("7"), Some("1107")));
+        second.send(done(5, present("7")));
+        assert_eq!(store.told(), [(3, Reply::Integer(107)), (4, Reply::Integer(1_107))]);
+        third.send(done(6, present("1107")));
+        store.proposed().4.send(done(7, present("1107")));
+        assert_eq!(store.told(), [(2, Reply::Integer(1_117))]);
+        assert!(store.is_idle());
     }
 
     /// Three stores, whose drivers execute all on one map, and lose and hold up some.

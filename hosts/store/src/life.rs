@@ -12,13 +12,12 @@ use crate::openings::{Fetch, Step, piece};
 use crate::plants::{Plant, lacking};
 use crate::random::Random;
 use crate::receipts::Receipts;
-use crate::say::say;
+use crate::say::{say, warn};
 use crate::stop_fault::StopFault;
 use crate::teller::Teller;
-use crate::timers::Timers;
 use crate::wishes::{Change, Manage, Wish};
 use epaxos::OwnedAnswer;
-use std::collections::{BTreeSet, HashMap};
+use std::collections::BTreeSet;
 use std::fmt::Write;
 use std::sync::Mutex;
 use std::time::{Duration, Instant};
@@ -78,7 +77,6 @@ impl<C: Core> Driver<C> {
         let now = Instant::now();
         self.commits.open(peer, now);
         self.tell_commits(peer);
-        self.timers.hurry(now);
     }
 
     fn greet_all(&mut self) {
@@ -151,7 +149,9 @@ impl<C: Core> Driver<C> {
         }
         if self.others.hear(peer, generation, is_sealed) {
             self.tell_commits(peer);
-            self.timers.hurry(Instant::now());
+        }
+        if generation == own {
+            self.others.hear_seen(peer, seen);
         }
         if generation < own {
             self.greet_late(peer);
@@ -282,15 +282,15 @@ impl<C: Core> Driver<C> {
         let before = self.generation.number;
         let mut state = self.node.start_again(begin);
         if let (Begin::Take(path), Err(fault)) = (begin, &state)
-            && fault.is_lasting()
+            && fault.is_refusal()
         {
             // It goes on without it: another one may come.
-            say(&format!("a peer's opening isn't taken: {fault}"));
+            warn(&format!("a peer's opening isn't taken: {fault}"));
             let _ = std::fs::remove_file(path);
             state = self.node.start_again(&Begin::Again);
         }
         let state = state.map_err(StopFault::Node)?;
-        self.node.told().iter().for_each(|line| say(&format!("the node tells: {line}")));
+        self.node.told().iter().for_each(|line| warn(&format!("the node tells: {line}")));
         if state.generation == before && matches!(begin, Begin::Take(_)) {
             (self.fetch, self.behind_since) = (None, None);
             return Ok(());
@@ -304,14 +304,13 @@ impl<C: Core> Driver<C> {
             let _ = std::fs::remove_file(path);
         }
         let opening = self.opening(state.generation)?;
-        let waiting = std::mem::take(&mut self.waiting);
-        settle(waiting, &opening, before);
+        settle(self.waiting.take(), &opening, before);
         if opening.wanted() != opening.replicas {
             return Err(self.resize(&opening));
         }
         self.receipts = Receipts::open(&self.directory.receipts(state.generation)).map_err(StopFault::Receipts)?;
         let now = Instant::now();
-        self.timers = Timers::new(self.place.replica, now, Random::new());
+        self.watch.begin(now);
         self.changes = (self.changes.0 + 1, now - start);
         self.generation = Generation::new(state, now - start, now);
         self.others.begin();
@@ -539,7 +538,7 @@ impl<C: Core> Driver<C> {
     /// The store is to end: nothing more is proposed, and who waits is told.
     pub(crate) fn end(&mut self) {
         self.ends_at.get_or_insert(Instant::now() + MOST_WAIT_FOR_END);
-        self.held.drain(..).for_each(|held| held.reply.send(Told::Late));
+        self.held.drain(..).for_each(|held| held.reply.send(Told::Ending));
     }
 }
 
@@ -547,7 +546,7 @@ impl<C: Core> Driver<C> {
 fn answer(answers: &Mutex<Vec<(u8, Message)>>, to: u8, (client, request): (u32, u32), told: Told) {
     let (stamp, reply) = match told {
         Told::Done { stamp, reply } => (stamp, Some(reply)),
-        Told::Alone | Told::Late | Told::Refused(_) => (0, Some(OwnedAnswer::Lost)),
+        Told::Alone | Told::Late | Told::Ending | Told::Refused(_) => (0, Some(OwnedAnswer::Lost)),
         _ => (0, None),
     };
     if let Ok(mut answers) = answers.lock() {
@@ -556,8 +555,8 @@ fn answer(answers: &Mutex<Vec<(u8, Message)>>, to: u8, (client, request): (u32, 
 }
 
 /// What became of the commands that were under way in the generation before: an opening of the next one lists those that were done.
-fn settle(waiting: HashMap<(u32, u32), Waiting>, opening: &Opening, before: u32) {
-    for Waiting { instance, reply } in waiting.into_values() {
+fn settle(waiting: impl Iterator<Item = Waiting>, opening: &Opening, before: u32) {
+    for Waiting { instance, reply, .. } in waiting {
         reply.send(match opening.executed.contains(&instance) {
             _ if opening.generation != before + 1 => Told::Doubtful,
             true => Told::DoneUnseen { stamp: opening.since },

@@ -1,22 +1,33 @@
-//! The keys that there are, as `epaxos contents` tells them of this replica's folder: after all that its node has executed.
+//! The keys that there are at this replica, after all that it knows to be committed: as the core in this process tells them, or, where the core is a
+//! process of its own, as `epaxos contents` does of its folder.
+use crate::clients::fault_of;
 use crate::command_fault::CommandFault;
 use crate::commands::List;
+use crate::core::Pairs;
+use crate::driver::{Ask, Event, Told, What};
 use crate::glob::fits;
 use crate::listing_fault::ListingFault;
 use crate::resp::Reply;
 use crate::stored::{Stored, now};
+use crate::teller::Teller;
 use std::path::PathBuf;
 use std::process::{Command, Stdio};
+use std::sync::mpsc::{SyncSender, channel};
 use std::sync::{Arc, Mutex, PoisonError};
 use std::time::{Duration, Instant};
 
 /// A SCAN goes on in a list that isn't older than this.
 const FRESH: Duration = Duration::from_secs(10);
+/// So many keys that a list hides are removed by it.
+const MOST_HIDDEN: usize = 1_000;
 /// Cursors have so many bits, so that any client's integers can hold them.
 const CURSOR_BITS: u32 = 48;
 
-/// Lists keys by a program of its own, one list at a time.
+/// Lists keys, one list at a time.
 pub struct Listing {
+    /// To the driver.
+    events: SyncSender<Event>,
+    patience: Duration,
     program: PathBuf,
     folder: PathBuf,
     last: Mutex<Option<(Instant, Arc<Vec<Listed>>)>>,
@@ -31,27 +42,48 @@ struct Listed {
 }
 
 impl Listing {
-    /// By this program, of the folder of its node's generations.
-    pub fn new(program: PathBuf, folder: PathBuf) -> Listing {
-        Listing { program, folder, last: Mutex::new(None) }
+    /// By the driver, which has so long to answer; or by this program, of the folder of its node's generations.
+    pub fn new(events: SyncSender<Event>, patience: Duration, (program, folder): (PathBuf, PathBuf)) -> Listing {
+        Listing { events, patience, program, folder, last: Mutex::new(None) }
     }
 
-    pub fn answer(&self, list: &List) -> Result<Reply, CommandFault> {
+    /// The reply, and the keys that it hides, as they are past their deadlines: at most so many as are removed at once.
+    pub fn answer(&self, list: &List) -> Result<(Reply, Vec<Vec<u8>>), CommandFault> {
         let mut last = self.last.lock().unwrap_or_else(PoisonError::into_inner);
         let goes_on = matches!(list, List::Scan { cursor: 1.., .. });
         let kept = last.take().filter(|(start, _)| goes_on && start.elapsed() < FRESH);
         let kept = match kept {
             Some(kept) => kept,
-            None => (Instant::now(), Arc::new(self.list().map_err(CommandFault::Listing)?)),
+            None => (Instant::now(), Arc::new(self.list()?)),
         };
         let listed = kept.1.clone();
         // (a list is kept while a scan goes on)
         *last = Some(kept).filter(|_| matches!(list, List::Scan { .. }));
         drop(last);
-        Ok(answer(list, &listed))
+        Ok((answer(list, &listed), hidden(list, &listed)))
     }
 
-    fn list(&self) -> Result<Vec<Listed>, ListingFault> {
+    /// The keys that are past their deadlines now, in the order of their places.
+    pub fn over(&self) -> Result<Vec<Vec<u8>>, CommandFault> {
+        let now = now();
+        let over = |listed: &Listed| listed.stored.is_over(now);
+        Ok(self.list()?.into_iter().filter(over).map(|listed| listed.key).collect())
+    }
+
+    fn list(&self) -> Result<Vec<Listed>, CommandFault> {
+        let (sender, told) = channel();
+        let reply = Teller::new(move |told| _ = sender.send(told));
+        // (where the driver has ended, the teller tells it)
+        let _ = self.events.send(Event::Ask(Ask { what: What::Contents, reply }));
+        match told.recv_timeout(self.patience) {
+            Ok(Told::Contents(Some(pairs))) => Ok(by_places(pairs)),
+            Ok(Told::Contents(None)) => self.list_by_program().map_err(CommandFault::Listing),
+            Ok(told) => Err(fault_of(told)),
+            Err(_) => Err(CommandFault::NotInTime),
+        }
+    }
+
+    fn list_by_program(&self) -> Result<Vec<Listed>, ListingFault> {
         let output = Command::new(&self.program)
             .arg("contents")
             .arg(&self.folder)
@@ -66,16 +98,21 @@ impl Listing {
     }
 }
 
+/// Keys with what they have, by their places.
+fn by_places(pairs: Pairs) -> Vec<Listed> {
+    let listed = |(key, value): (Vec<u8>, Vec<u8>)| Listed { place: place(&key), key, stored: Stored::read(value) };
+    let mut listed: Vec<_> = pairs.into_iter().map(listed).collect();
+    listed.sort_by(|first, second| (first.place, &first.key).cmp(&(second.place, &second.key)));
+    listed
+}
+
 /// The keys of what `contents` prints, by their places.
 fn read(text: &[u8]) -> Option<Vec<Listed>> {
-    let listed = |(key, value): (Vec<u8>, Vec<u8>)| Listed { place: place(&key), key, stored: Stored::read(value) };
-    let mut listed: Vec<_> = pairs(text)?.into_iter().map(listed).collect();
-    listed.sort_by(|first, second| (first.place, &first.key).cmp(&(second.place, &second.key)));
-    Some(listed)
+    pairs(text).map(by_places)
 }
 
 /// The keys of what `contents` prints, each with its value.
-pub(crate) fn pairs(text: &[u8]) -> Option<Vec<(Vec<u8>, Vec<u8>)>> {
+pub(crate) fn pairs(text: &[u8]) -> Option<Pairs> {
     let mut lines = text.strip_suffix(b"\n")?.split(|byte| *byte == b'\n');
     lines.next().filter(|line| line.starts_with(b"generation "))?;
     lines.map(read_line).collect()
@@ -114,6 +151,28 @@ fn place(key: &[u8]) -> u64 {
     (hash >> (64 - CURSOR_BITS)).max(1)
 }
 
+/// From where to where a scan goes on.
+fn window(cursor: u64, count: usize, listed: &[Listed]) -> (usize, usize) {
+    let start = listed.partition_point(|it| it.place < cursor);
+    let mut end = start.saturating_add(count).min(listed.len());
+    // (keys of one place come together)
+    while end > 0 && end < listed.len() && listed[end].place == listed[end - 1].place {
+        end += 1;
+    }
+    (start, end)
+}
+
+/// What a list has passed over, as it is past its deadline.
+fn hidden(list: &List, listed: &[Listed]) -> Vec<Vec<u8>> {
+    let (start, end) = match list {
+        List::Scan { cursor, count, .. } => window(*cursor, *count, listed),
+        List::Size | List::Keys(_) => (0, listed.len()),
+    };
+    let now = now();
+    let over = listed[start..end].iter().filter(|it| it.stored.is_over(now));
+    over.take(MOST_HIDDEN).map(|it| it.key.clone()).collect()
+}
+
 fn answer(list: &List, listed: &[Listed]) -> Reply {
     let now = now();
     let there = |listed: &&Listed| !listed.stored.is_over(now);
@@ -124,12 +183,7 @@ fn answer(list: &List, listed: &[Listed]) -> Reply {
             Reply::Array(listed.iter().filter(there).filter(|it| fits(pattern, &it.key)).map(bulk).collect())
         }
         List::Scan { cursor, pattern, count, kind } => {
-            let start = listed.partition_point(|it| it.place < *cursor);
-            let mut end = start.saturating_add(*count).min(listed.len());
-            // (keys of one place come together)
-            while end > 0 && end < listed.len() && listed[end].place == listed[end - 1].place {
-                end += 1;
-            }
+            let (start, end) = window(*cursor, *count, listed);
             let next = listed.get(end).map_or(0, |it| it.place);
             let is_asked = |it: &&Listed| {
                 pattern.as_ref().is_none_or(|pattern| fits(pattern, &it.key))
@@ -201,5 +255,11 @@ mod tests {
         let scanned = |keys| Reply::Array(vec![Reply::text("0"), Reply::Array(keys)]);
         assert_eq!(answer(&list("lock"), &there), scanned(vec![Reply::text("lock")]));
         assert_eq!(answer(&list("string"), &there), scanned(vec![]));
+        // What is hidden is told to whoever removes it.
+        assert_eq!(hidden(&List::Keys(b"lock".to_vec()), &there), [b"a".to_vec()]);
+        assert_eq!(hidden(&list("lock"), &there), [b"a".to_vec()]);
+        let from = |cursor| List::Scan { cursor, pattern: None, count: 1, kind: None };
+        let scanned = [hidden(&from(0), &there), hidden(&from(there[1].place), &there)].concat();
+        assert_eq!(scanned, [b"a".to_vec()]);
     }
 }

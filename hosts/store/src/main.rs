@@ -30,6 +30,7 @@ use store::memory::Memory;
 use store::metrics::{self, Metrics};
 use store::node::{Node, Settings};
 use store::node_fault::NodeFault;
+use store::notify;
 use store::numbers::Numbers;
 use store::numbers_fault::NumbersFault;
 use store::opening::Opening;
@@ -43,11 +44,12 @@ use store::receipts::Receipts;
 use store::receipts_fault::ReceiptsFault;
 use store::recovery;
 use store::replies::Due;
-use store::say::{name, say};
+use store::say::{error, name, say, warn};
 use store::sealed::{Key, KeyFault};
 use store::stop_fault::StopFault;
-use store::timers::Timers;
+use store::sweep;
 use store::waiting::Waiting;
+use store::watch::Watch;
 
 /// How many events may wait for the driver.
 const WAITING_EVENTS: usize = 4_096;
@@ -65,9 +67,13 @@ fn main() -> ExitCode {
             let _ = std::io::stdout().write_all(help().as_bytes());
             return ExitCode::SUCCESS;
         }
+        Ok(Words::Version) => {
+            let _ = std::io::stdout().write_all(concat!("store ", env!("CARGO_PKG_VERSION"), "\n").as_bytes());
+            return ExitCode::SUCCESS;
+        }
         Ok(Words::Run(options)) => *options,
         Err(fault) => {
-            say(&fault.to_string());
+            error(&fault.to_string());
             return ExitCode::from(2);
         }
     };
@@ -79,14 +85,18 @@ fn main() -> ExitCode {
         Ok(driver) => StoreFault::Stop(driver.run()),
         Err(fault) => fault,
     };
-    say(&fault.to_string());
+    match fault {
+        StoreFault::Stop(StopFault::Asked | StopFault::Resized(..)) => say(&fault.to_string()),
+        _ => error(&fault.to_string()),
+    }
     if let StoreFault::Stop(_) = fault {
+        notify::stopping();
         // What clients are told is on its way to them.
         due.end(LAST_REPLIES);
         admin.remove();
     }
     if let StoreFault::Stop(StopFault::Resized(..)) = fault {
-        say(&format!("it can't begin anew: {}", begin_anew()));
+        error(&format!("it can't begin anew: {}", begin_anew()));
     }
     ExitCode::from(fault.status())
 }
@@ -203,8 +213,8 @@ fn start(options: Options, due: Arc<Due>) -> Result<Driver<AnyCore>, StoreFault>
     let metrics = Arc::<Metrics>::default();
     let shared = Shared {
         events: sender.clone(),
-        keys: Keys::start(sender.clone(), numbers.clone()).map_err(StoreFault::Thread)?,
-        listing: Listing::new(program(&options), directory.generations()),
+        keys: Keys::start(sender.clone(), numbers.clone(), metrics.clone()).map_err(StoreFault::Thread)?,
+        listing: Arc::new(Listing::new(sender.clone(), options.patience, (program(&options), directory.generations()))),
         patience: options.patience,
         password: password(options.auth.as_deref())?,
         operators: options.admin.to_string(),
@@ -237,6 +247,8 @@ fn start(options: Options, due: Arc<Due>) -> Result<Driver<AnyCore>, StoreFault>
         let (events, patience, due) = (shared.events.clone(), shared.patience, shared.due.clone());
         let operators = Operators::new(events, patience, password_of_operators, due, membership.clone());
         let (operators, shared) = (Arc::new(operators), Arc::new(shared));
+        let (listing, keys, metrics) = (shared.listing.clone(), shared.keys.clone(), shared.metrics.clone());
+        spawn("sweep", move || sweep::sweep(&listing, &keys, &metrics)).map_err(StoreFault::Thread)?;
         spawn("operators", move || admin::listen(&for_operators, &operators)).map_err(StoreFault::Thread)?;
         spawn("clients", move || clients::listen(for_clients, shared)).map_err(StoreFault::Thread)
     };
@@ -277,8 +289,15 @@ fn start(options: Options, due: Arc<Due>) -> Result<Driver<AnyCore>, StoreFault>
         serve(for_clients, shared, &membership)?;
     }
     let sealer = numbers.lock().unwrap_or_else(PoisonError::into_inner).give().map_err(StoreFault::Numbers)?;
+    let watch = Watch::new(place, Instant::now(), Random::new().below(u64::MAX));
+    if !watch.is_measured() {
+        warn(
+            "built without the library, which goes by measured round trips: what is late is recovered after a second or two",
+        );
+    }
     let (replica, replicas, generation) = (place.replica, place.replicas, state.generation);
     let (listen, process) = (&options.listen, node.process());
+    notify::ready(&format!("replica {replica} of {replicas} serves"));
     say(&format!(
         "replica {replica} of {replicas} in generation {generation}, clients at {listen}, peers at {own}, node process {process}"
     ));
@@ -289,7 +308,7 @@ fn start(options: Options, due: Arc<Due>) -> Result<Driver<AnyCore>, StoreFault>
         directory,
         membership,
         receipts,
-        timers: Timers::new(place.replica, Instant::now(), Random::new()),
+        watch,
         events,
         plant: options.plant,
         limits: options.limits,
@@ -387,7 +406,7 @@ fn start_again(
                 directory.take_back(opening.generation).map_err(StoreFault::Directory)?;
             }
             // (one that is refused is of no use; any other fault may pass)
-            Err(StoreFault::Node(fault)) if fault.is_lasting() && matches!(begin, Begin::Take(_)) => {
+            Err(StoreFault::Node(fault)) if fault.is_refusal() && matches!(begin, Begin::Take(_)) => {
                 let _ = std::fs::remove_file(&whole);
             }
             Err(fault) => return Err(fault),
@@ -441,6 +460,6 @@ fn start_node(
 /// Tells what a core tells at its start.
 fn tell_of(mut node: AnyCore) -> Result<(AnyCore, State), StoreFault> {
     let state = node.state().map_err(StoreFault::Node)?;
-    node.told().iter().for_each(|line| say(&format!("the node tells: {line}")));
+    node.told().iter().for_each(|line| warn(&format!("the node tells: {line}")));
     Ok((node, state))
 }

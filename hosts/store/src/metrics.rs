@@ -80,9 +80,17 @@ pub struct Metrics {
     pub syncs: Number,
     pub open_instances: Number,
     pub peers_reached: Number,
+    /// How long the answer of the farthest member of the fast quorum takes at least, in microseconds. 0: too few have come.
+    pub quorum_round_trip: Number,
     pub frames_lost: Number,
     pub commits_sent_again: Number,
     pub frames_refused: Number,
+    /// Second phases that this replica has begun: of commands that didn't take the fast path.
+    pub accepts: Number,
+    /// Recoveries that it has begun.
+    pub recoveries: Number,
+    /// Keys that were past their deadlines at the last look and aren't removed yet.
+    pub expired: Number,
     /// 1 where this replica takes part: it serves a generation, and reaches a majority.
     pub takes_part: Number,
 }
@@ -91,40 +99,69 @@ impl Metrics {
     /// All of it in Prometheus' text format, version 0.0.4.
     pub fn text(&self) -> String {
         let mut text = String::new();
-        let name = "store_wait_seconds";
+        let name = "epaxos_store_wait_seconds";
         line(&mut text, format_args!("# HELP {name} How long commands waited for their answers."));
         line(&mut text, format_args!("# TYPE {name} histogram"));
         self.waits.write(name, &mut text);
         for (name, what, kind, number) in [
-            ("store_commands_answered_total", "Commands that were answered.", "counter", &self.answered),
-            ("store_commands_refused_total", "Commands that ended by an error.", "counter", &self.refused),
-            ("store_asks_total", "Round trips to the node.", "counter", &self.asks),
-            ("store_syncs_total", "Syncs of the log.", "counter", &self.syncs),
+            ("epaxos_store_commands_answered_total", "Commands that were answered.", "counter", &self.answered),
+            ("epaxos_store_commands_refused_total", "Commands that ended by an error.", "counter", &self.refused),
+            ("epaxos_store_asks_total", "Round trips to the node.", "counter", &self.asks),
+            ("epaxos_store_syncs_total", "Syncs of the log.", "counter", &self.syncs),
             (
-                "store_frames_lost_total",
+                "epaxos_store_frames_lost_total",
                 "Frames to peers that were dropped for want of room.",
                 "counter",
                 &self.frames_lost,
             ),
             (
-                "store_commits_sent_again_total",
+                "epaxos_store_commits_sent_again_total",
                 "Commits that were sent again to peers that lacked them.",
                 "counter",
                 &self.commits_sent_again,
             ),
-            ("store_frames_refused_total", "Frames of peers that the node refused.", "counter", &self.frames_refused),
-            ("store_takes_part", "1 where this replica serves and reaches a majority.", "gauge", &self.takes_part),
-            ("store_clients", "Clients that are connected.", "gauge", &self.clients),
-            ("store_generation", "The generation that the log is of.", "gauge", &self.generation),
-            ("store_entries", "Entries of this generation's log.", "gauge", &self.entries),
-            ("store_log_bytes", "Bytes of this generation's log.", "gauge", &self.log_bytes),
             (
-                "store_open_instances",
+                "epaxos_store_frames_refused_total",
+                "Frames of peers that the node refused.",
+                "counter",
+                &self.frames_refused,
+            ),
+            (
+                "epaxos_store_accepts_total",
+                "Commands that didn't take the fast path, for which this replica began a second phase.",
+                "counter",
+                &self.accepts,
+            ),
+            ("epaxos_store_recoveries_total", "Recoveries that this replica began.", "counter", &self.recoveries),
+            ("epaxos_store_expired_kept", "Keys past their deadlines that aren't removed yet.", "gauge", &self.expired),
+            (
+                "epaxos_store_takes_part",
+                "1 where this replica serves and reaches a majority.",
+                "gauge",
+                &self.takes_part,
+            ),
+            ("epaxos_store_clients", "Clients that are connected.", "gauge", &self.clients),
+            ("epaxos_store_generation", "The generation that the log is of.", "gauge", &self.generation),
+            ("epaxos_store_entries", "Entries of this generation's log.", "gauge", &self.entries),
+            ("epaxos_store_log_bytes", "Bytes of this generation's log.", "gauge", &self.log_bytes),
+            (
+                "epaxos_store_open_instances",
                 "Instances that are known of and aren't committed here.",
                 "gauge",
                 &self.open_instances,
             ),
-            ("store_peers_reached", "Other replicas that this one is connected to.", "gauge", &self.peers_reached),
+            (
+                "epaxos_store_peers_reached",
+                "Other replicas that this one is connected to.",
+                "gauge",
+                &self.peers_reached,
+            ),
+            (
+                "epaxos_store_quorum_round_trip_microseconds",
+                "The round trip to the farthest member of the fast quorum: the shortest of the last 32.",
+                "gauge",
+                &self.quorum_round_trip,
+            ),
         ] {
             line(&mut text, format_args!("# HELP {name} {what}"));
             line(&mut text, format_args!("# TYPE {name} {kind}"));
@@ -210,7 +247,7 @@ mod tests {
         let (head, body) = answer.split_once("\r\n\r\n").unwrap();
         assert!(head.starts_with("HTTP/1.1 200 OK\r\nContent-Type: text/plain; version=0.0.4\r\n"));
         assert!(head.contains(&format!("Content-Length: {}\r\n", body.len())));
-        assert!(body.contains("\n# TYPE store_generation gauge\nstore_generation 7\n"));
+        assert!(body.contains("\n# TYPE epaxos_store_generation gauge\nepaxos_store_generation 7\n"));
         assert!(asked(b"GET / HTTP/1.1\r\n\r\n").starts_with("HTTP/1.1 404 "));
         assert!(asked(b"POST /metrics HTTP/1.1\r\n\r\n").starts_with("HTTP/1.1 405 "));
     }

@@ -1,5 +1,5 @@
 //! The core as a child process, `epaxos node --dir`, one for each generation. It puts what it takes on the disk itself.
-use crate::core::{Begin, Core};
+use crate::core::{Begin, Core, Pairs};
 use crate::node_fault::NodeFault;
 use crate::outcome::{Asked, Outcome, Outgoing, Report};
 use epaxos::wire::{self, Done, Question, Told};
@@ -182,7 +182,7 @@ impl Core for Node {
         let report = |told: Told| Report {
             frames: told.frames().map(|frame| outgoing(&frame)).collect(),
             committed: told.committed().collect(),
-            open: told.open().map(|open| open.instance).collect(),
+            open: told.open().collect(),
         };
         self.read(|answer| Told::read(answer).map(report))
     }
@@ -196,6 +196,15 @@ impl Core for Node {
         self.ask(&[Question::Sync, Question::State])?;
         self.read(wire::synced)?;
         self.read(wire::state)
+    }
+
+    fn handled(&mut self, peer: u8) -> Result<u32, NodeFault> {
+        self.ask(&[Question::Handled(peer)])?;
+        self.read(wire::handled)
+    }
+
+    fn contents(&mut self) -> Result<Option<Pairs>, NodeFault> {
+        Ok(None)
     }
 
     fn start_again(&mut self, begin: &Begin) -> Result<State, NodeFault> {

@@ -45,6 +45,17 @@ impl NodeFault {
     /// Whether another start with the same words would end in the same way.
     pub fn is_lasting(&self) -> bool {
         match self {
+            // (a program that isn't there, or that may not be run, isn't there at the next start either)
+            NodeFault::Start(_, error) => {
+                matches!(error.kind(), io::ErrorKind::NotFound | io::ErrorKind::PermissionDenied)
+            }
+            fault => fault.is_refusal(),
+        }
+    }
+
+    /// Whether the core was there and refuses what it was to begin with.
+    pub fn is_refusal(&self) -> bool {
+        match self {
             NodeFault::Ended(Some(status), _) => status.code() == Some(REFUSES),
             NodeFault::Generations(fault) => fault.is_lasting(),
             NodeFault::Open(fault) => !matches!(fault, OpenFault::Memory | OpenFault::NoCore(_) | OpenFault::Ended(_)),

@@ -19,7 +19,7 @@ store: one replica of a replicated store, for clients of the Redis protocol
     --peers A,B,C          where each replica listens for the others, in order, this one too: 3, 5 or 7 of them
     --dir DIR              the folder of this replica: its log, its receipts; created where it isn't there
     --new                  begins the replica: for the first start of its folder, and for no other
-    --listen HOST:PORT     where clients are listened for; default 127.0.0.1:7000; a port alone is one of 127.0.0.1
+    --listen HOST:PORT     the address on which clients connect; default 127.0.0.1:7000; a port alone is one of 127.0.0.1
     --peer-key FILE        the key that all replicas share: whoever hasn't it is no peer. 16 to 4096 bytes that nobody can guess, in a
                            file that only its owner reads (head -c 32 /dev/urandom | base64 > FILE; chmod 600 FILE)
     --insecure             without a key the peers' port is one of this machine alone; with this it may be any, open to whoever comes
@@ -28,7 +28,7 @@ store: one replica of a replicated store, for clients of the Redis protocol
                            mode 0600; default DIR/{ADMIN} (redis-cli -s DIR/{ADMIN} EPAXOS MEMBERS)
     --admin HOST:PORT      the same over TCP; needs --admin-auth; a port alone is one of 127.0.0.1
     --admin-auth FILE      the password for the admin socket, as --auth has one for clients
-    --memory BYTES         so much may be under way for all clients together; default {MEMORY}
+    --memory BYTES         memory limit for unfinished requests of all clients; default {MEMORY}
     --metrics HOST:PORT    where Prometheus reads /metrics; a port alone is one of 127.0.0.1; default: nowhere
     --node PATH            the program `epaxos`, in which the core then runs, with its log; default: the core runs in the store itself, where that
                            was built with the library, else in the `epaxos` on the PATH
@@ -38,13 +38,15 @@ store: one replica of a replicated store, for clients of the Redis protocol
     --seal-numbers N       a generation ends once a replica has proposed so many commands in it: 10 to 1,900; default {NUMBERS}
     --seal-dependencies N  or once one of its commands depends on so many others: 10 to 14,000; default {DEPENDENCIES}
     --seal-log BYTES       or once its log is so long; default {LOG}
-    --keep N               so many generations that were left stay in the folder, for an audit, from 1 on; default {KEPT}
+    --keep N               number of finished generations to keep in the folder, for an audit, from 1; default {KEPT}
     --help                 this text
+    --version              the version
 
 Example, one of three on this machine (start the others with 1 and 2 in the places of 0):
     store --replica 0 --peers 127.0.0.1:7100,127.0.0.1:7101,127.0.0.1:7102 --listen 7000 --dir /tmp/store/0 --node ./epaxos --new
 
-It runs until it is killed; SIGTERM is the way. Status 1: it can't start, or its node has ended. 2: the command line.
+It runs until it is killed; SIGTERM is the way. Status 1: it can't start, or its node has ended. 2: the command line. 3: no start with these words
+and this folder can go on; standard error says why.
 ";
 
 /// When a generation ends, where nothing is told.
@@ -102,6 +104,7 @@ pub struct Options {
 #[derive(Debug, PartialEq, Eq)]
 pub enum Words {
     Help,
+    Version,
     Run(Box<Options>),
 }
 
@@ -119,8 +122,10 @@ pub fn read(words: impl IntoIterator<Item = String>) -> Result<Words, OptionsFau
     let mut start = Start::Again;
     let (mut limits, mut kept) = (LIMITS, KEPT);
     while let Some(word) = words.next() {
-        if word == "--help" || word == "-h" {
-            return Ok(Words::Help);
+        match word.as_str() {
+            "--help" | "-h" => return Ok(Words::Help),
+            "--version" | "-V" => return Ok(Words::Version),
+            _ => {}
         }
         let begins = match word.as_str() {
             "--new" => Some(Start::New),

@@ -19,6 +19,8 @@ struct Other {
     is_heard: bool,
     /// The greatest number of an entry of it that was seen in the present generation.
     seen: u32,
+    /// The same of this replica that it has told it saw.
+    sees: u32,
     greeted: Option<Instant>,
 }
 
@@ -49,7 +51,7 @@ impl Others {
 
     /// A generation begins, of which nothing was seen.
     pub fn begin(&mut self) {
-        self.all.iter_mut().for_each(|other| other.seen = 0);
+        self.all.iter_mut().for_each(|other| (other.seen, other.sees) = (0, 0));
         self.is_saved = false;
     }
 
@@ -76,6 +78,18 @@ impl Others {
 
     pub fn seen(&self, replica: u8) -> u32 {
         self.all.get(usize::from(replica)).map_or(0, |other| other.seen)
+    }
+
+    /// A replica has told the greatest entry of this one that it saw in the present generation.
+    pub fn hear_seen(&mut self, replica: u8, entry: u32) {
+        if let Some(other) = self.all.get_mut(usize::from(replica)) {
+            other.sees = entry;
+        }
+    }
+
+    /// What it has told so last.
+    pub fn sees(&self, replica: u8) -> u32 {
+        self.all.get(usize::from(replica)).map_or(0, |other| other.sees)
     }
 
     /// A replica has told how far it is. Whether it is the first time.
@@ -164,10 +178,13 @@ mod tests {
         it.see(1, 7);
         it.see(1, 6);
         it.see(3, 9);
+        it.hear_seen(1, 5);
+        assert_eq!([0, 1, 3].map(|replica| it.sees(replica)), [0, 5, 0]);
         it.save(4);
         assert_eq!([0, 1, 2].map(|replica| Others::open(&folder, 3, 4).seen(replica)), [0, 7, 0]);
         assert_eq!(Others::open(&folder, 3, 5).seen(1), 0);
         it.begin();
+        assert_eq!((it.seen(1), it.sees(1)), (0, 0));
         it.save(5);
         assert_eq!(Others::open(&folder, 3, 4).seen(1), 0);
         fs::remove_dir_all(&folder).unwrap();

@@ -1,5 +1,5 @@
 //! What a core is asked at once, and what comes of it.
-use epaxos::{Event, Fault, Fields, Instance, Proposed, Receipt};
+use epaxos::{Event, Fault, Fields, Instance, OpenInstance, Proposed, Receipt};
 
 /// What a core is asked at once.
 #[derive(Default)]
@@ -48,7 +48,7 @@ pub struct Report {
     pub frames: Vec<Outgoing>,
     /// The instances that got committed, own and others'.
     pub committed: Vec<Instance>,
-    pub open: Vec<Instance>,
+    pub open: Vec<OpenInstance>,
 }
 
 /// The receipts of these bytes.

@@ -8,18 +8,18 @@ use crate::driver::Event;
 use crate::identities::{Identities, Identity};
 use crate::link::Link;
 use crate::link_fault::LinkFault;
-use crate::say::say;
+use crate::say::{say, warn};
 use crate::sealed::{self, Channel, Direction, Hello, Key};
 use crate::timed::Timed;
 use crate::waiting::Waiting;
-use std::collections::VecDeque;
+use std::collections::{HashMap, VecDeque};
 use std::io::{self, BufReader, BufWriter, Read, Write};
 use std::net::{Shutdown, TcpListener, TcpStream, ToSocketAddrs};
 use std::sync::atomic::{AtomicBool, AtomicU64, Ordering};
 use std::sync::mpsc::SyncSender;
-use std::sync::{Arc, Condvar, Mutex, MutexGuard};
+use std::sync::{Arc, Condvar, Mutex, MutexGuard, PoisonError};
 use std::thread;
-use std::time::Duration;
+use std::time::{Duration, Instant};
 
 /// How long a frame may be, as in a bundle, or a message of a host.
 const SHORTEST_FRAME: usize = 3;
@@ -40,6 +40,8 @@ const GREETING_PATIENCE: Duration = Duration::from_secs(5);
 const BEATS: Duration = Duration::from_secs(1);
 /// A peer that tells nothing for so long is lost.
 const SILENCE: Duration = Duration::from_secs(5);
+/// Strangers of one kind are told of once in so long.
+const SILENT: Duration = Duration::from_secs(60);
 /// At most so many connections to the peers' port that nobody has greeted on: one more ends the oldest of them.
 const MOST_STRANGERS: usize = 64;
 const LEAST_PAUSE: Duration = Duration::from_millis(20);
@@ -258,7 +260,7 @@ impl TcpLink {
                 && !was_refused
             {
                 was_refused = true;
-                say(&format!("peer {} at {} {fault}", self.to, self.address()));
+                warn(&format!("peer {} at {} {fault}", self.to, self.address()));
             }
             if let Ok((stream, channel)) = connected {
                 was_refused = false;
@@ -272,7 +274,7 @@ impl TcpLink {
                 let cause = self.send_all(stream, channel);
                 self.is_reached.store(false, Ordering::Relaxed);
                 was_lost = true;
-                say(&format!("peer {} at {} lost: {cause}", self.to, self.address()));
+                warn(&format!("peer {} at {} lost: {cause}", self.to, self.address()));
             }
             self.rest(pause);
             pause = (pause * 2).min(GREATEST_PAUSE);
@@ -414,8 +416,8 @@ pub struct Receiving {
     /// The connection of each replica.
     current: Vec<Mutex<Option<TcpStream>>>,
     strangers: Mutex<Strangers>,
-    /// Whether a stranger was told of.
-    has_complained: AtomicBool,
+    /// When strangers were told of last, by what was told.
+    told: Mutex<HashMap<&'static str, Instant>>,
 }
 
 /// The connections that nobody has greeted on yet, in the order in which they came, by numbers.
@@ -428,7 +430,7 @@ struct Strangers {
 impl Receiving {
     pub fn new(membership: Arc<Membership>, events: SyncSender<Event>) -> Receiving {
         let current = (0..MOST_REPLICAS).map(|_| Mutex::default()).collect();
-        Receiving { membership, events, current, strangers: Mutex::default(), has_complained: AtomicBool::new(false) }
+        Receiving { membership, events, current, strangers: Mutex::default(), told: Mutex::default() }
     }
 
     fn strangers(&self) -> MutexGuard<'_, Strangers> {
@@ -533,12 +535,16 @@ impl Receiving {
         Ok(is_taken.then_some((from, identity, channel)))
     }
 
-    /// Tells of a stranger, once.
-    fn complain(&self, stream: &TcpStream, what: &str) -> io::Result<()> {
-        if !self.has_complained.swap(true, Ordering::Relaxed) {
-            say(&format!(
-                "a connection from {} to the peers' port {what}; others like it aren't told",
-                stream.peer_addr()?
+    /// Tells of a stranger; of others like it after a while again.
+    fn complain(&self, stream: &TcpStream, what: &'static str) -> io::Result<()> {
+        let mut told = self.told.lock().unwrap_or_else(PoisonError::into_inner);
+        let is_due = told.get(what).is_none_or(|at| at.elapsed() >= SILENT);
+        if is_due {
+            told.insert(what, Instant::now());
+            warn(&format!(
+                "a connection from {} to the peers' port {what} (further ones aren't logged for {} s)",
+                stream.peer_addr()?,
+                SILENT.as_secs()
             ));
         }
         Ok(())

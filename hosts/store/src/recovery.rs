@@ -15,7 +15,7 @@ use crate::peers::{MOST_REPLICAS, Place};
 use crate::plants::skip_key;
 use crate::random::Random;
 use crate::recovery_fault::RecoveryFault;
-use crate::say::say;
+use crate::say::error;
 use epaxos::{Cluster, Fields, Setup};
 use sha2::{Digest, Sha256};
 use std::fmt::Write as _;
@@ -70,7 +70,7 @@ pub fn main(words: impl Iterator<Item = String>) -> ExitCode {
             ExitCode::SUCCESS
         }
         Err(fault) => {
-            say(&format!("nothing was changed: {fault}"));
+            error(&format!("nothing was changed: {fault}"));
             ExitCode::from(match fault {
                 RecoveryFault::Words(_) => 2,
                 fault if fault.is_lasting() => 3,

@@ -68,6 +68,8 @@ pub enum Message {
 /// Where a part of a reply goes: of the connection's command of this number, from 0.
 pub struct ReplyTo {
     pub messages: Sender<Message>,
+    /// The connection's number.
+    pub connection: u64,
     pub command: u64,
     pub part: usize,
 }

@@ -26,6 +26,16 @@ impl Read for Timed<'_> {
     }
 }
 
+/// Reads what is there. A process that was stopped by a signal and goes on finds a read that has a timeout interrupted: then it reads again.
+pub fn read_some(stream: &mut (impl Read + ?Sized), bytes: &mut [u8]) -> io::Result<usize> {
+    loop {
+        match stream.read(bytes) {
+            Err(error) if error.kind() == io::ErrorKind::Interrupted => {}
+            told => return told,
+        }
+    }
+}
+
 impl Write for Timed<'_> {
     fn write(&mut self, bytes: &[u8]) -> io::Result<usize> {
         self.stream.write(bytes)

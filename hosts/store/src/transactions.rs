@@ -2,66 +2,41 @@
 use crate::command_fault::CommandFault;
 use crate::commands::Asked;
 use crate::resp::Reply;
-use std::time::{Duration, Instant};
 
-/// A connection that is silent for so long behind a refused `WATCH` ends: redis-py sends no `UNWATCH` then, and would go on using it. It goes
-/// on with another one.
-const WATCHED: Duration = Duration::from_secs(1);
-
-/// Of one connection: whether a `MULTI` or a `WATCH` was refused and what ends it hasn't come. Who sent it takes what follows for a part of
-/// it, and wants all of it done together or nothing.
+/// Of one connection: whether a `MULTI` was refused and what ends it hasn't come. Who sent it takes what follows for a part of it, and wants all
+/// of it done together or nothing. A `WATCH` is refused and leaves nothing: what follows it without a `MULTI` is done in Redis too.
 #[derive(Default)]
 pub struct Transaction {
-    refused: Option<Refused>,
-}
-
-#[derive(Clone, Copy)]
-enum Refused {
-    Multi,
-    Watch(Instant),
+    is_refused: bool,
 }
 
 impl Transaction {
-    /// When the connection ends, if nothing comes by then.
-    pub fn ends_at(&self) -> Option<Instant> {
-        match self.refused {
-            Some(Refused::Watch(at)) => Some(at + WATCHED),
-            _ => None,
-        }
-    }
-
     /// What is to be done of what is asked: it, or nothing but this reply.
     pub fn judge(&mut self, asked: Asked) -> Result<Asked, Reply> {
         let refused = |fault| Err(Reply::Error(fault));
-        let was_refused = self.refused.is_some();
+        let was_refused = self.is_refused;
         match asked {
             Asked::Quit | Asked::Http => Ok(asked),
             Asked::Reset => {
-                self.refused = None;
+                self.is_refused = false;
                 Ok(asked)
             }
-            Asked::Exec | Asked::Discard | Asked::Unwatch => {
-                self.refused = None;
+            Asked::Exec | Asked::Discard => {
+                self.is_refused = false;
                 match (asked, was_refused) {
                     (Asked::Exec, true) => refused(CommandFault::ExecAborted),
                     (Asked::Exec, false) => refused(CommandFault::WithoutMulti("EXEC")),
-                    (Asked::Discard, false) => refused(CommandFault::WithoutMulti("DISCARD")),
-                    _ => Err(Reply::Simple("OK")),
+                    (_, false) => refused(CommandFault::WithoutMulti("DISCARD")),
+                    (_, true) => Err(Reply::Simple("OK")),
                 }
-            }
-            Asked::Multi if was_refused => {
-                self.refused = Some(Refused::Multi);
-                refused(CommandFault::Behind)
             }
             _ if was_refused => refused(CommandFault::Behind),
             Asked::Multi => {
-                self.refused = Some(Refused::Multi);
+                self.is_refused = true;
                 refused(CommandFault::Multi)
             }
-            Asked::Watch => {
-                self.refused = Some(Refused::Watch(Instant::now()));
-                refused(CommandFault::Watch)
-            }
+            Asked::Watch => refused(CommandFault::Watch),
+            Asked::Unwatch => Err(Reply::Simple("OK")),
             _ => Ok(asked),
         }
     }
@@ -95,20 +70,11 @@ mod tests {
     }
 
     #[test]
-    fn what_is_behind_a_refused_watch_is_refused() {
-        let lines = ["watch x", "get x", "multi", "set x 1", "exec", "set x 2"];
-        assert_eq!(told(&lines), [WATCH, BEHIND, BEHIND, BEHIND, ABORTED, None]);
-        assert_eq!(told(&["watch x", "get x", "unwatch", "get x"]), [WATCH, BEHIND, OK, None]);
-        assert_eq!(told(&["unwatch", "watch x"]), [OK, WATCH]);
-        // It ends what is left alone; behind a MULTI nothing does.
-        let words = |line: &str| understand(line.split(' ').map(|word| word.as_bytes().to_vec()).collect());
-        let mut transaction = Transaction::default();
-        let mut ends = |line| {
-            let _ = transaction.judge(words(line));
-            transaction.ends_at().is_some()
-        };
-        let lines = ["get x", "watch x", "get x", "unwatch", "watch x", "multi", "exec", "watch x", "reset"];
-        assert_eq!(lines.map(&mut ends), [false, true, true, false, true, false, false, true, false]);
+    fn a_refused_watch_leaves_nothing() {
+        let lines = ["watch x", "get x", "set x 1", "unwatch", "get x"];
+        assert_eq!(told(&lines), [WATCH, None, None, OK, None]);
+        let lines = ["watch x", "multi", "set x 1", "exec", "set x 2"];
+        assert_eq!(told(&lines), [WATCH, MULTI, BEHIND, ABORTED, None]);
     }
 
     #[test]

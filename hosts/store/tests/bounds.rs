@@ -2,9 +2,11 @@
 mod common;
 use common::memory::Memory;
 use common::{ask, wait};
+use std::collections::VecDeque;
 use std::io::{Read, Write};
 use std::net::TcpStream;
 use std::sync::Arc;
+use std::sync::atomic::{AtomicBool, Ordering};
 use std::time::{Duration, Instant};
 use store::client::{Client, Reply};
 use store::command_fault::CommandFault;
@@ -105,8 +107,12 @@ fn places_are_kept_for_who_asks_how_it_is() {
     assert_eq!(ask(&mut more, "PING"), Reply::Simple("PONG".into()));
     assert!(matches!(ask(&mut more, "INFO"), Reply::Bulk(Some(_))));
     assert_eq!(ask(&mut more, "GET x"), refused(CommandFault::Full));
-    let mut kept: Vec<_> = (0..15).map(|_| memory.client()).collect();
-    kept.iter_mut().for_each(|client| assert_eq!(ask(client, "PING"), Reply::Simple("PONG".into())));
+    let kept = || {
+        let mut client = memory.client();
+        assert_eq!(ask(&mut client, "PING"), Reply::Simple("PONG".into()));
+        client
+    };
+    let kept: Vec<_> = (0..15).map(|_| kept()).collect();
     let told = memory.client().read();
     assert!(told.is_err() || told.unwrap() == refused(CommandFault::NoPlace));
     // One leaves, and another one is taken in its place.
@@ -116,6 +122,40 @@ fn places_are_kept_for_who_asks_how_it_is() {
     wait("a place", || {
         memory.client().ask(&[b"GET", b"x"]).is_ok_and(|reply| reply == Reply::Bulk(Some(b"1".to_vec())))
     });
+}
+
+#[test]
+fn connections_that_say_nothing_keep_nobody_from_asking_how_it_is() {
+    let connections = Arc::new(Connections::new(100, Duration::from_secs(3_600)));
+    let memory = Memory::start_with("silent", Duration::ZERO, |it| it.connections = connections);
+    // All places are taken by connections that say nothing, and more come all the time.
+    let port = memory.port;
+    let connect = move || TcpStream::connect(("127.0.0.1", port)).unwrap();
+    let silent: Vec<_> = (0..200).map(|_| connect()).collect();
+    let is_over = Arc::new(AtomicBool::new(false));
+    let flood = {
+        let is_over = is_over.clone();
+        std::thread::spawn(move || {
+            let mut more = VecDeque::new();
+            while !is_over.load(Ordering::Relaxed) {
+                more.push_back(connect());
+                if more.len() > 200 {
+                    more.pop_front();
+                }
+                std::thread::sleep(Duration::from_millis(20));
+            }
+        })
+    };
+    for _ in 0..20 {
+        let start = Instant::now();
+        let mut client = memory.client();
+        assert_eq!(ask(&mut client, "PING"), Reply::Simple("PONG".into()));
+        assert!(matches!(ask(&mut client, "INFO"), Reply::Bulk(Some(_))));
+        assert!(start.elapsed() < Duration::from_secs(4), "{:?}", start.elapsed());
+    }
+    is_over.store(true, Ordering::Relaxed);
+    flood.join().unwrap();
+    drop(silent);
 }
 
 #[test]

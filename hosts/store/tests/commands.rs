@@ -571,7 +571,12 @@ fn a_pipeline_is_one() {
     );
     let Reply::Bulk(Some(info)) = ask(&mut client, "INFO") else { panic!() };
     let info = String::from_utf8(info).unwrap();
-    assert!(info.starts_with("replica:0\r\nstore_version:") && info.contains("\r\nconnected_clients:"), "{info}");
+    assert!(
+        info.starts_with("replica:0\r\n")
+            && info.contains("\r\nstore_version:")
+            && info.contains("\r\nconnected_clients:"),
+        "{info}"
+    );
     // After QUIT nothing is taken, and all before it is answered.
     let quit: [&[&[u8]]; 3] = [&[b"SET", b"a", b"5"], &[b"QUIT"], &[b"SET", b"a", b"6"]];
     client.send(&quit).unwrap();

@@ -130,7 +130,8 @@ fn three_become_five_and_three_again() {
     drop(one);
     wait("its folder", || fs::rename(places.directory(1), places.folder.join("lost")).is_ok());
     let (one, identity) = join(&places, places.command(1, &node), 1);
-    assert!(matches!(zero.operate(&format!("EPAXOS REPLACE 1 {identity}")), Reply::Bulk(Some(_))));
+    let replaced = zero.operate(&format!("EPAXOS REPLACE 1 {identity}"));
+    assert!(matches!(&replaced, Reply::Bulk(Some(_))), "{replaced:?}");
     wait("the new machine", || one.told().contains("of 5 in generation"));
     has_all(&one, 0..100);
     // It stays so, whatever `--peers` of the first ones says.
@@ -200,4 +201,27 @@ fn an_older_copy_of_a_folder_does_not_speak() {
     let mut two = places.launch(&mut places.command(2, &node), 2);
     assert_eq!(two.status(), Some(3));
     assert!(two.told().contains("the folder is an older copy"), "{}", two.told());
+}
+
+#[test]
+fn an_older_copy_is_known_by_the_others_logs() {
+    let places = Places::new("by-logs");
+    let start = || [0, 1, 2].map(|replica| places.start_in_store(replica));
+    let end = |stores: [Store; 3]| stores.into_iter().for_each(|mut store| assert_eq!(store.end("TERM"), Some(0)));
+    let [Some(zero), Some(one), Some(two)] = start() else { return };
+    set(&[&zero, &one, &two], 0..10);
+    end([zero, one, two]);
+    copy(&places.directory(2), &places.folder.join("older"));
+    let [Some(zero), Some(one), Some(two)] = start() else { panic!() };
+    set(&[&zero, &one, &two], 10..30);
+    end([zero, one, two]);
+    // The files of what was seen are lost, as by a power failure. The logs were forced to the disk.
+    [0, 1].iter().for_each(|replica| fs::remove_file(places.directory(*replica).join("seen")).unwrap());
+    fs::rename(places.directory(2), places.folder.join("newer")).unwrap();
+    copy(&places.folder.join("older"), &places.directory(2));
+    let others = [0, 1].map(|replica| places.start_in_store(replica).unwrap());
+    let mut two = places.launch(&mut places.command_in_store(2, 3), 2);
+    assert_eq!(two.status(), Some(3));
+    assert!(two.told().contains("the folder is an older copy"), "{}", two.told());
+    set(&others.each_ref(), 30..35);
 }

@@ -1,42 +1,35 @@
 //! Three drivers that are joined in memory, by ways that lose messages, and lose, repeat and turn round frames: whether what their clients are told is
 //! linearizable, over generations. Once over a core in memory, which finds faults of drivers alone, and once over the proved program.
 mod common;
+use common::drivers::{Cluster, Joined, join};
 use common::plain::{Plain, World};
 use common::real_node;
 use epaxos::{OwnedAnswer, OwnedCommand, State};
 use std::fs;
 use std::path::{Path, PathBuf};
 use std::sync::atomic::{AtomicBool, AtomicU32, Ordering};
-use std::sync::mpsc::{SyncSender, channel, sync_channel};
+use std::sync::mpsc::{SyncSender, channel};
 use std::sync::{Arc, Mutex, PoisonError};
 use std::thread;
 use std::time::{Duration, Instant};
 use store::core::{Begin, Core};
 use store::directory::Directory;
-use store::driver::{Ask, Driver, Event, Parts, Told, What};
+use store::driver::{Ask, Event, Told, What};
 use store::generation::Limits;
 use store::hosted::{Hosted, Hosting};
-use store::identities::Identities;
 use store::linearizable::{Action, Operation, Verdict, check};
 use store::link::Link;
 use store::messages::Message;
-use store::metrics::Metrics;
 use store::node::{Node, Settings};
-use store::peers::{MOST_REPLICAS, Membership, Peers, Place};
+use store::peers::Place;
 use store::plants::Plant;
 use store::random::Random;
-use store::receipts::Receipts;
-use store::sealed::Key;
 use store::stop_fault::StopFault;
 use store::teller::Teller;
-use store::timers::Timers;
-use store::waiting::Waiting;
 
 const REPLICAS: u8 = 3;
 const KEYS: u8 = 3;
 const CLIENTS_OF_EACH: u32 = 3;
-/// How many events may wait for a driver. What comes to a full one is lost.
-const WAITING: usize = 4_096;
 /// A play takes so long at most.
 const LONGEST: Duration = Duration::from_secs(240);
 /// A client waits so long for what it is told.
@@ -160,7 +153,7 @@ impl Client<'_> {
             Ok(Told::Done { reply: OwnedAnswer::Present(value), .. }) => {
                 Some(Some(u32::from_be_bytes(value.try_into().expect("a value that was set"))))
             }
-            Ok(Told::Done { .. } | Told::Refused(_) | Told::Alone | Told::Late) => return false,
+            Ok(Told::Done { .. } | Told::Refused(_) | Told::Alone | Told::Late | Told::Ending) => return false,
             _ => None,
         };
         let end = told.map(|_| self.start.elapsed().as_nanos() as u64);
@@ -180,47 +173,15 @@ impl Client<'_> {
 
 /// Plays clients at three drivers over cores that `begin` begins, while one of them is cut off now and then.
 fn play<C: Core + Send>(it: &Play, begin: impl Fn(Place, &Directory, &SyncSender<Event>) -> (C, State)) -> Notes {
-    let mut all_metrics = Vec::new();
-    let (senders, receivers): (Vec<_>, Vec<_>) = (0..REPLICAS).map(|_| sync_channel(WAITING)).unzip();
     let cuts: Vec<Arc<AtomicBool>> = (0..REPLICAS).map(|_| Arc::default()).collect();
-    let mut drivers = Vec::new();
-    for (replica, events) in (0..REPLICAS).zip(receivers) {
-        let sender: &SyncSender<Event> = &senders[usize::from(replica)];
-        let way = |to: u8| -> Option<Arc<dyn Link>> {
-            let random = Random::from_seed(u64::from(replica * REPLICAS + to) + 1);
-            let cuts = [replica, to].map(|end| cuts[usize::from(end)].clone());
-            let events = senders[usize::from(to)].clone();
-            let way = Way { from: replica, events, cuts, held: Mutex::new((random, None)) };
-            (to != replica).then(|| Arc::new(way) as Arc<dyn Link>)
-        };
-        let folder = it.folder.join(replica.to_string());
-        let directory = Directory::open(&folder).unwrap();
-        directory.prepare().unwrap();
-        let place = Place { replicas: REPLICAS.into(), replica };
-        let identities = Identities::open(&folder, MOST_REPLICAS, replica).unwrap();
-        let (node, state) = begin(place, &directory, sender);
-        let metrics = Arc::<Metrics>::default();
-        all_metrics.push(metrics.clone());
-        drivers.push(Driver::new(Parts {
-            node,
-            state,
-            peers: Peers::over((0..REPLICAS).map(way).collect()),
-            receipts: Receipts::open(&directory.receipts(state.generation)).unwrap(),
-            directory,
-            membership: Arc::new(Membership { place, identities, key: Key::none(), waiting: Waiting::default() }),
-            timers: Timers::new(replica, Instant::now(), Random::from_seed(u64::from(replica) + 77)),
-            events,
-            plant: it.plant,
-            limits: Limits { numbers: 60, dependencies: 10_000, log: u64::MAX },
-            kept: 1,
-            patience: Duration::from_secs(5),
-            sealer: 9_000 * 8 + u32::from(replica) + 1,
-            metrics,
-        }));
-        for peer in (0..REPLICAS).filter(|peer| *peer != replica) {
-            sender.send(Event::PeerReached(peer)).ok();
-        }
-    }
+    let way = |from: u8, to: u8, events: &SyncSender<Event>| -> Arc<dyn Link> {
+        let random = Random::from_seed(u64::from(from * REPLICAS + to) + 1);
+        let cuts = [from, to].map(|end| cuts[usize::from(end)].clone());
+        Arc::new(Way { from, events: events.clone(), cuts, held: Mutex::new((random, None)) })
+    };
+    let limits = Limits { numbers: 60, dependencies: 10_000, log: u64::MAX };
+    let Joined { drivers, senders, metrics: all_metrics } =
+        join(&Cluster { replicas: REPLICAS, folder: it.folder, plant: it.plant, limits }, way, begin);
     let (start, is_over) = (Instant::now(), AtomicBool::new(false));
     let (values, told) = (AtomicU32::new(1), AtomicU32::new(0));
     let client = |number: u32, replica: u8| {

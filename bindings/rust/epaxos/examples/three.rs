@@ -75,7 +75,7 @@ impl Host {
             (file, Setup::new(CLUSTER, me).open(&log)?)
         };
         let receipts = File::options().append(true).create(true).open(folder.join("receipts"))?;
-        let patience = Patience::new(CLUSTER, me, Waits::default(), u64::from(me));
+        let patience = Patience::new(CLUSTER, me, Waits::MICROSECONDS, u64::from(me))?;
         Ok(Host { replica, file, receipts, peers, patience, begun: Instant::now(), waiting: Vec::new() })
     }
 
@@ -125,8 +125,9 @@ impl Host {
                 let _ = done.send(receipt.stamp);
             }
         }
-        let now = self.begun.elapsed().as_millis() as u64;
-        let late = self.patience.turn(now, output.open());
+        let now = self.begun.elapsed().as_micros() as u64;
+        let open: Vec<_> = output.open().collect();
+        let late = self.patience.turn(now, &open, &[])?;
         for event in &late {
             let _refused = self.replica.take(event);
         }

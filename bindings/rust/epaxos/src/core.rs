@@ -78,6 +78,12 @@ pub(crate) trait Host: Send {
 
     fn get(&mut self, key: &[u8]) -> Result<Option<&[u8]>, Fault>;
 
+    /// What all keys have: bytes that [`Contents`](crate::Contents) reads.
+    fn contents(&mut self) -> Result<&[u8], Fault>;
+
+    /// The greatest entry number in the frames from this peer that were handled.
+    fn handled(&mut self, peer: u8) -> Result<u32, Fault>;
+
     fn state(&mut self) -> Result<State, Fault>;
 
     /// The opening of the next generation, for so many replicas.

@@ -1,11 +1,11 @@
 //! The calls of the library, as bindings/c/epaxos.h has them. All of the crate's unsafe code is here.
 #![allow(unsafe_code)]
 
-use crate::{Call, Command, Instance};
+use crate::{Call, Command, Instance, Waits};
 use std::{ptr, slice};
 
 /// What the header is of.
-pub(crate) const VERSION: u32 = 1;
+pub(crate) const VERSION: u32 = 3;
 
 /// `struct ep_replica`
 #[repr(C)]
@@ -15,7 +15,7 @@ struct Held {
 
 /// `struct ep_bytes`
 #[repr(C)]
-#[derive(Clone, Copy)]
+#[derive(Clone, Copy, Debug)]
 struct Bytes {
     at: *const u8,
     len: usize,
@@ -99,6 +99,25 @@ struct Leading {
     answers: u8,
 }
 
+/// `struct ep_waits`
+#[repr(C)]
+struct Spans {
+    seed: u64,
+    granularity: u32,
+    initial: u32,
+    told: u32,
+    longest: u32,
+    replicas: u8,
+    replica: u8,
+}
+
+/// `struct ep_patience`
+#[repr(C)]
+#[derive(Debug)]
+struct Begun {
+    at: *mut u8,
+}
+
 // SAFETY: a test of the crate holds these, and the structs, to the header, and a tool of the repository holds the header to the library.
 #[rustfmt::skip]
 unsafe extern "C" {
@@ -123,8 +142,18 @@ unsafe extern "C" {
     fn ep_answers(replica: *mut Held, told: u32, most: u8, answers: *mut Bytes) -> u8;
     fn ep_ask(replica: *mut Held, request: *const u8, request_len: usize) -> u8;
     fn ep_get(replica: *mut Held, key: *const u8, key_len: usize, value: *mut Bytes) -> u8;
+    fn ep_contents(replica: *mut Held, contents: *mut Bytes) -> u8;
+    fn ep_handled(replica: *mut Held, peer: u8, entries: *mut u32) -> u8;
     fn ep_leads(replica: *mut Held, instance: Named, leading: *mut Leading) -> u8;
     fn ep_close(replica: *mut Held, replicas: u8, opening: *mut Bytes) -> u8;
+    fn ep_patience_begin(patience: *mut Begun, waits: *const Spans) -> u8;
+    fn ep_patience_free(patience: *mut Begun) -> u8;
+    fn ep_patience_measure(patience: *mut Begun, peer: u8, took: u32) -> u8;
+    fn ep_patience_reach(patience: *mut Begun, peer: u8, is_reached: u8) -> u8;
+    fn ep_patience_hurry(patience: *mut Begun) -> u8;
+    fn ep_patience_put_off(patience: *mut Begun, instance: Named, ballot: u16, now: u64) -> u8;
+    fn ep_patience_turn(patience: *mut Begun, now: u64, instances: *const u8, instances_len: usize, late: *mut Bytes) -> u8;
+    fn ep_patience_due(patience: *mut Begun, due: *mut u64) -> u8;
     fn ep_first_opening(replicas: u8, out: *mut u8, out_len: usize, len: *mut usize) -> u8;
 }
 
@@ -270,6 +299,21 @@ impl Handle {
         status
     }
 
+    /// Lends the map, whole.
+    pub(crate) fn contents(&mut self) -> u8 {
+        let mut lent = Bytes::EMPTY;
+        let status = unsafe { ep_contents(self.held(), &mut lent) };
+        self.lent = lent;
+        status
+    }
+
+    /// How many entries of a peer are known.
+    pub(crate) fn handled(&mut self, peer: u8) -> (u8, u32) {
+        let mut entries = 0;
+        let status = unsafe { ep_handled(self.held(), peer, &mut entries) };
+        (status, entries)
+    }
+
     /// How the instance is led.
     pub(crate) fn leads(&mut self, instance: Instance) -> u8 {
         let mut leading = Leading { phase: 0, answers: 0 };
@@ -288,5 +332,83 @@ impl Handle {
 impl Drop for Handle {
     fn drop(&mut self) {
         unsafe { ep_free(self.held()) };
+    }
+}
+
+/// What tells when to wait no longer, and what it lends.
+#[derive(Debug)]
+pub(crate) struct PatienceHandle {
+    held: Begun,
+    lent: Bytes,
+}
+
+// SAFETY: that it may go to another thread is proved (crates/ep_handle, `Send`); what it lends is its own.
+unsafe impl Send for PatienceHandle {}
+
+// SAFETY, of each call below: as of `Handle`.
+impl PatienceHandle {
+    /// One; or the status, which is none of the header's where the library is of another version.
+    pub(crate) fn begin(replicas: u8, replica: u8, waits: Waits, seed: u64) -> Result<PatienceHandle, u8> {
+        if version() != VERSION {
+            return Err(u8::MAX);
+        }
+        let Waits { granularity, initial, told, longest } = waits;
+        let spans = Spans { seed, granularity, initial, told, longest, replicas, replica };
+        let mut handle = PatienceHandle { held: Begun { at: ptr::null_mut() }, lent: Bytes::EMPTY };
+        match unsafe { ep_patience_begin(&mut handle.held, &spans) } {
+            0 => Ok(handle),
+            status => Err(status),
+        }
+    }
+
+    /// That of which nothing is lent any more.
+    fn held(&mut self) -> *mut Begun {
+        self.lent = Bytes::EMPTY;
+        &mut self.held
+    }
+
+    pub(crate) fn measure(&mut self, peer: u8, took: u32) -> u8 {
+        unsafe { ep_patience_measure(self.held(), peer, took) }
+    }
+
+    pub(crate) fn reach(&mut self, peer: u8, is_reached: bool) -> u8 {
+        unsafe { ep_patience_reach(self.held(), peer, u8::from(is_reached)) }
+    }
+
+    pub(crate) fn hurry(&mut self) -> u8 {
+        unsafe { ep_patience_hurry(self.held()) }
+    }
+
+    pub(crate) fn put_off(&mut self, instance: Instance, ballot: u16, now: u64) -> u8 {
+        unsafe { ep_patience_put_off(self.held(), Named::of(instance), ballot, now) }
+    }
+
+    /// Lends what is asked for.
+    pub(crate) fn turn(&mut self, now: u64, open: &[u8]) -> u8 {
+        let mut lent = Bytes::EMPTY;
+        let status = unsafe { ep_patience_turn(self.held(), now, open.as_ptr(), open.len(), &mut lent) };
+        self.lent = lent;
+        status
+    }
+
+    /// What the last call has lent.
+    pub(crate) fn late(&self) -> &[u8] {
+        if self.lent.len == 0 {
+            return &[];
+        }
+        // SAFETY: what is lent stays until the next call, and each call takes `&mut self` and ends it.
+        unsafe { slice::from_raw_parts(self.lent.at, self.lent.len) }
+    }
+
+    /// When the next turn is due, if one is.
+    pub(crate) fn due(&mut self) -> Option<u64> {
+        let mut due = 0;
+        (unsafe { ep_patience_due(self.held(), &mut due) } == 0).then_some(due)
+    }
+}
+
+impl Drop for PatienceHandle {
+    fn drop(&mut self) {
+        unsafe { ep_patience_free(self.held()) };
     }
 }

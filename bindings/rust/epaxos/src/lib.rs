@@ -19,7 +19,7 @@
 //! // At the first start; at each later one `let (mut file, log) = LogFile::open(&path)?` and `Replica::open(Cluster::Three, 0, &log)?`.
 //! let mut file = LogFile::begin(&path)?;
 //! let mut replica = Replica::new(Cluster::Three, 0)?;
-//! let mut patience = Patience::new(Cluster::Three, 0, Waits::default(), 7);
+//! let mut patience = Patience::new(Cluster::Three, 0, Waits::MICROSECONDS, 7)?;
 //! let begun = Instant::now();
 //! loop {
 //!     let ready = replica.ready_with_open(64)?;
@@ -27,7 +27,8 @@
 //!     output.frames().for_each(|frame| send(frame.to, frame.bytes));
 //!     output.receipts().for_each(|receipt| answer(receipt.client, receipt.answer));
 //! #   if output.entries() > 0 { break }
-//!     let late = patience.turn(begun.elapsed().as_millis() as u64, output.open());     // what has been open for too long
+//!     let open: Vec<_> = output.open().collect();
+//!     let late = patience.turn(begun.elapsed().as_micros() as u64, &open, &[])?;       // what has been open for too long
 //!     if let Some((peer, entries)) = regained() { // a link is up again, by which all of the first so many entries had come
 //!         let again = replica.report(entries, 0)?;
 //!         again.frames().filter(|frame| frame.to == peer).for_each(|frame| send(frame.to, frame.bytes));
@@ -126,6 +127,7 @@ mod close_fault;
 mod cluster;
 mod command;
 mod commit_fault;
+mod contents;
 mod core;
 mod event;
 mod executed;
@@ -171,6 +173,7 @@ pub use close_fault::CloseFault;
 pub use cluster::Cluster;
 pub use command::{Command, CommandOf, OwnedCommand};
 pub use commit_fault::CommitFault;
+pub use contents::Contents;
 pub use core::Core;
 pub use event::Event;
 pub use executed::Executed;

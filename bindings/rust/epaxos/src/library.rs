@@ -113,6 +113,18 @@ impl Host for Library {
         }
     }
 
+    fn contents(&mut self) -> Result<&[u8], Fault> {
+        self.check_not_lent()?;
+        done(self.handle.contents())?;
+        Ok(self.handle.lent())
+    }
+
+    fn handled(&mut self, peer: u8) -> Result<u32, Fault> {
+        self.check_not_lent()?;
+        let (status, entries) = self.handle.handled(peer);
+        done(status).map(|()| entries)
+    }
+
     fn state(&mut self) -> Result<State, Fault> {
         self.check_not_lent()?;
         // (asked while something isn't on the disk, the answer would wait)

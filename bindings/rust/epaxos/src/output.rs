@@ -113,7 +113,8 @@ impl<'a> Output<'a> {
     ///
     /// ```
     /// # fn of(output: &epaxos::Output, patience: &mut epaxos::Patience, now: u64) {
-    /// let late = patience.turn(now, output.open());
+    /// let open: Vec<_> = output.open().collect();
+    /// let late = patience.turn(now, &open, &[]);
     /// # drop(late);
     /// # }
     /// ```

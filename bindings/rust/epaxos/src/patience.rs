@@ -1,222 +1,281 @@
 //! When to wait no longer.
 #![forbid(unsafe_code)]
 
-use crate::{Cluster, Event, Instance, Leading, OpenInstance, Phase};
+#[cfg(has_library)]
+use crate::ffi::PatienceHandle as Handle;
+use crate::{Cluster, Event, Fault, Instance, OpenFault, OpenInstance, Phase};
+#[cfg(not(has_library))]
+use none::Handle;
 
-/// How long is waited, in the unit in which the time is handed in. Of each the wait is a random time from once to twice as long.
+/// The statuses of bindings/c/epaxos.h that are told apart here.
+const DONE: u8 = 0;
+const MEMORY: u8 = 1;
+const OUT_OF_RANGE: u8 = 3;
+/// The kind of a request that gives up.
+const GIVE_UP: u8 = 3;
+/// In place of a phase: a peer tells that the instance is committed.
+const TOLD: u8 = 4;
+
+/// How long is waited, in the unit in which the time is handed in. Numbers are rounded down, so count in microseconds.
 ///
 /// ```
-/// // milliseconds, for replicas that are a millisecond apart:
-/// let waits = epaxos::Waits { own: 100, others: 300, again: 150, longest: 20_000 };
-/// assert_eq!(waits, epaxos::Waits::default());
+/// use epaxos::Waits;
+///
+/// let waits = Waits { longest: 5_000_000, ..Waits::MICROSECONDS };
+/// assert_eq!(waits.granularity, 100_000);
 /// ```
 #[derive(Clone, Copy, PartialEq, Eq, Hash, Debug)]
 pub struct Waits {
-    /// For an own instance, since it was first seen open.
-    pub own: u32,
-    /// For another one's.
-    pub others: u32,
-    /// After the first time that something was asked for.
-    pub again: u32,
-    /// Each further wait is twice the one before, up to this one.
+    /// G of RFC 6298: a peer's time-out is SRTT + max(G, 4 RTTVAR).
+    pub granularity: u32,
+    /// The time-out of a peer that was never measured.
+    pub initial: u32,
+    /// How long a Commit is waited for of which a peer tells.
+    pub told: u32,
+    /// Waits double up to this one.
     pub longest: u32,
 }
 
-impl Default for Waits {
-    fn default() -> Waits {
-        Waits { own: 100, others: 300, again: 150, longest: 20_000 }
-    }
+impl Waits {
+    /// 100 ms, 1 s, 1.5 s and 20 s, in microseconds.
+    ///
+    /// ```
+    /// assert_eq!(epaxos::Waits::MICROSECONDS.longest, 20_000_000);
+    /// ```
+    pub const MICROSECONDS: Waits =
+        Waits { granularity: 100_000, initial: 1_000_000, told: 1_500_000, longest: 20_000_000 };
 }
 
-/// Tells when to give up and when to recover, without a clock: it is handed the time and what is open.
+/// Tells when to give up and when to recover, without a clock: it is handed the time, how long peers take to answer, and what is open. It is the library's
+/// proved one, so the crate has to be built with the library ([`Core::has_library`](crate::Core::has_library)); the replica's own core may be a process.
 ///
-/// Any answer would be safe; it is a question of time alone. Two replicas that recover the same instance stop each other, so the waits are random and grow.
+/// Any answer would be safe; it is a question of time alone. What comes in time is neither given up nor
+/// recovered while as many members are reached as it needs.
 ///
 /// ```
 /// # let mut log = Vec::new();
+/// # if !epaxos::Core::has_library() { return Ok(()) }
 /// use epaxos::{Call, Cluster, Command, Patience, Replica, Waits};
 ///
 /// let mut replica = Replica::new(Cluster::Three, 0)?;
-/// let mut patience = Patience::new(Cluster::Three, 0, Waits::default(), 7);
+/// let mut patience = Patience::new(Cluster::Three, 0, Waits::MICROSECONDS, 7)?;
 /// replica.ready()?.commit(&mut log)?;
 /// replica.propose(Call::new(1, 1), Command::Get { key: b"x" })?;
-/// for now in [0, 200] {
-///     let output = replica.ready_with_open(64)?.commit(&mut log)?;
-///     let late = patience.turn(now, output.open());
-///     assert_eq!(late.len(), usize::from(now == 200));
-///     for event in late {
-///         let _refused = replica.take(&event);
-///     }
+/// patience.reach(1, false)?; // a link is lost, by which the proposal's frame went
+/// let output = replica.ready_with_open(64)?.commit(&mut log)?;
+/// let open: Vec<_> = output.open().collect();
+/// for event in patience.turn(0, &open, &[])? {
+///     replica.take(&event)?;
 /// }
 /// # Ok::<(), Box<dyn std::error::Error>>(())
 /// ```
-#[derive(Clone, PartialEq, Eq, Debug)]
+#[derive(Debug)]
 pub struct Patience {
-    cluster: Cluster,
-    me: u8,
-    waits: Waits,
-    random: u64,
-    all: Vec<Waiting>,
-}
-
-#[derive(Clone, Copy, PartialEq, Eq, Debug)]
-struct Waiting {
-    instance: Instance,
-    /// When the wait is over.
-    due: u64,
-    /// How long at least the wait is that began when something was asked for last; 0 where nothing was yet.
-    wait: u32,
+    handle: Handle,
+    /// The bytes that are handed in.
+    bytes: Vec<u8>,
 }
 
 impl Patience {
-    /// That of this replica, which waits so long, by chance from this seed. Replicas have different seeds.
+    /// That of this replica, by chance from this seed. Replicas have different seeds. All peers are taken to be reached.
+    ///
+    /// # Errors
+    ///
+    /// [`OpenFault::NoCore`] where the crate was built without the library, [`OpenFault::OutOfRange`], [`OpenFault::Memory`].
+    ///
+    /// ```
+    /// # use epaxos::{Cluster, Core, Patience, Waits};
+    /// let patience = Patience::new(Cluster::Five, 3, Waits::MICROSECONDS, 3);
+    /// assert_eq!(patience.is_ok(), Core::has_library());
+    /// assert!(Patience::new(Cluster::Five, 5, Waits::MICROSECONDS, 3).is_err());
+    /// ```
+    pub fn new(cluster: Cluster, me: u8, waits: Waits, seed: u64) -> Result<Patience, OpenFault> {
+        match Handle::begin(cluster.replicas(), me, waits, seed) {
+            Ok(handle) => Ok(Patience { handle, bytes: Vec::new() }),
+            Err(MEMORY) => Err(OpenFault::Memory),
+            Err(OUT_OF_RANGE) => Err(OpenFault::OutOfRange),
+            Err(_) => Err(OpenFault::NoCore(
+                "the crate was built without the library of its version, which tells when to wait no longer".into(),
+            )),
+        }
+    }
+
+    /// An answer of this peer to an own proposal came so long after the proposal's frame was sent to it, which is after the sync. Not where that frame was sent
+    /// twice: it isn't known then which one is answered (Karn's rule).
+    ///
+    /// # Errors
+    ///
+    /// [`Fault::OutOfRange`]: there is no such peer.
     ///
     /// ```
     /// # use epaxos::{Cluster, Patience, Waits};
-    /// let patience = Patience::new(Cluster::Five, 3, Waits::default(), 3);
-    /// assert_eq!(patience.next_due(), None);
+    /// # let Ok(mut patience) = Patience::new(Cluster::Three, 0, Waits::MICROSECONDS, 1) else { return };
+    /// assert!(patience.measure(1, 150_000).is_ok() && patience.measure(7, 1).is_err());
     /// ```
-    pub fn new(cluster: Cluster, me: u8, waits: Waits, seed: u64) -> Patience {
-        Patience { cluster, me, waits, random: seed, all: Vec::new() }
+    pub fn measure(&mut self, peer: u8, took: u32) -> Result<(), Fault> {
+        done(self.handle.measure(peer, took))
     }
 
-    /// A turn at this time, at which just these instances are open: what to have the replica take. One that is seen for the first time is waited
-    /// for; one whose wait is over is asked for, and waited for again; one that isn't open any more is forgotten.
+    /// Whether frames to this peer arrive, as far as the host knows. Where one is reached again, what was asked for is hurried.
+    ///
+    /// # Errors
+    ///
+    /// [`Fault::OutOfRange`]: there is no such peer.
+    ///
+    /// ```
+    /// # use epaxos::{Cluster, Patience, Waits};
+    /// # let Ok(mut patience) = Patience::new(Cluster::Three, 0, Waits::MICROSECONDS, 1) else { return };
+    /// assert!(patience.reach(2, false).is_ok());
+    /// ```
+    pub fn reach(&mut self, peer: u8, is_reached: bool) -> Result<(), Fault> {
+        done(self.handle.reach(peer, is_reached))
+    }
+
+    /// What was asked for before needn't be waited for as long any more: when a seal is committed, say.
+    ///
+    /// ```
+    /// # use epaxos::{Cluster, Patience, Waits};
+    /// # let Ok(mut patience) = Patience::new(Cluster::Three, 0, Waits::MICROSECONDS, 1) else { return };
+    /// patience.hurry();
+    /// ```
+    pub fn hurry(&mut self) {
+        _ = self.handle.hurry();
+    }
+
+    /// A Prepare or an Accept of this instance was sent or handled here, at a ballot of this counter: another recovery would be in its way, so it is put off, if it
+    /// is waited for.
+    ///
+    /// # Errors
+    ///
+    /// [`Fault::OutOfRange`]: there is no such instance.
+    ///
+    /// ```
+    /// # use epaxos::{Cluster, Instance, Patience, Waits};
+    /// # let Ok(mut patience) = Patience::new(Cluster::Three, 0, Waits::MICROSECONDS, 1) else { return };
+    /// assert!(patience.put_off(Instance { replica: 1, number: 1 }, 3, 1_000).is_ok());
+    /// ```
+    pub fn put_off(&mut self, instance: Instance, ballot: u16, now: u64) -> Result<(), Fault> {
+        done(self.handle.put_off(instance, ballot, now))
+    }
+
+    /// A turn at this time, at which just these instances are open, and a peer tells that these are committed (those of them that are open are waited for as open
+    /// ones): at most 64 events that the replica is to take.
+    ///
+    /// # Errors
+    ///
+    /// [`Fault::Memory`], [`Fault::OutOfRange`]: there is no such instance. Nothing has changed.
     ///
     /// ```
     /// # use epaxos::{Cluster, Event, Instance, OpenInstance, Patience, Waits};
-    /// let mut patience = Patience::new(Cluster::Three, 0, Waits::default(), 1);
+    /// # let Ok(mut patience) = Patience::new(Cluster::Three, 0, Waits::MICROSECONDS, 1) else { return };
     /// let open = OpenInstance { instance: Instance { replica: 1, number: 1 }, since: None, led: None };
-    /// assert!(patience.turn(0, [open]).is_empty());
-    /// assert_eq!(patience.turn(600, [open]), [Event::Recover(open.instance)]);
+    /// assert_eq!(patience.turn(0, &[open], &[]), Ok(vec![]));
+    /// // once to twice the time-out of a peer that was never measured, and the way to the leader
+    /// let due = patience.next_due().unwrap();
+    /// assert!((2_000_000..=4_000_000).contains(&due));
+    /// assert_eq!(patience.turn(due, &[open], &[]), Ok(vec![Event::Recover(open.instance)]));
     /// ```
-    pub fn turn(&mut self, now: u64, open: impl IntoIterator<Item = OpenInstance>) -> Vec<Event<'static>> {
-        let (mut all, mut asked) = (Vec::new(), Vec::new());
-        for open in open {
-            self.random = next_random(self.random);
-            let (waiting, event) = self.turn_of(now, &open);
-            all.push(waiting);
-            asked.extend(event);
+    pub fn turn(&mut self, now: u64, open: &[OpenInstance], told: &[Instance]) -> Result<Vec<Event<'static>>, Fault> {
+        let mut all: Vec<(Instance, u8, u8)> =
+            open.iter().map(|open| (open.instance, phase(open), answers(open))).collect();
+        all.extend(told.iter().map(|instance| (*instance, TOLD, 0)));
+        // (an open one stands before the same one that a peer tells of)
+        all.sort_by_key(|(instance, phase, _)| (instance.replica, instance.number, *phase));
+        all.dedup_by_key(|(instance, ..)| *instance);
+        let mut bytes = std::mem::take(&mut self.bytes);
+        bytes.clear();
+        for (instance, phase, answers) in all {
+            let [high, low] = instance.number.to_be_bytes();
+            bytes.extend([instance.replica, high, low, 0, 0, 0, 0, phase, answers]);
         }
-        self.all = all;
-        asked
+        let status = self.handle.turn(now, &bytes);
+        self.bytes = bytes;
+        done(status)?;
+        Ok(self.late())
     }
 
-    /// When the first wait is over. Before it a turn with the same open instances asks for nothing.
+    /// When to have the next turn at the latest, where no instance is opened before. None: nothing is waited for, or too few peers are reached.
     ///
     /// ```
-    /// # use epaxos::{Cluster, Instance, OpenInstance, Patience, Waits};
-    /// let mut patience = Patience::new(Cluster::Three, 0, Waits::default(), 1);
-    /// let open = OpenInstance { instance: Instance { replica: 0, number: 1 }, since: Some(1), led: None };
-    /// assert!(patience.turn(1_000, [open]).is_empty());
-    /// assert!((1_100..=1_200).contains(&patience.next_due().unwrap()));
+    /// # use epaxos::{Cluster, Patience, Waits};
+    /// # let Ok(mut patience) = Patience::new(Cluster::Three, 0, Waits::MICROSECONDS, 1) else { return };
+    /// assert_eq!(patience.next_due(), None);
     /// ```
-    pub fn next_due(&self) -> Option<u64> {
-        self.all.iter().map(|it| it.due).min()
+    pub fn next_due(&mut self) -> Option<u64> {
+        self.handle.due()
     }
 
-    fn turn_of(&self, now: u64, open: &OpenInstance) -> (Waiting, Option<Event<'static>>) {
-        let instance = open.instance;
-        let is_own = instance.replica == self.me;
-        let Some(old) = self.all.iter().find(|it| it.instance == instance) else {
-            let wait = if is_own { self.waits.own } else { self.waits.others };
-            return (Waiting { instance, due: self.later(now, wait), wait: 0 }, None);
+    /// What the last turn asks for.
+    fn late(&self) -> Vec<Event<'static>> {
+        let event = |bytes: &[u8]| {
+            let instance = Instance { replica: bytes[1], number: u16::from_be_bytes([bytes[2], bytes[3]]) };
+            if bytes[0] == GIVE_UP { Event::GiveUp(instance) } else { Event::Recover(instance) }
         };
-        if now < old.due {
-            return (*old, None);
-        }
-        let wait = if old.wait == 0 { self.waits.again } else { old.wait.saturating_mul(2) };
-        let wait = wait.min(self.waits.longest);
-        let event = if old.wait == 0 && is_own { self.first_of(open) } else { Some(Event::Recover(instance)) };
-        (Waiting { instance, due: self.later(now, wait), wait }, event)
-    }
-
-    /// What is asked for an own instance that is late for the first time.
-    fn first_of(&self, open: &OpenInstance) -> Option<Event<'static>> {
-        match open.led {
-            Some(Leading { phase: Phase::Proposing, answers }) if self.cluster.faults() <= answers => {
-                Some(Event::GiveUp(open.instance))
-            }
-            Some(Leading { phase: Phase::Accepting, .. }) => None,
-            _ => Some(Event::Recover(open.instance)),
-        }
-    }
-
-    /// A time that is at least once and at most twice so long after this one.
-    fn later(&self, now: u64, wait: u32) -> u64 {
-        let least = u64::from(wait);
-        now.saturating_add(least + self.random % (least + 1))
+        self.handle.late().chunks_exact(4).map(event).collect()
     }
 }
 
-/// The next number of a sequence that looks random (SplitMix64).
-fn next_random(random: u64) -> u64 {
-    let mut mixed = random.wrapping_add(0x9e37_79b9_7f4a_7c15);
-    mixed = (mixed ^ (mixed >> 30)).wrapping_mul(0xbf58_476d_1ce4_e5b9);
-    mixed = (mixed ^ (mixed >> 27)).wrapping_mul(0x94d0_49bb_1331_11eb);
-    mixed ^ (mixed >> 31)
+fn done(status: u8) -> Result<(), Fault> {
+    match status {
+        DONE => Ok(()),
+        MEMORY => Err(Fault::Memory),
+        OUT_OF_RANGE => Err(Fault::OutOfRange),
+        status => Err(Fault::Ended(format!("the library answers status {status}"))),
+    }
 }
 
-#[cfg(test)]
-mod tests {
-    use super::*;
-
-    const WAITS: Waits = Waits { own: 10, others: 100, again: 20, longest: 50 };
-
-    fn open(replica: u8, led: Option<(Phase, u8)>) -> OpenInstance {
-        let led = led.map(|(phase, answers)| Leading { phase, answers });
-        OpenInstance { instance: Instance { replica, number: 1 }, since: Some(1), led }
+fn phase(open: &OpenInstance) -> u8 {
+    match open.led.map(|led| led.phase) {
+        None => 0,
+        Some(Phase::Proposing) => 1,
+        Some(Phase::Accepting) => 2,
+        Some(Phase::Preparing) => 3,
     }
+}
 
-    /// What is asked for, and how long it is waited for until then and afterwards, turn by turn.
-    fn turns(open: OpenInstance, count: usize) -> Vec<(u64, Option<Event<'static>>)> {
-        let mut patience = Patience::new(Cluster::Three, 0, WAITS, 5);
-        let (mut now, mut all) = (0, Vec::new());
-        for _ in 0..count {
-            let asked = patience.turn(now, [open]);
-            let due = patience.next_due().unwrap();
-            assert!(patience.turn(due - 1, [open]).is_empty());
-            all.push((due - now, asked.first().copied()));
-            now = due;
+fn answers(open: &OpenInstance) -> u8 {
+    open.led.map_or(0, |led| led.answers)
+}
+
+/// What stands for the library where there is none: nothing is begun.
+#[cfg(not(has_library))]
+mod none {
+    use crate::{Instance, Waits};
+
+    #[derive(Debug)]
+    pub(super) enum Handle {}
+
+    impl Handle {
+        pub(super) fn begin(_replicas: u8, _me: u8, _waits: Waits, _seed: u64) -> Result<Handle, u8> {
+            Err(u8::MAX)
         }
-        all
-    }
 
-    fn check(turns: &[(u64, Option<Event>)], waits: &[u64], events: &[Option<Event>]) {
-        for (index, (waited, event)) in turns.iter().enumerate() {
-            assert!((waits[index]..=2 * waits[index]).contains(waited), "{waited} at turn {index}");
-            assert_eq!(*event, events[index]);
+        pub(super) fn measure(&mut self, _peer: u8, _took: u32) -> u8 {
+            match *self {}
         }
-    }
 
-    #[test]
-    fn own_ones() {
-        let own = Instance { replica: 0, number: 1 };
-        let (waits, recover) = ([10, 20, 40, 50, 50], Some(Event::Recover(own)));
-        for (led, first) in [
-            (Some((Phase::Proposing, 1)), Some(Event::GiveUp(own))),
-            (Some((Phase::Proposing, 0)), recover),
-            (Some((Phase::Accepting, 0)), None),
-            (Some((Phase::Preparing, 1)), recover),
-            (None, recover),
-        ] {
-            check(&turns(open(0, led), 5), &waits, &[None, first, recover, recover, recover]);
+        pub(super) fn reach(&mut self, _peer: u8, _is_reached: bool) -> u8 {
+            match *self {}
         }
-    }
 
-    #[test]
-    fn another_ones() {
-        let recover = Some(Event::Recover(Instance { replica: 1, number: 1 }));
-        check(&turns(open(1, None), 4), &[100, 20, 40, 50], &[None, recover, recover, recover]);
-    }
+        pub(super) fn hurry(&mut self) -> u8 {
+            match *self {}
+        }
 
-    #[test]
-    fn what_is_not_open_any_more_is_forgotten() {
-        let mut patience = Patience::new(Cluster::Three, 0, WAITS, 5);
-        patience.turn(0, [open(0, None), open(1, None)]);
-        patience.turn(1, [open(1, None)]);
-        assert!(patience.next_due().unwrap() >= 100);
-        patience.turn(2, []);
-        assert_eq!(patience.next_due(), None);
+        pub(super) fn put_off(&mut self, _instance: Instance, _ballot: u16, _now: u64) -> u8 {
+            match *self {}
+        }
+
+        pub(super) fn turn(&mut self, _now: u64, _open: &[u8]) -> u8 {
+            match *self {}
+        }
+
+        pub(super) fn late(&self) -> &[u8] {
+            match *self {}
+        }
+
+        pub(super) fn due(&mut self) -> Option<u64> {
+            match *self {}
+        }
     }
 }

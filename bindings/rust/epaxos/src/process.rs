@@ -7,6 +7,7 @@
 //! a process is given the log up to there, and asked for the rest anew.
 #![forbid(unsafe_code)]
 
+use crate::contents;
 use crate::core::{Host, Lent};
 use crate::records;
 use crate::running::Running;
@@ -15,8 +16,9 @@ use crate::wire::{self, Done, Question};
 use crate::{Begin, CloseFault, Cluster, Event, Fault, LONGEST_KEY, OpenFault, State};
 use std::ffi::OsString;
 use std::fs::{self, File};
-use std::io::{self, Read, Seek};
+use std::io::{self, Read, Seek, SeekFrom};
 use std::path::{Path, PathBuf};
+use std::process::{Command, Stdio};
 
 /// So many events at most are asked for by one write. Their answers wait for a sync behind them, but for those of refused ones, which fit into a pipe:
 /// so neither side waits for the other with both pipes full.
@@ -228,13 +230,7 @@ impl Process {
         if !status.success() {
             return Err(io::Error::other(status.to_string()));
         }
-        let scratch = Scratch::new()?;
-        let (opening, log) = (scratch.opening(self.generation), scratch.log(self.generation));
-        fs::create_dir(scratch.folder().join(self.generation.to_string()))?;
-        for (file, path) in [(&mut self.opening, opening), (&mut self.log, log)] {
-            file.rewind()?;
-            io::copy(file, &mut File::create(path)?)?;
-        }
+        let scratch = self.copied()?;
         let started = Running::start(&self.program, next, self.me, &scratch, &[]);
         self.running = started.map_err(io::Error::other)?;
         wire::push_question(&mut self.request, Question::Sync);
@@ -244,6 +240,31 @@ impl Process {
         self.running.end()?;
         answered.map_err(|_| io::Error::other(scratch.said()))?;
         fs::read(scratch.opening(self.generation.saturating_add(1)))
+    }
+}
+
+impl Process {
+    /// A folder with its opening and its log, for another process.
+    fn copied(&mut self) -> io::Result<Scratch> {
+        let scratch = Scratch::new()?;
+        let (opening, log) = (scratch.opening(self.generation), scratch.log(self.generation));
+        fs::create_dir(scratch.folder().join(self.generation.to_string()))?;
+        for (file, path) in [(&mut self.opening, opening), (&mut self.log, log)] {
+            let at = file.stream_position()?;
+            file.rewind()?;
+            io::copy(file, &mut File::create(path)?)?;
+            file.seek(SeekFrom::Start(at))?;
+        }
+        Ok(scratch)
+    }
+
+    /// Has a process of its own print the map of the log.
+    fn listed(&mut self) -> io::Result<Vec<u8>> {
+        let scratch = self.copied()?;
+        let output = Command::new(&self.program).arg("contents").arg(scratch.folder()).stdin(Stdio::null()).output()?;
+        let said = String::from_utf8_lossy(&output.stderr);
+        let map = output.status.success().then(|| contents::of_text(&output.stdout)).flatten();
+        map.ok_or_else(|| io::Error::other(format!("its map isn't told: {}", said.lines().next().unwrap_or_default())))
     }
 }
 
@@ -312,6 +333,23 @@ impl Host for Process {
             return Err(self.bad_answer());
         }
         Ok(wire::value(&self.answer).flatten())
+    }
+
+    fn contents(&mut self) -> Result<&[u8], Fault> {
+        if self.is_dirty {
+            return Err(Fault::Unsynced);
+        }
+        self.answer = self.listed().map_err(|error| Fault::Ended(error.to_string()))?;
+        Ok(&self.answer)
+    }
+
+    fn handled(&mut self, peer: u8) -> Result<u32, Fault> {
+        self.ask(Question::Handled(peer))?;
+        match (wire::handled(&self.answer), wire::done(&self.answer)) {
+            (Some(entries), _) => Ok(entries),
+            (None, Some(Done::Refused(fault))) => Err(fault),
+            _ => Err(self.bad_answer()),
+        }
     }
 
     fn state(&mut self) -> Result<State, Fault> {

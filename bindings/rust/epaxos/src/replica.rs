@@ -6,7 +6,7 @@ use crate::own_log::OwnLog;
 use crate::records::{self, Follower, HEADER};
 use crate::wire::Told;
 use crate::{
-    Begin, Call, CloseFault, Cluster, Command, Event, Fault, Instance, OpenFault, Output, Ready, Setup,
+    Begin, Call, CloseFault, Cluster, Command, Contents, Event, Fault, Instance, OpenFault, Output, Ready, Setup,
     State, found,
 };
 use std::cell::Cell;
@@ -42,6 +42,8 @@ pub struct Replica {
     told: u32,
     cut: u64,
     own_log: OwnLog,
+    /// How many replicas there are.
+    replicas: u8,
     is_alone: PhantomData<Cell<()>>,
 }
 
@@ -127,6 +129,7 @@ impl Replica {
             told,
             cut,
             own_log: OwnLog::of(&begin),
+            replicas: cluster.replicas(),
             is_alone: PhantomData,
         })
     }
@@ -444,6 +447,55 @@ impl Replica {
     /// ```
     pub fn get(&mut self, key: &[u8]) -> Result<Option<&[u8]>, Fault> {
         self.host.get(key)
+    }
+
+    /// What all keys of this replica's map have, after all that was executed here: a local read, as [`get`](Replica::get). It takes a copy of the map.
+    ///
+    /// # Errors
+    ///
+    /// [`Fault::Unsynced`], as [`get`](Replica::get); [`Fault::Memory`].
+    ///
+    /// ```
+    /// # use epaxos::{Cluster, Replica};
+    /// # let mut log = Vec::new();
+    /// let mut replica = Replica::new(Cluster::Three, 0)?;
+    /// replica.ready()?.commit(&mut log)?;
+    /// for (key, value) in replica.contents()? {
+    ///     println!("{} has {} bytes", key.escape_ascii(), value.len());
+    /// }
+    /// # Ok::<(), Box<dyn std::error::Error>>(())
+    /// ```
+    pub fn contents(&mut self) -> Result<Contents<'_>, Fault> {
+        Contents::read(self.host.contents()?).ok_or_else(bad_report)
+    }
+
+    /// How many entries of a peer this replica knows of: the greatest number among the entries whose frames it has handled, 0 where it has handled none. It is in
+    /// the log, so it outlives any start. A peer whose log has fewer has lost what it promised, as one that was put back to an older copy, and must not go on.
+    ///
+    /// # Errors
+    ///
+    /// [`Fault::OutOfRange`] of a replica that there isn't; [`Fault::Unsynced`], as [`get`](Replica::get).
+    ///
+    /// ```
+    /// # use epaxos::{Call, Cluster, Command, Replica};
+    /// # let (mut log, mut log_of_one) = (Vec::new(), Vec::new());
+    /// let mut zero = Replica::new(Cluster::Three, 0)?;
+    /// let mut one = Replica::new(Cluster::Three, 1)?;
+    /// zero.ready()?.commit(&mut log)?;
+    /// one.ready()?.commit(&mut log_of_one)?;
+    /// zero.propose(Call::new(1, 1), Command::Get { key: b"x" })?;
+    /// for frame in zero.ready()?.commit(&mut log)?.frames() {
+    ///     one.handle(frame.bytes)?;
+    /// }
+    /// one.ready()?.commit(&mut log_of_one)?;
+    /// assert_eq!((one.handled(0)?, one.handled(2)?), (1, 0));
+    /// # Ok::<(), Box<dyn std::error::Error>>(())
+    /// ```
+    pub fn handled(&mut self, peer: u8) -> Result<u32, Fault> {
+        if peer >= self.replicas {
+            return Err(Fault::OutOfRange);
+        }
+        self.host.handled(peer)
     }
 
     /// How far it is in its generation.

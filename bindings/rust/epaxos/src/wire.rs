@@ -33,6 +33,8 @@ pub enum Question<'a> {
     State,
     /// All instances that are ready are executed, others' too.
     ExecuteAll,
+    /// The greatest entry number in the frames from this replica that were handled.
+    Handled(u8),
     /// What there is to report.
     Ready {
         /// How many entries were reported before.
@@ -107,6 +109,7 @@ pub fn push_question(out: &mut Vec<u8>, question: Question) {
         Question::Sync => push(out, 10, |_| ()),
         Question::State => push(out, 11, |_| ()),
         Question::ExecuteAll => push(out, 12, |_| ()),
+        Question::Handled(peer) => push(out, 15, |out| out.push(peer)),
         Question::Ready { told, most } => push(out, 13, |out| {
             out.extend(told.to_be_bytes());
             out.push(most);
@@ -274,6 +277,18 @@ pub fn next_open(answer: &[u8]) -> Option<Option<Instance>> {
 pub fn synced(answer: &[u8]) -> Option<u32> {
     let mut fields = Fields::new(answer);
     (fields.u8()? == 6).then_some(())?;
+    let entries = fields.u32()?;
+    fields.is_over().then_some(entries)
+}
+
+/// Reads the answer to [`Question::Handled`]. None where it is none.
+///
+/// ```
+/// assert_eq!(epaxos::wire::handled(&[10, 0, 0, 1, 2]), Some(258));
+/// ```
+pub fn handled(answer: &[u8]) -> Option<u32> {
+    let mut fields = Fields::new(answer);
+    (fields.u8()? == 10).then_some(())?;
     let entries = fields.u32()?;
     fields.is_over().then_some(entries)
 }

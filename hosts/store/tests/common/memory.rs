@@ -37,9 +37,11 @@ impl Memory {
         let listener = TcpListener::bind("127.0.0.1:0").unwrap();
         let port = listener.local_addr().unwrap().port();
         let (events, asked) = sync_channel(4_096);
-        let keys = Keys::start(events.clone(), Arc::new(Mutex::new(Numbers::new(&folder, 0)))).unwrap();
-        let listing = Listing::new(folder.join("contents"), folder.clone());
         let metrics = Arc::<Metrics>::default();
+        let keys =
+            Keys::start(events.clone(), Arc::new(Mutex::new(Numbers::new(&folder, 0))), metrics.clone()).unwrap();
+        let program = (folder.join("none"), folder.clone());
+        let listing = Arc::new(Listing::new(events.clone(), PATIENCE, program));
         metrics.takes_part.set(1);
         let mut shared = Shared {
             events,
@@ -90,7 +92,12 @@ fn drive(asked: &Receiver<Event>, takes: Duration) {
                     Told::Done { stamp: 1, reply: execute(&mut map, &command) }
                 }
                 What::Read(key) => Told::Value(map.get(&key).cloned()),
-                _ => Told::Info("replica:0\r\n".into()),
+                What::Contents => {
+                    let mut pairs: Vec<_> = map.iter().map(|(key, value)| (key.clone(), value.clone())).collect();
+                    pairs.sort();
+                    Told::Contents(Some(pairs))
+                }
+                _ => Told::Info(format!("replica:0\r\nkeys_kept:{}\r\n", map.len())),
             });
         }
     }

@@ -1,5 +1,6 @@
 //! Stores that a test starts, and their nodes.
 #![allow(dead_code)] // (each test uses a part)
+pub mod drivers;
 pub mod map;
 pub mod memory;
 pub mod plain;
@@ -68,6 +69,13 @@ impl Places {
 
     /// Those that start a replica of so many.
     pub fn command_of(&self, replica: usize, count: usize, node: &Path) -> Command {
+        let mut command = self.command_in_store(replica, count);
+        command.arg("--node").arg(node);
+        command
+    }
+
+    /// Those that start a replica whose core is in the store itself, where that was built with the library.
+    pub fn command_in_store(&self, replica: usize, count: usize) -> Command {
         let mut command = Command::new(env!("CARGO_BIN_EXE_store"));
         let peers: Vec<_> = (0..count).map(|replica| self.peer(replica)).collect();
         command.args(["--replica", &replica.to_string(), "--peers", &peers.join(",")]);
@@ -76,7 +84,7 @@ impl Places {
         if !directory.join("generations").exists() {
             command.arg("--new");
         }
-        command.arg("--dir").arg(directory).arg("--node").arg(node);
+        command.arg("--dir").arg(directory);
         command
     }
 
@@ -95,6 +103,17 @@ impl Places {
         let store = self.launch(self.command(replica, node).args(words), replica);
         wait("its start", || store.told().contains("node process"));
         store
+    }
+
+    /// Starts a replica of three whose core is in the store itself, and which finds no program. None where there is no library.
+    pub fn start_in_store(&self, replica: usize) -> Option<Store> {
+        if !epaxos::Core::has_library() {
+            eprintln!("not tried: the library isn't there");
+            return None;
+        }
+        let store = self.launch(self.command_in_store(replica, 3).env("PATH", "/nowhere"), replica);
+        wait("its start", || store.told().contains("node process"));
+        Some(store)
     }
 
     /// Starts a replica by these words, and doesn't wait.
@@ -128,8 +147,7 @@ pub struct Store {
 impl Store {
     /// Has it end by a signal, and waits: its status.
     pub fn end(&mut self, signal: &str) -> Option<i32> {
-        let process = self.child.id().to_string();
-        assert!(Command::new("kill").args(["-s", signal, &process]).status().unwrap().success());
+        self.signal(signal);
         self.status()
     }
 
@@ -143,6 +161,12 @@ impl Store {
             assert!(start.elapsed() < PATIENCE, "its end is waited for too long; it has told: {}", self.told());
             thread::sleep(Duration::from_millis(10));
         }
+    }
+
+    /// Sends it a signal.
+    pub fn signal(&self, signal: &str) {
+        let process = self.child.id().to_string();
+        assert!(Command::new("kill").args(["-s", signal, &process]).status().unwrap().success());
     }
 
     /// What it has told on standard error.
@@ -159,9 +183,14 @@ impl Store {
         ask(&mut self.client(), line)
     }
 
+    /// A connection to the admin socket.
+    pub fn operator(&self) -> Client {
+        Client::connect_at(&self.admin, PATIENCE).unwrap()
+    }
+
     /// Asks at the admin socket, on a new connection.
     pub fn operate(&self, line: &str) -> Reply {
-        ask(&mut Client::connect_at(&self.admin, PATIENCE).unwrap(), line)
+        ask(&mut self.operator(), line)
     }
 
     /// A line of INFO, as the core tells it.

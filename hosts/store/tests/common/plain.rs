@@ -1,12 +1,12 @@
 //! A core in memory, and what is common to those of one cluster: a map for each generation. A command is done to it once another replica has
 //! agreed, so that there are frames to be lost, and late; in a cluster of one at once. So all that can go wrong is the drivers'.
 use super::map::{Map, execute};
-use epaxos::{Call, Event, Fault, Instance, MOST_COMMANDS, OwnedAnswer, OwnedCommand, Proposed, State};
+use epaxos::{Call, Event, Fault, Instance, MOST_COMMANDS, OpenInstance, OwnedAnswer, OwnedCommand, Proposed, State};
 use std::collections::{BTreeMap, BTreeSet};
 use std::fs;
 use std::path::PathBuf;
 use std::sync::{Arc, Mutex, MutexGuard, PoisonError};
-use store::core::{Begin, Core};
+use store::core::{Begin, Core, Pairs};
 use store::node_fault::NodeFault;
 use store::opening::Opening;
 use store::outcome::{Asked, Outcome, Outgoing, Report};
@@ -86,6 +86,8 @@ pub struct Plain {
     pub report: Report,
     /// Behind which entries reports were asked for.
     pub reported: Vec<u32>,
+    /// The greatest entry of each replica whose frames it has handled.
+    pub handled: Vec<u32>,
 }
 
 impl Plain {
@@ -103,6 +105,7 @@ impl Plain {
             stuck: u16::MAX,
             report: Report::default(),
             reported: Vec::new(),
+            handled: Vec::new(),
         };
         it.write_opening(1);
         it
@@ -227,7 +230,8 @@ impl Plain {
     /// What isn't known to be committed, in rising order.
     fn open(&self) -> impl Iterator<Item = Instance> {
         let own = self.own.keys().map(|number| Instance { replica: self.place.replica, number: *number });
-        let all: BTreeSet<_> = own.chain(self.known.iter().copied()).chain(self.report.open.iter().copied()).collect();
+        let all: BTreeSet<_> =
+            own.chain(self.known.iter().copied()).chain(self.report.open.iter().map(|it| it.instance)).collect();
         all.into_iter()
     }
 
@@ -286,12 +290,21 @@ impl Core for Plain {
         if after < u32::MAX {
             self.reported.push(after);
         }
-        let open = self.open().take(most.into()).collect();
+        let open = |instance| OpenInstance { instance, since: None, led: None };
+        let open = self.open().take(most.into()).map(open).collect();
         Ok(Report { open, ..self.report.clone() })
     }
 
     fn next_open(&mut self, after: Instance) -> Result<Option<Instance>, NodeFault> {
         Ok(self.open().find(|instance| *instance > after))
+    }
+
+    fn handled(&mut self, peer: u8) -> Result<u32, NodeFault> {
+        Ok(self.handled.get(usize::from(peer)).copied().unwrap_or(0))
+    }
+
+    fn contents(&mut self) -> Result<Option<Pairs>, NodeFault> {
+        Ok(None)
     }
 
     fn state(&mut self) -> Result<State, NodeFault> {

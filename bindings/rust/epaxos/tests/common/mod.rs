@@ -230,9 +230,10 @@ impl<'a> World<'a> {
                 patience: Patience::new(
                     cluster,
                     me,
-                    Waits { own: 10, others: 30, again: 15, longest: 400 },
+                    Waits { granularity: 10, initial: 30, told: 30, longest: 400 },
                     seed + u64::from(me),
-                ),
+                )
+                .unwrap(),
             }
         });
         let seats = seats.collect();
@@ -276,7 +277,8 @@ impl<'a> World<'a> {
             });
         }
         seat.is_open = output.open().next().is_some();
-        let late = seat.patience.turn(self.now, output.open());
+        let open: Vec<_> = output.open().collect();
+        let late = seat.patience.turn(self.now, &open, &[]).unwrap();
         for event in late {
             let _refused = replica.take(&event);
         }

@@ -22,5 +22,5 @@ loop-place-preserved c =
     let log = c.in_ok-log.log in
     let read : IsReadBeside c.args.cluster.now c.index-kept-place.result log.journal (record { whole = log.whole; is_torn = ltb 0 log.behind }) =
     record { read = λ file same. record { version = log.version; behind = log.behind; read = c.in_ok-log.ensures.ok file same; torn = refl }; size = c.in_ok-log.ensures.size } in
-    one_read c.args.cluster.now c.loop-place.place c.args.kept.now c.requires.opened.0 c.index-kept-place.result _ c.loop-place.journals.items _ c.loop-place.ends.items c.push.new.self.items log.journal
-    (record { whole = log.whole; is_torn = ltb 0 log.behind }) less c.index-kept-place.is c.requires.opened.1 c.loop-place.invariant read c.in_ok-push-2.ensures.items c.in_ok-push.ensures.items
+    one_read c.args.cluster.now c.loop-place.place c.args.kept.now c.requires.opened.0 c.index-kept-place.result _ c.loop-place.journals.items _ c.loop-place.ends.items c.push-in-loop-place.new.self.items log.journal
+    (record { whole = log.whole; is_torn = ltb 0 log.behind }) less c.index-kept-place.is c.requires.opened.1 c.loop-place.invariant read c.in_ok-push.ensures.items c.in_ok-push-2.ensures.items

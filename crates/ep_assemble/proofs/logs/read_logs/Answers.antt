@@ -29,5 +29,5 @@ loop-place-preserved c =
     let to : IsReadTo second c.index-logs-place.result.items log.journal (record { whole = log.whole; is_torn = ltb 0 log.behind }) = record { version = log.version; behind = log.behind; read = read; torn = refl } in
     let all = one_read c.loop-place.place c.args.logs.now c.index-logs-place.result _ c.loop-place.journals.items c.loop-place.ends.items c.in_ok-log.log.journal
     (record { whole = c.in_ok-log.log.whole; is_torn = ltb 0 c.in_ok-log.log.behind }) less c.index-logs-place.is c.loop-place.invariant to in
-    subst (λ (js : List Journal). AreRead (contents (take (c.loop-place.place + 1) c.args.logs.now)) js c.push.new.self.items) (sym c.in_ok-push-2.ensures.items)
-    (subst (λ (es : List End). AreRead (contents (take (c.loop-place.place + 1) c.args.logs.now)) (c.loop-place.journals.items ++ c.in_ok-log.log.journal ∷ []) es) (sym c.in_ok-push.ensures.items) all)
+    subst (λ (js : List Journal). AreRead (contents (take (c.loop-place.place + 1) c.args.logs.now)) js c.push-in-loop-place.new.self.items) (sym c.in_ok-push.ensures.items)
+    (subst (λ (es : List End). AreRead (contents (take (c.loop-place.place + 1) c.args.logs.now)) (c.loop-place.journals.items ++ c.in_ok-log.log.journal ∷ []) es) (sym c.in_ok-push-2.ensures.items) all)

@@ -1,4 +1,4 @@
-use Rattle.std.proofs.Common.{rules, ◌≡◌, codes, decimal}
+use Rattle.std.proofs.Common.{rules, ◌≡◌, codes}
 use Rattle.ep_cli.specs.Lines.{numbered}
 use Rattle.ep_cli.proofs.Puts.{puts_as}
 use Rattle.ep_cli.proofs.telling.tell_not_a_run.Goals as goal

@@ -1,13 +1,14 @@
 use Rattle.std.proofs.Common.{arith, ◌<◌, ◌||◌, false, length, refl, get_or}
 use Rattle.std.proofs.lemmas.List.{get_or_default}
 use Rattle.ep_host.specs.Follows.{Rounds}
-use Rattle.ep_host.specs.Turned.{AreTurns}
+use Rattle.ep_host.specs.Turned.{IsTurnIn}
 use Rattle.ep_host.proofs.Following.{rounds_before, rounds_now}
+use Rattle.ep_host.proofs.Looks.{turn_before, turn_now}
 use Rattle.ep_host.proofs.Places.{firsts_none, firsts_more, firsts_all}
 use Rattle.ep_host.proofs.settling.round.Goals as goal
 
 pub loop-place-init : goal.loop-place-init
-loop-place-init c = record { firsts = firsts_none (Rounds false) c.args.nodes.now; turns = firsts_none (AreTurns 1) c.args.nodes.now; end = refl }
+loop-place-init c = record { firsts = firsts_none (Rounds false) c.args.nodes.now; turns = firsts_none (IsTurnIn false) c.args.nodes.now; end = refl }
 
 pub loop-place-preserved : goal.loop-place-preserved
 loop-place-preserved c =
@@ -18,12 +19,13 @@ loop-place-preserved c =
     let was = get_or nodes place c.index-nodes-place.result in record {
       firsts = firsts_more (Rounds moved) (Rounds (now || moved)) place c.args.nodes.now nodes was c.turn_of-now.new.node
           (rounds_before now moved) low c.loop-place.invariant.firsts (get_or_default nodes place c.index-nodes-place.result was low') (rounds_now now moved was c.turn_of-now.new.node c.turn_of-now.ensures.rounds);
-      turns = firsts_more (AreTurns 1) (AreTurns 1) place c.args.nodes.now nodes was c.turn_of-now.new.node (λ a b h. h) low c.loop-place.invariant.turns (get_or_default nodes place c.index-nodes-place.result was low') c.turn_of-now.ensures.turn;
+      turns = firsts_more (IsTurnIn moved) (IsTurnIn (now || moved)) place c.args.nodes.now nodes was c.turn_of-now.new.node
+          (turn_before now moved) low c.loop-place.invariant.turns (get_or_default nodes place c.index-nodes-place.result was low') (turn_now now moved was c.turn_of-now.new.node c.turn_of-now.ensures.turn);
       end = c.loop-place.invariant.end;
     }
 
 pub returns-clause-turns : goal.returns-clause-turns
-returns-clause-turns c = firsts_all (AreTurns 1) c.loop-place.place c.args.nodes.now c.loop-place.nodes (omega (arith, c.loop-place.invariant.end)) c.loop-place.invariant.turns
+returns-clause-turns c = firsts_all (IsTurnIn c.loop-place.moved) c.loop-place.place c.args.nodes.now c.loop-place.nodes (omega (arith, c.loop-place.invariant.end)) c.loop-place.invariant.turns
 
 pub returns-clause-rounds : goal.returns-clause-rounds
 returns-clause-rounds c = firsts_all (Rounds c.loop-place.moved) c.loop-place.place c.args.nodes.now c.loop-place.nodes (omega (arith, c.loop-place.invariant.end)) c.loop-place.invariant.firsts

@@ -14,6 +14,7 @@ returns-clause-turns g c =
     subst (λ (l : List Node). Turns turns c.args.nodes.items l) (sym is) record {
       turned = middle.items;
       follows = c.section.ensures.nodes;
+      turns = c.section.ensures.turns;
       settles = subst (λ (l : List Node). SettlesReleased turns l after) c.as_mut_slice.ensures.value c.settle_released.ensures.settles;
     }
 

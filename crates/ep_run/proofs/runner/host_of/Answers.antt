@@ -1,4 +1,4 @@
-use Rattle.std.proofs.Common.{rules, ◌≡◌}
+use Rattle.std.proofs.Common.{rules, ◌≡◌, refl}
 use Rattle.ep_replay.specs.Heads.{opening_of}
 use Rattle.ep_run.proofs.Beginning.{can_start, locks_begun}
 use Rattle.ep_run.proofs.runner.host_of.Goals as goal
@@ -13,7 +13,10 @@ pub of-host-requires-clause-start : goal.of-host-requires-clause-start
 of-host-requires-clause-start g c =
     let h = c.args.head.now in
     let is : c.in_ok-opening.opening ≡ opening_of h.opening = search rules in
-    rw (c.version.ensures.value, is) c.requires
+    rw (c.version.ensures.value, is) c.requires.start
+
+pub of-host-requires-clause-room : goal.of-host-requires-clause-room
+of-host-requires-clause-room g c = rw c.requires.room refl
 
 pub returns : goal.returns
 returns g c =

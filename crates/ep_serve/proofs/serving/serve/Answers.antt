@@ -19,7 +19,8 @@ loop-init g c = record {
 
 pub returns-in_err-serve-in-Ok-Some-clause-served : goal.returns-in_err-serve-in-Ok-Some-clause-served
 returns-in_err-serve-in-Ok-Some-clause-served g c = λ zs h.
-    stopped g.D.Device.seen g.D.Device.moment g.D.Device.left_since _ _ _ _ zs _ _ _ _ _ _ _ _ (c.loop.invariant.served _ c.new-queue.ensures.1 zs h) c.loop.invariant.own c.in_err-serve-in-Ok-Some.ensures.silent c.in_err-serve-in-Ok-Some.ensures.unwritten c.serve.ensures.onward c.loop.invariant.known c.from_residual.ensures.1
+    let i = c.loop.invariant.served _ c.new-queue.ensures.1 zs h in
+    stopped g.D.Device.seen g.D.Device.moment g.D.Device.left_since _ _ _ _ zs _ _ _ _ _ _ _ _ _ _ _ _ _ i c.loop.invariant.own c.dialect_of-dialect.ensures (c.in-Ok-Some.ensures.bytes i.ys i.left_is) c.in-Ok-Some.field-0-is c.in_err-serve-in-Ok-Some.ensures.done c.in_err-serve-in-Ok-Some.ensures.silent c.in_err-serve-in-Ok-Some.ensures.unwritten c.serve.ensures.onward c.loop.invariant.known c.from_residual.ensures.1
 
 pub returns-in_err-settle-in-Ok-None-clause-served : goal.returns-in_err-settle-in-Ok-None-clause-served
 returns-in_err-settle-in-Ok-None-clause-served g c = λ zs h.
@@ -59,4 +60,4 @@ loop-preserved g c = record {
 }
 
 pub returns-clause-served : goal.returns-clause-served
-returns-clause-served g c = λ zs h. ends_never _ _ _ _ _ _ _ _ _ _ _ ((c.loop.invariant.served _ c.new-queue.ensures.1 zs h).service)
+returns-clause-served g c = λ zs h. ends_never _ _ _ _ _ _ _ _ _ _ ((c.loop.invariant.served _ c.new-queue.ensures.1 zs h).service)

@@ -1,5 +1,5 @@
 use Rattle.std.proofs.Common.{subst}
-use Rattle.ep_browser.specs.Files.{IsTraceFile}
+use Rattle.ep_view.specs.TraceFiles.{IsTraceFile}
 use Rattle.ep_view.specs.declared.selection.Selection.{Selection}
 use Rattle.ep_viewer.proofs.viewing.events_of.Goals as goal
 

@@ -1,5 +1,7 @@
-use Rattle.ep_viewer.proofs.Ending.{graph_crowded}
+use Rattle.std.proofs.Common.{subst}
+use Rattle.ep_view.specs.Graphs.{IsGraph}
+use Rattle.ep_view.specs.declared.selection.Selection.{Selection}
 use Rattle.ep_viewer.proofs.viewing.graph_of.Goals as goal
 
-pub returns-in-Err-clause-refused : goal.returns-in-Err-clause-refused
-returns-in-Err-clause-refused c = graph_crowded c.in-Err.fault _ c.args.journals.now c.from.ensures c.in-Err.ensures.refused
+pub returns-clause-tells : goal.returns-clause-tells
+returns-clause-tells c = subst (λ (p : Selection). IsGraph c.args.journals.now p c.in_ok-text.text.items) c.in_ok-part.ensures c.in_ok-text.ensures

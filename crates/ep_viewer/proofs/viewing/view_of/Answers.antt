@@ -18,12 +18,10 @@ returns-in-Ok-clause-made g c zs known out wrote =
     viewed c.args.view.now c.in_ok-bundle.bundle.journals c.in_ok-bundle.bundle.receipts.items (record { at = found.0; bytes = found.1.0 }) zs c.in-Ok.text.items out found.1.2 c.in-Ok.ensures.tells wrote
 
 pub returns-in-Err-clause-made : goal.returns-in-Err-clause-made
-returns-in-Err-clause-made g c zs known out silent =
-    let found = c.in_ok-bundle.ensures.bytes zs known in
-    not_viewed c.args.view.now c.in_ok-bundle.bundle.journals c.in_ok-bundle.bundle.receipts.items (record { at = found.0; bytes = found.1.0 }) zs c.in-Err.fault out found.1.2 c.in-Err.ensures.refused silent
+returns-in-Err-clause-made g c zs known out silent = not_viewed c.args.view.now zs c.in-Err.fault out c.in-Err.ensures.refused silent
 
 pub returns-in-Err-clause-read : goal.returns-in-Err-clause-read
-returns-in-Err-clause-read g c = no_text_read c.args.view.now c.in_ok-bundle.bundle.journals c.in-Err.fault _ _ c.in-Err.ensures.refused c.in_ok-bundle.ensures.told
+returns-in-Err-clause-read g c = no_text_read c.in-Err.fault _ _ c.in-Err.ensures.refused c.in_ok-bundle.ensures.told
 
 pub returns-in-Err-clause-unwritten : goal.returns-in-Err-clause-unwritten
-returns-in-Err-clause-unwritten g c = no_text_not_written c.args.view.now c.in_ok-bundle.bundle.journals c.in-Err.fault c.in-Err.ensures.refused
+returns-in-Err-clause-unwritten g c = no_text_not_written c.in-Err.fault c.in-Err.ensures.refused

@@ -178,6 +178,10 @@ impl Cluster {
         {
             command.args([flag, &number.to_string()]);
         }
+        if self.options.starved {
+            // (a change of generation takes such a store long, and isn't what is tried)
+            command.args(["--seal-log", "1000000000"]);
+        }
         // All that there ever was is audited.
         command.args(["--keep", "1000000"]);
         if self.joined[replica].load(Ordering::SeqCst) {
@@ -433,6 +437,26 @@ impl Cluster {
         if let Some(child) = &*self.running[replica].lock().unwrap() {
             signal(if is_paused { "STOP" } else { "CONT" }, &format!("-{}", child.id()));
         }
+    }
+
+    /// The group of processes that a replica runs in.
+    pub fn group(&self, replica: usize) -> Option<u32> {
+        self.running[replica].lock().unwrap().as_ref().map(Child::id)
+    }
+
+    /// Waits until a replica has done a command.
+    pub fn await_answer(&self, replica: usize) -> Result<(), String> {
+        let set = || {
+            let mut client = Client::connect(self.client_ports[replica], PATIENCE).ok()?;
+            matches!(client.ask(&[b"SET", b"ready", b"1"]), Ok(Reply::Simple(_))).then_some(())
+        };
+        wait_for(set).ok_or(format!("replica {replica} doesn't answer"))
+    }
+
+    /// How many bytes the logs of all its generations have.
+    pub fn log_bytes(&self, replica: usize) -> u64 {
+        let generations = fs::read_dir(self.folder(replica).join("generations")).into_iter().flatten().flatten();
+        generations.map(|generation| bytes_of(&generation.path().join("log"))).sum()
     }
 
     pub fn is_running(&self, replica: usize) -> bool {

@@ -1,10 +1,12 @@
 //! The trial: clients of a cluster of stores note what they were told while replicas are killed, stopped and cut off;
 //! then it is checked.
 mod cluster;
+mod distance;
 mod links;
 mod options;
 mod samples;
 mod smoke;
+mod starved;
 mod troubles;
 mod verdict;
 mod workers;
@@ -57,7 +59,13 @@ fn main() -> ExitCode {
 fn play(options: &Options, round: usize) -> Result<usize, String> {
     let cluster = Cluster::start(options, round).map_err(|error| format!("the cluster can't be started: {error}"))?;
     if options.smoke {
-        return smoke(options, &cluster);
+        return judged(options, &cluster, smoke::run(&cluster));
+    }
+    if options.sites.count() > 0 {
+        return judged(options, &cluster, distance::run(options, &cluster)?);
+    }
+    if options.starved {
+        return judged(options, &cluster, starved::run(&cluster)?);
     }
     let (Notes { all: notes, mut faults }, count) = work(options, round, &cluster);
     cluster.reach(options.least_changes);
@@ -78,8 +86,8 @@ fn play(options: &Options, round: usize) -> Result<usize, String> {
     Ok(report(&faults))
 }
 
-fn smoke(options: &Options, cluster: &Cluster) -> Result<usize, String> {
-    let mut faults = smoke::run(cluster);
+/// Ends the cluster, and judges what it leaves, besides these faults: how many there are.
+fn judged(options: &Options, cluster: &Cluster, mut faults: Vec<String>) -> Result<usize, String> {
     faults.extend(cluster.stop());
     faults.extend(verdict::judge(options, cluster, &[]));
     Ok(report(&faults))

@@ -1,11 +1,13 @@
 //! The command line of the trial.
+use crate::distance::{Sites, Trouble};
 use std::path::PathBuf;
 use std::time::Duration;
 
 pub const HELP: &str = "\
 trial: a cluster of stores on this machine, clients, kills and cuts; then what the clients were told is checked
 
-    trial --node PATH [--in-store] [--short | --long | --smoke] [--replicas N] [--seconds S] [--kills K] [--rounds R] [--audit]
+    trial --node PATH [--in-store] [--short | --long | --smoke | --starved] [--replicas N] [--seconds S] [--kills K] [--rounds R] [--audit]
+          [--sites A,B,.. [--shares P,..] [--trouble kill|pause|far,..] [--at A] [--most P]]
           [--plant early|emptied|unsynced|unsealed|older|lacking|again|changed] [--store PATH] [--dir DIR] [--seed S]
 
     --node PATH      the program `epaxos`
@@ -16,6 +18,13 @@ trial: a cluster of stores on this machine, clients, kills and cuts; then what t
                      third of the time; samples.csv has what the stores take, second by second
     --resize         two more machines take part for a third of the time
     --smoke          no kills: `redis-cli` and `redis-benchmark`, where they are, are told what they should be
+    --sites A,B,..   a replica in each of these regions (CA, VA, EU, OR, JP), over links as long as between them, and clients who wait at each; judged
+                     is how long they wait, against what the round trips to the fast quorums allow, and that each command takes the fast path
+    --shares P,..    with --sites: one play each with so many of 100 commands on one key; default 0
+    --trouble T,..   with --sites: a replica is killed, or stopped for 10 s, or 200 ms farther from all for 10 s
+    --most P         with --sites: half of a site's commands may take P parts of 100 of what the round trips allow; default 115
+    --at A           with --sites: whose replica that is; default: the second
+    --starved        no kills: the stores have a processor for a fifth of the time and get long values; all have to be told, and logs to stay short
     --replicas N     3, the default, or 5 or 7
     --seconds S, --kills K, --replaced M, --rounds R, --clients C, --commands N    other numbers
     --seal-numbers N, --seal-dependencies N    when stores end a generation; default 300 and 200
@@ -74,6 +83,13 @@ pub struct Options {
     /// Whether two more machines take part for a while.
     pub resize: bool,
     pub smoke: bool,
+    pub starved: bool,
+    /// Over distance: the regions, the shares of one key, what happens, and to which replica. None: on this machine.
+    pub sites: Sites,
+    pub shares: Vec<u64>,
+    pub troubles: Vec<Trouble>,
+    pub troubled: usize,
+    pub most_parts: u32,
     pub audit: bool,
     pub plant: Option<Plant>,
     pub seed: u64,
@@ -88,7 +104,7 @@ impl Options {
 
 /// Reads the words after the program's name. None: help is asked for.
 pub fn read(words: impl IntoIterator<Item = String>) -> Result<Option<Options>, String> {
-    let mut options = defaults()?;
+    let (mut options, mut at) = (defaults()?, None);
     let mut words = words.into_iter();
     while let Some(word) = words.next() {
         let mut value = || words.next().ok_or(format!("{word} wants a value"));
@@ -117,10 +133,22 @@ pub fn read(words: impl IntoIterator<Item = String>) -> Result<Option<Options>, 
             "--rounds" => options.rounds = number(&value()?)?,
             "--seed" => options.seed = number(&value()?)? as u64,
             "--smoke" => options.smoke = true,
+            "--starved" => options.starved = true,
             "--audit" => options.audit = true,
+            "--sites" => options.sites = Sites::read(&value()?)?,
+            "--shares" => options.shares = list(&value()?, |it| number(it).map(|it| it as u64))?,
+            "--trouble" => options.troubles = list(&value()?, Trouble::read)?,
+            "--most" => options.most_parts = number(&value()?)? as u32,
+            "--at" => at = Some(value()?),
             "--plant" => options.plant = Some(read_plant(&value()?)?),
             _ => return Err(format!("unknown word {word}; --help tells the words")),
         }
+    }
+    if options.sites.count() > 0 {
+        (options.replicas, options.least_changes) = (options.sites.count(), 0);
+        // (a seal interferes with all commands)
+        (options.numbers, options.dependencies) = (1_900, 14_000);
+        options.troubled = at.map_or(Ok(1), |name| options.sites.replica(&name))?;
     }
     if options.clients == 0 {
         options.clients = 2 * options.replicas;
@@ -132,7 +160,7 @@ pub fn read(words: impl IntoIterator<Item = String>) -> Result<Option<Options>, 
         // (in a later generation an older copy has promised nothing)
         (options.numbers, options.dependencies, options.replaced) = (1_900, 14_000, 0);
     }
-    if options.smoke || options.plant.is_some() {
+    if options.smoke || options.starved || options.plant.is_some() {
         options.least_changes = 0;
     }
     if ![3, 5, 7].contains(&options.replicas) {
@@ -163,6 +191,12 @@ fn defaults() -> Result<Options, String> {
         life: false,
         resize: false,
         smoke: false,
+        starved: false,
+        sites: Sites::default(),
+        shares: vec![0],
+        troubles: Vec::new(),
+        troubled: 0,
+        most_parts: 115,
         audit: false,
         plant: None,
         seed,
@@ -171,6 +205,10 @@ fn defaults() -> Result<Options, String> {
 
 fn number(word: &str) -> Result<usize, String> {
     word.parse().map_err(|_| format!("{word} is no number"))
+}
+
+fn list<T>(words: &str, read: impl Fn(&str) -> Result<T, String>) -> Result<Vec<T>, String> {
+    words.split(',').map(read).collect()
 }
 
 fn read_plant(word: &str) -> Result<Plant, String> {

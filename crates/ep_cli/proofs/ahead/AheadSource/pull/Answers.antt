@@ -1,4 +1,4 @@
-use Rattle.std.proofs.Common.{rules, arith, ◌≡◌, ℕ, ◌≤◌, ◌<◌, ◌==◌, length, take, take_all, refl, ◌∙◌}
+use Rattle.std.proofs.Common.{rules, arith, ◌≡◌, ◌≤◌, ◌==◌, length, take, take_all, refl, ◌∙◌}
 use Rattle.std.specs.Io.Buffered.{reader_buffer, reader_capacity}
 use Rattle.ep_cli.proofs.Pulling.{gives_ahead}
 use Rattle.ep_cli.proofs.ahead.AheadSource.pull.Goals as goal

@@ -13,8 +13,8 @@ pub loop-preserved : goal.loop-preserved
 loop-preserved g c =
     let lost = c.loop.lost in let gone = c.loop.counter in let f = c.in-Some.frame in let a = c.args.self.now in let b = c.loop.self in let e = c.put.new.self in
     elim c.if-not-put.branch [
-      | then-not-put w ↦ rw w.lost-is (letting_more false lost gone f a b _ e c.loop.invariant c.in-Some.ensures.items refl refl w.if-not-put.ensures.put)
-      | else-not-put w ↦ rw w.lost-is (letting_more true lost gone f a b _ e c.loop.invariant c.in-Some.ensures.items refl refl w.if-not-put.ensures.put)
+      | then-not-put w ↦ rw w.lost-is (letting_more false lost gone f a b _ e c.loop.invariant c.in-Some.ensures.items refl refl w.if-not-put.ensures)
+      | else-not-put w ↦ rw w.lost-is (letting_more true lost gone f a b _ e c.loop.invariant c.in-Some.ensures.items refl refl w.if-not-put.ensures)
     ]
 
 pub returns-after-loop : goal.returns-after-loop

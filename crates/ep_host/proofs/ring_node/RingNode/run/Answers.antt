@@ -28,7 +28,7 @@ pub returns-then-agenda_empty-clause-turns : goal.returns-then-agenda_empty-clau
 returns-then-agenda_empty-clause-turns g c = let i = c.self.inside in let n : ℕ = c.loop.counter + 1 in
     let t = turns_more c.loop.counter (has_moved c.turn.result) c.args.self.now c.loop.self c.turn.new.self c.loop.invariant.turns c.turn.ensures.turns in
     let few : n ≤ c.args.turns = omega arith in
-    turned_end n c.args.turns c.args.self.now (node i.replica i.links.items i.weather.items i.agenda.items i.refused.items i.used i.lost i.ended) true few (subst (λ (x : Node). AreTurns n c.args.self.now x) (sym c.self.view_is) t)
+    turned_end n c.args.turns c.args.self.now (node i.replica i.links.items i.weather.items i.agenda.items i.refused.items i.used i.lost i.ended) true few (λ e. absurd (true≢false e)) (λ _. omega arith) (subst (λ (x : Node). AreTurns n c.args.self.now x) (sym c.self.view_is) t)
 
 pub returns-clause-runs : goal.returns-clause-runs
 returns-clause-runs g c = let i = c.self-2.inside in
@@ -37,5 +37,5 @@ returns-clause-runs g c = let i = c.self-2.inside in
 pub returns-clause-turns : goal.returns-clause-turns
 returns-clause-turns g c = let i = c.self-2.inside in
     let few : c.loop.counter ≤ c.args.turns = omega arith in
-    turned_end c.loop.counter c.args.turns c.args.self.now (node i.replica i.links.items i.weather.items i.agenda.items i.refused.items i.used i.lost i.ended) false few
+    turned_end c.loop.counter c.args.turns c.args.self.now (node i.replica i.links.items i.weather.items i.agenda.items i.refused.items i.used i.lost i.ended) false few (λ _. omega arith) (λ e. absurd (true≢false (sym e)))
     (subst (λ (x : Node). AreTurns c.loop.counter c.args.self.now x) (sym c.self-2.view_is) c.loop.invariant.turns)

@@ -1,5 +1,5 @@
-use Rattle.ep_inbox.proofs.Ordered.{takes, learns}
+use Rattle.ep_inbox.proofs.Ordered.{takes}
 use Rattle.ep_inbox.proofs.port.Port.take.Goals as goal
 
 pub pop_as-requires-clause-rule : goal.pop_as-requires-clause-rule
-pop_as-requires-clause-rule g c = (takes _ _, learns _ _)
+pop_as-requires-clause-rule g c = (takes _ _, λ items views h at. tt)

@@ -25,3 +25,6 @@ returns-in-Ok-finish_with-clause-begun c = λ b turns h. record {
   version = c.in-Ok-finish_with.ensures.version ∙ version_is b turns c.args.sections.now c.args.self h;
   opening = c.in-Ok-finish_with.ensures.opening ∙ opening_is b turns c.args.sections.now c.args.self h;
 }
+
+pub returns-in-Ok-finish_with-clause-journals : goal.returns-in-Ok-finish_with-clause-journals
+returns-in-Ok-finish_with-clause-journals c = (c.in-Ok-finish_with.ensures.journals c.requires.0.faults c.requires.2.host).1

@@ -1,8 +1,15 @@
-use Rattle.std.proofs.Common.{ap}
+use Rattle.std.proofs.Common.{ap, inl, subst, sym}
+use Rattle.ep_replica.specs.Kept.{Kept}
+use Rattle.ep_serve.specs.Acting.{Acts}
 use Rattle.ep_serve.proofs.Growing.{acts_more}
 use Rattle.ep_serve.proofs.Keeping.{kept_as, known_same, onward_before}
+use Rattle.ep_serve.proofs.Sweeping.{at_error}
 use Rattle.ep_serve.proofs.States.{settled_so, unwritten_of, written_out}
 use Rattle.ep_serve.proofs.queue.Queue.serve.Goals as goal
+
+pub returns-in_err-settle-clause-done : goal.returns-in_err-settle-clause-done
+returns-in_err-settle-clause-done g c =
+    at_error _ (inl (c.in_ok-add.ensures.ok.0, subst (λ (x : Kept). Acts c.args.node.now.replica c.args.request c.in_ok-add.ensures.ok.0 x) (sym c.settle.ensures.replica) c.in_ok-add.ensures.ok.1))
 
 pub returns-in_err-settle-clause-unwritten : goal.returns-in_err-settle-clause-unwritten
 returns-in_err-settle-clause-unwritten g c =

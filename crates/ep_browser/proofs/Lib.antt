@@ -1,3 +1,0 @@
-pub mod ReadBack
-pub mod Traced
-pub mod Fronts

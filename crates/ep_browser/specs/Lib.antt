@@ -1,4 +1,0 @@
-pub mod Strings
-pub mod Pages
-pub mod Events
-pub mod Files

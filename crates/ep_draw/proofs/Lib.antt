@@ -1,4 +1,0 @@
-pub mod Drawings
-pub mod Fitting
-pub mod Joining
-pub mod ReadBack

@@ -1,0 +1,10 @@
+use Rattle.std.proofs.Common.{◌≡◌, ◌≤◌, ◌+◌, ◌*◌, ◌++◌, length, take}
+use Rattle.std.specs.Vec.{vec_capacity, vec_len}
+use Rattle.ep_patience.specs.OpenBytes.{asked_bytes}
+use Rattle.ep_patience.proofs.writing.write_asked.Given as goal
+
+abbrev pub invariant-loop-remedy : goal.invariant-loop-remedy
+invariant-loop-remedy l = record {
+  so_far : l.told.items ≡ l.fn.told.items ++ asked_bytes (take l.remedy-index l.asked);
+  room : vec_len l.told + 4 * length l.asked ≤ vec_capacity l.told + 4 * l.remedy-index;
+}

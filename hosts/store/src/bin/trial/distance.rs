@@ -1,0 +1,404 @@
+//! A play over distance: the links take as long as those between regions, clients ask the store of their own region, and it is judged how long they
+//! wait. Nobody sets the time by hand: what a command should take follows from the round trips and the fast quorums.
+use crate::cluster::{Cluster, Target};
+use crate::options::Options;
+use std::fmt;
+use std::sync::atomic::{AtomicBool, Ordering};
+use std::thread;
+use std::time::{Duration, Instant};
+use store::client::{Client, Reply};
+use store::random::Random;
+
+/// Regions of EC2: California, Virginia, Ireland, Oregon, Japan.
+const NAMES: [&str; 5] = ["CA", "VA", "EU", "OR", "JP"];
+/// Round trips between them, in milliseconds (as published with Gryff, NSDI 2020).
+const ROUND_TRIPS: [[u64; 5]; 5] = [
+    [0, 72, 151, 59, 113],
+    [72, 0, 88, 93, 162],
+    [151, 88, 0, 145, 220],
+    [59, 93, 145, 0, 121],
+    [113, 162, 220, 121, 0],
+];
+/// Clients of each site.
+const CLIENTS: usize = 4;
+/// What comes before isn't counted: the first round trips are being measured.
+const WARM: Duration = Duration::from_secs(3);
+/// How long there is trouble, and how long after its beginning and its end nothing is judged.
+const TROUBLE: Duration = Duration::from_secs(10);
+const SETTLING: Duration = Duration::from_secs(3);
+/// A silent peer counts as lost after 5 s.
+const SILENT: Duration = Duration::from_secs(6);
+/// A far replica's links take so much longer, one way.
+const FARTHER: Duration = Duration::from_millis(100);
+/// No client of another site waits longer for one command.
+const LONGEST: Duration = Duration::from_secs(2);
+/// A client's patience: that of a store is 10 s.
+const PATIENCE: Duration = Duration::from_secs(30);
+
+/// What happens to one replica.
+#[derive(Clone, Copy, PartialEq, Eq, Debug)]
+pub enum Trouble {
+    Killed,
+    Paused,
+    Far,
+}
+
+impl Trouble {
+    /// That of this word.
+    pub fn read(word: &str) -> Result<Trouble, String> {
+        match word {
+            "kill" => Ok(Trouble::Killed),
+            "pause" => Ok(Trouble::Paused),
+            "far" => Ok(Trouble::Far),
+            _ => Err(format!("--trouble {word}: kill, pause or far")),
+        }
+    }
+}
+
+impl fmt::Display for Trouble {
+    fn fmt(&self, f: &mut fmt::Formatter) -> fmt::Result {
+        f.write_str(match self {
+            Trouble::Killed => "killed",
+            Trouble::Paused => "paused",
+            Trouble::Far => "200 ms farther",
+        })
+    }
+}
+
+/// The regions of a cluster, by the numbers of its replicas.
+#[derive(Clone, Default, PartialEq, Eq, Debug)]
+pub struct Sites(Vec<usize>);
+
+impl Sites {
+    /// Those of these names, one after the other.
+    pub fn read(word: &str) -> Result<Sites, String> {
+        let place =
+            |name: &str| NAMES.iter().position(|it| *it == name).ok_or(format!("--sites {name}: {}", NAMES.join(", ")));
+        word.split(',').map(place).collect::<Result<_, _>>().map(Sites)
+    }
+
+    pub fn count(&self) -> usize {
+        self.0.len()
+    }
+
+    /// The replica at the site of this name.
+    pub fn replica(&self, name: &str) -> Result<usize, String> {
+        self.0.iter().position(|site| NAMES[*site] == name).ok_or(format!("{name} is no site of the cluster"))
+    }
+
+    fn name(&self, replica: usize) -> &'static str {
+        NAMES[self.0[replica]]
+    }
+
+    fn round_trip(&self, one: usize, other: usize) -> Duration {
+        Duration::from_millis(ROUND_TRIPS[self.0[one]][self.0[other]])
+    }
+
+    /// The round trip to the farthest member of a replica's fast quorum: of all replicas but the one just below it.
+    fn to_quorum(&self, replica: usize) -> Duration {
+        let below = (replica + self.count() - 1) % self.count();
+        let members = (0..self.count()).filter(|it| *it != below);
+        members.map(|it| self.round_trip(replica, it)).max().unwrap_or_default()
+    }
+
+    /// What a command of a replica takes. Where the trouble's replica is lost, the one just above it proposes for those whose quorum it is in.
+    fn expected(&self, replica: usize, trouble: Option<(Trouble, usize)>) -> Duration {
+        let above = |lost: usize| (lost + 1) % self.count();
+        match trouble {
+            Some((Trouble::Far, far)) if replica == far => self.to_quorum(replica) + 2 * FARTHER,
+            Some((Trouble::Far, far)) if above(far) != replica => {
+                self.to_quorum(replica).max(self.round_trip(replica, far) + 2 * FARTHER)
+            }
+            Some((Trouble::Killed | Trouble::Paused, lost)) if above(lost) != replica => {
+                self.round_trip(replica, above(lost)) + self.to_quorum(above(lost))
+            }
+            _ => self.to_quorum(replica),
+        }
+    }
+}
+
+impl fmt::Display for Sites {
+    fn fmt(&self, f: &mut fmt::Formatter) -> fmt::Result {
+        let names: Vec<_> = (0..self.count()).map(|replica| self.name(replica)).collect();
+        f.write_str(&names.join(" "))
+    }
+}
+
+impl Cluster {
+    /// Has each link take as long as the way between its sites; those of one replica may take longer.
+    fn set_distances(&self, sites: &Sites, farther: Option<usize>) {
+        for (one, links) in self.links.iter().enumerate() {
+            for (other, link) in links.iter().enumerate() {
+                let more = if farther == Some(one) || farther == Some(other) { FARTHER } else { Duration::ZERO };
+                if let Some(link) = link {
+                    link.set_delay(sites.round_trip(one, other) / 2 + more);
+                }
+            }
+        }
+    }
+}
+
+/// One command: when it was asked since the start of a play, and how long it took. None: it was refused, or nobody knows.
+#[derive(Clone, Copy)]
+struct Told {
+    at: Duration,
+    wait: Option<Duration>,
+    is_hot: bool,
+}
+
+/// What a replica tells that it has begun.
+#[derive(Clone, Copy, PartialEq, Eq)]
+struct Begun {
+    accepts: u64,
+    recoveries: u64,
+}
+
+/// What the clients of each site were told.
+type All = Vec<Vec<Told>>;
+
+/// Plays what the options ask for: the faults that were found.
+pub fn run(options: &Options, cluster: &Cluster) -> Result<Vec<String>, String> {
+    let sites = &options.sites;
+    cluster.set_distances(sites, None);
+    (0..sites.count()).try_for_each(|replica| cluster.await_answer(replica))?;
+    let mut faults = Vec::new();
+    for share in &options.shares {
+        faults.extend(measure(options, cluster, *share)?);
+    }
+    for trouble in &options.troubles {
+        faults.extend(trouble_at(options, cluster, *trouble, options.troubled)?);
+    }
+    Ok(faults)
+}
+
+/// Without trouble, so many of 100 commands being of one key.
+fn measure(options: &Options, cluster: &Cluster, share: u64) -> Result<Vec<String>, String> {
+    let sites = &options.sites;
+    let before = begun(cluster, sites)?;
+    let all = play(cluster, sites, share, options.time, || Ok(()))?;
+    let after = begun(cluster, sites)?;
+    println!(
+        "| {sites}, {share} % on one key | expected | others p50 / p90 / p99 ms (commands) | the one key | second phases | recoveries |"
+    );
+    println!("|---|---|---|---|---|---|");
+    let mut faults = Vec::new();
+    for (replica, told) in all.iter().enumerate() {
+        let of = |is_hot: bool| waits(told, WARM, options.time, |it| it.is_hot == is_hot);
+        let (expected, cold) = (sites.expected(replica, None), of(false));
+        let slow = Begun {
+            accepts: after[replica].accepts - before[replica].accepts,
+            recoveries: after[replica].recoveries - before[replica].recoveries,
+        };
+        println!(
+            "| {} | {} | {} | {} | {} | {} |",
+            sites.name(replica),
+            expected.as_millis(),
+            figures(&cold),
+            figures(&of(true)),
+            slow.accepts,
+            slow.recoveries
+        );
+        if share == 0 {
+            faults.extend(too_long(options, replica, &cold, expected, "without trouble"));
+            faults.extend(refused(sites, replica, told));
+            if slow != (Begun { accepts: 0, recoveries: 0 }) {
+                faults.push(format!("{}: not every command has taken the fast path", sites.name(replica)));
+            }
+        }
+    }
+    let seconds = options.time.saturating_sub(WARM).as_secs_f64();
+    let count: usize = all.iter().map(|told| waits(told, WARM, options.time, |_| true).len()).sum();
+    println!("{:.0} commands a second", count as f64 / seconds);
+    Ok(faults)
+}
+
+/// Something happens to a replica, and is over after a while, unless it was killed.
+fn trouble_at(options: &Options, cluster: &Cluster, trouble: Trouble, at: usize) -> Result<Vec<String>, String> {
+    let sites = &options.sites;
+    let (begin, end) = (WARM + SETTLING, WARM + SETTLING + TROUBLE);
+    let time = end + 2 * SETTLING;
+    let all = play(cluster, sites, 0, time, || {
+        thread::sleep(begin);
+        match trouble {
+            Trouble::Killed => cluster.kill(at, Target::Both)?,
+            Trouble::Paused => cluster.pause(at, true),
+            Trouble::Far => cluster.set_distances(sites, Some(at)),
+        }
+        thread::sleep(TROUBLE);
+        match trouble {
+            Trouble::Killed => {}
+            Trouble::Paused => cluster.pause(at, false),
+            Trouble::Far => cluster.set_distances(sites, None),
+        }
+        Ok(())
+    })?;
+    println!(
+        "| {sites}: {} is {trouble} | expected | before | at first | then, expected | then | at the end | longest |",
+        sites.name(at)
+    );
+    println!("|---|---|---|---|---|---|---|---|");
+    let settled = begin + if trouble == Trouble::Paused { SILENT } else { SETTLING };
+    let mut faults = Vec::new();
+    for (replica, told) in all.iter().enumerate() {
+        let of = |from, to| waits(told, from, to, |_| true);
+        let (expected, within) = (sites.expected(replica, None), sites.expected(replica, Some((trouble, at))));
+        let (before, first, then, last) =
+            (of(WARM, begin), of(begin, settled), of(settled, end), of(end + SETTLING, time));
+        let longest = of(begin, time).last().copied().unwrap_or_default();
+        let is_out = replica == at && trouble != Trouble::Far;
+        println!(
+            "| {} | {} | {} | {} | {} | {} | {} | {} |",
+            sites.name(replica),
+            expected.as_millis(),
+            figures(&before),
+            figures(&first),
+            if is_out { "-".into() } else { within.as_millis().to_string() },
+            figures(&then),
+            figures(&last),
+            longest.as_millis()
+        );
+        if is_out {
+            continue;
+        }
+        if trouble == Trouble::Far {
+            faults.extend(refused(sites, replica, told));
+        }
+        let for_good = if trouble == Trouble::Killed { within } else { expected };
+        faults.extend(too_long(options, replica, &then, within, &format!("while {} is {trouble}", sites.name(at))));
+        faults.extend(too_long(options, replica, &last, for_good, "at the end"));
+        if longest > LONGEST {
+            faults.push(format!("{}: a command took {} ms", sites.name(replica), longest.as_millis()));
+        }
+    }
+    Ok(faults)
+}
+
+/// A fault, where some commands of a site weren't done.
+fn refused(sites: &Sites, replica: usize, told: &[Told]) -> Option<String> {
+    let count = told.iter().filter(|it| it.wait.is_none()).count();
+    (count > 0).then(|| format!("{}: {count} commands were refused", sites.name(replica)))
+}
+
+/// A fault, where half of the commands of a site took longer than they may.
+fn too_long(options: &Options, replica: usize, waits: &[Duration], expected: Duration, when: &str) -> Option<String> {
+    let name = options.sites.name(replica);
+    let Some(median) = part(waits, 50) else { return Some(format!("{name}: no command was told {when}")) };
+    let (median, expected) = (median.as_millis(), expected.as_millis());
+    let is_late = median * 100 > expected * u128::from(options.most_parts);
+    is_late.then(|| {
+        format!("{name}: half of the commands took more than {median} ms {when}, where a fast quorum takes {expected}")
+    })
+}
+
+/// Clients at all sites for so long, while something happens.
+fn play(
+    cluster: &Cluster,
+    sites: &Sites,
+    share: u64,
+    time: Duration,
+    happens: impl FnOnce() -> Result<(), String>,
+) -> Result<All, String> {
+    let (start, is_over) = (Instant::now(), AtomicBool::new(false));
+    thread::scope(|scope| {
+        let client = |place: usize| {
+            let (replica, is_over) = (place % sites.count(), &is_over);
+            scope.spawn(move || ask(cluster.client_ports[replica], place as u64, share, start, is_over))
+        };
+        let clients: Vec<_> = (0..CLIENTS * sites.count()).map(client).collect();
+        let happened = happens();
+        thread::sleep(time.saturating_sub(start.elapsed()));
+        is_over.store(true, Ordering::Relaxed);
+        let mut all: All = vec![Vec::new(); sites.count()];
+        for (place, client) in clients.into_iter().enumerate() {
+            all[place % sites.count()].extend(client.join().map_err(|_| "a client has failed")?);
+        }
+        happened.map(|()| all)
+    })
+}
+
+/// A client: asks one command after the other until it is over.
+fn ask(port: u16, seed: u64, share: u64, start: Instant, is_over: &AtomicBool) -> Vec<Told> {
+    let (mut random, mut connection, mut all) = (Random::from_seed(seed), None, Vec::new());
+    while !is_over.load(Ordering::Relaxed) {
+        let is_hot = random.below(100) < share;
+        let key = if is_hot { "hot".into() } else { format!("{seed}-{}", random.below(1_000)) };
+        let at = start.elapsed();
+        let client = match &mut connection {
+            Some(client) => client,
+            none => match Client::connect(port, PATIENCE) {
+                Ok(client) => none.insert(client),
+                Err(_) => {
+                    thread::sleep(Duration::from_millis(50));
+                    continue;
+                }
+            },
+        };
+        match client.ask(&[b"SET", key.as_bytes(), b"a value of 20 bytes."]) {
+            Ok(Reply::Simple(_)) => all.push(Told { at, wait: Some(start.elapsed() - at), is_hot }),
+            _ => {
+                all.push(Told { at, wait: None, is_hot });
+                connection = None;
+                thread::sleep(Duration::from_millis(50));
+            }
+        }
+    }
+    all
+}
+
+/// The waits of commands that were asked in this time, in rising order.
+fn waits(told: &[Told], from: Duration, to: Duration, wanted: impl Fn(&Told) -> bool) -> Vec<Duration> {
+    let those = told.iter().filter(|it| from <= it.at && it.at < to && wanted(it));
+    let mut waits: Vec<Duration> = those.filter_map(|it| it.wait).collect();
+    waits.sort_unstable();
+    waits
+}
+
+fn part(waits: &[Duration], share: usize) -> Option<Duration> {
+    waits.get(waits.len().saturating_sub(1) * share / 100).copied()
+}
+
+fn figures(waits: &[Duration]) -> String {
+    let Some(parts) = [50, 90, 99].map(|share| part(waits, share)).into_iter().collect::<Option<Vec<_>>>() else {
+        return "-".into();
+    };
+    let parts: Vec<_> = parts.iter().map(|it| it.as_millis().to_string()).collect();
+    format!("{} ({})", parts.join(" / "), waits.len())
+}
+
+/// What each replica has begun until now.
+fn begun(cluster: &Cluster, sites: &Sites) -> Result<Vec<Begun>, String> {
+    let of = |replica: usize| {
+        let mut client = Client::connect(cluster.client_ports[replica], PATIENCE).map_err(|error| error.to_string())?;
+        let told = client.ask(&[b"INFO"]).map_err(|error| error.to_string())?;
+        let Reply::Bulk(Some(text)) = told else { return Err(format!("no INFO: {told:?}")) };
+        let text = String::from_utf8_lossy(&text).into_owned();
+        let number = |name: &str| {
+            let line = text.lines().find_map(|line| line.strip_prefix(name)?.strip_prefix(':'));
+            line.and_then(|it| it.parse().ok()).ok_or(format!("no {name} in INFO"))
+        };
+        Ok(Begun { accepts: number("accepts_begun")?, recoveries: number("recoveries_begun")? })
+    };
+    (0..sites.count()).map(of).collect()
+}
+
+#[cfg(test)]
+mod tests {
+    use super::*;
+
+    fn expected(names: &str, trouble: Option<(Trouble, usize)>) -> Vec<u128> {
+        let sites = Sites::read(names).unwrap();
+        (0..sites.count()).map(|it| sites.expected(it, trouble).as_millis()).collect()
+    }
+
+    /// Worked out by hand from the round trips.
+    #[test]
+    fn what_commands_take() {
+        assert_eq!(expected("CA,VA,EU", None), [72, 88, 151]);
+        assert_eq!(expected("CA,VA,EU,OR,JP", None), [151, 162, 220, 121, 220]);
+        assert_eq!(expected("CA,EU,JP,VA,OR", None), [151, 220, 162, 93, 145]);
+        // CA's way to EU, whose quorum is CA.
+        assert_eq!(expected("CA,VA,EU", Some((Trouble::Killed, 1)))[0], 302);
+        assert_eq!(expected("CA,VA,EU", Some((Trouble::Paused, 1)))[2], 151);
+        assert_eq!(expected("CA,VA,EU", Some((Trouble::Far, 1))), [272, 288, 151]);
+    }
+}
