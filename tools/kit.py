@@ -4,6 +4,7 @@ import functools
 import importlib.machinery
 import importlib.util
 import os
+import shutil
 import subprocess
 
 
@@ -26,3 +27,24 @@ def crates_of(top):
     """The crates of a folder like the repository's, lowest first, held to its HANDLES."""
     KIT.Crate.allowed = KIT.handles_of(top)
     return {it.name: it for it in KIT.rtlib.crates_below(f"{top}/crates")}
+
+
+def give_kept(crates):
+    """Gives each of the crates the library that `rt ci` kept on this machine of the same files over the same libraries, and returns the names of those of
+    which it kept none. The crates stand lowest first, with all that they stand on. Such a library has its statements alone, which a check by `rattle` takes
+    and `rt check` doesn't: so it has no stamp."""
+    kept, lacking = KIT.Kept([]), []
+    for it in crates:
+        if any(dep.name in lacking for dep in it.deps):
+            lacking.append(it.name)
+            continue
+        key, note = kept.key(it), f"{it.folder}/out/kept"
+        if not (os.path.isfile(f"{it.rlib}/format") and os.path.isfile(note) and KIT.rtlib.text_of(note) == key):
+            shutil.rmtree(os.path.dirname(it.rlib), ignore_errors=True)
+            if not kept.give(it, False, key):
+                lacking.append(it.name)
+                continue
+            with open(note, "w", encoding="utf-8") as to:
+                to.write(key)
+        kept.is_built(it)
+    return lacking
