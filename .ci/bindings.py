@@ -93,6 +93,7 @@ def vectors():
     }
     yield commands == {name: known[name] for name in commands}
     yield epaxos._request(1, struct.pack(">IIQ", 1, 2, 3) + epaxos.put(b"x", b"12")) == known["propose"]
+    yield asked_by(lambda replica: replica.propose(1, 2, epaxos.put(b"x", b"12"), 3, spared=1)) == [known["propose-sparing"]]
     output, one, seven = epaxos.Output(known["report"][4:]), epaxos.Instance(1, 258), epaxos.Instance(0, 7)
     receipts = [epaxos.Receipt(9, 2, one, 3, 1, 4, 5, None)]
     told = (output.entries, output.is_sealed, output.frames, output.receipts, output.committed, output.executed)
@@ -104,6 +105,20 @@ def vectors():
     output, first = epaxos.Output(answer[4:]), epaxos.Instance(0, 1)
     told = (output.entries, output.is_sealed, output.frames, output.receipts, output.committed, output.executed)
     yield told == (1, False, [(1, frame)], [], [], []) and output.open == [epaxos.Open(first, 1, 1, 0)]
+
+
+def asked_by(use):
+    """The requests that a use of a replica makes."""
+    import epaxos
+
+    asked = []
+
+    class Core:
+        def act(self, kind, body):
+            asked.append(epaxos._request(kind, body))
+
+    use(epaxos.Replica(Core(), 0))
+    return asked
 
 
 def shortened(text):

@@ -12,6 +12,8 @@ FIRST = Generation("put x 1")
 LAST = Generation("put x 1", "del x", generation=LAST_GENERATION, since=5, opening={"%00": "%-", "y": "v" * 300})
 # of the values' lengths in answers, one that needs two bytes, and one that needs none
 LONG = Generation("put k %-", "get k", "put k " + "w" * 60_000, "get k", generation=3, since=9)
+# proposals that name the replica that they spare
+NAMED = Generation("put x 1", "swap x y", "seal n", generation=5, size=5, spared=2)
 
 
 def sealed(body):
@@ -73,7 +75,7 @@ def receipts(it):
 
 def collections():
     """Folders of which a bundle is made."""
-    for name, it in (("generation 1", FIRST), ("generation 7", ONE), ("5 replicas", TWO), ("7 replicas", THREE), ("the last generation", LAST), ("long values", LONG), ("nothing", Generation(generation=2))):
+    for name, it in (("generation 1", FIRST), ("generation 7", ONE), ("5 replicas", TWO), ("7 replicas", THREE), ("the last generation", LAST), ("long values", LONG), ("spared replicas", NAMED), ("nothing", Generation(generation=2))):
         yield dict(name=f"collect of {name}", words=collect(it), files=folders(it) | receipts(it), wanted=it.bundle())
     # more than 5,000 entries in a log
     many = Generation(*[f"put k{at} v" for at in range(1700)], generation=3, since=9)
@@ -162,6 +164,13 @@ def refusals():
     place = len(log(ONE, 0, files["zero/7/opening"], spoiled[:1]))
     yield refused("a log with an entry twice", files | {"zero/7/log": log(ONE, 0, files["zero/7/opening"], spoiled)}, f"log refused zero/7/log: not the next entry at byte {place}")
     yield refused("a log with no entry", files | {"zero/7/log": log(ONE, 0, files["zero/7/opening"], [b"\7" + bytes(20)])}, f"log refused zero/7/log: bad entry at byte {at}")
+    # the spared replica stands behind the kind, the stamp, the client, the request and the seen stamp
+    named = Generation("put a 1", generation=7, since=40, opening={"c": "0"}, spared=1).entries[0][0]
+    for byte in (0, 3, 255):
+        spoiled = [named[:25] + number(byte, 1) + named[26:]]
+        yield refused(f"a log whose proposal spares {byte}", files | {"zero/7/log": log(ONE, 0, files["zero/7/opening"], spoiled)}, f"log refused zero/7/log: bad entry at byte {at}")
+    spoiled = [named[:25] + number(2, 1) + named[26:]]
+    yield refused("a log whose proposal asks the spared replica", files | {"zero/7/log": log(ONE, 0, files["zero/7/opening"], spoiled)}, f"log refused zero/7/log: not the next entry at byte {at}")
     wide = Generation("put a 1", generation=7, since=40, opening={"c": "0"}, size=5)
     yield refused("a log of five replicas", files | {"two/7/log": log(wide, 2, files["two/7/opening"])}, "two/7/log is of another cluster")
     # the logs together
@@ -188,7 +197,7 @@ def shown(it, replica, held):
 
 def maps():
     """Maps of folders."""
-    for name, it in (("generation 1", FIRST), ("generation 7", ONE), ("5 replicas", TWO), ("7 replicas", THREE), ("the last generation", LAST), ("long values", LONG), ("nothing", Generation(generation=2))):
+    for name, it in (("generation 1", FIRST), ("generation 7", ONE), ("5 replicas", TWO), ("7 replicas", THREE), ("the last generation", LAST), ("long values", LONG), ("spared replicas", NAMED), ("nothing", Generation(generation=2))):
         yield dict(name=f"contents of {name}", words=["contents", "zero"], files=folders(it), wanted=shown(it, 0, it.held))
         # (another replica has executed nothing)
         yield dict(name=f"contents of {name}, of another replica", words=["contents", "one"], files=folders(it), wanted=shown(it, 1, it.opening))

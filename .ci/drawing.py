@@ -54,8 +54,8 @@ class Entry:
             origin, kind, instance = self.event.split(" ")[1:4]
             yield f"  r{origin[0]}->>r{self.replica}: {kind} {instance}{answers}"
         elif self.took:
-            command = re.fullmatch(r"propose (.*) \(client \d+ request \d+ seen \d+\)", self.event)[1]
-            yield f"  Note over r{self.replica}: propose {mermaid(command)} as {self.took}{answers}"
+            command, spared = re.fullmatch(r"propose (.*) \(client \d+ request \d+ seen \d+\)( sparing \d)?", self.event).groups()
+            yield f"  Note over r{self.replica}: propose {mermaid(command)}{spared or ''} as {self.took}{answers}"
         else:
             yield f"  Note over r{self.replica}: {self.event}{answers}"
         for to, is_lost, message in self.sent:

@@ -61,7 +61,10 @@ class Life:
         value, expected, new = chance.choice(VALUES), chance.choice((*VALUES, "%!", "%!")), chance.choice((*VALUES, "%!"))
         opaque = [f"{name} {keys} {value}" for name in ("ask", "act") for keys in (key, f"{key} {other}")]
         others = [f"get {key}", f"put {key} {value}", f"del {key}", f"swap {key} {other}", f"cas {key} {expected} {new}", *opaque]
-        return f"propose {replica} {chance.randrange(1, 4)} {f'seal {value}' if chance.random() < 0.06 else chance.choice(others)}"
+        # (half of them name another replica as the spared one)
+        spared = chance.choice([it for it in range(self.size) if it != replica])
+        named = f"sparing {spared} " if chance.random() < 0.5 else ""
+        return f"{named}propose {replica} {chance.randrange(1, 4)} {f'seal {value}' if chance.random() < 0.06 else chance.choice(others)}"
 
     def script(self):
         """A script for a replay, which all replicas end by executing what they can."""

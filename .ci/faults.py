@@ -119,6 +119,18 @@ def late():
     none = "has %!, which is no escape: % and two hexadecimal digits; %- stands alone, for no bytes"
     yield "none for a key", LATE + b"propose 0 1 cas %! 1 2\n", told(3, f", word 5: %! {none}")
     yield "none for a body", LATE + b"propose 0 1 ask x %!\n", told(3, f", word 6: %! {none}")
+    yield "another line of version 3", LATE + b"flush\nexecutes 0 0.1\n", told(4, ", word 1: executes is unknown; a line begins with propose, sparing, giveup, recover, execute, deliver or flush", taken=replay(3))
+    yield "a flush in a run of version 3", LATE + b"section\nflush\n", told(4, ", word 1: flush is a line of replay alone: here may stand propose, sparing, giveup, recover, section, drop, hold or repeat", taken=run(3))
+    yield "a spared replica in version 2", S + b"sparing 1 propose 0 1 put x 1\n", told(2, ", word 1: sparing is a line of version 3: behind replicas, generation G makes the script one of version 3")
+    yield "no spared replica", LATE + b"sparing\n", told(3, ", word 2: nothing stands here: the spared replica, 0 to 2")
+    yield "a spared replica too high", LATE + b"sparing 3 propose 0 1 put x 1\n", told(3, ", word 2: 3 is out of range: the spared replica, 0 to 2")
+    yield "nothing behind a spared replica", LATE + b"sparing 1\n", told(3, ", word 3: nothing stands here: propose: the line is sparing S propose R C COMMAND")
+    yield "a recovery that spares one", LATE + b"sparing 1 recover 0 0.1\n", told(3, ", word 3: recover isn't propose: the line is sparing S propose R C COMMAND")
+    yield "a replica that spares itself", LATE + b"sparing 00 propose 0 1 put x 1\n", told(3, ", word 4: 0 is the spared replica too: no replica spares itself")
+    yield "no client behind a spared replica", LATE + b"sparing 1 propose 0\n", told(3, ", word 5: nothing stands here: a client, 1 to 4294967295")
+    yield "another command behind a spared replica", LATE + b"sparing 1 propose 0 1 set x\n", told(3, ", word 6: set is no command: get, put, del, swap, cas, ask, act or seal")
+    yield "a get and more behind a spared replica", LATE + b"sparing 1 propose 0 1 get x 1\n", told(3, ", word 8: 1 is one word more than the line has: sparing S propose R C get K")
+    yield "a swap of one key behind a spared replica", LATE + b"sparing 2 propose 0 1 swap a %61\n", told(3, ", word 8: %61 spells the bytes of the first key: a swap has two different keys")
     yield "an act of one key twice", LATE + b"propose 0 1 act x %78 q\n", told(3, ", word 6: %78 spells the bytes of the first key: such a command has two different keys")
     yield "an ask without a body", LATE + b"propose 0 1 ask x\n", told(3, ", word 6: nothing stands here: a body")
     yield "an ask and more", LATE + b"propose 0 1 ask x y q z\n", told(3, ", word 8: z is one word more than the line has: propose R C ask K K B")
@@ -177,6 +189,7 @@ def every():
     for name, given, what in texts():
         yield dict(name=f"explain text for a bundle: {name}", words=["explain"], given=given, wanted=(TEXT + what).encode(), status=2)
     for name, script, subcommand, more in (
+        ("a proposal that spares one", LATE + b"sparing 1 propose 0 1 put x 1\n", "replay", ""),
         ("replay", S + b"propose 0 1 put x 1\nflush\n", "replay", ""),
         ("run", S + b"propose 0 1 put x 1\nsection\n", "run", "  replay refuses line 3, as section is a line of run alone\n"),
         ("both", S + b"propose 0 1 put x 1", "replay", ""),

@@ -110,6 +110,11 @@ def put(number, key, value):
     return shim.propose_in(1, number, PUT, key, value)
 
 
+def sparing(spared, proposal):
+    """The proposal, which names the replica that it spares."""
+    return shim.request(14, bytes([spared]) + proposal[5:])
+
+
 def seal(number, value=b""):
     return shim.propose_in(1, number, SEAL, b"", value)
 
@@ -292,6 +297,42 @@ def a_life(it, folder):
     yield from larger(it, folder)
 
 
+def asked_by(answer):
+    """Whom the one entry of an answer sends frames to."""
+    (entry,) = answer.entries
+    return [to for to, _ in entry.frames]
+
+
+def who_is_spared(it, folder):
+    """A proposal asks all others but the replica that it names, and is committed when these have answered."""
+    it.begin()
+    status, answers, words = it.start(0, put(1, b"x", b"0") + sparing(2, put(2, b"y", b"0")) + sparing(1, put(3, b"x", b"1")))
+    yield "who is asked", differs((status, [asked_by(a) for a in answers[:3]], words), (0, [[1], [1], [2]], ""))
+    for field, at, request in (
+        (21, 5, sparing(0, put(4, b"x", b"2"))),
+        (21, 5, sparing(3, put(4, b"x", b"2"))),
+        (21, 5, sparing(255, put(4, b"x", b"2"))),
+        (21, 5, shim.request(14)),
+        (2, 6, sparing(1, b"\0" * 9 + put(4, b"x", b"2")[9:])),
+        (12, 30, sparing(1, put(4, b"x", b"") + b"!")),
+    ):
+        _, answers, _ = it.start(0, request)
+        yield f"field {field} at {at}: {request[:7].hex()}", differs((answers[0].kind, answers[0].body), (7, struct.pack(">BQ", field, at)))
+    # (replica 1 has answered none: what asked it is open, and what asked replica 2 alone is committed without it)
+    it.frames[1] = []
+    it.start(2)
+    _, answers, _ = it.start(0, shim.request(8, bytes(3)) + shim.request(8, b"\0\0\2") + shim.request(9, b"\0\0\3"))
+    told = [(a.kind, a.body) for a in answers if a.kind in (4, 5)]
+    yield "what is open", differs(told, [(4, b"\1\0\0\1"), (4, b"\0"), (5, b"\0")])
+    # (a start goes on from the log, and sends what was asked for as before)
+    status, answers, words = it.start(0, shim.request(13, struct.pack(">IB", 0, 0)))
+    frames, at, told = int.from_bytes(answers[0].body[5:9], "big"), 9, []
+    for _ in range(frames):
+        told.append(answers[0].body[at])
+        at += 5 + int.from_bytes(answers[0].body[at + 1 : at + 5], "big")
+    yield "what is sent again", differs((status, told, words), (0, [1, 1, 2, 1, 2], ""))
+
+
 def told_all(cluster, replica):
     status, answers, words = cluster.start(replica, ALL + STATE)
     return status, generation_of(answers), words
@@ -384,8 +425,10 @@ def larger(it, folder):
     os.mkdir(it.place(4))
     yield "a new one", differs(told(it, 4, "--take", f"{folder}/taken"), (0, 3, ""))
     yield "a new one comes back", differs(told(it, 4), (0, 3, ""))
-    with open(f"{it.place(0)}/1/left", "rb") as file:
-        yield "marks name the newest", differs(file.read(), b"3")
+    # (the store marks the generation that it leaves, the node all before it again)
+    for generation in (2,) if it.starter else (1, 2):
+        with open(f"{it.place(0)}/{generation}/left", "rb") as file:
+            yield f"the mark of generation {generation} names the newest", differs(file.read(), b"3")
     os.mkdir(it.place(3))
     os.mkdir(f"{it.place(3)}/2")
     os.mkdir(f"{it.place(3)}/3")
@@ -418,7 +461,7 @@ def words_refused(cluster, folder):
 def every(program, starter=None):
     """The name of each run, and what is wrong with it, or nothing."""
     with tempfile.TemporaryDirectory(dir="/dev/shm" if os.path.isdir("/dev/shm") else None) as folder:
-        for rows in (first_starts, one_at_a_time, a_life, *[words_refused] * (not starter)):
+        for rows in (first_starts, one_at_a_time, a_life, *[who_is_spared, words_refused] * (not starter)):
             place = f"{folder}/{rows.__name__}"
             os.mkdir(place)
             try:

@@ -109,14 +109,16 @@ class Command:
 
 class Generation:
     """What the journals of a generation say, and their bytes: client 1 proposes commands at replica 0, one after the other, and each is committed on the
-    fast path and executed there before the next one. No Commit is handled. (Of versions 1 and 2 there is no generation and no opening.)"""
+    fast path and executed there before the next one. No Commit is handled. (Of versions 1 and 2 there is no generation and no opening.) Each proposal names
+    the replica `spared`, where one is given."""
 
-    def __init__(self, *texts, size=3, generation=1, since=0, opening=None, version=3):
-        self.size, self.generation, self.since, self.version = size, generation, since, version
+    def __init__(self, *texts, size=3, generation=1, since=0, opening=None, version=3, spared=None):
+        self.size, self.generation, self.since, self.version, self.spared = size, generation, since, version, spared
+        self.members = [it for it in range(1, size) if it != (size - 1 if spared is None else spared)]
         self.opening = {spelled(key): spelled(value) for key, value in (opening or {}).items()}
         self.held, self.closing = {**self.opening}, None
         self.stamps, self.entries = [since] * size, [[] for _ in range(size)]
-        self.taken, self.seqs, self.committed, self.history, self.receipts, self.given = [], [], [], [], [], []
+        self.taken, self.deps, self.seqs, self.committed, self.history, self.receipts, self.given = [], [], [], [], [], [], []
         for text in texts:
             self.take(Command(text))
 
@@ -167,25 +169,39 @@ class Generation:
 
     def take(self, command):
         """The command is proposed, committed and executed."""
+        asked = self.propose(command)
+        proposed = self.stamps[0]
+        votes = [self.vote(at, proposed, frame) for at, frame in zip(self.members, asked)]
+        for at, vote in enumerate(votes, 1):
+            self.hear(vote, at == len(votes))
+        self.execute(command, self.seqs[-1], self.deps[-1], number(len(self.taken), 4))
+
+    def propose(self, command):
+        """The command is proposed: the frames that ask the members."""
         self.taken.append(command)
-        deps = [at for at, it in enumerate(self.taken[:-1], 1) if it.meets(command)]
-        seq = 1 + max((self.seqs[it - 1] for it in deps), default=0)
-        self.seqs.append(seq)
-        request = number(len(self.taken), 4)
+        self.deps.append([at for at, it in enumerate(self.taken[:-1], 1) if it.meets(command)])
+        self.seqs.append(1 + max((self.seqs[it - 1] for it in self.deps[-1]), default=0))
         self.tick(0)
-        asked = [self.frame(1, 0, it, it - 1, seq, deps, command) for it in range(1, self.size - 1)]
+        asked = [self.frame(1, 0, it, place, self.seqs[-1], self.deps[-1], command) for place, it in enumerate(self.members)]
         lengths, rest = self.command_bytes(command)
-        self.enter(0, 1, number(1, 4) + request + number(0, 8) + lengths + rest, asked)
-        proposed, votes = self.stamps[0], []
-        for at, frame in enumerate(asked, 1):
-            self.tick(at, proposed)
-            votes.append((self.stamps[at], self.frame(2, at, 0, 0, seq, deps)))
-            self.enter(at, 2, frame, votes[-1][1:])
-        for at, (stamp, frame) in enumerate(votes, 1):
-            self.tick(0, stamp)
-            commits = [self.frame(5, 0, it, it - 1, seq, deps, command) for it in range(1, self.size)]
-            self.enter(0, 2, frame, commits if at == len(votes) else ())
-        self.execute(command, seq, deps, request)
+        kind, named = (1, b"") if self.spared is None else (6, number(self.spared, 1))
+        self.enter(0, kind, number(1, 4) + number(len(self.taken), 4) + number(0, 8) + named + lengths + rest, asked)
+        return asked
+
+    def vote(self, at, proposed, asked=None):
+        """The stamp and the frame of a replica's vote for it, with an entry where a frame asked for it."""
+        self.tick(at, proposed)
+        vote = self.stamps[at], self.frame(2, at, 0, 0, self.seqs[-1], self.deps[-1])
+        if asked:
+            self.enter(at, 2, asked, vote[1:])
+        return vote
+
+    def hear(self, vote, commits):
+        """Replica 0 handles the vote, and commits or waits for more."""
+        stamp, frame = vote
+        self.tick(0, stamp)
+        told = [self.frame(5, 0, it, it - 1, self.seqs[-1], self.deps[-1], self.taken[-1]) for it in range(1, self.size)] if commits else ()
+        self.enter(0, 2, frame, told)
 
     def execute(self, command, seq, deps, request):
         reply = "closed" if self.closing else command.reply(self.held)
@@ -270,6 +286,14 @@ REFUSED_COMMANDS = (
 # Commands of version 3 that a script of version 2 refuses
 LATER_COMMANDS = ("cas x 1 2", "cas x %! 1", "ask x b", "ask x y b", "act x b", "act x y b", "seal n", "seal %-", "put x " + "v" * 1025)
 
+# Proposals in version 3 that don't name another replica of three as the spared one
+REFUSED_SPARING = (
+    *(f"sparing{it}" for it in ("", " 1", " 1 propose", " 1 propose 0", " 1 propose 0 1", " propose 0 1 get x", " 1 1 propose 0 1 get x", " 1 giveup 0 0.1", " 1 recover 0 0.1")),
+    *(f"sparing {it} propose 0 1 get x" for it in ("0", "00", "3", "6", "-1", "one", "1.1", "00000000001")),
+    *("sparing 1 propose 1 1 get x", "sparing 2 propose 3 1 get x", "sparing 1 propose 0 0 get x", "sparing 1 propose 0 1 noop", "sparing 1 propose 0 1 get x 1"),
+    *("sparing 1 Propose 0 1 get x", "Sparing 1 propose 0 1 get x", "sparing 1 sparing 2 propose 0 1 get x", "propose 0 1 sparing 2 get x", "sparing 1 execute 0 0.1"),
+)
+
 
 def refused_scripts():
     """Scripts that `replay` and `run` refuse, and the lines."""
@@ -279,6 +303,10 @@ def refused_scripts():
     for it in LATER_COMMANDS:
         yield S + f"propose 0 1 {it}\n", 2
     yield S + "generation 1\npropose 3 1 seal n\n", 3
+    yield S + "sparing 1 propose 0 1 put x 1\n", 2
+    for it in REFUSED_SPARING:
+        yield S + f"generation 1\n{it}\n", 3
+    yield "replicas 7\ngeneration 1\nsparing 6 propose 0 1 get x\nsparing 6 propose 6 1 get x\n", 4
     yield S + "generation 1\npropose 0 0 seal n\n", 3
     # (as long as a line may be, and one byte more)
     yield S + f"generation 1\nopening k {'v' * 8182}\n#{'#' * 8192}\n", 4
@@ -343,16 +371,36 @@ def replays():
     yield "the last stamp", S + last, report("1 since 281474976710654", refused=full)
     lines = "".join(f"propose 0 1 {it}\n{FLUSHED}" for it in LOCK)
     yield "a lock by comparisons", S + f"generation 1\n{lines}execute 0 0.8\n", report("1 since 0", **locked(), refused=())
-    yield "ten commands in turn", *in_turn()
+    yield "ten commands in turn", *in_turn(False)
+    yield "ten commands in turn, which spare the replica above", *in_turn(True)
     yield "two seals", *two_seals()
     yield "a seal in a circle", *circle()
     yield "a no-op behind a seal", *lost_behind()
     yield "the last ten numbers", *last_numbers()
+    put = dict(committed=["0.1 seq 1 deps - put x 1"], history=["0.1 put x 1 -> absent"], receipts=["client 1 request 1 0.1 absent"], held={"x": "1"})
+    yield "a spared replica of ten digits", S + f"generation 1\nsparing 0000000001 propose 0 1 put x 1\n{FLUSHED}execute 0 0.1\n", report("1 since 0", **put, refused=())
+    yield "a commit without the replica that is spared", S + "generation 1\nsparing 1 propose 0 1 put x 1\ndeliver 1 2\nexecute 0 0.1\n", report("1 since 0", **put, refused=())
+    # replica 2 alone was asked, and answers the Prepare of replica 1, which goes on with an Accept, as F replicas but the leader voted so
+    recovered = "deliver 1\nrecover 1 0.1\ndeliver 4 5 7 8 9\nexecute 0 0.1\n"
+    yield "a recovery by the replica that was spared", S + f"generation 1\nsparing 1 propose 0 1 put x 1\n{recovered}", report("1 since 0", **put, refused=())
+    noop = dict(committed=["0.1 seq 1 deps - noop"], receipts=["client 1 request 1 0.1 lost"])
+    unasked = "recover 1 0.1\ndeliver 3 4 6 7 9 10 11\nexecute 0 0.1\n"
+    yield "a recovery by the replica that was spared, of what nobody heard of", S + f"generation 1\nsparing 1 propose 0 1 put x 1\n{unasked}", report("1 since 0", **noop, refused=())
+    # the spared replica 3 takes part in the slow path, behind the answers of two others
+    slow = "sparing 3 propose 1 1 put x 1\ndeliver 1 2 4\ngiveup 1 1.1\ndeliver 5\ngiveup 1 1.1\ndeliver 8 6 10 11\nexecute 1 1.1\n"
+    given_up = report("1 since 0", ["1.1 seq 1 deps - put x 1"], ["1.1 put x 1 -> absent"], receipts=["client 1 request 1 1.1 absent"], held={"x": "1"}, refused=["line 5 E7 too few answers"])
+    yield "the slow path with the replica that was spared", f"replicas 5\ngeneration 1\n{slow}", given_up
+    yield "numbers of proposals that spare one", *last_numbers("sparing 1 ")
 
 
-def in_turn():
+def turns(is_named):
+    """The ten proposals, a line each, which name the replica above theirs as the spared one, or none."""
+    return [f"{f'sparing {(at + 1) % 3} ' * is_named}propose {at % 3} {at % 3 + 1} {it}\n" for at, it in enumerate(TURNS)]
+
+
+def in_turn(is_named):
     """Each proposal's events have four stamps, and its replica's last one is the third: 1003, 1007 .. 1039. The execution has 1040."""
-    lines = "".join(f"propose {at % 3} {at % 3 + 1} {it}\n{FLUSHED}" for at, it in enumerate(TURNS))
+    lines = "".join(f"{it}{FLUSHED}" for it in turns(is_named))
     history = [
         "0.1 get a -> present 1",
         "1.1 act a b %- -> ordered",
@@ -395,9 +443,9 @@ def lost_behind():
     return S + script + "execute 0 1.1\nexecute 0 0.1\n", report("1 since 0", committed, ["1.1 seal n -> absent"], **left)
 
 
-def last_numbers():
+def last_numbers(sparing=""):
     """The numbers above 1,990 are for seals."""
-    gets, seals = "propose 0 7 get x\n" * 1991, "propose 0 7 seal n\n" * 11
+    gets, seals = f"{sparing}propose 0 7 get x\n" * 1991, f"{sparing}propose 0 7 seal n\n" * 11
     return S + "generation 1\n" + gets + seals, report("1 since 0", refused=["line 1993 E4 space full", "line 2004 E4 space full"])
 
 
@@ -408,6 +456,12 @@ def runs():
     last = S + "generation 1\nsince 281474976710654\ngiveup 0 0.1\nsection\npropose 0 1 put x 1\npropose 0 1 put y 1\n"
     yield "the last stamp", last, report("1 since 281474976710654", refused=["line 4 E6 not leading", "line 7 E15 stamp full"], lost=0)
     yield "a lock by comparisons", S + "generation 1\n" + "".join(f"propose 0 1 {it}\n" for it in LOCK), report("1 since 0", **locked(), refused=(), lost=0)
+    yield "a lock by proposals that spare replica 1", S + "generation 1\n" + "".join(f"sparing 1 propose 0 1 {it}\n" for it in LOCK), report("1 since 0", **locked(), refused=(), lost=0)
+    # all frames between replicas 0 and 1 are dropped: the proposal doesn't ask replica 1
+    dropped = "drop 0 1 1\ndrop 0 1 2\ndrop 1 0 1\n"
+    put = dict(committed=["0.1 seq 1 deps - put x 1"], history=["0.1 put x 1 -> absent"], receipts=["client 1 request 1 0.1 absent"], held={"x": "1"})
+    yield "a put that spares the replica that isn't reached", S + "generation 1\nsparing 1 propose 0 1 put x 1\n" + dropped, report("1 since 0", **put, refused=(), lost=0)
+    yield "a put that asks the replica that isn't reached", S + "generation 1\npropose 0 1 put x 1\n" + dropped, report("1 since 0", refused=(), lost=0)
     # a section has one proposal, whose events have four stamps: 1001 to 1004 in the first one, and so on
     history = [
         "0.1 get a -> present 1",
@@ -422,9 +476,9 @@ def runs():
         "0.4 seal m -> closed",
     ]
     receipts = [f"client {at % 3 + 1} request {at // 3 + 1} {it.split(' ')[0]} {it.partition(' -> ')[2]}" for at, it in enumerate(history)]
-    lines = "section\n".join(f"propose {at % 3} {at % 3 + 1} {it}\n" for at, it in enumerate(TURNS))
     left = dict(closing="closed 1.3 n stamp 1032", held=TURNS_LEFT, receipts=receipts, refused=(), lost=0)
-    yield "ten commands in turn", S + TURNS_HEAD + lines, report(TURNS_LIFE, TURNS_COMMITTED, history, **left)
+    for name, is_named in (("ten commands in turn", False), ("ten commands in turn, which spare the replica above", True)):
+        yield name, S + TURNS_HEAD + "section\n".join(turns(is_named)), report(TURNS_LIFE, TURNS_COMMITTED, history, **left)
 
 
 # Bundles
@@ -444,6 +498,7 @@ RUNS = (
     Generation("ask k l " + LONGEST, "act k " + LONGEST, "seal " + LONGEST, "put k 1"),
     Generation(*LOCK, size=5, generation=7, since=LAST_STAMP - 500),
     Generation("seal a", "seal b", "get a", "act a b c", size=7, opening={"a": "1"}),
+    *(Generation("put x 1", "cas x 1 2", "seal n", size=size, spared=it, generation=2) for size in (3, 5, 7) for it in range(1, size)),
 )
 # of FORMATS.md, section 2.2: a generation that opens with nothing, one that opens with a and ab, and one in which `put x 1` was proposed
 NONE = bytes.fromhex("45504a42 03 03 00000001 0000000000000000 00000000 00000000 00 00000000 01 00000000 02 00000000")
@@ -475,6 +530,15 @@ def changed(bundle, *bytes_at):
     return bytes(dict(bytes_at).get(at, it) for at, it in enumerate(bundle))
 
 
+# the same as PROPOSED, with replica 1 named as the spared one: the frame goes to replica 2
+SPARED = bytes.fromhex(
+    "45504a42 03 03 00000001 0000000000000000 00000000 00000000"
+    "00 00000001 06 0000000000000001 00000001 00000001 0000000000000000 01 03 01 00 00000001 78 31"
+    "0001 00000032 4550 03 01 00 02 0000 00000001 0000000000000001 00 0001 0000 00 00 0000 00 00000001 03 01 0000 0000 00000001 00000001 78 31"
+    "0000 01 00000000 02 00000000"
+)
+
+
 def of_keys(*entries):
     """A bundle of no entries, which opens with these keys and values in this order."""
     return NONE[:22] + number(len(entries), 4) + b"".join(number(len(key), 1) + number(len(value), 4) + key + value for key, value in entries) + NONE[26:]
@@ -503,6 +567,21 @@ def bad_bundles():
         yield f"op {byte} in the place of a put", changed(PROPOSED, (56, byte)), bad(at)
     for byte in (7, 8):
         yield f"op {byte} in the place of a put, which its frame isn't of", changed(PROPOSED, (56, byte)), NOT_A_RUN
+    for byte in (0, 3, 6, 255):
+        yield f"a spared replica {byte} of three, at replica 0", changed(SPARED, (56, byte)), bad(56)
+    yield "another spared replica than by its frame", changed(SPARED, (56, 2)), NOT_A_RUN
+    yield "the frame of a proposal that spares another one", changed(SPARED, (77, 1)), NOT_A_RUN
+    # (the frame stands at 68, behind the number of frames; it names its receiver at 9 of it, and its place at 11)
+    sent = SPARED[68:122]
+    yield "a proposal that asks nobody", SPARED[:66] + number(0, 2) + SPARED[122:], NOT_A_RUN
+    yield "a proposal that asks the spared replica too", SPARED[:66] + number(2, 2) + changed(sent, (9, 1)) + changed(sent, (11, 1)) + SPARED[122:], NOT_A_RUN
+    for length, at in ((31, 31), (48, 48), (56, 56), (57, 57), (58, 58)):
+        yield f"the first {length} bytes of a proposal that names the spared replica", SPARED[:length], bad(at)
+    for byte, at in ((1, 57), (10, 57), (2, 60)):
+        yield f"op {byte} in the place of a put, behind the spared replica", changed(SPARED, (57, byte)), bad(at)
+    for bundle, at, name in ((SPARED, 31, "3"), (EARLY[0], 15, "1"), (EARLY[1], 15, "2")):
+        for byte in (0, 7, 255) if name == "3" else (0, 6, 7):
+            yield f"an event of kind {byte} in version {name}", changed(bundle, (at, byte)), bad(at)
     yield "a body of 65,537 bytes", changed(PROPOSED, (60, 1)), bad(59)
     yield "a frame of 47 bytes", changed(PROPOSED, (70, 47)), bad(67)
     yield "a frame of 200,001 bytes", PROPOSED[:67] + number(200_001, 4) + PROPOSED[71:], bad(67)
@@ -529,10 +608,10 @@ def bad_bundles():
 
 def bundles():
     """Bundles, written and audited."""
-    for name, it in (("nothing", NONE), ("an opening", OPENED), ("one proposal", PROPOSED)):
+    for name, it in (("nothing", NONE), ("an opening", OPENED), ("one proposal", PROPOSED), ("one that names the spared replica", SPARED)):
         wanted = report("1 since 0", held={"a": "1", "ab": "%-"} if it is OPENED else {}, receipts=())
         yield dict(name=f"an audit of {name}, in version 3", words=["audit"], given=it, wanted=wanted)
-    for head, it in (("", NONE), ("opening ab %-\nopening a 1\n", OPENED), ("propose 0 1 put x 1\n", PROPOSED)):
+    for head, it in (("", NONE), ("opening ab %-\nopening a 1\n", OPENED), ("propose 0 1 put x 1\n", PROPOSED), ("sparing 1 propose 0 1 put x 1\n", SPARED)):
         yield dict(name=f"the bundle of version 3 of {head or 'nothing'!r}", words=["replay", "--emit", "bundle"], given=(S + "generation 1\n" + head).encode(), wanted=it)
     for text in ALONE:
         for size in (3, 5, 7):
@@ -540,10 +619,37 @@ def bundles():
             script = f"replicas {size}\ngeneration {size}\nsince {size}0\nopening a 1\nopening b %-\npropose 0 1 {text}\nflush\nflush\nexecute 0 0.1\n"
             yield dict(name=f"the bundle of {text} at {size} replicas", words=["replay", "--emit", "bundle"], given=script.encode(), wanted=it.bundle())
             yield dict(name=f"{text} at {size} replicas, reported", words=["replay"], given=script.encode(), wanted=it.audited() + b"refused 0\n")
+    for size, spared in ((3, 1), (3, 2), (5, 1), (5, 4), (7, 3)):
+        it = Generation("put x 1", size=size, spared=spared)
+        script = f"replicas {size}\ngeneration 1\nsparing {spared} propose 0 1 put x 1\nflush\nflush\nexecute 0 0.1\n"
+        yield dict(name=f"the bundle of a put that spares {spared} of {size}", words=["replay", "--emit", "bundle"], given=script.encode(), wanted=it.bundle())
+        yield dict(name=f"a put that spares {spared} of {size}, reported", words=["replay"], given=script.encode(), wanted=it.audited() + b"refused 0\n")
     for at, it in enumerate(RUNS):
         yield dict(name=f"an audit of run {at} of version 3", words=["audit"], given=it.bundle(), wanted=it.audited())
+    yield from answers_of_others()
     for name, it, told_of in bad_bundles():
         yield dict(name=f"an audit of {name}", words=["audit"], given=it, told=told_of, status=2)
+
+
+def answers_of_others():
+    """Audits of a proposal whose leader handles an answer of the spared replica, which wasn't asked: it counts for nothing, however many there are."""
+    for size, spared in ((3, None), (3, 1), (3, 2), (5, None), (5, 1), (5, 3), (7, 4)):
+        others = [it for it in range(1, size) if it != (size - 1 if spared is None else spared)]
+        odd = next(it for it in range(1, size) if it not in others)
+        name = f"an answer of the spared replica {odd} of {size}{', which is named,' * (spared is not None)}"
+        # it comes in the place of the last other member's, or before it: then the other one's makes the commit
+        for place, heard, commits in (("the last place", [*others[:-1], odd], ()), ("the first place", [odd, *others], others[-1:]), ("the last place, and a commit", [*others[:-1], odd], [odd])):
+            it = Generation(size=size, spared=spared)
+            asked = dict(zip(others, it.propose(Command("put x 1"))))
+            votes = {at: it.vote(at, 1, asked.get(at)) for at in range(1, size)}
+            for at in heard:
+                it.hear(votes[at], at in commits)
+            entry = 2 + heard.index(odd)
+            row = dict(name=f"an audit of {name} in {place}", words=["audit"], given=it.bundle())
+            if commits == [odd]:
+                yield row | dict(told=b"bundle refused E11 at replica 0 entry %d\n" % entry, status=2)
+            else:
+                yield row | dict(wanted=b"verdict refused\nA1 unsent frame at replica 0 entry %d\n" % entry, status=1)
 
 
 # Upgrades
@@ -602,6 +708,8 @@ def accepted_chains():
     yield "two", [ONE, TWO]
     yield "two, the last one without an entry", [ONE, ONE.next()]
     yield "three, of 3, 5 and 7 replicas", [ONE, TWO, THREE]
+    named = Generation("put x 1", "seal n", size=5, spared=2)
+    yield "three, whose proposals name whom they spare", [named, named.next("swap x y", "seal m", size=3, spared=1), Generation.next(named.next("swap x y", "seal m", size=3, spared=1), "get y", size=7, spared=6)]
     third = TWO.next("put d 4", "swap a d", "seal o", size=7)
     fourth = third.next("put e 5", "seal p", size=5)
     yield "five", [ONE, TWO, third, fourth, fourth.next("del e", size=3)]
@@ -732,6 +840,19 @@ def every():
         yield dict(name=f"{subcommand} refuses {line} behind a generation", words=[subcommand], given=f"{S}generation 1\n{line}\ngeneration 1\n".encode(), told=b"script refused at line 3\n", status=2)
     yield dict(name="replay refuses a generation behind a flush", words=["replay"], given=f"{S}flush\ngeneration 1\n".encode(), told=b"script refused at line 3\n", status=2)
     yield dict(name="run refuses a generation behind a section", words=["run"], given=f"{S}section\ngeneration 1\n".encode(), told=b"script refused at line 3\n", status=2)
+    # at the last stamp two proposals name whom they spare: the second one is refused
+    asked = "PreAccept 0.1 ballot (0, 0) put x 1 seq 1 deps -"
+    script = S + "generation 1\nsince 281474976710654\nsparing 1 propose 0 1 put x 1\nsparing 2 propose 0 1 get x\n"
+    traced = joined(
+        [
+            f"version 3 generation 1 since 281474976710654 opening 0 {EMPTY_DIGEST}",
+            f"line 4  stamp 281474976710655  replica 0 entry 1  propose put x 1 (client 1 request 1 seen 0) sparing 1; took 0.1; sends #1 to 2: {asked}",
+            "line 5  refused E15 stamp full: sparing 2 propose 0 1 get x",
+            f"never given  #1 from 0 to 2: {asked}",
+            "not committed  0.1 at replica 0, which leads it: PreAccepts are out, answers of others so far: 0",
+        ]
+    )
+    yield dict(name="a trace of proposals that name whom they spare", words=["replay", "--emit", "trace"], given=script.encode(), wanted=traced.encode())
     yield from bundles()
     yield from upgrades()
     yield from chains()

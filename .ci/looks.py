@@ -22,15 +22,17 @@ class Looked(Generation):
         attributes = f"seq {seq} deps {deps}"
         ask, vote = f"PreAccept {name} ballot (0, 0) {command.text} {attributes}", f"PreAcceptOK {name} ballot (0, 0) {attributes}"
         to = lambda first, last, lost: ", ".join(f"to {it}{lost}" for it in range(first, last))
-        if kind == 1:
-            event = f"propose {command.text} (client 1 request {len(self.taken)} seen 0); took {name}; sends {to(1, self.size - 1, '')}: {ask}"
+        if kind in (1, 6):
+            spared = "" if self.spared is None else f" sparing {self.spared}"
+            asked = ", ".join(f"to {it}" for it in self.members)
+            event = f"propose {command.text} (client 1 request {len(self.taken)} seen 0){spared}; took {name}; sends {asked}: {ask}"
             self.asked = len(self.entries[replica])
         elif kind == 5:
             event = f"execute {name}; executed {name} -> "
         elif replica:
-            event = f"handle 0:{self.asked}:{replica - 1} {ask}; sends to 0: {vote}"
+            event = f"handle 0:{self.asked}:{self.members.index(replica)} {ask}; sends to 0: {vote}"
         else:
-            at = len(self.entries[0]) - self.asked
+            at = self.members[len(self.entries[0]) - self.asked - 1]
             event = f"handle {at}:{len(self.taken)}:0 {vote}"
             if frames:
                 event += f"; sends {to(1, self.size, ' NEVER HANDLED')}: Commit {name} {command.text} {attributes}"
@@ -64,6 +66,8 @@ def shown():
     yield dict(name="version 3: every command, shown", words=["show"], given=one.bundle(), wanted=one.shown())
     for name, other in (
         ("five replicas", life(size=5)),
+        ("the spared replica", life(spared=1)),
+        ("the spared one of seven replicas", Looked("put x 1", "seal n", size=7, spared=3)),
         ("the last generation, and the last stamp that leaves room", Looked("put x 1", generation=LAST_GENERATION, since=2**48 - 5)),
         ("nothing", Looked(generation=1)),
         ("an opening alone", Looked(generation=2, since=2**48 - 1, opening={"%ff": "2", "%00": "%-"})),
@@ -91,6 +95,16 @@ deps -
     yield dict(name="version 3: a seal, in columns", words=["show", "--columns", "--to", "10"], given=small.bundle(), wanted=column.encode())
     none = f"{column.partition('stamp')[0]}0 of 4 entries\n"
     yield dict(name="version 3: nothing in columns", words=["show", "--columns", "--to", "9"], given=small.bundle(), wanted=none.encode())
+    named = Looked("put x 1", generation=1, spared=1)
+    column = f"""{named.edition()[0]}
+replica 0{' ' * 25}replica 1{' ' * 25}replica 2
+stamp 1 entry 1: propose put x 1
+(client 1 request 1 seen 0)
+sparing 1; took 0.1; sends to 2:
+PreAccept 0.1 ballot (0, 0) put
+x 1 seq 1 deps -
+"""
+    yield dict(name="version 3: the spared replica, in columns", words=["show", "--columns", "--to", "1"], given=named.bundle(), wanted=column.encode())
 
 
 def explained():
@@ -160,6 +174,17 @@ def fields():
     yield from refusal("a body too long", changed(opened, op + 3, number(65_536, 4)), op + 3, "length of the body", where, "0 to 65535", "65536")
     yield from refusal("a body too short", changed(opened, op, b"\6\1\0\0\0\0\1"), op + 3, "length of the body", where, "2 to 131080", "1")
     yield from refusal("two equal keys", changed(opened, op + 8, b"b"), op + 8, "second key", where, "another key than the first", "b")
+    # the kind stands behind the journal's number and its count, the spared replica 9 + 16 bytes behind it
+    kinds = "event kind (1 propose, 2 handle, 3 give up, 4 recover, 5 execute{})"
+    late = kinds.format(", 6 propose and name the spared replica")
+    for byte in (0, 7):
+        yield from refusal(f"an event of kind {byte}", changed(opened, 26 + 15 + 5, bytes([byte])), 26 + 15 + 5, late, where, "1 to 6", str(byte))
+    old = Looked("put x 1", version=2).bundle()
+    yield from refusal("an event of kind 6 in version 2", changed(old, 10 + 5, b"\6"), 10 + 5, kinds.format(""), where, "1 to 5", "6")
+    spared = Looked("put x 1", size=5, generation=1, spared=2).bundle()
+    for byte in (0, 5):
+        yield from refusal(f"a spared replica {byte}", changed(spared, 26 + 5 + 9 + 16, bytes([byte])), 26 + 5 + 9 + 16, "spared replica", where, "0 to 4, and not the journal's own replica", str(byte))
+    yield from refusal("no op behind a spared replica", changed(spared, 26 + 5 + 9 + 17, b"\1"), 26 + 5 + 9 + 17, OP, where, "2 to 9", "1")
     cas = Looked("cas k %! 1", generation=1).bundle()
     body = 26 + 5 + 9 + 16 + 7 + 1
     yield from refusal("a body of no two parts", changed(cas, body, b"\2"), body, "body", where, TWO_PARTS, "%02%01%00%00%00%011")
@@ -182,6 +207,10 @@ def steps():
     line = b"bundle refused E11 at replica 0 entry 1\n"
     says = ["\n  cause: its stamp 40 isn't above the stamp that the clocks go on from, 40\n"]
     yield dict(name="version 3: a stamp that doesn't go on, explained", words=["explain"], given=changed(given, 26 + 5 + 1, number(40, 8)), wanted=line, is_begun=True, says=says, status=2)
+    # the spared replica stands behind the kind, the stamp, the client, the request and the seen stamp: another frame is to be sent
+    named = Looked("put x 1", generation=7, since=40, spared=1).bundle()
+    says = ["\n  event: propose put x 1 (client 1 request 1 seen 0) sparing 2\n", "\n  first difference: receiver (byte 5), expected 1, found 2\n"]
+    yield dict(name="version 3: another spared replica, explained", words=["explain"], given=changed(named, 26 + 5 + 9 + 16, b"\2"), wanted=line, is_begun=True, says=says, status=2)
     # the frame that replica 1 handles
     frame = given.rindex(b"EP\3\1")
     line = b"bundle refused E11 at replica 1 entry 1\n"
@@ -202,7 +231,7 @@ def steps():
 
 def drawn():
     """How they are drawn."""
-    for name, one in (("every command", life()), ("nothing", Looked(generation=1)), ("version 2", Looked("put x 1", "swap x y", version=2))):
+    for name, one in (("every command", life()), ("the spared replica", life(spared=1)), ("nothing", Looked(generation=1)), ("version 2", Looked("put x 1", "swap x y", version=2))):
         yield dict(name=f"version 3: {name}, drawn", words=["draw", "--mermaid"], given=one.bundle(), wanted=drawing.sequence(one.shown().decode(), one.size).encode())
         yield dict(name=f"version 3: {name}, drawn as a graph", words=["draw", "--dot"], given=one.bundle(), wanted=drawing.graph(one.shown().decode()).encode())
 
@@ -212,6 +241,9 @@ def traced():
     one = life()
     label = f'{{"ph":"M","name":"process_labels","pid":0,"tid":0,"args":{{"labels":"{one.edition()[0]}"}}}},\n'
     yield dict(name="version 3: every command, as trace events", words=["trace-events"], given=one.bundle(), wanted=b'{"traceEvents":[\n', is_begun=True, says=[label])
+    event = "propose put x 1 (client 1 request 1 seen 0) sparing 1"
+    says = [f'"name":"{event}","args":{{"entry":1,"words":"{event}; took 0.1"}}}}']
+    yield dict(name="version 3: the spared replica, as trace events", words=["trace-events"], given=Looked("put x 1", generation=1, spared=1).bundle(), wanted=b'{"traceEvents":[\n', is_begun=True, says=says)
 
 
 def every():

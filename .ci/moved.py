@@ -143,6 +143,7 @@ def refusals():
         ("a bundle", it.bundle(), "no header of a log"),
         ("version 4", b"EPLG\4" + files["one.log"][5:], "another version"),
         ("a generation", log(Generation("put x 1"), 1, bytes(32)), "another generation"),
+        ("a proposal that names whom it spares", log(it, 1, bytes(32), [b"\6" + it.entries[0][0][1:25] + b"\0" + it.entries[0][0][25:]]), "bad entry at byte 43"),
         ("an entry twice", log(it, 1, bytes(32), it.entries[1][:1] * 2), f"not the next entry at byte {len(log(it, 1, bytes(32), it.entries[1][:1]))}"),
     ):
         yield refused(f"a log of {name}", files | {"one.log": held}, f"log refused one.log: {line}")

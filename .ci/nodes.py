@@ -54,6 +54,7 @@ def refused(fault):
 MALFORMED = (
     ("kind 0", asked(0), malformed(1, 4)),
     ("kind 14 with a body", asked(14, "0102"), malformed(1, 4)),
+    ("a proposal that spares replica 1", asked(14, "01 00000001 00000001 0000000000000000 03 01 0001 7831"), malformed(1, 4)),
     ("kind 16 with a body", asked(16, "0102"), malformed(1, 4)),
     ("a cut count of told entries", asked(13, "000000"), malformed(19, 5)),
     ("no count of open instances", asked(13, "00000000"), malformed(20, 9)),

@@ -7,7 +7,8 @@ Of each run the trace events are read as JSON, and counted against what `show` p
 the graph is drawn by Graphviz, where it is installed; and its page is opened in headless Chromium, where there is
 one: it has to say how many events and instances there are, to list the instances with their commands as `show` has them, to find slow and recovered ones,
 to sort by path, to have the arrows of the graph, and to raise no error. Both views are saved as SVG, and read as XML.
-The runs are worked scripts, a run whose keys and values are odd bytes, one of 10,800 events at five replicas, and one of version 3 with two seals.
+The runs are worked scripts, a run whose keys and values are odd bytes, one of 10,800 events at five replicas, one of proposals that name whom they spare,
+and one of version 3 with two seals.
 The last line is 'pages: N passed, M failed'.
 """
 
@@ -58,6 +59,11 @@ def strange():
     return text + b"propose 1 9 put </script><script>alert(1)</script> <!--<script>\nflush\nflush\nflush\n"
 
 
+def sparing():
+    """A script whose proposals name whom they spare: one is recovered by that replica, and one is committed by the fast path."""
+    return b"replicas 3\ngeneration 1\nsparing 1 propose 0 1 put x 1\ndeliver 1\nrecover 1 0.1\ndeliver 4 5 7 8 9\nsparing 0 propose 2 2 act x y q\nflush\nflush\nflush\nexecute 0 0.1\n"
+
+
 def scripts():
     """The runs, by name."""
     for name in EXAMPLES:
@@ -65,6 +71,7 @@ def scripts():
             yield name, it.read()
     yield "odd bytes", strange()
     yield "10,800 events", large()
+    yield "spared replicas", sparing()
 
 
 def bundles(program):

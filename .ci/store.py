@@ -1,7 +1,7 @@
 """The host in hosts/store, where cargo is there: builds it over the library, where there is one, and runs its tests, some of them over the programs
 that `rt ci` built, then clients that others have written and strangers at its ports, where redis-py is there, and then plays two trials of 30 seconds
 over several generations, each with 3 kills and a machine replaced, whose chains the audit judges: one over nodes' processes, one whose stores have the
-core in them; and two of some seconds, over distance and on a fifth of a processor, with the core in the stores. Runs alone too:
+core in them; and three of some seconds with the core in the stores: of a map that grows, over distance and on a fifth of a processor. Runs alone too:
 python3 .ci/store.py [NODE PROGRAM [FOLDER]], of other builds, with the folder that libepaxos.a and libepaxos.so are in.
 
 It is built without optimisation and without what debuggers need: with its tests that takes half of the processor time of a release build alone.
@@ -29,9 +29,11 @@ CLIENTS = ("redis-server", "redis-tools", "python3-redis", "stunnel4")
 STRANGERS = "6"
 # how long each trial plays, and how many of its stores are killed
 TRIAL = ("--short", "--seconds", "30", "--kills", "3", "--audit")
-# a trial over links as long as those between regions, where other work may take half as long again, and one of stores that have little of a processor
-DISTANCE = ("--sites", "CA,VA,EU", "--seconds", "9", "--most", "150")
+# a trial over links as long as those between regions, with a region lost, where other work may take a quarter, and one of stores that have little of a processor
+DISTANCE = ("--sites", "CA,VA,EU", "--seconds", "9", "--most", "125", "--trouble", "kill", "--at", "VA")
 STARVED = ("--starved",)
+# a map that grows over a change of generation, all of which a machine 20 ms away then gets
+GROWING = ("--growing", "6000", "--replaced", "1", "--delay", "20")
 CHEAP = {"CARGO_INCREMENTAL": "0", "CARGO_PROFILE_DEV_DEBUG": "0"}
 # as ./epaxos goes about it
 EPAXOS = """#!/bin/sh
@@ -119,6 +121,7 @@ def tried(node=BUILT[0], program=BUILT[1], library=None):
             well.append(is_well([*trial, f"{scratch}/nodes"]))
         if epaxos and library and all(well):
             well.append(is_well([*trial, f"{scratch}/in-store", "--in-store"]))
+            well.append(is_well([trial[0], *GROWING, "--node", epaxos, "--in-store", "--dir", f"{scratch}/growing"]))
             # (they judge times: each gets a second chance, as a machine that stands still for a tenth of a second fails either)
             for name, words in (("distance", DISTANCE), ("starved", STARVED)):
                 timed = [trial[0], *words, "--node", epaxos, "--in-store", "--dir"]

@@ -27,7 +27,7 @@ extern "C" {
 #endif
 
 /* What ep_version() answers of the library that this header is of. */
-#define EP_VERSION 3
+#define EP_VERSION 4
 
 /* Begins a struct ep_bytes of no bytes, and a struct ep_replica of no replica. */
 #define EP_EMPTY { (const uint8_t *)"", 0 }
@@ -65,6 +65,12 @@ struct ep_call {
     /* Its request, from 1. A client's number and its request's name one command, over all starts: what is proposed
        twice is done twice. */
     uint32_t request;
+    /* 0: the replica just below this one is spared (the last one, if this is replica 0), and `spared` is ignored.
+       Versions 1 and 2 have no other. */
+    uint8_t has_spared;
+    /* The other replica that isn't asked at first: the slowest one, or one that can't be reached. All others have to
+       answer before the command is committed in one round trip. */
+    uint8_t spared;
 };
 
 /* What a key has to have, and what it then gets. */
@@ -366,8 +372,9 @@ uint8_t ep_free(struct ep_replica *replica);
 /* A client asks for the value of a key. As any command it is put in order with all others that name the key, so it
    sees all that was answered before. Its answer, like every command's, comes by `ep_answers`, as a receipt, once the
    command was executed. EP_NO_REPLICA, EP_LENT, EP_MEMORY; EP_OUT_OF_RANGE: a key hasn't 1 to 255 bytes, a value has
-   more than 65,535, two keys are the same, a client or a request is 0, or the version hasn't the command (version 2
-   has get, put, del and swap, and values of up to 1,024 bytes); EP_SPACE_FULL; EP_SEQ_EXHAUSTED; EP_STAMP_FULL. */
+   more than 65,535, two keys are the same, a client or a request is 0, the spared replica isn't another one of the
+   cluster, or the version hasn't what is asked (version 2 has get, put, del and swap, values of up to 1,024 bytes,
+   and spares the usual replica); EP_SPACE_FULL; EP_SEQ_EXHAUSTED; EP_STAMP_FULL. */
 uint8_t ep_propose_get(struct ep_replica *replica, const struct ep_call *call, const uint8_t *key, size_t key_len);
 
 /* A client gives a key a value. The answer is what it had. Statuses are those of `ep_propose_get`. */
@@ -496,7 +503,9 @@ uint8_t ep_patience_free(struct ep_patience *patience);
 
 /* Tells that an answer of this peer to an own proposal (a frame PreAcceptOK) came so long after the proposal's frame
    was sent to it, which is after the sync. Not where that frame was sent twice: it isn't known then which one is
-   answered (Karn's rule). EP_NO_PATIENCE; EP_OUT_OF_RANGE: `peer` is above 6. */
+   answered (Karn's rule). Of a peer that proposals spare, tell now and then how long a message of yours and its
+   answer took: else nothing is known of it, and its time-out stays at `initial`. EP_NO_PATIENCE; EP_OUT_OF_RANGE:
+   `peer` is above 6. */
 uint8_t ep_patience_measure(struct ep_patience *patience, uint8_t peer, uint32_t took);
 
 /* Tells that frames to this peer arrive, as far as you know, or, if `is_reached` is 0, that they don't: its
@@ -514,9 +523,10 @@ uint8_t ep_patience_hurry(struct ep_patience *patience);
 uint8_t ep_patience_put_off(struct ep_patience *patience, struct ep_instance instance, uint16_t ballot, uint64_t now);
 
 /* Has a turn at this time, at which just these instances are open, and lends what to ask the replica for.
-   `instances` has nine bytes for each, in rising order, as the answer of kind 9 has them (docs/FORMATS.md, section
-   10); one that isn't open here, and of which a peer tells that it is committed, has the phase 4. `late` has four
-   bytes for each of at most 64 events: 3 (give up) or 4 (recover), and the instance, as in a request.
+   `instances` has ten bytes for each, in rising order: nine as the answer of kind 9 has them (docs/FORMATS.md,
+   section 10), and the replica that your proposal of it spares (the one just below you where it names none; of
+   another's any); one that isn't open here, and of which a peer tells that it is committed, has the phase 4. `late`
+   has four bytes for each of at most 64 events: 3 (give up) or 4 (recover), and the instance, as in a request.
    EP_NO_PATIENCE, EP_MEMORY; EP_OUT_OF_RANGE: the bytes aren't open instances in rising order. */
 uint8_t ep_patience_turn(struct ep_patience *patience, uint64_t now, const uint8_t *instances, size_t instances_len,
                          struct ep_bytes *late);

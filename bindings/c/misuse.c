@@ -52,7 +52,7 @@ static void wait_no_longer(void)
     struct ep_waits waits = { 7, 100, 1000, 1500, 20000, 3, 3 };
     struct ep_bytes late = EP_EMPTY;
     struct ep_instance nowhere = { 2001, 1 }, other = { 1, 1 };
-    uint8_t open[] = { 0, 0, 1, 0, 0, 0, 1, 1, 1 };
+    uint8_t open[] = { 0, 0, 1, 0, 0, 0, 1, 1, 1, 2 };
     uint64_t due = 5;
 
     WANT(EP_OUT_OF_RANGE, ep_patience_begin(&patience, &waits));
@@ -81,7 +81,7 @@ static void wait_no_longer(void)
     WANT(EP_DONE, ep_patience_put_off(&patience, other, 1, 0));
     WANT(EP_NONE, ep_patience_due(&patience, &due));
     WANT(5, (int)due);
-    WANT(EP_OUT_OF_RANGE, ep_patience_turn(&patience, 0, open, 8, &late));
+    WANT(EP_OUT_OF_RANGE, ep_patience_turn(&patience, 0, open, 9, &late));
     WANT(EP_DONE, ep_patience_turn(&patience, 0, open, sizeof open, &late));
     WANT(0, (int)late.len);
     WANT(EP_DONE, ep_patience_due(&patience, &due));
@@ -103,7 +103,7 @@ int main(void)
     struct ep_place place = { 5, 6 };
     struct ep_instance instance = { 9, 1 }, nowhere = { 1, 7 }, here = { 1, 0 };
     struct ep_leading leading = { 8, 8 };
-    struct ep_call call = { 0, 1, 1 };
+    struct ep_call call = { 0, 1, 1, 0, 0 };
     struct ep_exchange exchange = { empty, empty, 0, 1 };
     struct ep_touching touching = { { key, 1 }, { key, 1 }, 1, 0 };
     struct ep_setup setup = { empty, empty, 3, 0, 1 };
@@ -211,6 +211,11 @@ int main(void)
     call.client = 1, call.seen = (1ull << 40) + 1;
     WANT(EP_STAMP_FULL, ep_propose_get(&replica, &call, key, 1));
     call.seen = 0;
+    /* only the two others are spared; a number that isn't named is ignored */
+    for (call.has_spared = 1, call.spared = 3; call.spared; call.spared++)
+        WANT(EP_OUT_OF_RANGE, ep_propose_get(&replica, &call, key, 1));
+    WANT(EP_OUT_OF_RANGE, ep_propose_get(&replica, &call, key, 1));
+    call.has_spared = 0, call.spared = 255;
     WANT(EP_BAD_FRAME, ep_handle(&replica, key, 1));
     WANT(EP_OUT_OF_RANGE, ep_give_up(&replica, nowhere));
     WANT(EP_OUT_OF_RANGE, ep_recover(&replica, nowhere));

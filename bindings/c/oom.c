@@ -128,7 +128,7 @@ static void once(void)
     }
     for (uint32_t request = 1; request <= 3; request++)
         for (int me = 0; me < REPLICAS; me++) {
-            struct ep_call call = { 0, (uint32_t)me + 1, request };
+            struct ep_call call = { 0, (uint32_t)me + 1, request, 0, 0 };
             struct ep_exchange exchange = { { value, 1 }, { other, 5 }, request > 1, 1 };
             if (request == 2)
                 ask(ep_propose_cas, (&replicas[me], &call, key, 1, &exchange));

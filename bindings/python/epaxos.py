@@ -80,12 +80,14 @@ class Receipt(NamedTuple):
 
 
 class Open(NamedTuple):
-    """An instance that isn't committed: since which entry it is known, and how far it is led here: a phase (1 to 3; 0: not at all) and answers."""
+    """An instance that isn't committed: since which entry it is known, and how far it is led here: a phase (1 to 3; 0: not at all) and answers. Whom your proposal of
+    it spares, where it names one, a core doesn't tell: `open._replace(spared=1)` tells it `Patience`."""
 
     instance: Instance
     since: int
     phase: int
     answers: int
+    spared: int | None = None
 
 
 class Answer(str):
@@ -259,9 +261,14 @@ class Replica:
         return replica
 
     @_in_turn
-    def propose(self, client, request, command, seen=0):
-        """Proposes a client's command: `seen` is the greatest stamp of the receipts that it knows of. (Nothing is taken while a Ready isn't synced: Unsynced.)"""
-        self._core.act(1, _packed(">IIQ", client, request, seen) + command)
+    def propose(self, client, request, command, seen=0, spared=None):
+        """Proposes a client's command: `seen` is the greatest stamp of the receipts that it knows of, `spared` the other replica that isn't asked at first, such as the slowest
+        one or one that can't be reached (None: the one just below this). (Nothing is taken while a Ready isn't synced: Unsynced.)"""
+        body = _packed(">IIQ", client, request, seen) + command
+        if spared is None:
+            self._core.act(1, body)
+        else:
+            self._core.act(14, _packed(">B", spared) + body)
 
     @_in_turn
     def handle(self, frame):
@@ -540,7 +547,7 @@ class _Process:
 
 # Those parts of bindings/c/epaxos.h that are used here, word for word.
 _DECLARED = """
-#define EP_VERSION 3
+#define EP_VERSION 4
 EP_MEMORY = 1
 EP_OUT_OF_RANGE = 3
 EP_NOT_COMMITTED = 10
@@ -570,7 +577,7 @@ struct ep_replica { void *at; };
 struct ep_bytes { const uint8_t *at; size_t len; };
 struct ep_setup { struct ep_bytes opening; struct ep_bytes log; uint8_t replicas; uint8_t replica; uint8_t is_new; };
 struct ep_place { uint64_t at; uint64_t by; };
-struct ep_call { uint64_t seen; uint32_t client; uint32_t request; };
+struct ep_call { uint64_t seen; uint32_t client; uint32_t request; uint8_t has_spared; uint8_t spared; };
 struct ep_exchange { struct ep_bytes expected; struct ep_bytes desired; uint8_t has_expected; uint8_t has_desired; };
 struct ep_touching { struct ep_bytes first; struct ep_bytes second; uint8_t has_second; uint8_t is_reading; };
 struct ep_instance { uint16_t number; uint8_t replica; };
@@ -712,6 +719,8 @@ class _Library:
     def act(self, kind, body):
         if kind == 1:
             self.propose(_Fields(body))
+        elif kind == 14:
+            self.propose(_Fields(body[1:]), body[0])
         elif kind == 2:
             self.call("ep_handle", bytes(body), len(body))
         elif kind in (6, 12):
@@ -731,10 +740,10 @@ class _Library:
             raise Fault(FAULTS[status], Instance(waits_for.replica, waits_for.number))
         self.check(status)
 
-    def propose(self, fields):
+    def propose(self, fields, spared=None):
         """Proposes what a proposal's bytes say."""
         client, request, seen = fields.number(4), fields.number(4), fields.number(8)
-        call = _STRUCTS["ep_call"](seen, client, request)
+        call = _STRUCTS["ep_call"](seen, client, request, spared is not None, spared or 0)
         op, lengths, length = fields.number(1), (fields.number(1), fields.number(1)), fields.number(4)
         first, second = (fields.run(it) for it in lengths)
         body = fields.run(length)
@@ -809,7 +818,7 @@ class Patience:
     that stand here (`granularity` and `initial` are those of RFC 6298).
 
         patience = Patience(3, 0, seed=7)
-        patience.measure(1, took)                        # an answer of peer 1 to an own proposal took so long, whose frame was sent once
+        patience.measure(1, took)                        # an answer of peer 1 to an own proposal took so long, whose frame was sent once; or to a message of yours
         patience.reach(1, False)                         # its connection is lost
         for kind, instance in patience.turn(now, output.open): ..      # replica.give_up(instance) where kind is GIVE_UP, else replica.recover(instance)
     """
@@ -822,6 +831,8 @@ class Patience:
         if not 0 <= me < replicas < 256:
             raise Fault("OutOfRange")
         waits = _STRUCTS["ep_waits"](seed % 2**64, granularity, initial, told, longest, replicas, me)
+        # (whom an own proposal spares that names none)
+        self.usual = (me - 1) % replicas
         self.patience = _STRUCTS["ep_patience"]()
         self.call("ep_patience_begin", waits)
 
@@ -843,8 +854,9 @@ class Patience:
 
     def turn(self, now, open, told=()):
         """A turn at this time, at which just these are open, and a peer tells that these instances are committed: what the replica is to be asked for."""
-        all = {Instance(*it): (TOLD, 0) for it in told} | {Instance(*it.instance): (it.phase, it.answers) for it in open}
-        bytes_of = b"".join(_packed(">BHIBB", *instance, 0, *how) for instance, how in sorted(all.items()))
+        all = {Instance(*it): (TOLD, 0, 0) for it in told}
+        all |= {Instance(*it.instance): (it.phase, it.answers, self.usual if it.spared is None else it.spared) for it in open}
+        bytes_of = b"".join(_packed(">BHIBBB", *instance, 0, *how) for instance, how in sorted(all.items()))
         late = _STRUCTS["ep_bytes"]()
         self.call("ep_patience_turn", now, bytes_of, len(bytes_of), late)
         return [(kind, Instance(replica, number)) for kind, replica, number in struct.iter_unpack(">BBH", _copied(late))]

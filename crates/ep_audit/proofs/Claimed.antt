@@ -66,14 +66,15 @@ none_found (x ∷ es) i none e there names = go (is_this i (proposed x.event x.f
 
 -- what the rule book asks of a proposal, by the code's event and frames
 tells : (x : rules.Entry) (event : Event) (frames : List (List ℕ)) (i client request : ℕ) → x.event ≡ event_of event → x.out ≡ frames_at frames → proposed event frames ≡ Some i → is_request client request event ≡ true → TellsOf x i client request
-tells x (Propose k n command seen) [] i client request is out names asks = let s : None ≡ Some i = names in absurd (cc)
-tells x (Propose k n command seen) (b ∷ bs) i client request is out names asks =
+tells x (Propose k n command seen named) [] i client request is out names asks = let s : None ≡ Some i = names in absurd (cc)
+tells x (Propose k n command seen named) (b ∷ bs) i client request is out names asks =
     let t = and_parts (eqb k client) (eqb n request) asks in
     let s : Some (instance_of_message (message_at b)) ≡ Some i = names in
     record {
       command = command;
       seen = seen;
-      event = is ∙ ap (λ z. Proposal z n command seen) (eqb-true k client t.0) ∙ ap (λ z. Proposal client z command seen) (eqb-true n request t.1);
+      spared = named;
+      event = is ∙ ap (λ z. Proposal z n command seen named) (eqb-true k client t.0) ∙ ap (λ z. Proposal client z command seen named) (eqb-true n request t.1);
       frame = frame_at b;
       first = ap (λ ms. slice_get ms 0) out;
       about = (let q : instance_of_message (message_at b) ≡ i = cc in q);
@@ -84,22 +85,22 @@ tells x (Recover j) frames i client request is out names asks = absurd (false≢
 tells x (Execute j) frames i client request is out names asks = absurd (false≢true asks)
 
 told : (x : rules.Entry) (event : Event) (frames : List (List ℕ)) (i client request : ℕ) → x.event ≡ event_of event → x.out ≡ frames_at frames → TellsOf x i client request → (proposed event frames ≡ Some i) × (is_request client request event ≡ true)
-told x (Propose k n command seen) [] i client request is out t = let s : None ≡ Some t.frame = sym (ap (λ ms. slice_get ms 0) out) ∙ t.first in absurd (cc)
-told x (Propose k n command seen) (b ∷ bs) i client request is out t =
+told x (Propose k n command seen named) [] i client request is out t = let s : None ≡ Some t.frame = sym (ap (λ ms. slice_get ms 0) out) ∙ t.first in absurd (cc)
+told x (Propose k n command seen named) (b ∷ bs) i client request is out t =
     let s : Some (frame_at b) ≡ Some t.frame = sym (ap (λ ms. slice_get ms 0) out) ∙ t.first in
     let same : frame_at b ≡ t.frame = cc in
-    let event : Proposal k n command seen ≡ Proposal client request t.command t.seen = sym is ∙ t.event in
+    let event : Proposal k n command seen named ≡ Proposal client request t.command t.seen t.spared = sym is ∙ t.event in
     let a : k ≡ client = cc in
     let d : n ≡ request = cc in
     (ap Some (ap (λ (m : Frame). instance_of_message m.sent.message) same ∙ t.about), and_both (eqb k client) (eqb n request) (eq-eqb k client a) (eq-eqb n request d))
-told x (Handle b) frames i client request is out t = let s : Handles (frame_at b) ≡ Proposal client request t.command t.seen = sym is ∙ t.event in absurd (cc)
-told x (GiveUp j) frames i client request is out t = let s : GivesUp j ≡ Proposal client request t.command t.seen = sym is ∙ t.event in absurd (cc)
-told x (Recover j) frames i client request is out t = let s : Recovers j ≡ Proposal client request t.command t.seen = sym is ∙ t.event in absurd (cc)
-told x (Execute j) frames i client request is out t = let s : Executes j ≡ Proposal client request t.command t.seen = sym is ∙ t.event in absurd (cc)
+told x (Handle b) frames i client request is out t = let s : Handles (frame_at b) ≡ Proposal client request t.command t.seen t.spared = sym is ∙ t.event in absurd (cc)
+told x (GiveUp j) frames i client request is out t = let s : GivesUp j ≡ Proposal client request t.command t.seen t.spared = sym is ∙ t.event in absurd (cc)
+told x (Recover j) frames i client request is out t = let s : Recovers j ≡ Proposal client request t.command t.seen t.spared = sym is ∙ t.event in absurd (cc)
+told x (Execute j) frames i client request is out t = let s : Executes j ≡ Proposal client request t.command t.seen t.spared = sym is ∙ t.event in absurd (cc)
 
 -- a proposal is of some client's request
 asked : (event : Event) (frames : List (List ℕ)) (i : ℕ) → proposed event frames ≡ Some i → (client : ℕ) × (request : ℕ) × (is_request client request event ≡ true)
-asked (Propose k n command seen) frames i names = (k, n, and_both (eqb k k) (eqb n n) (eq-eqb k k refl) (eq-eqb n n refl))
+asked (Propose k n command seen named) frames i names = (k, n, and_both (eqb k k) (eqb n n) (eq-eqb k k refl) (eq-eqb n n refl))
 asked (Handle b) frames i names = let s : None ≡ Some i = names in absurd (cc)
 asked (GiveUp j) frames i names = let s : None ≡ Some i = names in absurd (cc)
 asked (Recover j) frames i names = let s : None ≡ Some i = names in absurd (cc)

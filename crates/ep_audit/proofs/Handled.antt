@@ -69,7 +69,7 @@ frame_fine c r n stamp b h (Some sent) is none =
     (was_sent c b h (is ∙ ap Some same), ltb-true (origin_at b).stamp stamp t.1)
 
 event_fine : (c : Collected) (r n stamp : ℕ) (event : Event) → AreJournals c → event_fault c r n stamp event ≡ None → (m : Frame) → event_of event ≡ Handles m → WasSent (journals_of c) m × (m.stamp < stamp)
-event_fine c r n stamp (Propose client request command seen) h none m is = let s : Proposes client request command seen ≡ Handles m = is in absurd (cc)
+event_fine c r n stamp (Propose client request command seen named) h none m is = let s : Proposes client request command seen named ≡ Handles m = is in absurd (cc)
 event_fine c r n stamp (Handle b) h none m is =
     let s : Handles (frame_at b) ≡ Handles m = is in
     let same : frame_at b ≡ m = cc in
@@ -98,7 +98,7 @@ module _ (f : ℕ) (c : Collected) (receipts : List Receipt) (h : AreJournals c)
 
   event_wrong : (r : ℕ) (e : Entry) (event : Event) → IsReadable event → lacking c.version event ≡ None → ((m : Frame) → event_of event ≡ Handles m → IsFirstHandling (journals_of c) r (entry_of e) m) → (x : AuditFault) →
       event_fault c r e.number e.stamp event ≡ Some x → IsFault (opens c.opening) f (journals_of c) receipts (fault_of x)
-  event_wrong r e (Propose client request command seen) frame lacks first x some = let s : None ≡ Some x = some in absurd (cc)
+  event_wrong r e (Propose client request command seen named) frame lacks first x some = let s : None ≡ Some x = some in absurd (cc)
   event_wrong r e (Handle b) frame lacks first x some = frame_wrong r e b frame (handled_in c.version b lacks) (first (frame_at b) refl) x (sent_there c b) refl some
   event_wrong r e (GiveUp i) frame lacks first x some = let s : None ≡ Some x = some in absurd (cc)
   event_wrong r e (Recover i) frame lacks first x some = let s : None ≡ Some x = some in absurd (cc)

@@ -15,7 +15,7 @@ frame_fault r n stamp b None = Some (AuditFault.UnsentFrame r n)
 frame_fault r n stamp b (Some sent) = cond (same_list sent b) (cond (ltb (origin_at b).stamp stamp) None (Some (AuditFault.StampOrder r n))) (Some (AuditFault.ChangedFrame r n))
 
 abbrev pub event_fault : Collected → ℕ → ℕ → ℕ → Event → Option AuditFault
-event_fault c r n stamp (Propose client request command seen) = None
+event_fault c r n stamp (Propose client request command seen spared) = None
 event_fault c r n stamp (Handle b) = frame_fault r n stamp b (sent_there c b)
 event_fault c r n stamp (GiveUp i) = None
 event_fault c r n stamp (Recover i) = None

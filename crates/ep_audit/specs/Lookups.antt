@@ -24,7 +24,7 @@ sent_there c b = frame_in (entry_at (entries_at c (sender_at b)) (origin_at b).e
 
 -- the instance as which a command is proposed: the first frame is about it
 abbrev pub proposed : Event → List (List ℕ) → Option ℕ
-proposed (Propose client request command seen) frames = first_named frames
+proposed (Propose client request command seen spared) frames = first_named frames
 proposed (Handle b) frames = None
 proposed (GiveUp i) frames = None
 proposed (Recover i) frames = None
@@ -41,7 +41,7 @@ proposal_in (e ∷ es) i = cond (is_this i (proposed e.event e.frames)) (Some e)
 
 -- whether it is this client's request
 abbrev pub is_request : ℕ → ℕ → Event → Bool
-is_request client request (Propose k n command seen) = eqb k client && eqb n request
+is_request client request (Propose k n command seen spared) = eqb k client && eqb n request
 is_request client request (Handle b) = false
 is_request client request (GiveUp i) = false
 is_request client request (Recover i) = false

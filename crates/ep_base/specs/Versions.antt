@@ -1,5 +1,5 @@
 -- What each version of the formats has room for. The rule book has no version: it has the limits of the last one, and a run of an earlier version is a run.
-use Rattle.std.specs.Prelude.{ℕ, ◌≡◌, ◌≤◌, Bool, true, not, ◌||◌, Option, Some, None, List, ◌==◌, if◌then◌else◌}
+use Rattle.std.specs.Prelude.{ℕ, ◌≡◌, ◌≤◌, Bool, true, not, ◌||◌, Option, Some, None, is_none, List, ◌==◌, if◌then◌else◌}
 use Rattle.std.specs.List.{AllByRecursion}
 use Rattle.ep_base.specs.Commands.{Command}
 use Rattle.ep_base.specs.declared.decree.Decree.{Decree}
@@ -44,6 +44,12 @@ abbrev pub knows : Version → Command → Bool
 knows V1 c = not (is_swap c || (is_late c || is_long c))
 knows V2 c = not (is_late c || is_long c)
 knows (V3 g) c = true
+
+-- a proposal names the replica that it spares in version 3 alone
+abbrev pub names : Version → Option ℕ → Bool
+names V1 spared = is_none spared
+names V2 spared = is_none spared
+names (V3 g) spared = true
 
 -- what a version has: instances of its numbers, dependencies among them, and decrees of commands that it knows
 

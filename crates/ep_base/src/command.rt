@@ -22,12 +22,25 @@ use std::alloc::{AllocError, Global};
 use std::marker::Model;
 
 /// What a replica may be asked to do. Its keys and its body stand one after the other in one run of bytes, which copies share.
-#[derive(Debug, Drop)]
+#[derive(Debug)]
 pub struct Command {
     op: Op,
     first: u8,
     second: u8,
     run: Bytes,
+}
+
+// (by hand, so that no crate above proves again how the parts are dropped)
+impl Drop for Command {
+    fn drop(self) {
+        let Command {
+            run,
+            op: _,
+            first: _,
+            second: _,
+        } = self;
+        drop(run);
+    }
 }
 
 impl Model for Command {

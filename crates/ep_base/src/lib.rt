@@ -71,7 +71,7 @@ pub use rising_list::RisingList;
 pub use said::Said;
 pub use seq::Seq;
 pub use sink::Sink;
-pub use size::{BadSize, Size, fast_member};
+pub use size::{BadSize, Size, fast_member, may_be_spared, spared_by, usually_spared};
 pub use source::Source;
 pub use stamp::Stamp;
 pub use value::Value;

@@ -1,7 +1,7 @@
 //! Sizes of clusters.
 
 ghost use Rattle.std.specs.Prelude.{◌≡◌, ◌≤◌, ◌↔◌, ◌⊎◌, IsOk, IfOk};
-ghost use Rattle.ep_base.specs.Quorums.{size, is_member};
+ghost use Rattle.ep_base.specs.Quorums.{size, usual, spared, may_spare, is_member};
 
 use crate::replica_id::ReplicaId;
 use std::marker::Model;
@@ -62,13 +62,38 @@ impl Size {
     }
 }
 
-/// Whether the replica is of the fast quorum of the leader's instances: all replicas of the cluster are members but the
-/// one below the leader (the last one, for leader 0). False if either is no replica of the cluster.
-pub fn fast_member(size: Size, leader: ReplicaId, replica: ReplicaId) -> bool
-    ensures { result ≡ is_member size leader replica }
+/// The replica that the leader spares where its proposal names none: the one below it (the last one, for leader 0).
+pub fn usually_spared(size: Size, leader: ReplicaId) -> ReplicaId
+    ensures { result ≡ usual size leader }
+{
+    ReplicaId::known((leader.index() + 2 * size.faults()) % size.count())
+}
+
+/// The replica that a proposal of the leader spares: the one that it names, or else the usual one.
+pub fn spared_by(size: Size, leader: ReplicaId, named: Option<ReplicaId>) -> ReplicaId
+    ensures { result ≡ spared size leader named }
+{
+    match named {
+        None => usually_spared(size, leader),
+        Some(spared) => spared,
+    }
+}
+
+/// Whether a proposal of the leader may name this replica as the spared one, if it names one: another one of the cluster.
+pub fn may_be_spared(size: Size, leader: ReplicaId, named: Option<ReplicaId>) -> bool
+    ensures { result ≡ may_spare size leader named }
+{
+    match named {
+        None => true,
+        Some(spared) => spared.index() < size.count() && spared != leader,
+    }
+}
+
+/// Whether the replica is of the fast quorum of an instance of the leader's: all replicas of the cluster are members but
+/// the spared one. False if the leader or the replica is none of the cluster.
+pub fn fast_member(size: Size, leader: ReplicaId, spared: ReplicaId, replica: ReplicaId) -> bool
+    ensures { result ≡ is_member size leader spared replica }
 {
     let count = size.count();
-    let leader = leader.index();
-    let replica = replica.index();
-    leader < count && replica < count && replica != (leader + 2 * size.faults()) % count
+    leader.index() < count && replica.index() < count && replica != spared
 }

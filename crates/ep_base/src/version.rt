@@ -2,11 +2,12 @@
 
 ghost use Rattle.std.specs.Prelude.{◌≡◌, ◌≤◌, ◌↔◌, ◌⊎◌, IfSome, IsSome};
 ghost use Rattle.ep_base.specs.Generations.{HasItsGeneration};
-ghost use Rattle.ep_base.specs.Versions.{version_number, generation_of, version_of, highest_in, most_deps_in, knows};
+ghost use Rattle.ep_base.specs.Versions.{version_number, generation_of, version_of, highest_in, most_deps_in, knows, names};
 
 use crate::command::Command;
 use crate::generation::Generation;
 use crate::instance_id::InstanceId;
+use crate::replica_id::ReplicaId;
 use crate::version_kind::VersionKind;
 use std::marker::Model;
 
@@ -131,6 +132,16 @@ impl Version {
         match self.kind {
             VersionKind::V1 => !(command.is_swap() || (command.is_late() || command.is_long())),
             VersionKind::V2 => !(command.is_late() || command.is_long()),
+            VersionKind::V3(_) => true,
+        }
+    }
+
+    /// Whether a proposal of the version may name the replica that it spares: in version 3 alone.
+    pub fn names(self, spared: Option<ReplicaId>) -> bool
+        ensures { result ≡ names self spared }
+    {
+        match self.kind {
+            VersionKind::V1 | VersionKind::V2 => spared.is_none(),
             VersionKind::V3(_) => true,
         }
     }

@@ -25,7 +25,7 @@ use Rattle.ep_bundle.proofs.ReadNumbers.{Gives, Comes, done, step, last, other, 
 
 -- a number, and a run, that are allowed
 
-allowed_gives : (n : ℕ) → IsWide n → (holds : ℕ → Bool) (l : Left) → AreBytes l.bytes → Gives (number_bytes n) (λ x. holds x ≡ true) l (allowed n holds l)
+pub allowed_gives : (n : ℕ) → IsWide n → (holds : ℕ → Bool) (l : Left) → AreBytes l.bytes → Gives (number_bytes n) (λ x. holds x ≡ true) l (allowed n holds l)
 allowed_gives n wide holds l h =
     whole (step (number n l) (λ x m. cond (holds x) (Ok (x, m)) (Err (BadBundle l.at))) h (number_gives n wide l h)
     (λ x m p k. choice (holds x) (Ok (x, m)) (Err (BadBundle l.at)) (λ e. done x (append-nil (number_bytes n x), e)) (λ e. refused (BadBundle l.at))))

@@ -1,8 +1,8 @@
-//! What entries and receipts are spelled in.
+//! What receipts are spelled in.
 
 use ep_base::{Size, Version};
 
-/// What entries and receipts are spelled in: a version, in version 3 with its generation, and the size of a cluster.
+/// What receipts are spelled in: a version, in version 3 with its generation, and the size of a cluster.
 #[derive(Clone, Copy, Debug, PartialEq, Eq)]
 pub struct Dialect {
     /// The version.

@@ -54,5 +54,6 @@ fn request(number: u32, command: Command, seen: u64) -> Event {
         request: number,
         command,
         seen,
+        spared: None,
     }
 }

@@ -14,9 +14,16 @@ use std::marker::Model;
 
 /// What the keys of an open map have: each key that has a value once, in strictly rising order of keys. Keys are ordered by their bytes from
 /// the first one on, and a key comes before the longer ones that begin with it.
-#[derive(Drop)]
 pub struct Contents {
     items: Vec<(Key, Value)>,
+}
+
+// (by hand, so that no crate above proves again how the parts are dropped)
+impl Drop for Contents {
+    fn drop(self) {
+        let Contents { items } = self;
+        drop(items);
+    }
 }
 
 impl Model for Contents {

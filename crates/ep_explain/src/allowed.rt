@@ -61,6 +61,16 @@ impl Allowed {
         shown: 60,
     };
 
+    /// A replica of so many, other than the journal's own.
+    pub(crate) fn other_replica(count: u64) -> Allowed {
+        Allowed {
+            form: b"0 to #, and not the journal's own replica",
+            low: count.saturating_sub(1),
+            high: 0,
+            shown: 0,
+        }
+    }
+
     /// This number alone.
     pub(crate) fn one(number: u64) -> Allowed {
         Allowed {

@@ -126,15 +126,28 @@ fn pass_journal(walk: &mut Walk<'_>, terms: &Terms, replica: u64) {
     }
 }
 
+fn pass_kind(walk: &mut Walk<'_>, terms: &Terms) -> u64 {
+    if terms.is_late() {
+        walk.number(
+            b"event kind (1 propose, 2 handle, 3 give up, 4 recover, 5 execute, 6 propose and name the spared replica)",
+            1,
+            Allowed::range(1, 6),
+        )
+    } else {
+        walk.number(
+            b"event kind (1 propose, 2 handle, 3 give up, 4 recover, 5 execute)",
+            1,
+            Allowed::range(1, 5),
+        )
+    }
+}
+
 fn pass_entry(walk: &mut Walk<'_>, terms: &Terms) {
-    let kind = walk.number(
-        b"event kind (1 propose, 2 handle, 3 give up, 4 recover, 5 execute)",
-        1,
-        Allowed::range(1, 5),
-    );
+    let kind = pass_kind(walk, terms);
     walk.number(b"stamp", 8, Allowed::range(1, 281_474_976_710_655));
     match kind {
         1 => pass_proposal(walk, terms),
+        6 => pass_sparing(walk, terms),
         2 => pass_frame(walk, terms),
         _ => pass_instance(walk, terms),
     }
@@ -162,6 +175,14 @@ fn pass_proposal(walk: &mut Walk<'_>, terms: &Terms) {
     } else {
         pass_early_command(walk, terms);
     }
+}
+
+/// A proposal of version 3 that names the spared replica.
+fn pass_sparing(walk: &mut Walk<'_>, terms: &Terms) {
+    pass_request(walk);
+    walk.number(b"seen stamp", 8, Allowed::ANY);
+    walk.number(b"spared replica", 1, Allowed::other_replica(terms.replicas));
+    pass_command(walk);
 }
 
 /// What the length of the op's value or second key may be.

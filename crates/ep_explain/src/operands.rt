@@ -20,6 +20,8 @@ const NUMBERS: Bounds = Bounds {
 #[derive(Drop)]
 pub(crate) struct Operands<'a> {
     words: Vec<&'a [u8]>,
+    /// How many words stand before those that are counted.
+    skipped: usize,
     line: Wording,
     has_told: bool,
 }
@@ -45,6 +47,7 @@ impl<'a> Operands<'a> {
     pub(crate) fn new(alloc: Global, words: Vec<&'a [u8]>) -> Operands<'a> {
         Operands {
             words,
+            skipped: 0,
             line: Wording::new(alloc),
             has_told: false,
         }
@@ -54,6 +57,7 @@ impl<'a> Operands<'a> {
     pub(crate) fn into_line(self, other: &[u8]) -> Wording {
         let Operands {
             words,
+            skipped: _,
             mut line,
             has_told,
         } = self;
@@ -64,14 +68,22 @@ impl<'a> Operands<'a> {
         line
     }
 
+    /// From here on the words behind these are counted, `sparing` and its replica: places are those of a line without them.
+    pub(crate) fn skip_sparing(&mut self) {
+        self.skipped = 2;
+    }
+
     /// How many words there are.
     pub(crate) fn len(&self) -> usize {
-        self.words.len()
+        self.words.len().saturating_sub(self.skipped)
     }
 
     /// The word at this place, from 1.
     pub(crate) fn word(&self, place: usize) -> &'a [u8] {
-        match self.words.get(place.wrapping_sub(1)) {
+        match self
+            .words
+            .get(self.skipped.wrapping_add(place).wrapping_sub(1))
+        {
             Some(word) => word,
             None => b"",
         }
@@ -99,6 +111,7 @@ impl<'a> Operands<'a> {
     /// Begins to tell of the word at this place.
     fn begin(&mut self, place: usize) {
         self.has_told = true;
+        let place = self.skipped.wrapping_add(place);
         self.line.tell(b", word #: ", &[place as u64]);
     }
 
@@ -135,6 +148,9 @@ impl<'a> Operands<'a> {
     pub(crate) fn exceeds(&mut self, place: usize, form: &[u8]) {
         if !self.has_told && place <= self.len() {
             self.tell(place, b"is one word more than the line has: ", &[]);
+            if self.skipped > 0 {
+                self.line.say(b"sparing S ");
+            }
             self.line.say(form);
             if self.word(place).starts_with(b"#") {
                 self.line.say(b"; comments stand on lines of their own");

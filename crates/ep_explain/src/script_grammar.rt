@@ -220,53 +220,97 @@ fn tell_opening(telling: &mut Operands<'_>, before: &Before) {
 fn tell_line(telling: &mut Operands<'_>, subcommand: Subcommand, count: u64, is_late: bool) {
     match telling.word(1) {
         b"propose" => tell_propose(telling, count, is_late),
+        b"sparing" => tell_sparing(telling, count, is_late),
         b"giveup" => tell_place(telling, count, b"giveup R I"),
         b"recover" => tell_place(telling, count, b"recover R I"),
         b"replicas" => telling.fault(1, b"stands once, before all other lines", &[]),
         _ => match subcommand {
-            Subcommand::Replay => tell_replay(telling, count),
-            Subcommand::Run => tell_run(telling, count),
+            Subcommand::Replay => tell_replay(telling, count, is_late),
+            Subcommand::Run => tell_run(telling, count, is_late),
         },
     }
 }
 
+/// Tells of a line's first word by the first of these words in version 3, else by the others.
+fn tell_begun(telling: &mut Operands<'_>, is_late: bool, late: &[u8], early: &[u8]) {
+    let form = if is_late { late } else { early };
+    telling.fault(1, form, &[]);
+}
+
 /// Why a line of a replay alone is refused.
-fn tell_replay(telling: &mut Operands<'_>, count: u64) {
+fn tell_replay(telling: &mut Operands<'_>, count: u64, is_late: bool) {
     match telling.word(1) {
         b"execute" => tell_place(telling, count, b"execute R I"),
         b"deliver" => tell_deliver(telling),
         b"flush" => telling.exceeds(2, b"flush"),
-        b"section" | b"drop" | b"hold" | b"repeat" => telling.fault(
-            1,
+        b"section" | b"drop" | b"hold" | b"repeat" => tell_begun(
+            telling,
+            is_late,
+            b"is a line of run alone: here may stand propose, sparing, giveup, recover, execute, deliver or flush",
             b"is a line of run alone: here may stand propose, giveup, recover, execute, deliver or flush",
-            &[],
         ),
-        _ => telling.fault(
-            1,
+        _ => tell_begun(
+            telling,
+            is_late,
+            b"is unknown; a line begins with propose, sparing, giveup, recover, execute, deliver or flush",
             b"is unknown; a line begins with propose, giveup, recover, execute, deliver or flush",
-            &[],
         ),
     }
 }
 
 /// Why a line of a run alone is refused.
-fn tell_run(telling: &mut Operands<'_>, count: u64) {
+fn tell_run(telling: &mut Operands<'_>, count: u64, is_late: bool) {
     match telling.word(1) {
         b"section" => telling.exceeds(2, b"section"),
         b"drop" => tell_frame(telling, count, b"drop A B J"),
         b"hold" => tell_frame(telling, count, b"hold A B J"),
         b"repeat" => tell_frame(telling, count, b"repeat A B J"),
-        b"execute" | b"deliver" | b"flush" => telling.fault(
-            1,
+        b"execute" | b"deliver" | b"flush" => tell_begun(
+            telling,
+            is_late,
+            b"is a line of replay alone: here may stand propose, sparing, giveup, recover, section, drop, hold or repeat",
             b"is a line of replay alone: here may stand propose, giveup, recover, section, drop, hold or repeat",
-            &[],
         ),
-        _ => telling.fault(
-            1,
+        _ => tell_begun(
+            telling,
+            is_late,
+            b"is unknown; a line begins with propose, sparing, giveup, recover, section, drop, hold or repeat",
             b"is unknown; a line begins with propose, giveup, recover, section, drop, hold or repeat",
-            &[],
         ),
     }
+}
+
+/// Why a proposal that names the replica to be spared is refused.
+fn tell_sparing(telling: &mut Operands<'_>, count: u64, is_late: bool) {
+    if !is_late {
+        telling.fault(
+            1,
+            b"is a line of version 3: behind replicas, generation G makes the script one of version 3",
+            &[],
+        );
+    }
+    telling.is(
+        2,
+        &Operand::Number(replica_below(b"the spared replica", count)),
+    );
+    telling.lacks(3, b"propose: the line is sparing S propose R C COMMAND");
+    if telling.word(3) != b"propose".as_slice() {
+        telling.fault(
+            3,
+            b"isn't propose: the line is sparing S propose R C COMMAND",
+            &[],
+        );
+    }
+    telling.is(4, &replica_of(count));
+    if number(telling.word(2)) == number(telling.word(4)) {
+        telling.fault(
+            4,
+            b"is the spared replica too: no replica spares itself",
+            &[],
+        );
+    }
+    telling.skip_sparing();
+    tell_propose(telling, count, is_late);
 }
 
 fn tell_propose(telling: &mut Operands<'_>, count: u64, is_late: bool) {

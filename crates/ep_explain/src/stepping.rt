@@ -8,7 +8,8 @@ use crate::reasons::Reasons;
 use crate::step::{MOST_ENTRIES, add_draft};
 use ep_base::{Noted, ReplicaId, Source};
 use ep_bundle::{
-    BundleFault, BundleHeader, read_count, read_draft, read_entry, read_header, read_journal,
+    BundleFault, BundleHeader, JournalDialect, read_count, read_draft, read_entry, read_header,
+    read_journal,
 };
 use ep_journal::Journal;
 use std::alloc::{AllocError, Global};
@@ -58,7 +59,12 @@ fn add_next<S: Source>(
     journal: &mut Journal,
     reasons: &mut Reasons,
 ) -> Result<(), BundleFault> {
-    let draft = read_draft(alloc, source, place, journal.version(), journal.size())?;
+    let dialect = JournalDialect {
+        version: journal.version(),
+        size: journal.size(),
+        me: journal.me(),
+    };
+    let draft = read_draft(alloc, source, place, &dialect)?;
     add_draft(alloc, journal, draft, reasons);
     Ok(())
 }

@@ -59,7 +59,7 @@ sent_in (x ∷ es) b c = elim (Contains-append_cases x.frames (frames_of es) b c
 
 -- the bytes that an event handles
 by_event : (v : Happening) (m : Frame) → event_of v ≡ Handles m → (b : List ℕ) × Contains (handled_by v) b × (frame_at b ≡ m)
-by_event (taken.Propose client request command seen) m e = absurd (cc)
+by_event (taken.Propose client request command seen named) m e = absurd (cc)
 by_event (taken.Handle b) m e = (b, Contains-push [] b, (let s : Handles (frame_at b) ≡ Handles m = e in cc))
 by_event (taken.GiveUp i) m e = absurd (cc)
 by_event (taken.Recover i) m e = absurd (cc)

@@ -214,7 +214,7 @@ takes_follows (suc k) moved a b low t =
     follows_follows a c b first (takes_at_follows k t.2 c b here t.5)
 
 asked_task : (t : Task) → asked_of (event_of t) ≡ journal.event_of (event_of t) ∷ []
-asked_task (Propose client request command seen) = refl
+asked_task (Propose client request command seen named) = refl
 asked_task (GiveUp i) = refl
 asked_task (Recover i) = refl
 

@@ -90,7 +90,7 @@ takes_frame place b a links after k lost more p h is = record { frame = Some b; 
 -- one task used up
 
 none_handled : (t : Task) → handled_by (event_of t) ≡ []
-none_handled (Propose client request command seen) = refl
+none_handled (Propose client request command seen named) = refl
 none_handled (GiveUp i) = refl
 none_handled (Recover i) = refl
 

@@ -42,7 +42,7 @@ pub record PopsAt (place : ℕ) (frame : Option (List ℕ)) (xs ys : List Link) 
 
 -- the frame that an event handles
 abbrev pub handled_by : Event → List (List ℕ)
-handled_by (Propose client request command seen) = []
+handled_by (Propose client request command seen spared) = []
 handled_by (Handle b) = b ∷ []
 handled_by (GiveUp i) = []
 handled_by (Recover i) = []

@@ -9,7 +9,7 @@ use Rattle.ep_host.specs.declared.task.Task.{Task}
 use Rattle.ep_host.specs.declared.task.Task.TheVariants.{Propose, GiveUp, Recover}
 
 abbrev pub event_of : Task → Event
-event_of (Propose client request command seen) = event.Propose client request command seen
+event_of (Propose client request command seen spared) = event.Propose client request command seen spared
 event_of (GiveUp i) = event.GiveUp i
 event_of (Recover i) = event.Recover i
 

@@ -10,9 +10,9 @@ use crate::host_frame::{HostFrame, frame_in, only_of};
 use crate::start::Start;
 use crate::tended::Tended;
 use crate::tending::tend;
-use ep_base::{Command, InstanceId};
+use ep_base::{Command, InstanceId, ReplicaId};
 use ep_journal::{Event, Journal, StepFault};
-use ep_replica::Replica;
+use ep_replica::{Proposal, Replica};
 use ep_rules::Receipt;
 use std::alloc::{AllocError, Global};
 use std::marker::PhantomData;
@@ -36,7 +36,7 @@ fn know(replica: &Replica)
 }
 
 impl<S: Start> HostReplica<S> {
-    ghost use Rattle.std.specs.Prelude.{◌≡◌, ◌++◌, ◌∷◌, [], ℕ, List, Option, IfOk, IfSome, IfErr, OnOk, OnErr};
+    ghost use Rattle.std.specs.Prelude.{◌≡◌, ◌++◌, ◌∷◌, [], ℕ, List, Option, Some, None, IfOk, IfSome, IfErr, OnOk, OnErr};
     ghost use Rattle.ep_journal.specs.Entries.{entries_of};
     ghost use Rattle.ep_journal.specs.declared.entry.Entry.{Entry};
     ghost use Rattle.ep_journal.specs.declared.event.Event.TheVariants.{Propose};
@@ -93,13 +93,29 @@ impl<S: Start> HostReplica<S> {
         command: Command,
         seen: u64,
     ) -> Result<InstanceId, StepFault>
-        ensures ok { IfOk result (IsSubmitted S.start (Propose client request command seen)) }
-        ensures declined { IfErr result (IsDeclinedThere S.start (Propose client request command seen)) }
-        ensures exact { IfOk result (λ i. Submits self.old.replica (Propose client request command seen) i self.new.replica) }
+        ensures ok { IfOk result (IsSubmitted S.start (Propose client request command seen None)) }
+        ensures declined { IfErr result (IsDeclinedThere S.start (Propose client request command seen None)) }
+        ensures exact { IfOk result (λ i. Submits self.old.replica (Propose client request command seen None) i self.new.replica) }
         ensures same { OnErr result (self.new.replica ≡ self.old.replica) }
     {
         know(&self.replica);
         self.replica.submit(client, request, command, seen)
+    }
+
+    /// The same; the replica spares this other one, in the place of the usual one.
+    pub fn submit_sparing(
+        &mut self,
+        proposal: Proposal,
+        command: Command,
+        spared: ReplicaId,
+    ) -> Result<InstanceId, StepFault>
+        ensures ok { IfOk result (IsSubmitted S.start (Propose proposal.client proposal.request command proposal.seen (Some spared))) }
+        ensures declined { IfErr result (IsDeclinedThere S.start (Propose proposal.client proposal.request command proposal.seen (Some spared))) }
+        ensures exact { IfOk result (λ i. Submits self.old.replica (Propose proposal.client proposal.request command proposal.seen (Some spared)) i self.new.replica) }
+        ensures same { OnErr result (self.new.replica ≡ self.old.replica) }
+    {
+        know(&self.replica);
+        self.replica.submit_sparing(proposal, command, spared)
     }
 
     /// The frames that its last entry sends.

@@ -24,6 +24,7 @@ use crate::weather::{Weather, is_weather};
 use ep_base::{Command, Generation, InstanceId, ReplicaId, Size, Version};
 use ep_inbox::Port;
 use ep_journal::{Journal, Opening};
+use ep_replica::Proposal;
 use ep_rules::Receipt;
 use std::alloc::{AllocError, Global};
 use std::sync::Wait;
@@ -110,7 +111,7 @@ fn add_seats<S: Start>(
 }
 
 impl<S: Start> LockHost<S> {
-    ghost use Rattle.std.specs.Prelude.{◌≡◌, ◌≤◌, ◌<◌, IfOk, IfErr, IfSome, OnOk};
+    ghost use Rattle.std.specs.Prelude.{◌≡◌, ◌≤◌, ◌<◌, Some, None, IfOk, IfErr, IfSome, OnOk};
     ghost use Rattle.ep_base.specs.Quorums.{size};
     ghost use Rattle.ep_base.specs.declared.version_kind.VersionKind.TheVariants.{V2, V3};
     ghost use Rattle.ep_journal.specs.Openings.{no_opening};
@@ -245,13 +246,35 @@ impl<S: Start> LockHost<S> {
         command: Command,
         seen: u64,
     ) -> Result<InstanceId, HostFault>
-        ensures ok { IfOk result (λ i. (replica < size self.now.cluster) × IsSubmitted S.start (Propose client request command seen) i) }
-        ensures refused { IfErr result (IsRefused S.start self.now.cluster replica (Propose client request command seen)) }
+        ensures ok { IfOk result (λ i. (replica < size self.now.cluster) × IsSubmitted S.start (Propose client request command seen None) i) }
+        ensures refused { IfErr result (IsRefused S.start self.now.cluster replica (Propose client request command seen None)) }
     {
         let seat = self.seat(replica)?;
         let (instance, sending) = {
             let mut replica = seat.cell.lock(rt);
             let instance = replica.submit(client, request, command, seen)?;
+            (instance, replica.sent_last(self.alloc))
+        };
+        send(rt, seat, sending);
+        Ok(instance)
+    }
+
+    /// The same; the replica spares this other one, in the place of the usual one.
+    pub fn submit_sparing<R: Wait>(
+        &self,
+        rt: &R,
+        replica: ReplicaId,
+        proposal: Proposal,
+        command: Command,
+        spared: ReplicaId,
+    ) -> Result<InstanceId, HostFault>
+        ensures ok { IfOk result (λ i. (replica < size self.now.cluster) × IsSubmitted S.start (Propose proposal.client proposal.request command proposal.seen (Some spared)) i) }
+        ensures refused { IfErr result (IsRefused S.start self.now.cluster replica (Propose proposal.client proposal.request command proposal.seen (Some spared))) }
+    {
+        let seat = self.seat(replica)?;
+        let (instance, sending) = {
+            let mut replica = seat.cell.lock(rt);
+            let instance = replica.submit_sparing(proposal, command, spared)?;
             (instance, replica.sent_last(self.alloc))
         };
         send(rt, seat, sending);

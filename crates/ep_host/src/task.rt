@@ -3,7 +3,7 @@
 ghost use Rattle.std.specs.Prelude.{◌≡◌};
 ghost use Rattle.ep_host.specs.Tasks.{event_of};
 
-use ep_base::{Command, InstanceId};
+use ep_base::{Command, InstanceId, ReplicaId};
 use ep_journal::Event;
 
 /// What a node is to do.
@@ -16,6 +16,8 @@ pub enum Task {
         command: Command,
         /// The greatest stamp that the client had seen.
         seen: u64,
+        /// The replica that isn't asked, none for the usual one.
+        spared: Option<ReplicaId>,
     },
     /// Waits no longer for the fast quorum of the instance, which the replica leads.
     GiveUp(InstanceId),
@@ -34,11 +36,13 @@ impl Task {
                 request,
                 command,
                 seen,
+                spared,
             } => Event::Propose {
                 client,
                 request,
                 command,
                 seen,
+                spared,
             },
             Task::GiveUp(instance) => Event::GiveUp(instance),
             Task::Recover(instance) => Event::Recover(instance),

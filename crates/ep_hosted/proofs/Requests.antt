@@ -8,7 +8,7 @@ use Rattle.ep_node.specs.Nodes.{Logged}
 use Rattle.ep_serve.specs.Acting.{IsUndone, StopsShort}
 use Rattle.ep_serve.specs.Serving.{dialect_of}
 use Rattle.ep_wire.specs.Requests.{next_request, ReadsRequest}
-use Rattle.ep_bundle.specs.declared.dialect.Dialect.{Dialect}
+use Rattle.ep_bundle.specs.declared.journal_dialect.JournalDialect.{JournalDialect}
 use Rattle.ep_wire.specs.declared.request.Request.{Request}
 use Rattle.ep_wire.specs.declared.request.Request.TheVariants as request
 use Rattle.ep_wire.specs.declared.request_fault.RequestFault.{RequestFault}
@@ -29,7 +29,7 @@ found_of (Ok p) = p.0
 found_of (Err fault) = None
 
 -- a request is all that the bytes are
-pub is_one : (how : Dialect) (zs rest : List ℕ) (place : ℕ) (found : Option Request) (is_over : Bool) (result : Result Request AskFault) → next_request how (record { at = 0; bytes = zs }) ≡ Ok (found, record { at = place; bytes = rest }) → (is_over ≡ true → rest ≡ [])
+pub is_one : (how : JournalDialect) (zs rest : List ℕ) (place : ℕ) (found : Option Request) (is_over : Bool) (result : Result Request AskFault) → next_request how (record { at = 0; bytes = zs }) ≡ Ok (found, record { at = place; bytes = rest }) → (is_over ≡ true → rest ≡ [])
     → IfOk result (λ r. (found ≡ Some r) × (is_over ≡ true)) → IfOk result (IsRequest how zs)
 is_one how zs rest place found is_over (Ok r) read over so = record {
   after = record { at = place; bytes = rest };
@@ -39,12 +39,12 @@ is_one how zs rest place found is_over (Ok r) read over so = record {
 is_one how zs rest place found is_over (Err fault) read over so = tt
 
 -- or some bytes are left, or none are there
-none_in : (how : Dialect) (zs rest : List ℕ) (place : ℕ) (found : Option Request) (is_over : Bool) (other : Request) → next_request how (record { at = 0; bytes = zs }) ≡ Ok (found, record { at = place; bytes = rest }) → (is_over ≡ false → ¬ (rest ≡ []))
+none_in : (how : JournalDialect) (zs rest : List ℕ) (place : ℕ) (found : Option Request) (is_over : Bool) (other : Request) → next_request how (record { at = 0; bytes = zs }) ≡ Ok (found, record { at = place; bytes = rest }) → (is_over ≡ false → ¬ (rest ≡ []))
     → (found ≡ None) ⊎ (is_over ≡ false) → ¬ IsRequest how zs other
 none_in how zs rest place found is_over other read more (inl none) one = absurd (let e : None ≡ Some other = sym none ∙ ap found_of (sym read ∙ one.read) in cc)
 none_in how zs rest place found is_over other read more (inr left) one = more left (ap rest_of (sym read ∙ one.read) ∙ one.whole)
 
-pub is_none : (how : Dialect) (zs rest : List ℕ) (place : ℕ) (found : Option Request) (is_over : Bool) (result : Result Request AskFault) → next_request how (record { at = 0; bytes = zs }) ≡ Ok (found, record { at = place; bytes = rest }) → (is_over ≡ false → ¬ (rest ≡ []))
+pub is_none : (how : JournalDialect) (zs rest : List ℕ) (place : ℕ) (found : Option Request) (is_over : Bool) (result : Result Request AskFault) → next_request how (record { at = 0; bytes = zs }) ≡ Ok (found, record { at = place; bytes = rest }) → (is_over ≡ false → ¬ (rest ≡ []))
     → IfErr result (λ fault. (fault ≡ NotOne) × ((found ≡ None) ⊎ (is_over ≡ false))) → IfErr result (IsUnread how zs)
 is_none how zs rest place found is_over (Ok r) read more so = tt
 is_none how zs rest place found is_over (Err fault) read more so = subst (λ (f : AskFault). IsUnread how zs f) (sym so.0) (λ other. none_in how zs rest place found is_over other read more so.1)
@@ -54,7 +54,7 @@ failed (Ok p) other err is = absurd (false≢true err)
 failed (Err fault) other err is = absurd (let e : None ≡ Some other = is in cc)
 
 -- they are cut, or their length is out of range, or memory is wanted
-pub is_bad : (how : Dialect) (zs : List ℕ) (fault : RequestFault) (told : AskFault) (place : ℕ) (left : Option (List ℕ)) → told ≡ of_request fault → ReadsRequest how (record { at = 0; bytes = zs }) (Err fault) place left → IsUnread how zs told
+pub is_bad : (how : JournalDialect) (zs : List ℕ) (fault : RequestFault) (told : AskFault) (place : ℕ) (left : Option (List ℕ)) → told ≡ of_request fault → ReadsRequest how (record { at = 0; bytes = zs }) (Err fault) place left → IsUnread how zs told
 is_bad how zs wire.Memory told place left is read = subst (λ (f : AskFault). IsUnread how zs f) (sym is) tt
 is_bad how zs wire.ReadFailed told place left is read = subst (λ (f : AskFault). IsUnread how zs f) (sym is) tt
 is_bad how zs (wire.BadRequest at) told place left is read =

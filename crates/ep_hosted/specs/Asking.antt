@@ -5,7 +5,7 @@ use Rattle.ep_serve.specs.Acting.{Acts, IsCutShort}
 use Rattle.ep_serve.specs.Serving.{dialect_of}
 use Rattle.ep_serve.specs.declared.due.Due.{Due}
 use Rattle.ep_wire.specs.Requests.{next_request}
-use Rattle.ep_bundle.specs.declared.dialect.Dialect.{Dialect}
+use Rattle.ep_bundle.specs.declared.journal_dialect.JournalDialect.{JournalDialect}
 use Rattle.ep_wire.specs.declared.request.Request.{Request}
 use Rattle.ep_hosted.specs.Hosting.{Hosting, with_replica}
 use Rattle.ep_hosted.specs.Taking.{IsBusy}
@@ -13,13 +13,13 @@ use Rattle.ep_hosted.specs.declared.ask_fault.AskFault.{AskFault}
 use Rattle.ep_hosted.specs.declared.ask_fault.AskFault.TheVariants.{Lent, Memory, NotOne}
 
 -- the bytes are just this request
-pub record IsRequest (how : Dialect) (bytes : List ℕ) (r : Request) : Type 0 where
+pub record IsRequest (how : JournalDialect) (bytes : List ℕ) (r : Request) : Type 0 where
   pub after : Left
   pub read : next_request how (record { at = 0; bytes = bytes }) ≡ Ok (Some r, after)
   pub whole : after.bytes ≡ []
 
 -- why no request was read: want of memory; or the bytes aren't just one
-abbrev pub IsUnread : Dialect → List ℕ → AskFault → Type 0
+abbrev pub IsUnread : JournalDialect → List ℕ → AskFault → Type 0
 IsUnread how bytes Lent = ⊥
 IsUnread how bytes Memory = Unit {0}
 IsUnread how bytes NotOne = (r : Request) → ¬ IsRequest how bytes r

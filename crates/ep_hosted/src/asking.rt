@@ -12,7 +12,7 @@ use ep_base::Noted;
 use ep_device::HostDevice;
 use ep_node::Node;
 use ep_serve::{Due, act, dialect_of};
-use ep_wire::{Dialect, Request, read_request};
+use ep_wire::{JournalDialect, Request, read_request};
 use std::alloc::{AllocError, Global};
 
 /// Whether no bytes are left.
@@ -42,7 +42,7 @@ fn alone(found: Option<Request>, ends: bool) -> Result<Request, AskFault>
 }
 
 /// The request that the bytes are, in this dialect.
-fn read_one(alloc: Global, bytes: &[u8], dialect: &Dialect) -> Result<Request, AskFault>
+fn read_one(alloc: Global, bytes: &[u8], dialect: &JournalDialect) -> Result<Request, AskFault>
     ensures ok { IfOk result (IsRequest dialect.now bytes.now) }
     ensures err { IfErr result (IsUnread dialect.now bytes.now) }
 {

@@ -96,21 +96,24 @@ impl Hosted {
         Ok(())
     }
 
-    /// Proposes a client's command. A seen stamp that is more than 2^40 above that of the last entry is refused (`StampFull`).
+    /// Proposes a client's command. A seen stamp that is more than 2^40 above that of the last entry is refused (`StampFull`), and so is a spared replica
+    /// that is none of the others of the cluster, or that is named in version 2 (`OutOfRange`).
     pub fn propose(&mut self, call: Call, command: Command) -> Result<(), TakingFault>
-        ensures ok { OnOk result (HasTaken self.old (Propose call.client call.request command call.seen) self.new) }
-        ensures err { IfErr result (λ fault. IsNotTaken self.old (Propose call.client call.request command call.seen) fault self.new) }
+        ensures ok { OnOk result (HasTaken self.old (Propose call.client call.request command call.seen call.spared) self.new) }
+        ensures err { IfErr result (λ fault. IsNotTaken self.old (Propose call.client call.request command call.seen call.spared) fault self.new) }
     {
         let Call {
             client,
             request,
             seen,
+            spared,
         } = call;
         self.take(Event::Propose {
             client,
             request,
             command,
             seen,
+            spared,
         })
     }
 

@@ -1,6 +1,8 @@
 -- What an event asks is what the rule book does with it.
-use Rattle.std.proofs.Common.{◌≡◌, ℕ, ◌+◌, ◌<◌, ◌≤◌, List, Option, Some, None, Err, refl, sym, ap, subst, ◌∙◌, arith}
+use Rattle.std.proofs.Common.{◌≡◌, ℕ, ◌+◌, ◌<◌, ◌≤◌, Bool, true, false, ◌&&◌, cond, List, Option, Some, None, Err, refl, sym, ap, subst, ◌∙◌, arith}
 use Rattle.ep_base.specs.Instances.{instance_of}
+use Rattle.std.proofs.lemmas.Bool.{and_from}
+use Rattle.ep_base.specs.Quorums.{spared, may_spare}
 use Rattle.ep_base.specs.Versions.{highest_in}
 use Rattle.ep_base.specs.declared.version.Version.{Version}
 use Rattle.ep_journal.proofs.Holding.{below}
@@ -13,12 +15,12 @@ use Rattle.ep_frame.specs.Meaning.{sender_at, message_at}
 use Rattle.ep_frame.specs.Spelling.{IsFrame}
 use Rattle.ep_phase.specs.Known.{known_of}
 use Rattle.ep_phase.specs.Leads.{Leads}
-use Rattle.ep_rules.specs.Cells.{SpaceFull}
+use Rattle.ep_rules.specs.Cells.{OutOfRange, NotMine, SpaceFull}
 use Rattle.ep_rules.specs.InterferenceSet.{interference}
 use Rattle.ep_rules.specs.OneMap.{Store}
 use Rattle.ep_rules.specs.Phases.{propose}
 use Rattle.ep_rules.specs.States.{free_number}
-use Rattle.ep_rules.specs.Steps.{at, handled, proposed, screened, Handle as Handles}
+use Rattle.ep_rules.specs.Steps.{at, handled, proposed, may_ask, screened, Propose as Proposes, Handle as Handles}
 use Rattle.ep_space.specs.Records.{Records}
 use Rattle.ep_journal.specs.Events.{frame_at, lacking}
 use Rattle.ep_journal.specs.Inputs.{outcome_at, handled_at}
@@ -64,12 +66,13 @@ pub recovery_asked : (p : Parts) (i : ℕ) → IsLet (standing_of p) (Recover i)
 recovery_asked p i h = record { through = h; room = tt; asked = refl; executes = refl }
 
 -- a request, where a number of the version is free
-pub request_asked : (p : Parts) (client request seen : ℕ) (c : Command) (i n : ℕ) → IsLet (standing_of p) (Propose client request c seen) → free_number p.space.records p.me ≡ Some n → n < highest_for p.space.version c → i ≡ instance_of p.me (n + 1) →
-    IsAsked (standing_of p) (Propose client request c seen) (at i (propose p.space.faults i c (interference p.space.records i c)))
-request_asked p client request seen c i n h free low next = record {
+pub request_asked : (p : Parts) (client request seen : ℕ) (c : Command) (named : Option ℕ) (f s i n : ℕ) → f ≡ p.space.faults → s ≡ spared f p.me named → IsLet (standing_of p) (Propose client request c seen named) → free_number p.space.records p.me ≡ Some n → n < highest_for p.space.version c → i ≡ instance_of p.me (n + 1) →
+    IsAsked (standing_of p) (Propose client request c seen named) (at i (propose p.space.faults i s c (interference p.space.records i c)))
+request_asked p client request seen c named f s i n count own h free low next = record {
   through = h;
   room = λ k e. (let both : Some n ≡ Some k = sym free ∙ e in let same : n ≡ k = cc in omega arith);
-  asked = ap (proposed p.space.faults p.me (standing_of p).state c) free ∙ ap (λ j. at j (propose p.space.faults j c (interference p.space.records j c))) (sym next);
+  asked = ap (proposed p.space.faults p.me (spared p.space.faults p.me named) (standing_of p).state c) free ∙ ap (λ j. at j (propose p.space.faults j (spared p.space.faults p.me named) c (interference p.space.records j c))) (sym next)
+      ∙ ap (λ q. at i (propose p.space.faults i q c (interference p.space.records i c))) (ap (λ m. spared m p.me named) (sym count) ∙ sym own);
   executes = refl;
 }
 
@@ -78,10 +81,26 @@ pub none_for : (v : Version) (c : Command) (free : Option ℕ) → ((n : ℕ) �
 none_for v c free full n e = let most = full n e in let low = below v c in omega arith
 
 -- where none is free at all
-pub request_full : (p : Parts) (client request seen : ℕ) (c : Command) → IsLet (standing_of p) (Propose client request c seen) → free_number p.space.records p.me ≡ None → IsAsked (standing_of p) (Propose client request c seen) (Err SpaceFull)
-request_full p client request seen c h free = record {
+pub request_full : (p : Parts) (client request seen : ℕ) (c : Command) (named : Option ℕ) → IsLet (standing_of p) (Propose client request c seen named) → free_number p.space.records p.me ≡ None → IsAsked (standing_of p) (Propose client request c seen named) (Err SpaceFull)
+request_full p client request seen c named h free = record {
   through = h;
   room = λ k e. absurd (let both : None ≡ Some k = sym free ∙ e in cc);
-  asked = ap (proposed p.space.faults p.me (standing_of p).state c) free;
+  asked = ap (proposed p.space.faults p.me (spared p.space.faults p.me named) (standing_of p).state c) free;
   executes = refl;
 }
+
+-- Requests that no state takes.
+
+not_spared : (b : Bool) → (b && false) ≡ false
+not_spared true = refl
+not_spared false = refl
+
+-- a spared replica that no proposal of me's may name
+pub unspared : (f me : ℕ) (named : Option ℕ) → may_spare f me named ≡ false → (client request : ℕ) (c : Command) (seen : ℕ) → screened f me (Proposes client request c seen named) ≡ Some OutOfRange
+unspared f me named bad client request c seen =
+    ap (λ b. cond (may_ask client request c && b) (cond true None (Some NotMine)) (Some OutOfRange)) bad
+    ∙ ap (λ b. cond b (cond true None (Some NotMine)) (Some OutOfRange)) (not_spared (may_ask client request c))
+
+-- and what passes both tests
+pub let_ask : (f me client request seen : ℕ) (c : Command) (named : Option ℕ) → may_ask client request c ≡ true → may_spare f me named ≡ true → screened f me (Proposes client request c seen named) ≡ None
+let_ask f me client request seen c named asks spares = ap (λ b. cond b (cond true None (Some NotMine)) (Some OutOfRange)) (and_from _ _ asks spares)

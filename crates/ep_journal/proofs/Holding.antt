@@ -1,6 +1,6 @@
 -- Each step keeps what a version has of a state, and the version can say all that the step sends.
 use Rattle.std.proofs.Common.{◌≡◌, ℕ, zero, suc, ◌+◌, ◌<◌, ◌≤◌, Bool, true, false, cond, ◌&&◌, eqb, ltb, leb, List, [], ◌∷◌, ◌++◌, Option, Some, None, Result, Ok, Err, refl, sym, subst, ◌∙◌, arith, is_some}
-use Rattle.std.proofs.lemmas.Bool.{eqb-true, eq-eqb}
+use Rattle.std.proofs.lemmas.Bool.{and_parts, eqb-true, eq-eqb}
 use Rattle.std.specs.FinMap as map
 use Rattle.std.specs.List.{AllByRecursion}
 use Rattle.ep_base.proofs.Members.{all_union}
@@ -9,9 +9,9 @@ use Rattle.ep_base.specs.Attributes.{join}
 use Rattle.ep_base.specs.Ballots.{ballot_of, highest_counter}
 use Rattle.ep_base.specs.Instances.{instance_of, leader_of}
 use Rattle.ep_base.specs.Messages.{instance_of_message}
-use Rattle.ep_base.specs.Quorums.{size, is_fast}
+use Rattle.ep_base.specs.Quorums.{size, spared, is_fast}
 use Rattle.ep_base.specs.Interference.{is_seal}
-use Rattle.ep_base.specs.Versions.{version_number, highest_in, knows, IsInstanceIn, AreDepsIn, IsDecreeIn, IsVoteIn, CanSay}
+use Rattle.ep_base.specs.Versions.{version_number, highest_in, knows, names, IsInstanceIn, AreDepsIn, IsDecreeIn, IsVoteIn, CanSay}
 use Rattle.ep_base.specs.declared.attrs.Attrs.{Attrs}
 use Rattle.ep_base.specs.Commands.{Command, Noop}
 use Rattle.ep_base.specs.declared.decree.Decree.{Decree}
@@ -171,8 +171,8 @@ module _ (version : Version) where
 
   -- The phases.
 
-  first_in : (asked : ℕ → Bool) (f i b : ℕ) (x : Decree) → IsInstanceIn version i → IsDecreeIn version x → IsChangeIn (first_phase asked f i b x)
-  first_in asked f i b x low known = record { entry = known; lead = tt; out = said_those asked (size f) (PreAccept i b x) (low, known) }
+  first_in : (asked : ℕ → Bool) (f i b s : ℕ) (x : Decree) → IsInstanceIn version i → IsDecreeIn version x → IsChangeIn (first_phase asked f i b s x)
+  first_in asked f i b s x low known = record { entry = known; lead = tt; out = said_those asked (size f) (PreAccept i b x) (low, known) }
 
   accept_in : (f i me b : ℕ) (x : Decree) → IsInstanceIn version i → IsDecreeIn version x → IsChangeIn (accept_phase f i me b x)
   accept_in f i me b x low known = record { entry = known; lead = tt; out = said_those (is_other me) (size f) (Accept i b x) (low, known) }
@@ -182,8 +182,8 @@ module _ (version : Version) where
 
   -- The events.
 
-  propose_in : (f i : ℕ) (c : Command) (own : Attrs) → IsInstanceIn version i → knows version c ≡ true → AreDepsIn version own.deps → IsOutcomeIn (propose f i c own)
-  propose_in f i c own low plain deps = limited_in own _ (first_in (is_fast f (leader_of i)) f i (leader_of i) _ low (plain, deps))
+  propose_in : (f i s : ℕ) (c : Command) (own : Attrs) → IsInstanceIn version i → knows version c ≡ true → AreDepsIn version own.deps → IsOutcomeIn (propose f i s c own)
+  propose_in f i s c own low plain deps = limited_in own _ (first_in (is_fast (leader_of i) s) f i (leader_of i) s _ low (plain, deps))
 
   pre_accept_in : (i from b : ℕ) (x : Decree) (own : Attrs) (r : Record) → IsInstanceIn version i → IsDecreeIn version x → AreDepsIn version own.deps → IsOutcomeIn (on_pre_accept i from b x own r)
   pre_accept_in i from b x own r low known deps =
@@ -224,30 +224,30 @@ module _ (version : Version) where
   fast_in f i me a r None low deps known = nothing_in
   fast_in f i me a r (Some v) low deps known = commit_in f i me (with_attrs v.decree a) r low (known.0, deps)
 
-  count_in : (f i me b : ℕ) (a : Attrs) (answers : Answers Attrs) (r : Record) → IsInstanceIn version i → AreDepsIn version a.deps → AreAttrsIn answers → IsVoteIn version r.vote → IsChangeIn (count_pre_accept_ok f i me b a answers r)
-  count_in f i me b a answers r low deps all known =
+  count_in : (f i me b s : ℕ) (a : Attrs) (answers : Answers Attrs) (r : Record) → IsInstanceIn version i → AreDepsIn version a.deps → AreAttrsIn answers → IsVoteIn version r.vote → IsChangeIn (count_pre_accept_ok f i me b s a answers r)
+  count_in f i me b s a answers r low deps all known =
       let slow = slow_in f i me b answers r.vote low all known in
       let fast = fast_in f i me a r r.vote low deps known in
-      let keep = kept_in (Proposing b answers) all in
+      let keep = kept_in (Proposing b s answers) all in
       split (eqb b (leader_of i)) _ _
-      (split (fast_answered f (leader_of i) answers) (cond (all_equal f a answers) (fast_path f i me a r r.vote) (slow_path f i me b answers r.vote)) (kept (Proposing b answers))
+      (split (fast_answered f (leader_of i) s answers) (cond (all_equal f a answers) (fast_path f i me a r r.vote) (slow_path f i me b answers r.vote)) (kept (Proposing b s answers))
       (split (all_equal f a answers) (fast_path f i me a r r.vote) (slow_path f i me b answers r.vote) fast slow) keep)
-      (split (leb f (others f me answers)) (slow_path f i me b answers r.vote) (kept (Proposing b answers)) slow keep)
+      (split (leb f (others f me answers)) (slow_path f i me b answers r.vote) (kept (Proposing b s answers)) slow keep)
 
-  abbrev HasAttrs : Option (ℕ × Answers Attrs) → Type 0
+  abbrev HasAttrs : Option (ℕ × ℕ × Answers Attrs) → Type 0
   HasAttrs None = Unit {0}
-  HasAttrs (Some more) = AreAttrsIn more.1
+  HasAttrs (Some more) = AreAttrsIn more.2
 
   more_proposing_in : (from : ℕ) (a : Attrs) (led : Option Led) → AreDepsIn version a.deps → HasHeld led → HasAttrs (more_proposing from a led)
   more_proposing_in from a None deps held = tt
-  more_proposing_in from a (Some (Proposing b answers)) deps held =
-      elim (is_some (answer answers from)) as (λ t. HasAttrs (cond t None (Some (b, with_answer answers from a)))) [ true ↦ tt | false ↦ (deps, held) ]
+  more_proposing_in from a (Some (Proposing b s answers)) deps held =
+      elim (is_some (answer answers from)) as (λ t. HasAttrs (cond t None (Some (b, s, with_answer answers from a)))) [ true ↦ tt | false ↦ (deps, held) ]
   more_proposing_in from a (Some (Accepting b answers)) deps held = tt
   more_proposing_in from a (Some (Preparing b answers)) deps held = tt
 
-  use_in : (f i me b : ℕ) (a : Attrs) (r : Record) (more : Option (ℕ × Answers Attrs)) → IsInstanceIn version i → AreDepsIn version a.deps → HasAttrs more → IsVoteIn version r.vote → IsChangeIn (use_pre_accept_ok f i me b a r more)
+  use_in : (f i me b : ℕ) (a : Attrs) (r : Record) (more : Option (ℕ × ℕ × Answers Attrs)) → IsInstanceIn version i → AreDepsIn version a.deps → HasAttrs more → IsVoteIn version r.vote → IsChangeIn (use_pre_accept_ok f i me b a r more)
   use_in f i me b a r None low deps all known = nothing_in
-  use_in f i me b a r (Some more) low deps all known = split (is_usable b r more.0) _ nothing (count_in f i me b a more.1 r low deps all known) nothing_in
+  use_in f i me b a r (Some more) low deps all known = split (is_usable b r more.0) _ nothing (count_in f i me b more.1 a more.2 r low deps all known) nothing_in
 
   give_up_with_in : (f i me b : ℕ) (answers : Answers Attrs) (r : Record) → IsInstanceIn version i → AreAttrsIn answers → IsVoteIn version r.vote → IsOutcomeIn (give_up_with f i me b answers r)
   give_up_with_in f i me b answers r low all known =
@@ -257,7 +257,7 @@ module _ (version : Version) where
 
   give_up_in : (f i me : ℕ) (r : Record) (led : Option Led) → IsInstanceIn version i → IsVoteIn version r.vote → HasHeld led → IsOutcomeIn (give_up f i me r led)
   give_up_in f i me r None low known held = tt
-  give_up_in f i me r (Some (Proposing b answers)) low known held = give_up_with_in f i me b answers r low held known
+  give_up_in f i me r (Some (Proposing b s answers)) low known held = give_up_with_in f i me b answers r low held known
   give_up_in f i me r (Some (Accepting b answers)) low known held = tt
   give_up_in f i me r (Some (Preparing b answers)) low known held = tt
 
@@ -306,7 +306,7 @@ module _ (version : Version) where
         (least n (λ r. eqb top l && is_fast_witness f l vote r)) (least n (λ r. votes (did_preaccept_at top) (vote r)))
 
   recover_with_in : (f i me b : ℕ) (c : Command) (own : Attrs) → IsInstanceIn version i → knows version c ≡ true → AreDepsIn version own.deps → IsOutcomeIn (recover_with f i me b c own)
-  recover_with_in f i me b c own low plain deps = limited_in own _ (first_in (is_other me) f i b _ low (plain, deps))
+  recover_with_in f i me b c own low plain deps = limited_in own _ (first_in (is_other me) f i b me _ low (plain, deps))
 
   act_in : (f i me b : ℕ) (own : Command → Attrs) (r : Record) (choice : Choice) → IsInstanceIn version i → ((c : Command) → AreDepsIn version (own c).deps) → IsChoiceIn choice → IsOutcomeIn (act_on f i me b own r choice)
   act_in f i me b own r (CommitIt x) low deps known = commit_in f i me x r low known
@@ -321,7 +321,7 @@ module _ (version : Version) where
 
   more_preparing_in : (from : ℕ) (v : Option Vote) (led : Option Led) → IsVoteIn version v → HasHeld led → HasVotes (more_preparing from v led)
   more_preparing_in from v None known held = tt
-  more_preparing_in from v (Some (Proposing b answers)) known held = tt
+  more_preparing_in from v (Some (Proposing b s answers)) known held = tt
   more_preparing_in from v (Some (Accepting b answers)) known held = tt
   more_preparing_in from v (Some (Preparing b answers)) known held =
       elim (is_some (answer answers from)) as (λ t. HasVotes (cond t None (Some (b, with_answer answers from v)))) [ true ↦ tt | false ↦ (known, held) ]
@@ -407,17 +407,17 @@ module _ (version : Version) where
         use_prepare_in f i me b (interference s.records i) (record_in s i) (more_preparing from v (get s.leads i)) said.0 (interference_in i) (more_preparing_in from v (get s.leads i) said.1 (led_in i))
     handled_in f me from (Nack i b p) said = record { entry = tt; lead = tt; out = tt }
 
-    proposed_in : (f me : ℕ) (c : Command) (n : Option ℕ) → knows version c ≡ true → ((k : ℕ) → n ≡ Some k → k < highest_for version c) → IsPlacedIn (proposed f me s c n)
-    proposed_in f me c None plain room = tt
-    proposed_in f me c (Some n) plain room =
+    proposed_in : (f me q : ℕ) (c : Command) (n : Option ℕ) → knows version c ≡ true → ((k : ℕ) → n ≡ Some k → k < highest_for version c) → IsPlacedIn (proposed f me q s c n)
+    proposed_in f me q c None plain room = tt
+    proposed_in f me q c (Some n) plain room =
         let i : ℕ = instance_of me (n + 1) in
         let less : n < highest_in version = within version c n (room n refl) in
         let most = highest_low version in
         let low : IsInstanceIn version i = omega arith in
-        placed_in i (propose f i c (interference s.records i c)) low (propose_in f i c (interference s.records i c) low plain (interference_in i c))
+        placed_in i (propose f i q c (interference s.records i c)) low (propose_in f i q c (interference s.records i c) low plain (interference_in i c))
 
     pub acts_in : (f me : ℕ) (e : Event) → HasEvent version e → HasRoom version me s e → IsPlacedIn (acts f me s e)
-    acts_in f me (Propose client request c seen) has room = proposed_in f me c (free_number s.records me) has room
+    acts_in f me (Propose client request c seen named) has room = proposed_in f me (spared f me named) c (free_number s.records me) (and_parts (knows version c) (names version named) has).0 room
     acts_in f me (Handle m) has room = placed_in (instance_of_message m.sent.message) _ (instance_in m.sent.message has) (handled_in f me m.sent.from m.sent.message has)
     acts_in f me (GiveUp i) has room = placed_in i _ has (give_up_in f i me (record_in s i) (get s.leads i) has (recorded_vote i) (led_in i))
     acts_in f me (Recover i) has room = placed_in i _ has (recover_in f i me (record_in s i) (cell_in s i).told has (recorded_vote i))
@@ -477,7 +477,7 @@ module _ (v : Version) (early : version_number v ≤ 2) where
   votes_later (a ∷ more) h = (vote_later v V2 a.1 early h.0, votes_later more h.1)
 
   led_later : (l : Led) → IsLedIn v l → IsLedIn V2 l
-  led_later (Proposing b answers) h = attrs_later answers h
+  led_later (Proposing b s answers) h = attrs_later answers h
   led_later (Accepting b answers) h = tt
   led_later (Preparing b answers) h = votes_later answers h
 

@@ -25,7 +25,7 @@ use Rattle.ep_journal.specs.declared.step_fault.StepFault.TheVariants.{OutOfRang
 use Rattle.ep_journal.specs.declared.taken.Taken.{Taken}
 
 is_execute : (event : Happening) (r : ℕ) → root_of event ≡ Some r → event ≡ Execute r
-is_execute (Propose client request c seen) r e = absurd (cc)
+is_execute (Propose client request c seen named) r e = absurd (cc)
 is_execute (Handle b) r e = absurd (cc)
 is_execute (GiveUp i) r e = absurd (cc)
 is_execute (Recover i) r e = absurd (cc)

@@ -1,10 +1,10 @@
 -- From what a step does to the parts of a state to the rule book's step of the whole.
-use Rattle.std.proofs.Common.{◌≡◌, inl, inr, ℕ, suc, ◌≤◌, Bool, true, false, cond, leb, arith, List, [], ◌∷◌, Option, Some, None, Result, Ok, Err, IfOk, IfErr, OnErr, refl, sym, ap, subst, ◌∙◌, append-nil, T, eqb, eqb→eq}
+use Rattle.std.proofs.Common.{◌≡◌, inl, inr, ℕ, suc, ◌≤◌, Bool, ◌&&◌, true, false, cond, leb, arith, List, [], ◌∷◌, Option, Some, None, Result, Ok, Err, IfOk, IfErr, OnErr, refl, sym, ap, subst, ◌∙◌, append-nil, T, eqb, eqb→eq}
 use Rattle.std.proofs.lemmas.Bool.{leb-true}
 use Rattle.std.specs.Prelude.{IsErrAnd}
 use Rattle.std.specs.List.{AllByRecursion}
 use Rattle.ep_base.specs.Instances.{number_of}
-use Rattle.ep_base.specs.Versions.{highest_in, knows, CanSay}
+use Rattle.ep_base.specs.Versions.{highest_in, knows, names, CanSay}
 use Rattle.ep_base.specs.declared.version.Version.{Version}
 use Rattle.ep_base.specs.declared.version_kind.VersionKind.TheVariants.{V1, V2, V3}
 use Rattle.ep_base.specs.Commands.{Command}
@@ -194,10 +194,10 @@ refused_rule s event mark m BallotsExhausted r given a why = ruled s event mark 
 refused_rule s event mark m (NotCommitted i) r given a why = absurd why
 
 -- a request that finds no number of the version refuses the event
-full_by : (p : Parts) (client request seen : ℕ) (c : Command) (mark : Option Mark) (m : Mark) (o : Option ℕ) → mark ≡ Some m → IsLet (standing_of p) (Propose client request c seen) → free_number p.space.records p.me ≡ o →
-    ((n : ℕ) → free_number p.space.records p.me ≡ Some n → highest_for p.space.version c ≤ n) → IsRefused (standing_of p) (Propose client request c seen) mark SpaceFull
-full_by p client request seen c mark m None given h free full = refused_rule (standing_of p) (Propose client request c seen) mark m SpaceFull _ given (request_full p client request seen c h free) refl
-full_by p client request seen c mark m (Some n) given h free full = inr (inr (inr (inl (
+full_by : (p : Parts) (client request seen : ℕ) (c : Command) (named : Option ℕ) (mark : Option Mark) (m : Mark) (o : Option ℕ) → mark ≡ Some m → IsLet (standing_of p) (Propose client request c seen named) → free_number p.space.records p.me ≡ o →
+    ((n : ℕ) → free_number p.space.records p.me ≡ Some n → highest_for p.space.version c ≤ n) → IsRefused (standing_of p) (Propose client request c seen named) mark SpaceFull
+full_by p client request seen c named mark m None given h free full = refused_rule (standing_of p) (Propose client request c seen named) mark m SpaceFull _ given (request_full p client request seen c named h free) refl
+full_by p client request seen c named mark m (Some n) given h free full = inr (inr (inr (inl (
   refl,
   record {
     readable = h.readable;
@@ -208,9 +208,9 @@ full_by p client request seen c mark m (Some n) given h free full = inr (inr (in
   },
 ))))
 
-pub refused_full : (p : Parts) (client request seen : ℕ) (c : Command) (mark : Option Mark) (m : Mark) → mark ≡ Some m → IsLet (standing_of p) (Propose client request c seen) →
-    ((n : ℕ) → free_number p.space.records p.me ≡ Some n → highest_for p.space.version c ≤ n) → IsRefused (standing_of p) (Propose client request c seen) mark SpaceFull
-refused_full p client request seen c mark m given h full = full_by p client request seen c mark m (free_number p.space.records p.me) given h refl full
+pub refused_full : (p : Parts) (client request seen : ℕ) (c : Command) (named : Option ℕ) (mark : Option Mark) (m : Mark) → mark ≡ Some m → IsLet (standing_of p) (Propose client request c seen named) →
+    ((n : ℕ) → free_number p.space.records p.me ≡ Some n → highest_for p.space.version c ≤ n) → IsRefused (standing_of p) (Propose client request c seen named) mark SpaceFull
+refused_full p client request seen c named mark m given h full = full_by p client request seen c named mark m (free_number p.space.records p.me) given h refl full
 
 -- What is asked, done or refused.
 
@@ -318,7 +318,7 @@ message_fits (PrepareOk i b v) h = (h.1.low, vote_fits i v h.2)
 message_fits (Nack i p q) h = (h.1.first, h.2)
 
 event_fits : (e : Happening) → IsReadable e → EventFits (event_of e)
-event_fits (Propose client request c seen) h = tt
+event_fits (Propose client request c seen named) h = tt
 event_fits (Handle b) h =
     let s = h.4 in (
       subst BallotsFit (sym (message_spelled h.0 b _ _ _ s)) (message_fits h.3 s.message),
@@ -349,7 +349,7 @@ same_version (V3 g) V2 e = absurd (cc)
 same_version (V3 g) (V3 h) e = ap V3 (eqb→eq g h (subst T (sym (said (eqb g h) OtherGeneration e)) tt))
 
 pub event_had : (v : Version) (e : Happening) → IsReadable e → lacking v e ≡ None → HasEvent v (event_of e)
-event_had v (Propose client request c seen) h e = said (knows v c) OutOfRange e
+event_had v (Propose client request c seen named) h e = said (knows v c && names v named) OutOfRange e
 event_had v (Handle b) h e =
     let s = h.4 in
     let is : h.0 ≡ v = sym (version_spelled h.0 b _ _ _ s) ∙ same_version (version_at b) v e in

@@ -19,7 +19,7 @@ IsStill s (Some b) = (numbered_in s.version b.root ≡ None) × Refuses s.faults
 
 -- the root of an execution
 abbrev pub root_of : Happening → Option ℕ
-root_of (Propose client request command seen) = None
+root_of (Propose client request command seen named) = None
 root_of (Handle b) = None
 root_of (GiveUp i) = None
 root_of (Recover i) = None

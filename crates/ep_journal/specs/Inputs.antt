@@ -32,7 +32,7 @@ handled_at k from (Nack i b p) = Ok (on_nack p k.told)
 
 -- what it answers to what is asked
 abbrev pub outcome_at : Known → Input → Outcome
-outcome_at k (Start c) = propose k.faults k.instance c.now (interference k.records k.instance c.now)
+outcome_at k (Start c s) = propose k.faults k.instance s.now c.now (interference k.records k.instance c.now)
 outcome_at k (Handles v) = handled_at k (sender_at v.now) (message_at v.now)
 outcome_at k GiveUp = give_up k.faults k.instance k.me (record_of k) k.led
 outcome_at k Recover = recover k.faults k.instance k.me (record_of k) k.told
@@ -40,7 +40,7 @@ outcome_at k Recover = recover k.faults k.instance k.me (record_of k) k.told
 -- whether a replica is one of the receivers of what is known there
 abbrev pub receives : Known → Receivers → ℕ → Bool
 receives k (One q) r = eqb r q
-receives k FastQuorum r = is_fast k.faults (leader_of k.instance) r
+receives k (FastQuorum s) r = is_fast (leader_of k.instance) s r
 receives k Others r = is_other k.me r
 
 -- what is sent has a spelling in the version

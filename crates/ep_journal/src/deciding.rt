@@ -27,7 +27,7 @@ pub(crate) fn decide(
     ensures refused { IfErr result (λ e. IsRefused (outcome_at cell.now input.entry) e) }
 {
     match input {
-        Input::Start(command) => start(alloc, cell, command),
+        Input::Start(command, spared) => start(alloc, cell, *spared, command),
         Input::Message(frame) => handle(alloc, cell, frame),
         Input::GiveUp => give_up(alloc, cell),
         Input::Recover => recover(alloc, cell),

@@ -7,9 +7,16 @@ use std::alloc::{AllocError, Global};
 use std::marker::Model;
 
 /// Instances that an event executed, each with its answer, in order.
-#[derive(Drop)]
 pub struct Executions {
     items: Vec<(InstanceId, Answer)>,
+}
+
+// (by hand, so that no crate above proves again how the parts are dropped)
+impl Drop for Executions {
+    fn drop(self) {
+        let Executions { items } = self;
+        drop(items);
+    }
 }
 
 impl Model for Executions {

@@ -26,9 +26,16 @@ use std::alloc::{AllocError, Global};
 use std::marker::Model;
 
 /// The frames that an entry sends, by rising receiver.
-#[derive(Drop)]
 pub struct Frames {
     items: Vec<Frame>,
+}
+
+// (by hand, so that no crate above proves again how the parts are dropped)
+impl Drop for Frames {
+    fn drop(self) {
+        let Frames { items } = self;
+        drop(items);
+    }
 }
 
 impl Model for Frames {
@@ -134,7 +141,7 @@ fn written_of(alloc: Global, cell: &Cell<'_>, told: &Told<'_>) -> Result<Frames,
 {
     match &told.to {
         Receivers::One(to) => written_to(alloc, cell, told, *to),
-        Receivers::FastQuorum => written_to_each(alloc, cell, told),
+        Receivers::FastQuorum(_) => written_to_each(alloc, cell, told),
         Receivers::Others => written_to_each(alloc, cell, told),
     }
 }
@@ -216,7 +223,7 @@ fn is_receiver(cell: &Cell<'_>, to: Receivers, replica: u8) -> bool
 {
     match to {
         Receivers::One(one) => replica == one.index(),
-        Receivers::FastQuorum => is_fast(cell.size(), cell.id().replica(), replica),
+        Receivers::FastQuorum(spared) => is_fast(cell.id().replica(), spared, replica),
         Receivers::Others => replica != cell.me().index(),
     }
 }

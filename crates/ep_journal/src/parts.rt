@@ -21,11 +21,11 @@ use crate::executions::Executions;
 use crate::frames::{Frames, written};
 use crate::input::Input;
 use crate::mark::Mark;
-use crate::screen::{screen_frame, screen_instance, screen_request};
+use crate::screen::{screen_frame, screen_instance, screen_request, screen_spared};
 use crate::step_fault::StepFault;
 use crate::taken::Taken;
 use crate::versioned::check_version;
-use ep_base::{Command, InstanceId, ReplicaId, Version, VersionKind};
+use ep_base::{Command, InstanceId, ReplicaId, Version, VersionKind, spared_by};
 use ep_exec::{Executed, Store};
 use ep_frame::Frame;
 use ep_phase::{Cell, Lead, next_instance};
@@ -123,9 +123,11 @@ impl Parts {
                 request,
                 command,
                 seen: _,
+                spared,
             } => {
                 screen_request(*client, *request, command)?;
-                self.propose(alloc, command, mark)
+                screen_spared(self.space.size(), self.me, *spared)?;
+                self.propose(alloc, command, *spared, mark)
             }
             Event::Handle(frame) => self.handle(alloc, frame, mark),
             Event::GiveUp(id) => {
@@ -143,23 +145,25 @@ impl Parts {
         }
     }
 
-    /// Proposes the command in the next instance.
+    /// Proposes the command in the next instance; the proposal names this replica as the spared one, if it names one.
     fn propose(
         &mut self,
         alloc: Global,
         command: &Command,
+        named: Option<ReplicaId>,
         mark: Option<Mark>,
     ) -> Result<Taken, StepFault>
         requires sound { IsSound (standing_of self.old) }
         requires numbered { IfSome mark (λ m. 1 ≤ m.number) }
-        requires through { (client : ℕ) × (request : ℕ) × (seen : ℕ) × IsLet (standing_of self.old) (Happening.Propose client request command.now seen) }
-        ensures { (client : ℕ) (request : ℕ) (seen : ℕ) → IsLet (standing_of self.old) (Happening.Propose client request command.now seen) → Steps (standing_of self.old) (Happening.Propose client request command.now seen) mark result (standing_of self.new) }
+        requires through { (client : ℕ) × (request : ℕ) × (seen : ℕ) × IsLet (standing_of self.old) (Happening.Propose client request command.now seen named) }
+        ensures { (client : ℕ) (request : ℕ) (seen : ℕ) → IsLet (standing_of self.old) (Happening.Propose client request command.now seen named) → Steps (standing_of self.old) (Happening.Propose client request command.now seen named) mark result (standing_of self.new) }
     {
         let Some(mark) = mark else {
             return Err(StepFault::StampFull);
         };
         let id = instance_for(&self.space, self.me, command)?;
-        let input = Input::Start(command);
+        let spared = spared_by(self.space.size(), self.me, named);
+        let input = Input::Start(command, &spared);
         self.ask(alloc, id, input, Some(mark))
     }
 

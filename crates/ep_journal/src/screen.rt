@@ -1,22 +1,39 @@
 //! The screen: events that no state takes.
 
-ghost use Rattle.std.specs.Prelude.{◌≡◌, ℕ, ltb, None, IfErr, OnOk};
+ghost use Rattle.std.specs.Prelude.{◌≡◌, ℕ, ltb, true, Option, None, IfErr, OnOk};
+ghost use Rattle.ep_base.specs.Commands.{Command};
 ghost use Rattle.ep_base.specs.Instances.{leader_of};
-ghost use Rattle.ep_base.specs.Quorums.{size};
-ghost use Rattle.ep_rules.specs.Steps.{is_within, screened, Propose, Handle, GiveUp};
+ghost use Rattle.ep_base.specs.Quorums.{size, may_spare};
+ghost use Rattle.ep_rules.specs.Steps.{may_ask, screened, Propose, Handle, GiveUp};
 ghost use Rattle.ep_journal.specs.Events.{frame_at};
 ghost use Rattle.ep_journal.specs.Stepping.{IsScreened};
 
 use crate::step_fault::StepFault;
-use ep_base::{Command, InstanceId, ReplicaId, Size};
+use ep_base::{Command, InstanceId, ReplicaId, Size, may_be_spared};
 use ep_frame::FrameView;
 
 /// `OutOfRange` unless a client may ask for this: the command is no no-op, and the client and the request are from 1.
 pub(crate) fn screen_request(client: u32, request: u32, command: &Command) -> Result<(), StepFault>
-    ensures ok { OnOk result ((f : ℕ) (me : ℕ) (seen : ℕ) → screened f me (Propose client request command.now seen) ≡ None) }
-    ensures refused { IfErr result (λ e. (f : ℕ) (me : ℕ) (seen : ℕ) → IsScreened (screened f me (Propose client request command.now seen)) e) }
+    ensures ok { OnOk result (may_ask client request command.now ≡ true) }
+    ensures refused { IfErr result (λ e. (f : ℕ) (me : ℕ) (seen : ℕ) (named : Option ℕ) → IsScreened (screened f me (Propose client request command.now seen named)) e) }
 {
     if !may_propose(client, request, command) {
+        return Err(StepFault::OutOfRange);
+    }
+    Ok(())
+}
+
+/// `OutOfRange` if a proposal of this replica names a spared one that is itself or none of the cluster.
+#[tactic(auto, using(crate::proofs::Asked::unspared))]
+pub(crate) fn screen_spared(
+    cluster: Size,
+    me: ReplicaId,
+    named: Option<ReplicaId>,
+) -> Result<(), StepFault>
+    ensures ok { OnOk result (may_spare cluster me named ≡ true) }
+    ensures refused { IfErr result (λ e. (client request : ℕ) (c : Command) (seen : ℕ) → IsScreened (screened cluster me (Propose client request c seen named)) e) }
+{
+    if !may_be_spared(cluster, me, named) {
         return Err(StepFault::OutOfRange);
     }
     Ok(())
@@ -56,7 +73,7 @@ pub(crate) fn screen_instance(cluster: Size, instance: InstanceId) -> Result<(),
 
 /// Whether a client may ask for this: the command is no no-op, and the client and the request are from 1.
 fn may_propose(client: u32, request: u32, command: &Command) -> bool
-    ensures { (n : ℕ) (seen : ℕ) → result ≡ is_within n (Propose client request command.now seen) }
+    ensures { result ≡ may_ask client request command.now }
 {
     !command.is_noop() && 0 < client && 0 < request
 }

@@ -1,15 +1,16 @@
 //! What a version has. A replica of that version takes no other events.
 
-ghost use Rattle.std.specs.Prelude.{◌≡◌, None, Some, IfErr, OnOk};
+ghost use Rattle.std.specs.Prelude.{◌≡◌, ◌&&◌, None, Some, IfErr, OnOk};
+ghost use Rattle.ep_base.specs.Versions.{knows, names};
 ghost use Rattle.ep_frame.specs.Meaning.{version_at};
 ghost use Rattle.ep_journal.specs.Events.{IsReadable, lacking, numbered_in, spelled_in};
 
 use crate::event::Event;
 use crate::step_fault::StepFault;
-use ep_base::{InstanceId, Version};
+use ep_base::{Command, InstanceId, ReplicaId, Version};
 
 /// Whether a replica of this version has what the event speaks of: `OtherVersion` for a frame of another version, `OtherGeneration` for one of
-/// its version and another generation, `OutOfRange` for a command or an instance's number that the version lacks.
+/// its version and another generation, `OutOfRange` for a command or an instance's number that the version lacks, and for a spared replica that is named.
 #[inline(always)]
 pub(crate) fn check_version(version: Version, event: &Event) -> Result<(), StepFault>
     ensures ok { OnOk result (lacking version event.now ≡ None) }
@@ -23,8 +24,9 @@ pub(crate) fn check_version(version: Version, event: &Event) -> Result<(), StepF
             request: _,
             command,
             seen: _,
+            spared,
         } => {
-            if !version.knows(command) {
+            if !has_request(version, command, *spared) {
                 return Err(StepFault::OutOfRange);
             }
             Ok(())
@@ -34,6 +36,13 @@ pub(crate) fn check_version(version: Version, event: &Event) -> Result<(), StepF
             check_numbered(version, *instance)
         }
     }
+}
+
+#[inline(always)]
+fn has_request(version: Version, command: &Command, spared: Option<ReplicaId>) -> bool
+    ensures { result ≡ (knows version command.now && names version spared) }
+{
+    version.knows(command) && version.names(spared)
 }
 
 #[inline(always)]

@@ -4,6 +4,7 @@ use Rattle.ep_base.specs.Instances.{instance_of, highest_number}
 use Rattle.ep_base.specs.Quorums.{size}
 use Rattle.ep_base.specs.Touched.{Touched}
 use Rattle.ep_hosted.specs.declared.seat.Seat.{Seat}
+use Rattle.ep_library.specs.declared.call.Call.{Call}
 use Rattle.ep_library.specs.declared.instance.Instance.{Instance}
 use Rattle.ep_library.specs.declared.touching.Touching.{Touching}
 
@@ -45,6 +46,18 @@ pub record IsPlace (i : Instance) : Type 0 where
   pub leader : i.replica ≤ 6
   pub least : 1 ≤ i.number
   pub most : i.number ≤ highest_number
+
+-- the replica that a proposal names, if any
+abbrev pub named_by : ℕ → ℕ → Option ℕ
+named_by zero replica = None
+named_by (suc n) replica = Some replica
+
+abbrev pub named_in : Call → Option ℕ
+named_in c = named_by c.has_spared c.spared
+
+-- it names none, or one that some cluster has
+abbrev pub IsNamed : Call → Type 0
+IsNamed c = (c.has_spared ≡ 0) ⊎ (c.spared ≤ 6)
 
 -- whether a byte says so
 abbrev pub is_said : ℕ → Bool

@@ -9,7 +9,7 @@ use Rattle.ep_hosted.specs.Taking.{HasTaken, IsNotTaken, IsUnheard, HasAdvanced,
 use Rattle.ep_hosted.specs.declared.taking_fault.TakingFault.{TakingFault}
 use Rattle.ep_journal.specs.declared.event.Event.{Event as Happening}
 use Rattle.ep_journal.specs.declared.event.Event.TheVariants.{Propose, Handle}
-use Rattle.ep_library.specs.Arguments.{IsPlace}
+use Rattle.ep_library.specs.Arguments.{named_in, IsNamed, IsPlace}
 use Rattle.ep_library.specs.Statuses.{done, memory, out_of_range, no_replica, command_status, taking_status}
 use Rattle.ep_library.specs.declared.call.Call.{Call}
 use Rattle.ep_library.specs.declared.instance.Instance.{Instance}
@@ -28,11 +28,15 @@ Takes status h event k = ((status ≡ done) × HasTaken h event k) ⊎ ((fault :
 
 -- a client's proposal
 abbrev pub proposal : Call → Command → Happening
-proposal call command = Propose call.client call.request command call.seen
+proposal call command = Propose call.client call.request command call.seen (named_in call)
 
--- there was no memory for the command, it is none, or it is proposed as its event is taken
+-- its event is taken, or it names no replica
+abbrev pub Asks : ℕ → Option Hosting → Call → Command → Option Hosting → Type 0
+Asks status old call command new = ((¬ IsNamed call) × Stays out_of_range status old new) ⊎ Unless status old new (λ h k. Takes status h (proposal call command) k)
+
+-- there was no memory for the command, it is none, or it is proposed
 abbrev pub Proposes : ℕ → Option Hosting → Call → Command → Option Hosting → Type 0
-Proposes status old call command new = Stays memory status old new ⊎ (((¬ IsInRange command) × Stays out_of_range status old new) ⊎ Unless status old new (λ h k. Takes status h (proposal call command) k))
+Proposes status old call command new = Stays memory status old new ⊎ (((¬ IsInRange command) × Stays out_of_range status old new) ⊎ Asks status old call command new)
 
 -- a frame was handled, or wasn't, as the status says
 abbrev pub Hears : ℕ → Hosting → List ℕ → Hosting → Type 0
@@ -52,5 +56,5 @@ Sweeps status h k = ((status ≡ done) × HasSwept h k) ⊎ ((fault : TakingFaul
 
 -- the command was made, and is proposed; or it wasn't, as the status says
 abbrev pub Made : ℕ → Option Hosting → Call → Result Command CommandFault → Option Hosting → Type 0
-Made status old call (Ok command) new = Unless status old new (λ h k. Takes status h (proposal call command) k)
+Made status old call (Ok command) new = Asks status old call command new
 Made status old call (Err fault) new = Stays (command_status fault) status old new

@@ -9,4 +9,9 @@ pub struct Call {
     pub client: u32,
     /// Its request, from 1. A client's number and its request's name one command, over all starts: what is proposed twice is done twice.
     pub request: u32,
+    /// 0: the replica just below this one is spared (the last one, if this is replica 0), and `spared` is ignored. Versions 1 and 2 have no other.
+    pub has_spared: u8,
+    /// The other replica that isn't asked at first: the slowest one, or one that can't be reached. All others have to answer before the command is committed
+    /// in one round trip.
+    pub spared: u8,
 }

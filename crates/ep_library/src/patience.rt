@@ -101,7 +101,8 @@ fn measures(begun: &mut HostedPatience, peer: ReplicaId, took: u32) -> u8
 }
 
 /// Tells that an answer of this peer to an own proposal (a frame PreAcceptOK) came so long after the proposal's frame was sent to it, which is after the sync. Not
-/// where that frame was sent twice: it isn't known then which one is answered (Karn's rule). EP_NO_PATIENCE; EP_OUT_OF_RANGE: `peer` is above 6.
+/// where that frame was sent twice: it isn't known then which one is answered (Karn's rule). Of a peer that proposals spare, tell now and then how long a message of
+/// yours and its answer took: else nothing is known of it, and its time-out stays at `initial`. EP_NO_PATIENCE; EP_OUT_OF_RANGE: `peer` is above 6.
 #[unsafe(no_mangle)]
 pub extern "C" fn ep_patience_measure(
     alloc: Global,
@@ -238,8 +239,9 @@ fn turns(
     }
 }
 
-/// Has a turn at this time, at which just these instances are open, and lends what to ask the replica for. `instances` has nine bytes for each, in rising order, as the answer of
-/// kind 9 has them (docs/FORMATS.md, section 10); one that isn't open here, and of which a peer tells that it is committed, has the phase 4. `late` has four bytes for each of at
+/// Has a turn at this time, at which just these instances are open, and lends what to ask the replica for. `instances` has ten bytes for each, in rising order: nine as the answer
+/// of kind 9 has them (docs/FORMATS.md, section 10), and the replica that your proposal of it spares (the one just below you where it names none; of another's any); one that
+/// isn't open here, and of which a peer tells that it is committed, has the phase 4. `late` has four bytes for each of at
 /// most 64 events: 3 (give up) or 4 (recover), and the instance, as in a request. EP_NO_PATIENCE, EP_MEMORY; EP_OUT_OF_RANGE: the bytes aren't open instances in rising order.
 #[unsafe(no_mangle)]
 pub extern "C" fn ep_patience_turn(

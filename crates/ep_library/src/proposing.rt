@@ -1,26 +1,42 @@
 //! What clients ask for.
 
-ghost use Rattle.std.specs.Prelude.{◌≡◌, Some};
+ghost use Rattle.std.specs.Prelude.{◌≡◌, Some, IfOk, OnErr};
 ghost use Rattle.ep_base.specs.Commands.{Get, Put, Del, Swap, Cas, Opaque, Seal};
 ghost use Rattle.ep_base.specs.Views.{touched};
-ghost use Rattle.ep_library.specs.Arguments.{part, touched_in};
-ghost use Rattle.ep_library.specs.Calls.{proposal, Made, Proposes};
+ghost use Rattle.ep_library.specs.Arguments.{named_in, part, touched_in, IsNamed};
+ghost use Rattle.ep_library.specs.Calls.{proposal, Asks, Made, Proposes};
 
 use crate::call::Call;
 use crate::codes::command_status;
 use crate::events::{take, takes};
 use crate::exchange::Exchange;
 use crate::making::part;
+use crate::status::OUT_OF_RANGE;
 use crate::touching::Touching;
-use ep_base::{Command, CommandFault};
+use ep_base::{Command, CommandFault, OutOfRange, ReplicaId};
 use ep_handle::Handle;
 use ep_hosted::Hosted;
 use ep_journal::Event;
 use std::alloc::Global;
 use std::mem;
 
-/// A client's proposal.
-fn proposal(call: &Call, command: Command) -> Event
+/// The replica that the proposal names, if any.
+fn named_in(call: &Call) -> Result<Option<ReplicaId>, OutOfRange>
+    ensures ok { IfOk result (λ named. named ≡ named_in call.now) }
+    ensures err { OnErr result (¬ IsNamed call.now) }
+{
+    if call.has_spared == 0 {
+        return Ok(None);
+    }
+    match ReplicaId::new(call.spared) {
+        Ok(replica) => Ok(Some(replica)),
+        Err(fault) => Err(fault),
+    }
+}
+
+/// A client's proposal; it spares the replica that the call names.
+fn proposal(call: &Call, command: Command, spared: Option<ReplicaId>) -> Event
+    requires { spared ≡ named_in call.now }
     ensures { result ≡ proposal call.now command }
 {
     Event::Propose {
@@ -28,6 +44,17 @@ fn proposal(call: &Call, command: Command) -> Event
         request: call.request,
         command,
         seen: call.seen,
+        spared,
+    }
+}
+
+/// The replica, if there is one, takes a client's proposal of the command.
+fn ask(alloc: Global, handle: &mut Handle, call: &Call, command: Command) -> u8
+    ensures { Asks result handle.old.value call.now command handle.new.value }
+{
+    match named_in(call) {
+        Err(_) => OUT_OF_RANGE,
+        Ok(spared) => take(alloc, handle, proposal(call, command, spared)),
     }
 }
 
@@ -42,19 +69,29 @@ fn propose(
 {
     match made {
         Err(fault) => command_status(fault),
-        Ok(command) => take(alloc, handle, proposal(call, command)),
+        Ok(command) => ask(alloc, handle, call, command),
     }
 }
 
 /// A client asks for the value of a key. As any command it is put in order with all others that name the key, so it sees all that was answered before. Its answer, like every
 /// command's, comes by `ep_answers`, as a receipt, once the command was executed. EP_NO_REPLICA, EP_LENT, EP_MEMORY; EP_OUT_OF_RANGE: a key hasn't 1 to 255 bytes, a value has
-/// more than 65,535, two keys are the same, a client or a request is 0, or the version hasn't the command (version 2 has get, put, del and swap, and values of up to 1,024
-/// bytes); EP_SPACE_FULL; EP_SEQ_EXHAUSTED; EP_STAMP_FULL.
+/// more than 65,535, two keys are the same, a client or a request is 0, the spared replica isn't another one of the cluster, or the version hasn't what is asked (version 2 has get, put,
+/// del and swap, values of up to 1,024 bytes, and spares the usual replica); EP_SPACE_FULL; EP_SEQ_EXHAUSTED; EP_STAMP_FULL.
 #[unsafe(no_mangle)]
 pub extern "C" fn ep_propose_get(alloc: Global, handle: &mut Handle, call: &Call, key: &[u8]) -> u8
     ensures { Proposes result handle.old.value call.now (Get key.now) handle.new.value }
 {
     propose(alloc, handle, call, Command::get(alloc, key))
+}
+
+/// The replica takes a client's proposal of the command.
+fn asks(hosted: &mut Hosted, call: &Call, command: Command) -> u8
+    ensures { Asks result (Some hosted.old) call.now command (Some hosted.new) }
+{
+    match named_in(call) {
+        Err(_) => OUT_OF_RANGE,
+        Ok(spared) => takes(hosted, proposal(call, command, spared)),
+    }
 }
 
 /// The replica takes a client's proposal of the command, if that was made.
@@ -63,7 +100,7 @@ fn proposes(hosted: &mut Hosted, call: &Call, made: Result<Command, CommandFault
 {
     match made {
         Err(fault) => command_status(fault),
-        Ok(command) => takes(hosted, proposal(call, command)),
+        Ok(command) => asks(hosted, call, command),
     }
 }
 

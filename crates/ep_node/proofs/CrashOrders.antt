@@ -222,7 +222,7 @@ out_among out before m o = go before o.stands
     go (x ∷ xs) (inr k) = in_right m x.entry.out (frames_of xs) (go xs k)
 
 among : (out : ℕ → ℕ) (before : List Scheduled) (e : Event) → ((m : Frame) → e ≡ Handle m → IsOutIn out before m) → IsAmong (frames_of before) e
-among out before (Propose client request c seen) h = tt
+among out before (Propose client request c seen named) h = tt
 among out before (Handle m) h = out_among out before m (h m refl)
 among out before (GiveUp i) h = tt
 among out before (Recover i) h = tt

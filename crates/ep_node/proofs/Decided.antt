@@ -120,8 +120,8 @@ module _ (f i me : ℕ) (x : Record) (more : 0 < f) where
   told_asked : Live → (p : ℕ → Bool) (m : Message) → is_commit_message m ≡ false → false ≡ (is_committed x.vote || says_commit (to_those p (size f) m))
   told_asked live p m quiet = sym (ap (λ b. b || says_commit (to_those p (size f) m)) live ∙ none_says p (size f) m quiet)
 
-  told_first_phase : Live → (asked : ℕ → Bool) (b : ℕ) (d : Decree) → Told x (first_phase asked f i b d)
-  told_first_phase live asked b d = told_asked live asked (PreAccept i b d) refl
+  told_first_phase : Live → (asked : ℕ → Bool) (b s : ℕ) (d : Decree) → Told x (first_phase asked f i b s d)
+  told_first_phase live asked b s d = told_asked live asked (PreAccept i b d) refl
 
   told_accept_phase : Live → (b : ℕ) (d : Decree) → Told x (accept_phase f i me b d)
   told_accept_phase live b d = told_asked live (is_other me) (Accept i b d) refl
@@ -134,8 +134,8 @@ module _ (f i me : ℕ) (x : Record) (more : 0 < f) where
 
   -- The events.
 
-  pub told_propose : Live → (c : Command) (own : Attrs) → ToldOk x (propose f i c own)
-  told_propose live c own = told_limited own (first_phase (is_fast f (leader_of i)) f i (leader_of i) (record { command = c; attrs = own })) (told_first_phase live (is_fast f (leader_of i)) (leader_of i) (record { command = c; attrs = own }))
+  pub told_propose : Live → (s : ℕ) (c : Command) (own : Attrs) → ToldOk x (propose f i s c own)
+  told_propose live s c own = told_limited own (first_phase (is_fast (leader_of i) s) f i (leader_of i) s (record { command = c; attrs = own })) (told_first_phase live (is_fast (leader_of i) s) (leader_of i) s (record { command = c; attrs = own }))
 
   told_pre_accept : (from b : ℕ) (d : Decree) (own : Attrs) → ToldOk x (on_pre_accept i from b d own x)
   told_pre_accept from b d own =
@@ -157,27 +157,27 @@ module _ (f i me : ℕ) (x : Record) (more : 0 < f) where
   told_fast live a None = told_nothing
   told_fast live a (Some v) = told_commit_phase live _
 
-  told_count_pre_accept_ok : Live → (b : ℕ) (a : Attrs) (answers : Answers Attrs) → Told x (count_pre_accept_ok f i me b a answers x)
-  told_count_pre_accept_ok live b a answers =
+  told_count_pre_accept_ok : Live → (b s : ℕ) (a : Attrs) (answers : Answers Attrs) → Told x (count_pre_accept_ok f i me b s a answers x)
+  told_count_pre_accept_ok live b s a answers =
       split (Told x) (eqb b (leader_of i)) _ _
-      (λ e. split (Told x) (fast_answered f (leader_of i) answers) _ _
+      (λ e. split (Told x) (fast_answered f (leader_of i) s answers) _ _
       (λ e. split (Told x) (all_equal f a answers) _ _ (λ e. told_fast live a x.vote) (λ e. told_slow live b answers x.vote))
-      (λ e. told_kept (Proposing b answers)))
-      (λ e. split (Told x) (leb f (others f me answers)) _ _ (λ e. told_slow live b answers x.vote) (λ e. told_kept (Proposing b answers)))
+      (λ e. told_kept (Proposing b s answers)))
+      (λ e. split (Told x) (leb f (others f me answers)) _ _ (λ e. told_slow live b answers x.vote) (λ e. told_kept (Proposing b s answers)))
 
   told_pre_accept_ok : (from b : ℕ) (a : Attrs) (led : Option Led) → Told x (on_pre_accept_ok f i me from b a x led)
   told_pre_accept_ok from b a None = told_nothing
   told_pre_accept_ok from b a (Some (Accepting lb answers)) = told_nothing
   told_pre_accept_ok from b a (Some (Preparing lb answers)) = told_nothing
-  told_pre_accept_ok from b a (Some (Proposing lb answers)) =
+  told_pre_accept_ok from b a (Some (Proposing lb s answers)) =
       split (λ more. Told x (use_pre_accept_ok f i me b a x more)) (is_some (answer answers from)) _ _ (λ e. told_nothing) (λ e.
-      split (Told x) (is_usable b x lb) _ _ (λ u. told_count_pre_accept_ok (usable b x lb u).2 b a (with_answer answers from a)) (λ u. told_nothing))
+      split (Told x) (is_usable b x lb) _ _ (λ u. told_count_pre_accept_ok (usable b x lb u).2 b s a (with_answer answers from a)) (λ u. told_nothing))
 
   pub told_give_up : (led : Option Led) → ToldOk x (give_up f i me x led)
   told_give_up None = tt
   told_give_up (Some (Accepting b answers)) = tt
   told_give_up (Some (Preparing b answers)) = tt
-  told_give_up (Some (Proposing b answers)) =
+  told_give_up (Some (Proposing b s answers)) =
       split (ToldOk x) (is_usable (leader_of i) x b) _ _
       (λ u. split (ToldOk x) (leb f (others f me answers)) _ _ (λ m. told_slow (usable (leader_of i) x b u).2 b answers x.vote) (λ m. tt))
       (λ u. tt)
@@ -188,7 +188,7 @@ module _ (f i me : ℕ) (x : Record) (more : 0 < f) where
 
   told_accept_ok : (from b : ℕ) (led : Option Led) → Told x (on_accept_ok f i me from b x led)
   told_accept_ok from b None = told_nothing
-  told_accept_ok from b (Some (Proposing lb answers)) = told_nothing
+  told_accept_ok from b (Some (Proposing lb s answers)) = told_nothing
   told_accept_ok from b (Some (Preparing lb answers)) = told_nothing
   told_accept_ok from b (Some (Accepting lb answers)) =
       split (λ more. Told x (use_accept_ok f i me b x more)) (is_some (answer answers from)) _ _ (λ e. told_nothing) (λ e.
@@ -209,7 +209,7 @@ module _ (f i me : ℕ) (x : Record) (more : 0 < f) where
       split (Told x) (eqb b x.promised) _ _ (λ u. told_nothing) (λ u. told_same (record { promised = b; vote = x.vote }) from (PrepareOk i b x.vote) refl refl))
 
   told_recover_with : Live → (b : ℕ) (c : Command) (own : Attrs) → ToldOk x (recover_with f i me b c own)
-  told_recover_with live b c own = told_limited own _ (told_first_phase live (is_other me) b (record { command = c; attrs = own }))
+  told_recover_with live b c own = told_limited own _ (told_first_phase live (is_other me) b me (record { command = c; attrs = own }))
 
   told_choice : Live → (b : ℕ) (own : Command → Attrs) (ch : Choice) → ToldOk x (act_on f i me b own x ch)
   told_choice live b own (CommitIt d) = told_commit_phase live d
@@ -224,7 +224,7 @@ module _ (f i me : ℕ) (x : Record) (more : 0 < f) where
 
   told_prepare_ok : (from b : ℕ) (v : Option Vote) (own : Command → Attrs) (led : Option Led) → ToldOk x (on_prepare_ok f i me from b v own x led)
   told_prepare_ok from b v own None = told_nothing
-  told_prepare_ok from b v own (Some (Proposing lb answers)) = told_nothing
+  told_prepare_ok from b v own (Some (Proposing lb s answers)) = told_nothing
   told_prepare_ok from b v own (Some (Accepting lb answers)) = told_nothing
   told_prepare_ok from b v own (Some (Preparing lb answers)) =
       split (λ more. ToldOk x (use_prepare_ok f i me b own x more)) (is_some (answer answers from)) _ _ (λ e. told_nothing) (λ e.

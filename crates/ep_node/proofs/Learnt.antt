@@ -1,6 +1,7 @@
 -- What a replica has committed is what some entry of its journal learnt to be committed.
 use Rattle.std.proofs.Common.{◌≡◌, ℕ, ◌+◌, ◌<◌, Bool, true, false, ◌||◌, eqb, cond, List, [], ◌∷◌, Option, Some, None, is_some, Ok, Err, inl, inr, refl, sym, ap, subst, ◌∙◌, if◌then◌else◌, ◌==◌}
 use Rattle.std.proofs.lemmas.Bool.{cases_eq, eq-eqb, ne_eqb}
+use Rattle.ep_base.specs.Quorums.{spared}
 use Rattle.ep_base.specs.Commands.{Command}
 use Rattle.ep_base.specs.Instances.{instance_of}
 use Rattle.ep_base.specs.Messages.{instance_of_message}
@@ -140,19 +141,19 @@ at_step me i s (Err e) bs commit heard number j told local taken sent is = absur
 
 -- An entry.
 
-propose_step : (f me : ℕ) (s : State) (c : Command) (o : Option ℕ) (bs : List (List ℕ)) (number j : ℕ) → 0 < f → free_number s.records me ≡ o → LocalAct s (proposed f me s c o) → IsTaken (proposed f me s c o)
-    → messages_of (frames_at bs) ≡ sent_by me (proposed f me s c o) → is_some (committed_in (changed_by s (proposed f me s c o)).records j) ≡ (is_some (committed_in s.records j) || is_some (number_for (first_said bs) number j))
-propose_step f me s c None bs number j more is local taken sent = absurd taken
-propose_step f me s c (Some n) bs number j more is local taken sent =
+propose_step : (f me spare : ℕ) (s : State) (c : Command) (o : Option ℕ) (bs : List (List ℕ)) (number j : ℕ) → 0 < f → free_number s.records me ≡ o → LocalAct s (proposed f me spare s c o) → IsTaken (proposed f me spare s c o)
+    → messages_of (frames_at bs) ≡ sent_by me (proposed f me spare s c o) → is_some (committed_in (changed_by s (proposed f me spare s c o)).records j) ≡ (is_some (committed_in s.records j) || is_some (number_for (first_said bs) number j))
+propose_step f me spare s c None bs number j more is local taken sent = absurd taken
+propose_step f me spare s c (Some n) bs number j more is local taken sent =
     let i = instance_of me (n + 1) in
     let own = interference s.records i c in
     let live : is_committed (record_in s i).vote ≡ false = ap (λ o. is_committed (record_or_fresh i o).vote) (free_found s.records me n is).1 in
-    at_step me i s (propose f i c own) bs false None number j (of_told (record_in s i) (propose f i c own) (told_propose f i me (record_in s i) more live c own)) local taken sent refl
+    at_step me i s (propose f i spare c own) bs false None number j (of_told (record_in s i) (propose f i spare c own) (told_propose f i me (record_in s i) more live spare c own)) local taken sent refl
 
 entry_step : (f me : ℕ) (s : State) (event : Happening) (bs : List (List ℕ)) (number j : ℕ) → 0 < f → IsTaken (acts f me s (event_of event)) → messages_of (frames_at bs) ≡ sends f me s (event_of event)
     → is_some (committed_in (changed_by s (acts f me s (event_of event))).records j) ≡ (is_some (committed_in s.records j) || is_some (number_for (learnt_in event bs) number j))
-entry_step f me s (Propose client request c seen) bs number j more taken sent =
-    propose_step f me s c (free_number s.records me) bs number j more refl (local_acts f me s (event_of (Propose client request c seen))) taken sent
+entry_step f me s (Propose client request c seen named) bs number j more taken sent =
+    propose_step f me (spared f me named) s c (free_number s.records me) bs number j more refl (local_acts f me s (event_of (Propose client request c seen named))) taken sent
 entry_step f me s (Handle b) bs number j more taken sent =
     at_step me (instance_of_message (message_at b)) s _ bs (is_commit_message (message_at b)) (said_by b) number j (handled_told f me _ s (message_at b) more) (local_acts f me s (event_of (Handle b))) taken sent (said_is b)
 entry_step f me s (GiveUp i) bs number j more taken sent =

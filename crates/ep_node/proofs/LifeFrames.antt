@@ -112,7 +112,7 @@ given_still f l (Within h m) g x =
     at_gen (λ j c. In x (l.cluster j).given → In x c.given) h (moved (l.cluster h) m) l.cluster (still_given (l.cluster h) m x) (λ j e there. there) g
 
 pub stays_out_lem : (first : ℕ) (f : ℕ → ℕ) (l : Generations) (m : LifeMove) (event : Happening) → WasHandedOut first l event → IsLifeMove f l m → WasHandedOut first (after_move f l m) event
-stays_out_lem first f l m (Propose client request command seen) h k = tt
+stays_out_lem first f l m (Propose client request command seen named) h k = tt
 stays_out_lem first f l m (Handle b) h k = (h.0, h.1, given_still f l m h.0 (frame_at b) h.2)
 stays_out_lem first f l m (GiveUp i) h k = tt
 stays_out_lem first f l m (Recover i) h k = tt
@@ -132,7 +132,7 @@ of_its_own first g h v is none =
     let same : first + h ≡ first + g = same_number (first + h) (first + g) (subst (λ (w : Version). spelled_in w (V3 (first + g)) ≡ None) is none) in omega (arith, same)
 
 pub among_lem : (first : ℕ) (l : Generations) (g : ℕ) (event : Happening) → WasHandedOut first l event → lacking (V3 (first + g)) event ≡ None → IsAmong (l.cluster g).given (event_of event)
-among_lem first l g (Propose client request command seen) h none = tt
+among_lem first l g (Propose client request command seen named) h none = tt
 among_lem first l g (Handle b) h none = subst (λ (j : ℕ). In (frame_at b) (l.cluster j).given) (of_its_own first g h.0 (version_at b) h.1 none) h.2
 among_lem first l g (GiveUp i) h none = tt
 among_lem first l g (Recover i) h none = tt

@@ -7,7 +7,7 @@ use Rattle.ep_journal.specs.declared.event.Event.TheVariants.{Propose, Handle, G
 
 -- the number of the sender's entry that the event's frame came of, where replica r sent it; else 0
 abbrev pub number_from : ℕ → Happening → ℕ
-number_from r (Propose client request command seen) = 0
+number_from r (Propose client request command seen named) = 0
 number_from r (Handle b) = cond (eqb (sender_at b) r) (origin_at b).entry 0
 number_from r (GiveUp i) = 0
 number_from r (Recover i) = 0

@@ -63,7 +63,7 @@ pub record OpensWith (file : File) (k : Kept) : Type 0 where
 
 -- the frame that is handled, if it is one, was handed out in the generation that it names
 abbrev pub WasHandedOut : ℕ → Generations → Happening → Type 0
-WasHandedOut first l (Propose client request command seen) = Unit {0}
+WasHandedOut first l (Propose client request command seen named) = Unit {0}
 WasHandedOut first l (Handle b) = (h : ℕ) × (version_at b ≡ V3 (first + h)) × In (frame_at b) (l.cluster h).given
 WasHandedOut first l (GiveUp i) = Unit {0}
 WasHandedOut first l (Recover i) = Unit {0}

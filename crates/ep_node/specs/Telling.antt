@@ -60,7 +60,7 @@ AreFirst key es table = (i : ℕ) → IsInstance i → noted table i ≡ first_n
 
 -- the instance that its event is about; of a proposal the one that it took; none of an execution
 abbrev pub about_in : Happening → List (List ℕ) → Option ℕ
-about_in (Propose client request command seen) frames = first_named frames
+about_in (Propose client request command seen named) frames = first_named frames
 about_in (Handle b) frames = Some (instance_of_message (message_at b))
 about_in (GiveUp i) frames = Some i
 about_in (Recover i) frames = Some i
@@ -91,7 +91,7 @@ first_said (b ∷ bs) = said_by b
 
 -- the instance that an entry learns to be committed: by the Commit that it handles, or by those that it sends, since its replica has decided
 abbrev pub learnt_in : Happening → List (List ℕ) → Option ℕ
-learnt_in (Propose client request command seen) frames = first_said frames
+learnt_in (Propose client request command seen named) frames = first_said frames
 learnt_in (Handle b) frames = or_other (said_by b) (first_said frames)
 learnt_in (GiveUp i) frames = first_said frames
 learnt_in (Recover i) frames = first_said frames

@@ -2,7 +2,7 @@
 use Rattle.std.proofs.Common.{Bool, true, false, cond, subst, ◌≡◌, ◌≤◌, ◌<◌, ◌+◌, ℕ, zero, suc, List, [], ◌∷◌, ◌++◌, length, take, get_or, sym, ap, ◌∙◌, append-nil, append_assoc, arith}
 use Rattle.std.proofs.lemmas.List.{take_all, take_more}
 use Rattle.ep_patience.specs.OpenBytes.{asked_bytes, remedy_bytes}
-use Rattle.ep_patience.specs.Turning.{outlook_of, HasTurned}
+use Rattle.ep_patience.specs.Turning.{most_of, HasTurned}
 use Rattle.ep_patience.specs.declared.patience.Patience.{Patience}
 use Rattle.ep_patience.specs.declared.seen.Seen.{Seen}
 use Rattle.ep_patience.specs.declared.remedy.Remedy.{Remedy}
@@ -31,6 +31,6 @@ at_most false = omega arith
 
 pub asked_short : (p : Patience) (now : ℕ) (seen : List Seen) (q : Patience) (asked : List Remedy) → HasTurned p now seen q asked → length asked ≤ 64
 asked_short p now seen q asked turned =
-    let taken : length asked ≤ (outlook_of p now).most = subst (λ (rs : List Remedy). length rs ≤ (outlook_of p now).most) (sym turned.turns.late) (length_taken (outlook_of p now).most _) in
-    let most : (outlook_of p now).most ≤ 64 = at_most _ in
+    let taken : length asked ≤ most_of p = subst (λ (rs : List Remedy). length rs ≤ most_of p) (sym turned.turns.late) (length_taken (most_of p) _) in
+    let most : most_of p ≤ 64 = at_most _ in
     omega (arith, taken, most)

@@ -1,4 +1,4 @@
 mod AskedWritten
+mod InTime
 mod OpenRead
-mod Spared
 mod Turning

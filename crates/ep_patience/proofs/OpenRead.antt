@@ -14,7 +14,7 @@ abbrev pub joined : List Seen → Option (List Seen) → Option (List Seen)
 joined xs None = None
 joined xs (Some ys) = Some (xs ++ ys)
 
-pub open_more : (last : ℕ) (bs : List ℕ) → 9 ≤ length bs → open_from last bs ≡ listed (above last (seen_at bs)) (open_from (instance_or last (above last (seen_at bs))) (drop 9 bs))
+pub open_more : (last : ℕ) (bs : List ℕ) → 10 ≤ length bs → open_from last bs ≡ listed (above last (seen_at bs)) (open_from (instance_or last (above last (seen_at bs))) (drop 10 bs))
 open_more last [] le = absurd (omega (arith, le))
 open_more last (a ∷ []) le = absurd (omega (arith, le))
 open_more last (a ∷ b ∷ []) le = absurd (omega (arith, le))
@@ -24,9 +24,10 @@ open_more last (a ∷ b ∷ c ∷ d ∷ e ∷ []) le = absurd (omega (arith, le)
 open_more last (a ∷ b ∷ c ∷ d ∷ e ∷ f ∷ []) le = absurd (omega (arith, le))
 open_more last (a ∷ b ∷ c ∷ d ∷ e ∷ f ∷ g ∷ []) le = absurd (omega (arith, le))
 open_more last (a ∷ b ∷ c ∷ d ∷ e ∷ f ∷ g ∷ h ∷ []) le = absurd (omega (arith, le))
-open_more last (a ∷ b ∷ c ∷ d ∷ e ∷ f ∷ g ∷ h ∷ i ∷ rest) le = refl
+open_more last (a ∷ b ∷ c ∷ d ∷ e ∷ f ∷ g ∷ h ∷ i ∷ []) le = absurd (omega (arith, le))
+open_more last (a ∷ b ∷ c ∷ d ∷ e ∷ f ∷ g ∷ h ∷ i ∷ j ∷ rest) le = refl
 
-pub open_short : (last : ℕ) (bs : List ℕ) → length bs < 9 → 0 < length bs → open_from last bs ≡ None
+pub open_short : (last : ℕ) (bs : List ℕ) → length bs < 10 → 0 < length bs → open_from last bs ≡ None
 open_short last [] lt some = absurd (omega (arith, some))
 open_short last (a ∷ []) lt some = refl
 open_short last (a ∷ b ∷ []) lt some = refl
@@ -36,7 +37,8 @@ open_short last (a ∷ b ∷ c ∷ d ∷ e ∷ []) lt some = refl
 open_short last (a ∷ b ∷ c ∷ d ∷ e ∷ f ∷ []) lt some = refl
 open_short last (a ∷ b ∷ c ∷ d ∷ e ∷ f ∷ g ∷ []) lt some = refl
 open_short last (a ∷ b ∷ c ∷ d ∷ e ∷ f ∷ g ∷ h ∷ []) lt some = refl
-open_short last (a ∷ b ∷ c ∷ d ∷ e ∷ f ∷ g ∷ h ∷ i ∷ rest) lt some = absurd (omega (arith, lt))
+open_short last (a ∷ b ∷ c ∷ d ∷ e ∷ f ∷ g ∷ h ∷ i ∷ []) lt some = refl
+open_short last (a ∷ b ∷ c ∷ d ∷ e ∷ f ∷ g ∷ h ∷ i ∷ j ∷ rest) lt some = absurd (omega (arith, lt))
 
 joined_more : (xs : List Seen) (x : Seen) (rest : Option (List Seen)) → joined xs (listed (Some x) rest) ≡ joined (xs ++ x ∷ []) rest
 joined_more xs x None = refl
@@ -47,20 +49,20 @@ pub tail_whole : (k : ℕ) (bs : List ℕ) → take (length bs - k) (drop k bs) 
 tail_whole k bs = take_all (length bs - k) (drop k bs) (let len = length-drop k bs in omega (arith, len))
 
 -- one more was read
-pub one_read : (bs rest : List ℕ) (last : ℕ) (xs xs' : List Seen) (x : Seen) (i : ℕ) → 9 ≤ length rest → Some x ≡ above last (seen_at rest) → i ≡ x.instance → xs' ≡ xs ++ x ∷ []
-    → joined xs (open_from last rest) ≡ open_list bs → joined xs' (open_from i (drop 9 rest)) ≡ open_list bs
+pub one_read : (bs rest : List ℕ) (last : ℕ) (xs xs' : List Seen) (x : Seen) (i : ℕ) → 10 ≤ length rest → Some x ≡ above last (seen_at rest) → i ≡ x.instance → xs' ≡ xs ++ x ∷ []
+    → joined xs (open_from last rest) ≡ open_list bs → joined xs' (open_from i (drop 10 rest)) ≡ open_list bs
 one_read bs rest last xs xs' x i le is named more so =
-    let next : open_from last rest ≡ listed (Some x) (open_from x.instance (drop 9 rest)) = open_more last rest le ∙ ap (λ (o : Option Seen). listed o (open_from (instance_or last o) (drop 9 rest))) (sym is) in
-    (λ k. joined (more k) (open_from (named k) (drop 9 rest))) ∙ sym (joined_more xs x (open_from x.instance (drop 9 rest))) ∙ ap (joined xs) (sym next) ∙ so
+    let next : open_from last rest ≡ listed (Some x) (open_from x.instance (drop 10 rest)) = open_more last rest le ∙ ap (λ (o : Option Seen). listed o (open_from (instance_or last o) (drop 10 rest))) (sym is) in
+    (λ k. joined (more k) (open_from (named k) (drop 10 rest))) ∙ sym (joined_more xs x (open_from x.instance (drop 10 rest))) ∙ ap (joined xs) (sym next) ∙ so
 
 -- one isn't open, or isn't above the one before it
-pub not_read : (bs rest : List ℕ) (last : ℕ) (xs : List Seen) → 9 ≤ length rest → None ≡ above last (seen_at rest) → joined xs (open_from last rest) ≡ open_list bs → open_list bs ≡ None
-not_read bs rest last xs le is so = sym so ∙ ap (joined xs) (open_more last rest le ∙ ap (λ (o : Option Seen). listed o (open_from (instance_or last o) (drop 9 rest))) (sym is))
+pub not_read : (bs rest : List ℕ) (last : ℕ) (xs : List Seen) → 10 ≤ length rest → None ≡ above last (seen_at rest) → joined xs (open_from last rest) ≡ open_list bs → open_list bs ≡ None
+not_read bs rest last xs le is so = sym so ∙ ap (joined xs) (open_more last rest le ∙ ap (λ (o : Option Seen). listed o (open_from (instance_or last o) (drop 10 rest))) (sym is))
 
 pub all_read : (bs rest : List ℕ) (last : ℕ) (xs : List Seen) → rest ≡ [] → joined xs (open_from last rest) ≡ open_list bs → open_list bs ≡ Some xs
 all_read bs rest last xs e so = sym so ∙ ap (λ (r : List ℕ). joined xs (open_from last r)) e ∙ ap Some (append-nil xs)
 
-pub cut_off : (bs rest : List ℕ) (last : ℕ) (xs : List Seen) → length rest < 9 → 0 < length rest → joined xs (open_from last rest) ≡ open_list bs → open_list bs ≡ None
+pub cut_off : (bs rest : List ℕ) (last : ℕ) (xs : List Seen) → length rest < 10 → 0 < length rest → joined xs (open_from last rest) ≡ open_list bs → open_list bs ≡ None
 cut_off bs rest last xs lt some so = sym so ∙ ap (joined xs) (open_short last rest lt some)
 
 -- What is read rises.
@@ -89,8 +91,9 @@ rises_from (a ∷ b ∷ c ∷ d ∷ f ∷ []) last xs e = absurd (none-some xs e
 rises_from (a ∷ b ∷ c ∷ d ∷ f ∷ g ∷ []) last xs e = absurd (none-some xs e)
 rises_from (a ∷ b ∷ c ∷ d ∷ f ∷ g ∷ h ∷ []) last xs e = absurd (none-some xs e)
 rises_from (a ∷ b ∷ c ∷ d ∷ f ∷ g ∷ h ∷ i ∷ []) last xs e = absurd (none-some xs e)
-rises_from (a ∷ b ∷ c ∷ d ∷ f ∷ g ∷ h ∷ i ∷ j ∷ rest) last xs e =
-    let bs : List ℕ = a ∷ b ∷ c ∷ d ∷ f ∷ g ∷ h ∷ i ∷ j ∷ rest in
+rises_from (a ∷ b ∷ c ∷ d ∷ f ∷ g ∷ h ∷ i ∷ j ∷ []) last xs e = absurd (none-some xs e)
+rises_from (a ∷ b ∷ c ∷ d ∷ f ∷ g ∷ h ∷ i ∷ j ∷ k ∷ rest) last xs e =
+    let bs : List ℕ = a ∷ b ∷ c ∷ d ∷ f ∷ g ∷ h ∷ i ∷ j ∷ k ∷ rest in
     let o : Option Seen = above last (seen_at bs) in
     let so = listed_so last o (open_from (instance_or last o) rest) xs e in
     let left : open_from so.0.instance rest ≡ Some so.1 = ap (λ (p : Option Seen). open_from (instance_or last p) rest) (sym so.2) ∙ so.3 in

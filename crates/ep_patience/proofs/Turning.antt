@@ -8,7 +8,7 @@ use Rattle.std.proofs.lemmas.List.{take_all, take_more}
 use Rattle.std.proofs.lemmas.List.Elements.{filter_map-append}
 use Rattle.std.proofs.lemmas.Option.{none-some, same_Some, slice_get-get_or}
 use Rattle.ep_base.specs.Deps.{IsBelowFirst, IsRising}
-use Rattle.ep_patience.specs.Turning.{after, earlier, found_at, has_room, instances, remedies, remedy_next, waiting_for, waiting_next, IsFirst, IsOpen, Turns}
+use Rattle.ep_patience.specs.Turning.{after, earlier, found_at, has_room, instances, most_of, outlook_of, remedies, remedy_in, remedy_next, waiting_for, waiting_in, IsFirst, IsOpen, Turns}
 use Rattle.ep_patience.specs.declared.outlook.Outlook.{Outlook}
 use Rattle.ep_patience.specs.declared.patience.Patience.{Patience}
 use Rattle.ep_patience.specs.declared.remedy.Remedy.{Remedy}
@@ -128,33 +128,33 @@ module _ (all all' : List (ℕ × Waiting)) (i : ℕ) (w : Waiting) (put : Puts 
 abbrev no_remedies : List Remedy
 no_remedies = []
 
-module _ (p : Patience) (o : Outlook) where
-  remedies_more : (xs : List Seen) (x : Seen) → remedies p o (xs ++ x ∷ []) ≡ remedies p o xs ++ option_to_list (remedy_next p o x)
-  remedies_more xs x = filter_map-append (remedy_next p o) xs (x ∷ []) ∙ ap (λ (rs : List Remedy). remedies p o xs ++ rs) (listed_so (remedy_next p o x))
+module _ (p : Patience) (time : ℕ) where
+  remedies_more : (xs : List Seen) (x : Seen) → remedies p time (xs ++ x ∷ []) ≡ remedies p time xs ++ option_to_list (remedy_in p time x)
+  remedies_more xs x = filter_map-append (remedy_in p time) xs (x ∷ []) ∙ ap (λ (rs : List Remedy). remedies p time xs ++ rs) (listed_so (remedy_in p time x))
 
   abbrev granted : Bool → Option Remedy → Option Remedy
   granted room r = cond room r None
 
-  late_more : (xs : List Seen) (x : Seen) (asked : List Remedy) (room : Bool) → room ≡ has_room p o xs → asked ≡ take o.most (remedies p o xs)
-      → asked ++ option_to_list (granted room (remedy_next p o x)) ≡ take o.most (remedies p o (xs ++ x ∷ []))
+  late_more : (xs : List Seen) (x : Seen) (asked : List Remedy) (room : Bool) → room ≡ has_room p time xs → asked ≡ take (most_of p) (remedies p time xs)
+      → asked ++ option_to_list (granted room (remedy_in p time x)) ≡ take (most_of p) (remedies p time (xs ++ x ∷ []))
   late_more xs x asked true has is =
-      let lt : length (remedies p o xs) < o.most = grind (arith, nat_tests, has) in
-      ap (λ (rs : List Remedy). rs ++ option_to_list (remedy_next p o x)) (is ∙ take_enough o.most (remedies p o xs) lt)
-      ∙ sym (take_room o.most (remedies p o xs) (remedy_next p o x) lt) ∙ ap (take o.most) (sym (remedies_more xs x))
+      let lt : length (remedies p time xs) < most_of p = grind (arith, nat_tests, has) in
+      ap (λ (rs : List Remedy). rs ++ option_to_list (remedy_in p time x)) (is ∙ take_enough (most_of p) (remedies p time xs) lt)
+      ∙ sym (take_room (most_of p) (remedies p time xs) (remedy_in p time x) lt) ∙ ap (take (most_of p)) (sym (remedies_more xs x))
   late_more xs x asked false has is =
-      let le : o.most ≤ length (remedies p o xs) = grind (arith, nat_tests, has) in
-      append-nil asked ∙ is ∙ sym (take_none o.most (remedies p o xs) (option_to_list (remedy_next p o x)) le) ∙ ap (take o.most) (sym (remedies_more xs x))
+      let le : most_of p ≤ length (remedies p time xs) = grind (arith, nat_tests, has) in
+      append-nil asked ∙ is ∙ sym (take_none (most_of p) (remedies p time xs) (option_to_list (remedy_in p time x)) le) ∙ ap (take (most_of p)) (sym (remedies_more xs x))
 
   more : (xs : List Seen) (x : Seen) (all all' : List (ℕ × Waiting)) (first : Option ℕ) (asked : List Remedy) (room : Bool) (w : Waiting)
-      → ((n : ℕ) (y : Seen) → slice_get xs n ≡ Some y → y.instance < x.instance) → room ≡ has_room p o xs → w ≡ waiting_next p o room x → Puts all x.instance w all'
-      → Turns p o xs all first asked → Turns p o (xs ++ x ∷ []) all' (Some (earlier first w.due)) (asked ++ option_to_list (granted room (remedy_next p o x)))
+      → ((n : ℕ) (y : Seen) → slice_get xs n ≡ Some y → y.instance < x.instance) → room ≡ has_room p time xs → w ≡ waiting_in p time room x → Puts all x.instance w all'
+      → Turns p time xs all first asked → Turns p time (xs ++ x ∷ []) all' (Some (earlier first w.due)) (asked ++ option_to_list (granted room (remedy_in p time x)))
   more xs x all all' first asked room w below has is put t = record {
     waited = (λ n y at. elim (get_cases xs x y n at) [
       | inl before ↦ put y.instance ∙ ap (λ b. cond b (Some w) (waiting_for all y.instance)) (differ x.instance y.instance (below n y before)) ∙ t.waited n y before
-          ∙ ap (λ (zs : List Seen). Some (waiting_next p o (has_room p o zs) y)) (sym (take_before xs (x ∷ []) n y before))
-      | inr last ↦ subst (λ (v : Seen). waiting_for all' v.instance ≡ Some (waiting_next p o (has_room p o (take n (xs ++ x ∷ []))) v)) last.1
+          ∙ ap (λ (zs : List Seen). Some (waiting_in p time (has_room p time zs) y)) (sym (take_before xs (x ∷ []) n y before))
+      | inr last ↦ subst (λ (v : Seen). waiting_for all' v.instance ≡ Some (waiting_in p time (has_room p time (take n (xs ++ x ∷ []))) v)) last.1
           (put_here all all' x.instance w put new ∙ ap Some is
-          ∙ ap (λ b. Some (waiting_next p o b x)) (has ∙ ap (λ (zs : List Seen). has_room p o zs) (sym (ap (λ m. take m (xs ++ x ∷ [])) last.0 ∙ take_whole xs (x ∷ [])))))
+          ∙ ap (λ b. Some (waiting_in p time b x)) (has ∙ ap (λ (zs : List Seen). has_room p time zs) (sym (ap (λ m. take m (xs ++ x ∷ [])) last.0 ∙ take_whole xs (x ∷ [])))))
     ]);
     others = (λ i. elsewhere i (nat_eq x.instance i) refl);
     earliest = first_more all all' x.instance w put new first t.earliest;
@@ -199,27 +199,29 @@ module _ (p : Patience) (o : Outlook) where
   room_same : (most : ℕ) (rs : List Remedy) → ltb (length (take most rs)) most ≡ ltb (length rs) most
   room_same most rs = ltb_same (length (take most rs)) (length rs) most (less_taken most rs) (λ lt. let same : length (take most rs) ≡ length rs = ap length (take_enough most rs lt) in omega (arith, lt, same))
 
-  pub none_turned : Turns p o [] [] None []
-  none_turned = record { waited = (λ n x at. absurd (none-some x at)); others = (λ i. inr refl); earliest = (λ i. refl); late = sym (take_nil o.most) }
+  pub none_turned : Turns p time [] [] None []
+  none_turned = record { waited = (λ n x at. absurd (none-some x at)); others = (λ i. inr refl); earliest = (λ i. refl); late = sym (take_nil (most_of p)) }
     where
       take_nil : (m : ℕ) → take m no_remedies ≡ no_remedies
       take_nil zero = refl
       take_nil (suc m) = refl
 
-  pub one_turned : (seen : List Seen) (n : ℕ) (x : Seen) (all : List (ℕ × Waiting)) (first : Option ℕ) (asked : List Remedy) {room : Bool} {r g : Option Remedy} {w : Waiting} {all' : List (ℕ × Waiting)} {due : ℕ} {asked' : List Remedy}
-      → n < length seen → x ≡ get_or seen n x → IsRising (instances seen) → room ≡ ltb (length asked) o.most → r ≡ remedy_next p o x → w ≡ after p o x (found_at p o x) r room → due ≡ earlier first w.due → Puts all x.instance w all'
-      → g ≡ granted room r → asked' ≡ asked ++ option_to_list g → Turns p o (take n seen) all first asked → Turns p o (take (n + 1) seen) all' (Some due) asked'
-  one_turned seen n x all first asked {room} {r} {g} {w} {all'} {due} {asked'} lt is rising has asks waits earliest put grants added t =
+  pub one_turned : (seen : List Seen) (n : ℕ) (x : Seen) (all : List (ℕ × Waiting)) (first : Option ℕ) (asked : List Remedy) {room : Bool} {r g : Option Remedy} {w : Waiting} {all' : List (ℕ × Waiting)} {due : ℕ} {asked' : List Remedy} {o : Outlook} {most : ℕ}
+      → n < length seen → x ≡ get_or seen n x → IsRising (instances seen) → room ≡ ltb (length asked) most → most ≡ most_of p → o ≡ outlook_of p time x → r ≡ remedy_next p o x → w ≡ after p o x (found_at p o x) r room → due ≡ earlier first w.due → Puts all x.instance w all'
+      → g ≡ granted room r → asked' ≡ asked ++ option_to_list g → Turns p time (take n seen) all first asked → Turns p time (take (n + 1) seen) all' (Some due) asked'
+  one_turned seen n x all first asked {room} {r} {g} {w} {all'} {due} {asked'} {o} {most} lt is rising has most_is judged asks_so waits_so earliest put grants added t =
       let front : take n seen ++ x ∷ [] ≡ take (n + 1) seen = ap (λ (y : Seen). take n seen ++ y ∷ []) is ∙ sym (take_more seen n x lt) in
       let here : slice_get seen n ≡ Some x = slice_get-get_or seen n x lt ∙ ap Some (sym is) in
       let below : (k : ℕ) (y : Seen) → slice_get (take n seen) k ≡ Some y → y.instance < x.instance = λ k y at. let so = taken_at seen n k y at in rises seen k n y x rising so.0 so.1 here in
-      let rooms : room ≡ has_room p o (take n seen) = has ∙ ap (λ (rs : List Remedy). ltb (length rs) o.most) t.late ∙ room_same o.most (remedies p o (take n seen)) in
-      let next : w ≡ waiting_next p o room x = waits ∙ ap (λ (q : Option Remedy). after p o x (found_at p o x) q room) asks in
-      let all_of : asked' ≡ asked ++ option_to_list (granted room (remedy_next p o x)) = added ∙ ap (λ (q : Option Remedy). asked ++ option_to_list q) (grants ∙ ap (granted room) asks) in
-      subst (λ (rs : List Remedy). Turns p o (take (n + 1) seen) all' (Some due) rs) (sym all_of)
-      (subst (λ (d : ℕ). Turns p o (take (n + 1) seen) all' (Some d) (asked ++ option_to_list (granted room (remedy_next p o x)))) (sym earliest)
-      (subst (λ (xs : List Seen). Turns p o xs all' (Some (earlier first w.due)) (asked ++ option_to_list (granted room (remedy_next p o x)))) front
+      let rooms : room ≡ has_room p time (take n seen) = has ∙ ap (ltb (length asked)) most_is ∙ ap (λ (rs : List Remedy). ltb (length rs) (most_of p)) t.late ∙ room_same (most_of p) (remedies p time (take n seen)) in
+      let asks : r ≡ remedy_in p time x = asks_so ∙ ap (λ (v : Outlook). remedy_next p v x) judged in
+      let waits : w ≡ after p (outlook_of p time x) x (found_at p (outlook_of p time x) x) r room = waits_so ∙ ap (λ (v : Outlook). after p v x (found_at p v x) r room) judged in
+      let next : w ≡ waiting_in p time room x = waits ∙ ap (λ (q : Option Remedy). after p (outlook_of p time x) x (found_at p (outlook_of p time x) x) q room) asks in
+      let all_of : asked' ≡ asked ++ option_to_list (granted room (remedy_in p time x)) = added ∙ ap (λ (q : Option Remedy). asked ++ option_to_list q) (grants ∙ ap (granted room) asks) in
+      subst (λ (rs : List Remedy). Turns p time (take (n + 1) seen) all' (Some due) rs) (sym all_of)
+      (subst (λ (d : ℕ). Turns p time (take (n + 1) seen) all' (Some d) (asked ++ option_to_list (granted room (remedy_in p time x)))) (sym earliest)
+      (subst (λ (xs : List Seen). Turns p time xs all' (Some (earlier first w.due)) (asked ++ option_to_list (granted room (remedy_in p time x)))) front
       (more (take n seen) x all all' first asked room w below rooms next put t)))
 
-  pub all_turned : (seen : List Seen) (n : ℕ) (all : List (ℕ × Waiting)) (first : Option ℕ) (asked : List Remedy) → length seen ≤ n → Turns p o (take n seen) all first asked → Turns p o seen all first asked
-  all_turned seen n all first asked over t = subst (λ (xs : List Seen). Turns p o xs all first asked) (take_all n seen over) t
+  pub all_turned : (seen : List Seen) (n : ℕ) (all : List (ℕ × Waiting)) (first : Option ℕ) (asked : List Remedy) → length seen ≤ n → Turns p time (take n seen) all first asked → Turns p time seen all first asked
+  all_turned seen n all first asked over t = subst (λ (xs : List Seen). Turns p time xs all first asked) (take_all n seen over) t

@@ -1,7 +1,7 @@
 pub mod Hosting
+pub mod InTime
 pub mod OpenBytes
 pub mod Peers
-pub mod Sparing
 pub mod Trips
 pub mod Turning
 pub mod Waiting

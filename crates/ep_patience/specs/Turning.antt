@@ -3,12 +3,11 @@ use Rattle.std.specs.Prelude.{◌≡◌, ◌≤◌, ◌-◌, ◌⊎◌, ℕ, Boo
 use Rattle.std.specs.Map.{lookup}
 use Rattle.ep_base.specs.Instances.{leader_of}
 use Rattle.ep_base.specs.Quorums.{size}
-use Rattle.ep_patience.specs.Peers.{count, distance, peer_of}
+use Rattle.ep_patience.specs.Peers.{count, distance, peer_of, slowest}
 use Rattle.ep_patience.specs.Trips.{measured}
-use Rattle.ep_patience.specs.Waiting.{asked, begun, chance, hurried, outlook, plus, put_off, remedy_at, waited_on}
+use Rattle.ep_patience.specs.Waiting.{asked, begun, chance, hurried, later, outlook, plus, put_off, put_off_wait, remedy_at, waited_on}
 use Rattle.ep_patience.specs.declared.outlook.Outlook.{Outlook}
 use Rattle.ep_patience.specs.declared.patience.Patience.{Patience}
-use Rattle.ep_patience.specs.declared.peers.Group.TheVariants.{Others}
 use Rattle.ep_patience.specs.declared.remedy.Remedy.{Remedy}
 use Rattle.ep_patience.specs.declared.seen.Seen.{Seen}
 use Rattle.ep_patience.specs.declared.waiting.Waiting.{Waiting}
@@ -26,7 +25,15 @@ earlier (Some other) due = min other due
 
 -- are fewer peers reached than a recovery needs
 abbrev pub is_alone : Patience → Bool
-is_alone p = ltb (count p.place p.peers Others (size p.place.size)) p.place.size
+is_alone p = ltb (count p.place p.peers p.place.me (size p.place.size)) p.place.size
+
+-- how many events may be asked for in a turn
+abbrev pub most_of : Patience → ℕ
+most_of p = cond (is_alone p) 0 64
+
+-- how long a recovery is waited for
+abbrev pub again_of : Patience → ℕ
+again_of p = slowest p.waits p.place p.peers p.place.me (size p.place.size)
 
 -- where the first wait is over at this own time: the host's time less that in which the replica wasn't turning; but where the turn comes later than it was due, or than
 -- the last one, by more than the granularity, only so much more than at the last turn, or so much less than when it was due
@@ -42,11 +49,11 @@ time_since p now (Some due) = time_by p now due
 abbrev pub time_at : Patience → ℕ → ℕ
 time_at p now = cond (is_alone p) (now - p.away) (time_since p now p.first)
 
--- what a turn judges by
-abbrev pub outlook_of : Patience → ℕ → Outlook
-outlook_of p now = outlook p.waits p.place p.peers (time_at p now)
-
 -- One open instance.
+
+-- what a turn at this own time judges it by: by those to which an own proposal goes, all peers but the one that it spares
+abbrev pub outlook_of : Patience → ℕ → Seen → Outlook
+outlook_of p time x = outlook p.waits p.place p.peers x.spared time
 
 -- how it is waited for as the turn comes, by how it was waited for, if it was
 abbrev pub found : Patience → Outlook → Seen → Option Waiting → Waiting
@@ -68,15 +75,22 @@ after p o x w (Some r) room = cond room (asked o p.waits.longest w (chance p.see
 abbrev pub waiting_next : Patience → Outlook → Bool → Seen → Waiting
 waiting_next p o room x = after p o x (found_at p o x) (remedy_next p o x) room
 
--- All of them.
+-- the same at this own time
+abbrev pub remedy_in : Patience → ℕ → Seen → Option Remedy
+remedy_in p time x = remedy_next p (outlook_of p time x) x
+
+abbrev pub waiting_in : Patience → ℕ → Bool → Seen → Waiting
+waiting_in p time room x = waiting_next p (outlook_of p time x) room x
+
+-- All of them, at this own time.
 
 -- what is to be asked for them, in their order
-abbrev pub remedies : Patience → Outlook → List Seen → List Remedy
-remedies p o seen = filter_map (remedy_next p o) seen
+abbrev pub remedies : Patience → ℕ → List Seen → List Remedy
+remedies p time seen = filter_map (remedy_in p time) seen
 
 -- is there room for what is to be asked for the one that these come before
-abbrev pub has_room : Patience → Outlook → List Seen → Bool
-has_room p o before = ltb (length (remedies p o before)) o.most
+abbrev pub has_room : Patience → ℕ → List Seen → Bool
+has_room p time before = ltb (length (remedies p time before)) (most_of p)
 
 -- the first time at which one of these waits ends
 abbrev pub IsFirst : List (ℕ × Waiting) → Option ℕ → Type 0
@@ -90,19 +104,19 @@ instances seen = map (λ (x : Seen). x.instance) seen
 abbrev pub IsOpen : List Seen → ℕ → Type 0
 IsOpen seen i = (n : ℕ) × (x : Seen) × (slice_get seen n ≡ Some x) × (x.instance ≡ i)
 
--- A turn at a time, at which these instances are open: what is waited for after it, when the first wait is over, and what it asks for.
-pub record Turns (p : Patience) (o : Outlook) (seen : List Seen) (all : List (ℕ × Waiting)) (first : Option ℕ) (asked : List Remedy) : Type 0 where
+-- A turn at an own time, at which these instances are open: what is waited for after it, when the first wait is over, and what it asks for.
+pub record Turns (p : Patience) (time : ℕ) (seen : List Seen) (all : List (ℕ × Waiting)) (first : Option ℕ) (asked : List Remedy) : Type 0 where
   -- each open instance is waited for
-  pub waited : (n : ℕ) (x : Seen) → slice_get seen n ≡ Some x → waiting_for all x.instance ≡ Some (waiting_next p o (has_room p o (take n seen)) x)
+  pub waited : (n : ℕ) (x : Seen) → slice_get seen n ≡ Some x → waiting_for all x.instance ≡ Some (waiting_in p time (has_room p time (take n seen)) x)
   -- and nothing else
   pub others : (i : ℕ) → IsOpen seen i ⊎ (waiting_for all i ≡ None)
   pub earliest : IsFirst all first
   -- what is late is asked for, up to as much as there is room for
-  pub late : asked ≡ take o.most (remedies p o seen)
+  pub late : asked ≡ take (most_of p) (remedies p time seen)
 
 -- A turn: the replica is as it was but for what it waits for, and for the time.
 pub record HasTurned (p : Patience) (now : ℕ) (seen : List Seen) (q : Patience) (asked : List Remedy) : Type 0 where
-  pub turns : Turns p (outlook_of p now) seen q.all.entries q.first asked
+  pub turns : Turns p (time_at p now) seen q.all.entries q.first asked
   pub same : q ≡ record p { all = q.all; first = q.first; turned = now; away = now - time_at p now; is_hurried = false }
 
 -- What else is told.
@@ -143,7 +157,7 @@ with_hurry p = record p { is_hurried = true }
 -- an instance that is waited for is put off, and nothing else changes
 abbrev pub put_off_if : Patience → ℕ → ℕ → ℕ → Option Waiting → Option Waiting
 put_off_if p i ballot now None = None
-put_off_if p i ballot now (Some w) = Some (put_off (outlook_of p now) p.waits.longest w ballot (chance p.seed (outlook_of p now).time i))
+put_off_if p i ballot now (Some w) = Some (put_off w (later (time_at p now) (put_off_wait (again_of p) p.waits.longest ballot) (chance p.seed (time_at p now) i)))
 
 pub record PutsOff (p : Patience) (i ballot now : ℕ) (q : Patience) : Type 0 where
   pub here : waiting_for q.all.entries i ≡ put_off_if p i ballot now (waiting_for p.all.entries i)

@@ -8,7 +8,6 @@ use Rattle.rand_xoshiro.specs.SplitMix64.{mix_u64}
 use Rattle.ep_patience.specs.Peers.{count, slowest}
 use Rattle.ep_patience.specs.declared.outlook.Outlook.{Outlook}
 use Rattle.ep_patience.specs.declared.peer.Peer.{Peer}
-use Rattle.ep_patience.specs.declared.peers.Group.TheVariants.{Others, Members}
 use Rattle.ep_patience.specs.declared.peers.Place.{Place}
 use Rattle.ep_patience.specs.declared.remedy.Remedy.{Remedy}
 use Rattle.ep_patience.specs.declared.remedy.Remedy.TheVariants.{GiveUp, Recover}
@@ -33,15 +32,14 @@ IsWithin now wait due = (min (now + wait) 18446744073709551615 ≤ due) × (due 
 unfoldable pub chance : ℕ → ℕ → ℕ → ℕ
 chance seed now i = (mix_u64 (((seed + now) % 18446744073709551616 + i) % 18446744073709551616)).0
 
--- What a turn judges by.
-abbrev pub outlook : Waits → Place → List Peer → ℕ → Outlook
-outlook w place peers now = record {
+-- What a turn at this time judges an instance by whose proposal spares this replica.
+abbrev pub outlook : Waits → Place → List Peer → ℕ → ℕ → Outlook
+outlook w place peers spared now = record {
   place = place;
   time = now;
-  own = slowest w place peers Members (size place.size);
-  again = slowest w place peers Others (size place.size);
-  members = count place peers Members (size place.size);
-  most = cond (ltb (count place peers Others (size place.size)) place.size) 0 64;
+  own = slowest w place peers spared (size place.size);
+  again = slowest w place peers place.me (size place.size);
+  members = count place peers spared (size place.size);
 }
 
 abbrev pub is_own : Outlook → Seen → Bool
@@ -49,7 +47,7 @@ is_own o x = eqb (leader_of x.instance) o.place.me
 
 -- The wait.
 
--- that begins where an instance is first seen: until a Commit should have come of which a peer tells; for the members' time-out; or once to twice the peers'
+-- that begins where an instance is first seen: until a Commit should have come of which a peer tells; for the time-out of those to which an own proposal goes; or once to twice the peers'
 -- time-out and the way to the leader
 abbrev pub begun_due : Outlook → ℕ → ℕ → Seen → ℕ → ℕ
 begun_due o told distance x random =
@@ -74,11 +72,12 @@ abbrev pub waited_on : Outlook → Waiting → Waiting
 waited_on o w = record { due = plus o.time o.own; wait = w.wait; is_asked = w.is_asked; silent = cond (ltb w.silent 3) (w.silent + 1) w.silent }
 
 -- once somebody has begun to recover the instance, at a ballot of this counter: the peers' time-out, and as long again for each 8 ballots before it, up to 16 times
-abbrev pub put_off_wait : Outlook → ℕ → ℕ → ℕ
-put_off_wait o longest ballot = min (min (o.again * min (1 + ballot / 8) 16) 4294967295) longest
+abbrev pub put_off_wait : ℕ → ℕ → ℕ → ℕ
+put_off_wait again longest ballot = min (min (again * min (1 + ballot / 8) 16) 4294967295) longest
 
-abbrev pub put_off : Outlook → ℕ → Waiting → ℕ → ℕ → Waiting
-put_off o longest w ballot random = record { due = max w.due (later o.time (put_off_wait o longest ballot) random); wait = w.wait; is_asked = w.is_asked; silent = w.silent }
+-- until then at least
+abbrev pub put_off : Waiting → ℕ → Waiting
+put_off w until = record { due = max w.due until; wait = w.wait; is_asked = w.is_asked; silent = w.silent }
 
 -- What is asked for.
 

@@ -1,7 +1,7 @@
 //! What is asked for, and how long is waited then.
 
 ghost use Rattle.std.specs.Prelude.{◌≡◌, ◌≤◌, ◌+◌, ◌*◌, min};
-ghost use Rattle.ep_patience.specs.Waiting.{asked, asked_wait, begun, chance, hurried, is_hopeless, is_late, is_own, later, put_off, remedy_at, remedy_of, remedy_proposed, waited_on, IsWithin};
+ghost use Rattle.ep_patience.specs.Waiting.{asked, asked_wait, begun, chance, hurried, is_hopeless, is_late, is_own, later, put_off, put_off_wait, remedy_at, remedy_of, remedy_proposed, waited_on, IsWithin};
 
 use crate::outlook::Outlook;
 use crate::remedy::Remedy;
@@ -206,20 +206,20 @@ pub(crate) fn waited_on(outlook: &Outlook, waiting: &Waiting) -> Waiting
     }
 }
 
-/// How it is waited for once somebody has begun to recover it, at a ballot of this counter.
-pub(crate) fn put_off(
-    outlook: &Outlook,
-    longest: u32,
-    waiting: Waiting,
-    ballot: u16,
-    random: u64,
-) -> Waiting
-    ensures { result ≡ put_off outlook.now longest waiting ballot random }
+/// How long at least is waited once somebody has begun to recover an instance, at a ballot of this counter, where so long is waited for a recovery.
+pub(crate) fn put_off_wait(again: u32, longest: u32, ballot: u16) -> u32
+    ensures { result ≡ put_off_wait again longest ballot }
 {
     let times = (1 + u32::from(ballot) / 8).min(16);
-    let wait = outlook.again.saturating_mul(times).min(longest);
+    again.saturating_mul(times).min(longest)
+}
+
+/// How an instance is waited for that is put off until then at least.
+pub(crate) fn put_off(waiting: Waiting, until: u64) -> Waiting
+    ensures { result ≡ put_off waiting until }
+{
     Waiting {
-        due: waiting.due.max(later(outlook.time, wait, random)),
+        due: waiting.due.max(until),
         wait: waiting.wait,
         is_asked: waiting.is_asked,
         silent: waiting.silent,

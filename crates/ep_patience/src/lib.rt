@@ -9,6 +9,7 @@
 
 mod choosing;
 mod hosted_patience;
+mod in_time;
 mod outlook;
 mod patience;
 mod peer;
@@ -16,7 +17,6 @@ mod peers;
 mod reading;
 mod remedy;
 mod seen;
-mod sparing;
 mod trip;
 mod turn_fault;
 mod waiting;
@@ -24,9 +24,9 @@ mod waits;
 mod writing;
 
 pub use hosted_patience::HostedPatience;
+pub use in_time::{begins_patient, stays_patient};
 pub use patience::Patience;
 pub use remedy::Remedy;
 pub use seen::Seen;
-pub use sparing::{begins_patient, stays_patient};
 pub use turn_fault::TurnFault;
 pub use waits::Waits;

@@ -3,10 +3,12 @@
 ghost use Rattle.std.specs.Prelude.{◌≡◌, ◌++◌, ℕ, Some, None, cond, length, ltb, nat_eq, option_to_list, OnOk, OnErr};
 ghost use Rattle.ep_patience.specs.Turning.{earlier, waiting_for};
 
-use crate::choosing::{asked, begun, chance, hurried, put_off, remedy_at, waited_on};
+use crate::choosing::{
+    asked, begun, chance, hurried, later, put_off, put_off_wait, remedy_at, waited_on,
+};
 use crate::outlook::{Outlook, outlook_at};
 use crate::peer::Peer;
-use crate::peers::{Group, Place, count, distance};
+use crate::peers::{Place, count, distance, slowest};
 use crate::remedy::Remedy;
 use crate::seen::Seen;
 use crate::trip::measured;
@@ -15,6 +17,9 @@ use crate::waits::Waits;
 use ep_base::{InstanceId, ReplicaId, Size};
 use indexmap::IndexMap;
 use std::alloc::{AllocError, Global};
+
+/// At most so many events are asked for in a turn.
+const MOST_ASKED: u8 = 64;
 
 /// The earlier of two times, where there are two.
 fn earlier(found: Option<u64>, due: u64) -> u64
@@ -98,7 +103,7 @@ impl Patience {
     ghost use Rattle.ep_base.specs.Quorums.{size as size_of};
     ghost use Rattle.ep_patience.specs.Peers.{peer_of};
     ghost use Rattle.ep_patience.specs.Trips.{measured};
-    ghost use Rattle.ep_patience.specs.Turning.{after, found_at, has_room, instances, is_alone, next_due, outlook_of, remedy_next, time_at, time_by, with_hurry, with_measured, with_reached, HasTurned, IsNew, PutsOff};
+    ghost use Rattle.ep_patience.specs.Turning.{after, again_of, found_at, has_room, instances, is_alone, most_of, next_due, outlook_of, remedy_next, time_at, time_by, with_hurry, with_measured, with_reached, HasTurned, IsNew, PutsOff};
 
     /// That of this replica of a cluster, which waits so long, by the numbers of SplitMix64 from this seed. All peers are taken to be reached, none was
     /// measured, and nothing is waited for. Replicas of a cluster have different seeds.
@@ -151,7 +156,14 @@ impl Patience {
     fn is_alone(&self) -> bool
         ensures { result ≡ is_alone self.now }
     {
-        count(&self.place, &self.peers, Group::Others) < self.place.size.faults()
+        count(&self.place, &self.peers, self.place.me) < self.place.size.faults()
+    }
+
+    /// How many events may be asked for: none while too few peers are reached for a recovery.
+    fn most(&self) -> u8
+        ensures { result ≡ most_of self.now }
+    {
+        if self.is_alone() { 0 } else { MOST_ASKED }
     }
 
     /// The replica's own time.
@@ -181,11 +193,18 @@ impl Patience {
             .max(due.saturating_sub(granularity))
     }
 
-    /// What a turn at this time judges by.
-    fn outlook(&self, now: u64) -> Outlook
-        ensures { result ≡ outlook_of self.now now }
+    /// How long a recovery is waited for: the greatest time-out of all peers.
+    fn again(&self) -> u32
+        ensures { result ≡ again_of self.now }
     {
-        outlook_at(&self.waits, self.place, &self.peers, self.time_at(now))
+        slowest(&self.waits, &self.place, &self.peers, self.place.me)
+    }
+
+    /// What a turn at this own time judges an instance by.
+    fn outlook(&self, time: u64, seen: &Seen) -> Outlook
+        ensures { result ≡ outlook_of self.now time seen.now }
+    {
+        outlook_at(&self.waits, self.place, &self.peers, seen.spared, time)
     }
 
     /// Somebody has begun to recover this instance, at a ballot of this counter, or goes on with it. Another recovery would be in its way: it waits a while.
@@ -196,9 +215,10 @@ impl Patience {
         let Some(old) = waiting_for(&self.all, instance) else {
             return;
         };
-        let outlook = self.outlook(now);
-        let random = chance(self.seed, outlook.time, instance);
-        let waiting = put_off(&outlook, self.waits.longest, old, ballot, random);
+        let time = self.time_at(now);
+        let wait = put_off_wait(self.again(), self.waits.longest, ballot);
+        let until = later(time, wait, chance(self.seed, time, instance));
+        let waiting = put_off(old, until);
         match put(&mut self.all, instance, waiting) {
             Ok(()) => {}
             Err(_) => unreachable!(),
@@ -268,19 +288,21 @@ impl Patience {
         ensures ok { IfOk result (λ asked. HasTurned self.old now seen.now self.new asked.items) }
         ensures err { OnErr result (self.new ≡ self.old) }
     {
-        let outlook = self.outlook(now);
+        let time = self.time_at(now);
+        let most = self.most();
         let mut all = IndexMap::with_capacity(alloc, seen.len())?;
         let mut asked = Vec::new(alloc);
         let mut first = None;
         for one in seen {
-            let room = has_room(&asked, outlook.most);
+            let room = has_room(&asked, most);
+            let outlook = self.outlook(time, one);
             let remedy = self.remedy(&outlook, one);
             let waiting = self.after(&outlook, one, &remedy, room);
             first = Some(earlier(first, waiting.due));
             put(&mut all, one.instance, waiting)?;
             add(&mut asked, granted(room, remedy))?;
         }
-        self.away = now.saturating_sub(outlook.time);
+        self.away = now.saturating_sub(time);
         self.all = all;
         self.first = first;
         self.turned = now;

@@ -2,22 +2,13 @@
 
 ghost use Rattle.std.specs.Prelude.{◌≡◌};
 ghost use Rattle.ep_base.specs.Quorums.{size as size_of};
-ghost use Rattle.ep_patience.specs.Peers.{count, distance, is_counted, is_of, peer_of, slowest, wait_of};
+ghost use Rattle.ep_patience.specs.Peers.{count, distance, is_counted, peer_of, slowest, wait_of};
 
 use crate::peer::Peer;
 use crate::trip::time_out;
 use crate::waits::Waits;
 use ep_base::{ReplicaId, Size};
 use ep_phase::is_fast;
-
-/// Which peers are looked at.
-#[derive(Clone, Copy, Debug, PartialEq, Eq)]
-pub(crate) enum Group {
-    /// All replicas but this one.
-    Others,
-    /// Those of them to which this replica's own proposals go.
-    Members,
-}
 
 /// A cluster, and which replica of it this is.
 #[derive(Clone, Copy, Debug, PartialEq, Eq)]
@@ -39,54 +30,44 @@ pub(crate) fn peer_of(peers: &[Peer], replica: u8) -> Peer
     }
 }
 
-/// Whether the replica is of the group.
-fn is_of(place: &Place, group: Group, replica: u8) -> bool
-    ensures { result ≡ is_of place.now group replica }
+/// Whether the replica is a peer, not the spared one, and reached.
+fn is_counted(place: &Place, peers: &[Peer], spared: ReplicaId, replica: u8) -> bool
+    ensures { result ≡ is_counted place.now peers.now spared replica }
 {
-    match group {
-        Group::Others => replica != place.me.index(),
-        Group::Members => is_fast(place.size, place.me, replica),
-    }
+    is_fast(place.me, spared, replica) && peer_of(peers, replica).is_reached
 }
 
-/// Whether the replica is of the group, and reached.
-fn is_counted(place: &Place, peers: &[Peer], group: Group, replica: u8) -> bool
-    ensures { result ≡ is_counted place.now peers.now group replica }
-{
-    is_of(place, group, replica) && peer_of(peers, replica).is_reached
-}
-
-/// How many of the group are reached.
-pub(crate) fn count(place: &Place, peers: &[Peer], group: Group) -> u8
-    ensures { result ≡ count place.now peers.now group (size_of place.now.size) }
+/// How many peers but the spared one are reached; of all peers where that is this replica itself.
+pub(crate) fn count(place: &Place, peers: &[Peer], spared: ReplicaId) -> u8
+    ensures { result ≡ count place.now peers.now spared (size_of place.now.size) }
 {
     let mut count = 0;
     for r in 0..place.size.count() {
-        if is_counted(place, peers, group, r) {
+        if is_counted(place, peers, spared, r) {
             count += 1;
         }
     }
     count
 }
 
-/// How long an answer of the replica is waited for, where it is of the group and reached; else nothing.
-fn wait_of(waits: &Waits, place: &Place, peers: &[Peer], group: Group, replica: u8) -> u32
-    ensures { result ≡ wait_of waits.now place.now peers.now group replica }
+/// How long an answer of the replica is waited for, where it is a peer, not the spared one, and reached; else nothing.
+fn wait_of(waits: &Waits, place: &Place, peers: &[Peer], spared: ReplicaId, replica: u8) -> u32
+    ensures { result ≡ wait_of waits.now place.now peers.now spared replica }
 {
-    if is_counted(place, peers, group, replica) {
+    if is_counted(place, peers, spared, replica) {
         time_out(waits, peer_of(peers, replica).trip)
     } else {
         0
     }
 }
 
-/// How long the slowest one of the group that is reached is waited for.
-pub(crate) fn slowest(waits: &Waits, place: &Place, peers: &[Peer], group: Group) -> u32
-    ensures { result ≡ slowest waits.now place.now peers.now group (size_of place.now.size) }
+/// How long the slowest peer but the spared one is waited for, of those that are reached; of all peers where that is this replica itself.
+pub(crate) fn slowest(waits: &Waits, place: &Place, peers: &[Peer], spared: ReplicaId) -> u32
+    ensures { result ≡ slowest waits.now place.now peers.now spared (size_of place.now.size) }
 {
     let mut wait = waits.granularity.min(waits.longest);
     for r in 0..place.size.count() {
-        wait = wait.max(wait_of(waits, place, peers, group, r));
+        wait = wait.max(wait_of(waits, place, peers, spared, r));
     }
     wait
 }

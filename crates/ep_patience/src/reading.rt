@@ -38,25 +38,27 @@ fn instance_of(leader: u8, number: u16) -> Option<InstanceId>
 
 /// The open instance that these bytes begin with.
 fn seen_at(bytes: &[u8]) -> Option<Seen>
-    requires { 9 ≤ length bytes.now }
+    requires { 10 ≤ length bytes.now }
     ensures { result ≡ seen_at bytes.now }
 {
     let number = u16::from(bytes[1]) * 256 + u16::from(bytes[2]);
     let instance = instance_of(bytes[0], number)?;
     let phase = bytes[7];
-    if phase > 4 {
+    let spared = bytes[9];
+    if phase > 4 || spared > 6 {
         return None;
     }
     Some(Seen {
         instance,
         leads: leads_of(phase, bytes[8]),
         is_told: phase == 4,
+        spared: ReplicaId::known(spared),
     })
 }
 
 /// The same, if it is above that of this place.
 fn next_seen(last: u32, bytes: &[u8]) -> Option<Seen>
-    requires { 9 ≤ length bytes.now }
+    requires { 10 ≤ length bytes.now }
     ensures { result ≡ above last (seen_at bytes.now) }
 {
     let seen = seen_at(bytes)?;
@@ -74,7 +76,7 @@ fn add(all: &mut Vec<Seen>, seen: Seen) -> Result<(), AllocError>
     Ok(())
 }
 
-/// The open instances that the bytes are, nine for each.
+/// The open instances that the bytes are, ten for each.
 #[tactic(auto, using(crate::proofs::OpenRead::not_read, crate::proofs::OpenRead::all_read, crate::proofs::OpenRead::cut_off))]
 pub(crate) fn read_open(alloc: Global, bytes: &[u8]) -> Result<Vec<Seen>, TurnFault>
     ensures ok { IfOk result (λ seen. open_list bytes.now ≡ Some seen.items) }
@@ -82,8 +84,8 @@ pub(crate) fn read_open(alloc: Global, bytes: &[u8]) -> Result<Vec<Seen>, TurnFa
 {
     let mut rest = bytes;
     let mut last = 0;
-    let mut seen = Vec::with_capacity(alloc, bytes.len() / 9)?;
-    while let [_, _, _, _, _, _, _, _, _, after @ ..] = rest {
+    let mut seen = Vec::with_capacity(alloc, bytes.len() / 10)?;
+    while let [_, _, _, _, _, _, _, _, _, _, after @ ..] = rest {
         let Some(one) = next_seen(last, rest) else {
             return Err(TurnFault::NotOpen);
         };

@@ -1,6 +1,6 @@
 //! An open instance, as it is handed in.
 
-use ep_base::InstanceId;
+use ep_base::{InstanceId, ReplicaId};
 use ep_phase::LeadPhase;
 
 /// An instance that a replica hasn't committed.
@@ -11,4 +11,6 @@ pub struct Seen {
     pub leads: Option<(LeadPhase, u8)>,
     /// Whether it is handed in because a peer tells that it is committed there.
     pub is_told: bool,
+    /// The replica that its proposal spares, where that is the replica's own: it goes to all others. Of another's it says nothing.
+    pub spared: ReplicaId,
 }

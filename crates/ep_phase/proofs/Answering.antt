@@ -28,8 +28,8 @@ others_more f me q answers x =
     count_same (size f) (λ r. is_other me r && (eqb q r || is_some (answer answers r))) (λ r. is_other me r && is_some (answer (with_answer answers q x) r))
     (λ r. ap (λ b. is_other me r && b) (answered_with answers q x r))
 
-pub fast_more : (f l q : ℕ) (answers : Answers Attrs) (a : Attrs)
-    → every (size f) (λ r. not (is_fast f l r) || (eqb q r || is_some (answer answers r))) ≡ fast_answered f l (with_answer answers q a)
-fast_more f l q answers a =
-    every_same (size f) (λ r. not (is_fast f l r) || (eqb q r || is_some (answer answers r))) (λ r. not (is_fast f l r) || is_some (answer (with_answer answers q a) r))
-    (λ r. ap (λ b. not (is_fast f l r) || b) (answered_with answers q a r))
+pub fast_more : (f l s q : ℕ) (answers : Answers Attrs) (a : Attrs)
+    → every (size f) (λ r. not (is_fast l s r) || (eqb q r || is_some (answer answers r))) ≡ fast_answered f l s (with_answer answers q a)
+fast_more f l s q answers a =
+    every_same (size f) (λ r. not (is_fast l s r) || (eqb q r || is_some (answer answers r))) (λ r. not (is_fast l s r) || is_some (answer (with_answer answers q a) r))
+    (λ r. ap (λ b. not (is_fast l s r) || b) (answered_with answers q a r))

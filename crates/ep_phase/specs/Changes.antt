@@ -56,14 +56,14 @@ adds_answer leading.Ends = false
 -- one more pre-accepted; none where what is led stays, since it isn't phase 1
 abbrev pub with_pre_accepted : ℕ → Attrs → Option Led → Option (Option Led)
 with_pre_accepted q a None = None
-with_pre_accepted q a (Some (Proposing b answers)) = Some (Some (Proposing b (with_answer answers q a)))
+with_pre_accepted q a (Some (Proposing b s answers)) = Some (Some (Proposing b s (with_answer answers q a)))
 with_pre_accepted q a (Some (Accepting b answers)) = None
 with_pre_accepted q a (Some (Preparing b answers)) = None
 
 -- one more accepted; none where what is led stays, since it isn't the accept phase
 abbrev pub with_accepted : ℕ → Option Led → Option (Option Led)
 with_accepted q None = None
-with_accepted q (Some (Proposing b answers)) = None
+with_accepted q (Some (Proposing b s answers)) = None
 with_accepted q (Some (Accepting b answers)) = Some (Some (Accepting b (with_answer answers q tt)))
 with_accepted q (Some (Preparing b answers)) = None
 
@@ -85,7 +85,7 @@ led_of l leading.Ends = Some None
 -- a message of replica me about i to these receivers, in a cluster whose f replicas may fail
 abbrev pub to_receivers : ℕ → ℕ → ℕ → Receivers → Message → List (ℕ × Message)
 to_receivers f me i (One r) m = (r, m) ∷ []
-to_receivers f me i FastQuorum m = to_those (is_fast f (leader_of i)) (size f) m
+to_receivers f me i (FastQuorum s) m = to_those (is_fast (leader_of i) s) (size f) m
 to_receivers f me i Others m = to_those (is_other me) (size f) m
 
 abbrev pub voted_decree : Option Vote → Option Decree

@@ -8,7 +8,7 @@ use Rattle.ep_phase.specs.declared.progress.LeadPhase.TheVariants.{Proposing, Ac
 
 -- the phase of what replica me leads, and how many besides it answered
 abbrev pub progress_of : ℕ → ℕ → Led → LeadPhase × ℕ
-progress_of f me (led.Proposing b answers) = (Proposing, others f me answers)
+progress_of f me (led.Proposing b s answers) = (Proposing, others f me answers)
 progress_of f me (led.Accepting b answers) = (Accepting, others f me answers)
 progress_of f me (led.Preparing b answers) = (Preparing, others f me answers)
 

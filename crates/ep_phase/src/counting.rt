@@ -60,19 +60,20 @@ fn has_answered<X>(answers: &Answers<X>, from: ReplicaId, r: u8) -> bool
     from.index() == r || answers.get(r).is_some()
 }
 
-/// Whether all others of the leader's fast quorum answered, the one that answers now among them.
+/// Whether all others of the leader's fast quorum that lacks the spared replica answered, the one that answers now among them.
 #[tactic(auto, using(crate::proofs::Answering::fast_more))]
 pub(crate) fn fast_answered(
     size: Size,
     leader: ReplicaId,
+    spared: ReplicaId,
     answers: &Answers<Attrs>,
     from: ReplicaId,
 ) -> bool
-    ensures { (a : _) → result ≡ rules.fast_answered size leader (with_answer answers.now from a) }
+    ensures { (a : _) → result ≡ rules.fast_answered size leader spared (with_answer answers.now from a) }
 {
     let mut all = true;
     for r in 0..size.count() {
-        all = (!is_fast(size, leader, r) || has_answered(answers, from, r)) && all;
+        all = (!is_fast(leader, spared, r) || has_answered(answers, from, r)) && all;
     }
     all
 }

@@ -19,10 +19,18 @@ use std::marker::Model;
 /// What a replica leads, instance by instance, and the greatest counters that Nacks told it.
 /// An instance first gets a place for the one, or for the other, which takes memory; both are then written without. An answer more may
 /// take memory.
-#[derive(Drop)]
 pub struct Lead {
     leads: Table<Led>,
     told: Table<u16>,
+}
+
+// (by hand, so that no crate above proves again how the parts are dropped)
+impl Drop for Lead {
+    fn drop(self) {
+        let Lead { leads, told } = self;
+        drop(leads);
+        drop(told);
+    }
 }
 
 impl Model for Lead {
@@ -201,7 +209,7 @@ fn count_pre_accepted(
     ensures err { OnErr result (led.new ≡ led.old) }
 {
     match led {
-        Some(Led::Proposing(_, answers)) => answers.add(from, attrs),
+        Some(Led::Proposing(_, _, answers)) => answers.add(from, attrs),
         _ => Ok(()),
     }
 }

@@ -23,7 +23,7 @@ pub fn progress_of(size: Size, me: ReplicaId, led: &Led) -> (LeadPhase, u8)
     ensures { result ≡ progress_of size me led.now }
 {
     match led {
-        Led::Proposing(_, answers) => (LeadPhase::Proposing, others(size, me, answers)),
+        Led::Proposing(_, _, answers) => (LeadPhase::Proposing, others(size, me, answers)),
         Led::Accepting(_, answers) => (LeadPhase::Accepting, others(size, me, answers)),
         Led::Preparing(_, answers) => (LeadPhase::Preparing, others(size, me, answers)),
     }

@@ -47,17 +47,22 @@ pub fn next_instance(space: &Space, me: ReplicaId) -> Result<InstanceId, SpaceFu
 }
 
 /// Proposes the command as an instance that this replica leads and of which nothing is recorded (EPaxos, figure 2, phase 1):
-/// it pre-accepts the command with its interference set's attributes at the default ballot, and asks the others of the fast quorum.
+/// it pre-accepts the command with its interference set's attributes at the default ballot, and asks all others but the spared one.
 /// `SeqExhausted` where the sequence number would pass 1,000,000.
-pub fn start(alloc: Global, cell: &Cell<'_>, command: &Command) -> Result<Change, DecisionFault>
-    ensures ok { IfOk result (λ ch. rules.propose cell.now.faults cell.now.instance command.now (interference cell.now.records cell.now.instance command.now) ≡ Ok (change_of cell.now ch)) }
-    ensures refused { IfErr result (λ e. IsRefused (rules.propose cell.now.faults cell.now.instance command.now (interference cell.now.records cell.now.instance command.now)) e) }
+pub fn start(
+    alloc: Global,
+    cell: &Cell<'_>,
+    spared: ReplicaId,
+    command: &Command,
+) -> Result<Change, DecisionFault>
+    ensures ok { IfOk result (λ ch. rules.propose cell.now.faults cell.now.instance spared command.now (interference cell.now.records cell.now.instance command.now) ≡ Ok (change_of cell.now ch)) }
+    ensures refused { IfErr result (λ e. IsRefused (rules.propose cell.now.faults cell.now.instance spared command.now (interference cell.now.records cell.now.instance command.now)) e) }
 {
     let attrs = own_attrs(alloc, cell, command)?;
     let ballot = Ballot::default_of(cell.id().replica());
     let command = command.copy(alloc)?;
     let decree = Decree { command, attrs };
-    Ok(first_phase(alloc, Receivers::FastQuorum, ballot, decree))
+    Ok(first_phase(alloc, Receivers::FastQuorum(spared), ballot, spared, decree))
 }
 
 /// Begins phase 1 of a recovery ballot (EPaxos, figure 3): this replica pre-accepts the command with its interference set's attributes, and asks all others.
@@ -73,18 +78,24 @@ pub fn start_at(
 {
     let attrs = own_attrs(alloc, cell, &command)?;
     let decree = Decree { command, attrs };
-    Ok(first_phase(alloc, Receivers::Others, ballot, decree))
+    Ok(first_phase(alloc, Receivers::Others, ballot, cell.me(), decree))
 }
 
-/// Phase 1 at the ballot: the leader pre-accepts the decree itself, and asks these to.
-fn first_phase(alloc: Global, to: Receivers, ballot: Ballot, decree: Decree) -> Change
-    ensures { (k : Known) → change_of k result ≡ record { entry = Some (voted ballot PreAccepted decree); led = Some (Some (Proposing ballot [])); told = None; out = to_receivers k.faults k.me k.instance to (PreAccept k.instance ballot decree) } }
+/// Phase 1 at the ballot: the leader pre-accepts the decree itself, and asks these to; it keeps which replica is spared.
+fn first_phase(
+    alloc: Global,
+    to: Receivers,
+    ballot: Ballot,
+    spared: ReplicaId,
+    decree: Decree,
+) -> Change
+    ensures { (k : Known) → change_of k result ≡ record { entry = Some (voted ballot PreAccepted decree); led = Some (Some (Proposing ballot spared [])); told = None; out = to_receivers k.faults k.me k.instance to (PreAccept k.instance ballot decree) } }
 {
     let out = Sending {
         to,
         what: What::PreAccept(ballot),
     };
-    let led = Led::Proposing(ballot, Answers::new(alloc));
+    let led = Led::Proposing(ballot, spared, Answers::new(alloc));
     Change::of(
         Recorded::PreAccepts(ballot, decree),
         Leading::Leads(led),
@@ -153,7 +164,7 @@ pub fn on_pre_accept_ok(
     ensures ok { IfOk result (λ ch. change_of cell.now ch ≡ rules.on_pre_accept_ok cell.now.faults cell.now.instance cell.now.me (sender_at frame.now) (ballot_at frame.now) (attrs_at frame.now) (record_of cell.now) cell.now.led) }
     ensures refused { IfErr result (λ e. e ≡ Memory) }
 {
-    let Some(Led::Proposing(led, answers)) = cell.led() else {
+    let Some(Led::Proposing(led, spared, answers)) = cell.led() else {
         return Ok(Change::nothing());
     };
     if answers.get(frame.from().index()).is_some() {
@@ -162,7 +173,7 @@ pub fn on_pre_accept_ok(
     if !is_usable(cell, frame.ballot(), *led) {
         return Ok(Change::nothing());
     }
-    count_pre_accept_ok(alloc, cell, frame, answers)
+    count_pre_accept_ok(alloc, cell, frame, *spared, answers)
 }
 
 /// Gives up waiting for the fast quorum: with as many answers of others as may fail, the leader begins the accept phase at the default ballot.
@@ -171,7 +182,7 @@ pub fn give_up(alloc: Global, cell: &Cell<'_>) -> Result<Change, DecisionFault>
     ensures ok { IfOk result (λ ch. rules.give_up cell.now.faults cell.now.instance cell.now.me (record_of cell.now) cell.now.led ≡ Ok (change_of cell.now ch)) }
     ensures refused { IfErr result (λ e. IsRefused (rules.give_up cell.now.faults cell.now.instance cell.now.me (record_of cell.now) cell.now.led) e) }
 {
-    let Some(Led::Proposing(ballot, answers)) = cell.led() else {
+    let Some(Led::Proposing(ballot, _, answers)) = cell.led() else {
         return Err(DecisionFault::NotLeading);
     };
     if !is_usable(cell, Ballot::default_of(cell.id().replica()), *ballot) {
@@ -209,18 +220,19 @@ fn count_pre_accept_ok(
     alloc: Global,
     cell: &Cell<'_>,
     frame: &FrameView<'_>,
+    spared: ReplicaId,
     answers: &Answers<Attrs>,
 ) -> Result<Change, DecisionFault>
     requires kind { kind_at frame.now ≡ kind.PreAcceptOk }
-    requires led { cell.now.led ≡ Some (Proposing (ballot_at frame.now) answers.now) }
-    ensures ok { IfOk result (λ ch. change_of cell.now ch ≡ rules.count_pre_accept_ok cell.now.faults cell.now.instance cell.now.me (ballot_at frame.now) (attrs_at frame.now) (with_answer answers.now (sender_at frame.now) (attrs_at frame.now)) (record_of cell.now)) }
+    requires led { cell.now.led ≡ Some (Proposing (ballot_at frame.now) spared answers.now) }
+    ensures ok { IfOk result (λ ch. change_of cell.now ch ≡ rules.count_pre_accept_ok cell.now.faults cell.now.instance cell.now.me (ballot_at frame.now) spared (attrs_at frame.now) (with_answer answers.now (sender_at frame.now) (attrs_at frame.now)) (record_of cell.now)) }
     ensures refused { IfErr result (λ e. e ≡ Memory) }
 {
     let size = cell.size();
     let leader = cell.id().replica();
     if frame.ballot() == Ballot::default_of(leader) {
-        if !fast_answered(size, leader, answers, frame.from()) {
-            return one_more(alloc, cell, frame, answers);
+        if !fast_answered(size, leader, spared, answers, frame.from()) {
+            return one_more(alloc, cell, frame, spared, answers);
         }
         if all_equal(size, frame, answers) {
             return fast_path(alloc, cell, frame);
@@ -230,7 +242,7 @@ fn count_pre_accept_ok(
     if size.faults() <= others_with(size, cell.me(), answers, frame.from()) {
         return slow_path_with(alloc, cell, frame, answers);
     }
-    one_more(alloc, cell, frame, answers)
+    one_more(alloc, cell, frame, spared, answers)
 }
 
 /// The answer is kept, and no more.
@@ -239,11 +251,12 @@ fn one_more(
     alloc: Global,
     cell: &Cell<'_>,
     frame: &FrameView<'_>,
+    spared: ReplicaId,
     answers: &Answers<Attrs>,
 ) -> Result<Change, DecisionFault>
     requires kind { kind_at frame.now ≡ kind.PreAcceptOk }
-    requires led { cell.now.led ≡ Some (Proposing (ballot_at frame.now) answers.now) }
-    ensures ok { IfOk result (λ ch. change_of cell.now ch ≡ cells.kept (Proposing (ballot_at frame.now) (with_answer answers.now (sender_at frame.now) (attrs_at frame.now)))) }
+    requires led { cell.now.led ≡ Some (Proposing (ballot_at frame.now) spared answers.now) }
+    ensures ok { IfOk result (λ ch. change_of cell.now ch ≡ cells.kept (Proposing (ballot_at frame.now) spared (with_answer answers.now (sender_at frame.now) (attrs_at frame.now)))) }
     ensures refused { IfErr result (λ e. e ≡ Memory) }
 {
     let attrs = frame.to_attrs(alloc)?;

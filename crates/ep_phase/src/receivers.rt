@@ -3,23 +3,22 @@
 ghost use Rattle.std.specs.Prelude.{◌≡◌};
 ghost use Rattle.ep_base.specs.Quorums.{is_fast};
 
-use ep_base::{ReplicaId, Size};
+use ep_base::ReplicaId;
 
 /// Who gets a message about an instance.
 #[derive(Clone, Copy, Debug, PartialEq, Eq)]
 pub enum Receivers {
     /// This replica.
     One(ReplicaId),
-    /// The fast quorum of the instance's leader, but for that leader.
-    FastQuorum,
+    /// The fast quorum that lacks this replica, but for the instance's leader.
+    FastQuorum(ReplicaId),
     /// All replicas but the sender.
     Others,
 }
 
-/// Whether the replica is of the fast quorum of the leader's instances, and not the leader itself.
-pub fn is_fast(size: Size, leader: ReplicaId, replica: u8) -> bool
-    ensures { result ≡ is_fast size leader replica }
+/// Whether the replica is of the leader's fast quorum that lacks the spared one, and not the leader itself.
+pub fn is_fast(leader: ReplicaId, spared: ReplicaId, replica: u8) -> bool
+    ensures { result ≡ is_fast leader spared replica }
 {
-    let leader = leader.index();
-    replica != leader && replica != (leader + 2 * size.faults()) % size.count()
+    replica != leader.index() && replica != spared.index()
 }

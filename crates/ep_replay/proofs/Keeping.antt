@@ -35,7 +35,7 @@ module _ (P : Played → List Receipt → Type 0) (keeps : KeepsOf P) where
   gives_keep p q line (m ∷ ms) g s = gives_keep g.0 q line ms g.2 (tries_keep (with_given p m) g.0 line (event.Deliver m) g.1 s)
 
   asks_keep : (p q : Replay) (line : ℕ) (asked : AgendaLine) → Asks p line asked q → At p → At q
-  asks_keep p q line (Propose replica client command) g s = tries_keep (with_proposer p client) q line _ g s
+  asks_keep p q line (Propose replica client command named) g s = tries_keep (with_proposer p client) q line _ g s
   asks_keep p q line (GiveUp replica instance) g s = tries_keep p q line _ g s
   asks_keep p q line (Recover replica instance) g s = tries_keep p q line _ g s
 

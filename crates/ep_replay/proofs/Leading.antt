@@ -1,5 +1,5 @@
 -- From one player to the next.
-use Rattle.std.proofs.Common.{◌≡◌, ◌≢◌, inl, inr, ℕ, suc, ◌+◌, ◌<◌, ◌≤◌, Bool, true, false, cond, List, [], ◌∷◌, ◌++◌, length, get_or, drop, refl, sym, ap, subst, ◌∙◌, arith, append-nil, append_assoc}
+use Rattle.std.proofs.Common.{◌≡◌, ◌≢◌, inl, inr, ℕ, suc, ◌+◌, ◌<◌, ◌≤◌, Bool, true, false, cond, List, [], Option, ◌∷◌, ◌++◌, length, get_or, drop, refl, sym, ap, subst, ◌∙◌, arith, append-nil, append_assoc}
 use Rattle.std.proofs.lemmas.Bool.{false≢true}
 use Rattle.std.proofs.Math.Seq.{drop-cons}
 use Rattle.std.proofs.lemmas.List.{drop_all}
@@ -105,17 +105,17 @@ listed s s' line event cause why is refused world clients receipts given keeps k
 -- One proposal.
 
 -- the client's next request was counted, and then proposed
-pub proposed : (s s' : Player) (cs : Clients) (k : Client) (line replica client : ℕ) (command copied : Command)
+pub proposed : (s s' : Player) (cs : Clients) (k : Client) (line replica client : ℕ) (command copied : Command) (named : Option ℕ)
     → ((ps : List ℕ) (ts : List Receipt) → AreCounted s.clients ps ts → k.requests ≡ times client ps + 1)
     → ((ps : List ℕ) (ts : List Receipt) → AreCounted s.clients ps ts → k.seen ≡ greatest client ts)
     → ((ps : List ℕ) (ts : List Receipt) → AreCounted s.clients ps ts → AreCounted cs (ps ++ client ∷ []) ts)
     → copied ≡ command
-    → Leads (λ p q. Tries p line (event.Propose replica client k.requests copied k.seen) q) (record s { clients = cs }) s'
-    → Leads (λ p q. Tries (with_proposer p client) line (proposal p replica client command) q) s s'
-proposed s s' cs k line replica client command copied requests seen counted same leads b t =
+    → Leads (λ p q. Tries p line (event.Propose replica client k.requests copied k.seen named) q) (record s { clients = cs }) s'
+    → Leads (λ p q. Tries (with_proposer p client) line (proposal p replica client command named) q) s s'
+proposed s s' cs k line replica client command copied named requests seen counted same leads b t =
     let r = leads (record { proposers = b.proposers ++ client ∷ []; given = b.given; tried = b.tried }) (record { clients = counted b.proposers s.receipts.items t.clients; flags = t.flags; own = t.own; refused = t.refused; log = t.log }) in
-    let is : event.Propose replica client k.requests copied k.seen ≡ event.Propose replica client (times client b.proposers + 1) command (greatest client s.receipts.items) =
-    λ i. event.Propose replica client (requests b.proposers s.receipts.items t.clients i) (same i) (seen b.proposers s.receipts.items t.clients i) in
+    let is : event.Propose replica client k.requests copied k.seen named ≡ event.Propose replica client (times client b.proposers + 1) command (greatest client s.receipts.items) named =
+    λ i. event.Propose replica client (requests b.proposers s.receipts.items t.clients i) (same i) (seen b.proposers s.receipts.items t.clients i) named in
     record {
       behind = r.behind;
       related = subst (λ (e : WorldEvent). Tries (with_proposer (told s b) client) line e (told s' r.behind)) is r.related;

@@ -1,5 +1,5 @@
 -- A replay of a script: what its lines do in a world, one after another.
-use Rattle.std.specs.Prelude.{◌≡◌, ◌≢◌, ◌⊎◌, ◌↔◌, ℕ, ◌+◌, ◌≤◌, ◌&&◌, nat_le, Bool, cond, List, [], ◌∷◌, ◌++◌, length}
+use Rattle.std.specs.Prelude.{◌≡◌, ◌≢◌, ◌⊎◌, ◌↔◌, ℕ, ◌+◌, ◌≤◌, ◌&&◌, nat_le, Bool, cond, List, [], ◌∷◌, ◌++◌, length, Option}
 use Rattle.ep_base.specs.Deps.{IsRising}
 use Rattle.ep_base.specs.Commands.{Command}
 use Rattle.ep_rules.specs.Worlds.{In}
@@ -89,8 +89,8 @@ Tries p line event p' = Takes p line event p' ⊎ IsListed p line event p'
 -- Proposals.
 
 -- the client's next request, counted from 1, with the greatest stamp that it has seen
-abbrev pub proposal : Replay → ℕ → ℕ → Command → WorldEvent
-proposal p replica client command = event.Propose replica client (times client p.proposers + 1) command (greatest client p.receipts)
+abbrev pub proposal : Replay → ℕ → ℕ → Command → Option ℕ → WorldEvent
+proposal p replica client command spared = event.Propose replica client (times client p.proposers + 1) command (greatest client p.receipts) spared
 
 abbrev pub with_proposer : Replay → ℕ → Replay
 with_proposer p client = record p { proposers = p.proposers ++ client ∷ [] }
@@ -118,7 +118,7 @@ pub record AreUngiven (given : List ℕ) (sent : ℕ) (ms : List ℕ) : Type 0 w
 
 -- what an agenda would have a replica do was tried
 abbrev pub Asks : Replay → ℕ → AgendaLine → Replay → Type 0
-Asks p line (Propose replica client command) p' = Tries (with_proposer p client) line (proposal p replica client command) p'
+Asks p line (Propose replica client command spared) p' = Tries (with_proposer p client) line (proposal p replica client command spared) p'
 Asks p line (GiveUp replica instance) p' = Tries p line (event.GiveUp replica instance) p'
 Asks p line (Recover replica instance) p' = Tries p line (event.Recover replica instance) p'
 

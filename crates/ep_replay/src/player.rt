@@ -238,8 +238,9 @@ impl Player {
         replica: ReplicaId,
         client: u32,
         command: &Command,
+        spared: Option<ReplicaId>,
     ) -> Result<(), AllocError>
-        ensures { OnOk result (Leads (λ p q. Tries (with_proposer p client) line (proposal p replica client command.now) q) self.old self.new) }
+        ensures { OnOk result (Leads (λ p q. Tries (with_proposer p client) line (proposal p replica client command.now spared) q) self.old self.new) }
     {
         let command = command.copy(self.alloc)?;
         let known = self.clients.count(client)?;
@@ -249,6 +250,7 @@ impl Player {
             request: known.requests,
             command,
             seen: known.seen,
+            spared,
         };
         self.attempt(line, event)?;
         Ok(())
@@ -339,7 +341,8 @@ impl Player {
                 replica,
                 client,
                 command,
-            } => self.propose(line, *replica, *client, command),
+                spared,
+            } => self.propose(line, *replica, *client, command, *spared),
             AgendaLine::GiveUp(replica, instance) => self.attempt(
                 line,
                 WorldEvent::GiveUp {

@@ -67,11 +67,11 @@ others_tell me es e slots j p other is tells =
     (λ number limit. is (instance_of me number) ∙ ap (λ b. cond b (Some p) None) (ne_eqb j (instance_of me number) (λ same. other (let this : j ≡ instance_of me number = same in omega arith)))) tells
 
 -- what an entry proposes, by its first frame
-pub proposal_is : (e : Entry) (client request : ℕ) (command : Command) (seen : ℕ) (b : List ℕ) (j : ℕ) → e.event ≡ Propose client request command seen → Some b ≡ slice_get e.frames 0 → j ≡ instance_of_message (message_at b)
+pub proposal_is : (e : Entry) (client request : ℕ) (command : Command) (seen : ℕ) (spared : Option ℕ) (b : List ℕ) (j : ℕ) → e.event ≡ Propose client request command seen spared → Some b ≡ slice_get e.frames 0 → j ≡ instance_of_message (message_at b)
     → (i : ℕ) → proposed_by (event_of e.event) (frames_at e.frames) i ≡ named (Some (j, record { client = client; request = request; seen = seen })) i
-proposal_is e client request command seen b j is first about i = ap (λ (v : Happening). proposed_by (event_of v) (frames_at e.frames) i) is ∙ go e.frames first
+proposal_is e client request command seen spared b j is first about i = ap (λ (v : Happening). proposed_by (event_of v) (frames_at e.frames) i) is ∙ go e.frames first
   where
-    go : (fs : List (List ℕ)) → Some b ≡ slice_get fs 0 → proposed_by (event_of (Propose client request command seen)) (frames_at fs) i ≡ named (Some (j, record { client = client; request = request; seen = seen })) i
+    go : (fs : List (List ℕ)) → Some b ≡ slice_get fs 0 → proposed_by (event_of (Propose client request command seen spared)) (frames_at fs) i ≡ named (Some (j, record { client = client; request = request; seen = seen })) i
     go [] first = absurd (cc)
     go (f ∷ fs) first =
         let same : b ≡ f = (let s : Some b ≡ Some f = first in cc) in

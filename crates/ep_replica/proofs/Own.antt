@@ -22,8 +22,8 @@ pub record Proposer (e : Entry) (i : ℕ) (p : Proposal) : Type 0 where
   pub same : tells.seen ≡ p.seen
 
 proposer : (e : Entry) (i : ℕ) (p : Proposal) (event : Event) (out : List Frame) → e.event ≡ event → e.out ≡ out → proposed_by event out i ≡ Some p → Proposer e i p
-proposer e i p (Propose client request c seen) [] ev eo is = absurd (cc)
-proposer e i p (Propose client request c seen) (m ∷ ms) ev eo is = go (eqb (instance_of_message m.sent.message) i) refl is
+proposer e i p (Propose client request c seen named) [] ev eo is = absurd (cc)
+proposer e i p (Propose client request c seen named) (m ∷ ms) ev eo is = go (eqb (instance_of_message m.sent.message) i) refl is
   where
     here : Proposal
     here = record { client = client; request = request; seen = seen }
@@ -32,7 +32,7 @@ proposer e i p (Propose client request c seen) (m ∷ ms) ev eo is = go (eqb (in
     go true test is =
         let same : here ≡ p = (cc) in
         subst (λ (q : Proposal). Proposer e i q) same (record {
-          tells = record { command = c; seen = seen; event = ev; frame = m; first = subst (λ (ms : List Frame). slice_get ms 0 ≡ Some m) (sym eo) refl; about = eqb-true (instance_of_message m.sent.message) i test };
+          tells = record { command = c; seen = seen; spared = named; event = ev; frame = m; first = subst (λ (ms : List Frame). slice_get ms 0 ≡ Some m) (sym eo) refl; about = eqb-true (instance_of_message m.sent.message) i test };
           same = refl;
         })
     go false test is = absurd (cc)
@@ -88,7 +88,7 @@ proposes : (base : Store) (f me : ℕ) (es : List Entry) (i : ℕ) (p : Proposal
 proposes base f me es i p some steps is =
     let r = proposer_in es i p is in
     let q = (proposals_tell_lem base f me es some steps i p.client p.request).1 r.0 r.1 r.2.tells in
-    let same : Propose p.client p.request q.0.command q.0.seen ≡ Propose p.client p.request r.2.tells.command r.2.tells.seen = sym q.0.event ∙ ap (λ (e : Entry). e.event) q.1 ∙ r.2.tells.event in
+    let same : Propose p.client p.request q.0.command q.0.seen q.0.spared ≡ Propose p.client p.request r.2.tells.command r.2.tells.seen r.2.tells.spared = sym q.0.event ∙ ap (λ (e : Entry). e.event) q.1 ∙ r.2.tells.event in
     (q.0, (cc) ∙ r.2.same)
 
 pub receipts_are_own : (base : Store) (f me n : ℕ) (es : List Entry) → 0 < f → AreSteps f me (fresh_state base) es → (t : Receipt) → In t (receipts_after me n es) → IsOwn base f me es t

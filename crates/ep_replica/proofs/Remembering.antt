@@ -9,7 +9,7 @@ use Rattle.ep_base.specs.Commands.{Command}
 use Rattle.ep_base.specs.declared.decree.Decree.{Decree}
 use Rattle.ep_base.specs.declared.reply.Answer.{Answer}
 use Rattle.ep_base.specs.declared.vote.VoteStatus.TheVariants.{PreAccepted}
-use Rattle.ep_base.specs.Quorums.{is_fast}
+use Rattle.ep_base.specs.Quorums.{spared, is_fast}
 use Rattle.ep_rules.specs.Cells.{SeqExhausted, committed_decree, record_or_fresh, voted}
 use Rattle.ep_rules.specs.Graph.{Graph, Reaches}
 use Rattle.ep_rules.specs.Graph.Reaches.{itself, onward}
@@ -48,22 +48,22 @@ at_other s i (Ok ch) j ne = go ch.entry
 at_other s i (Err e) j ne = refl
 
 -- a command that is proposed isn't committed by that
-first_none : (s : State) (f i : ℕ) (c : Command) (own : Attrs) → get s.records i ≡ None → committed_in (changed_by s (at i (propose f i c own))).records i ≡ committed_in s.records i
-first_none s f i c own free =
+first_none : (s : State) (f i q : ℕ) (c : Command) (own : Attrs) → get s.records i ≡ None → committed_in (changed_by s (at i (propose f i q c own))).records i ≡ committed_in s.records i
+first_none s f i q c own free =
     let x : Decree = record { command = c; attrs = own } in
     let r : Record = voted (leader_of i) PreAccepted x in
-    split (λ o. committed_in (changed_by s (at i o)).records i ≡ committed_in s.records i) _ (Ok (first_phase (is_fast f (leader_of i)) f i (leader_of i) x)) (Err SeqExhausted)
+    split (λ o. committed_in (changed_by s (at i o)).records i ≡ committed_in s.records i) _ (Ok (first_phase (is_fast (leader_of i) q) f i (leader_of i) q x)) (Err SeqExhausted)
     (λ t. ap (λ o. committed_decree (record_or_fresh i o).vote) (insert_same s.records i r) ∙ sym (ap (λ o. committed_decree (record_or_fresh i o).vote) free))
     (λ t. refl)
 
-proposed_none : (f me : ℕ) (s : State) (c : Command) (o : Option ℕ) → free_number s.records me ≡ o → (j : ℕ) → committed_in (changed_by s (proposed f me s c o)).records j ≡ committed_in s.records j
-proposed_none f me s c None e j = refl
-proposed_none f me s c (Some n) e j =
+proposed_none : (f me q : ℕ) (s : State) (c : Command) (o : Option ℕ) → free_number s.records me ≡ o → (j : ℕ) → committed_in (changed_by s (proposed f me q s c o)).records j ≡ committed_in s.records j
+proposed_none f me q s c None e j = refl
+proposed_none f me q s c (Some n) e j =
     let i : ℕ = instance_of me (n + 1) in
     let own : Attrs = interference s.records i c in
     elim (cases_eq j i) [
-      | inl is ↦ subst (λ z. committed_in (changed_by s (at i (propose f i c own))).records z ≡ committed_in s.records z) (sym is) (first_none s f i c own (free_found s.records me n e).1)
-      | inr ne ↦ at_other s i (propose f i c own) j ne
+      | inl is ↦ subst (λ z. committed_in (changed_by s (at i (propose f i q c own))).records z ≡ committed_in s.records z) (sym is) (first_none s f i q c own (free_found s.records me n e).1)
+      | inr ne ↦ at_other s i (propose f i q c own) j ne
     ]
 
 at_about : (s : State) (i : ℕ) (o : Outcome) (j : ℕ) → (Some i ≡ Some j) ⊎ (committed_in (changed_by s (at i o)).records j ≡ committed_in s.records j)
@@ -73,7 +73,7 @@ at_about s i o j = elim (cases_eq j i) [
 ]
 
 pub commits_about : (f me : ℕ) (s : State) (e : Event) (done : List (ℕ × Answer)) (j : ℕ) → (about e ≡ Some j) ⊎ (committed_in (leaves f me s e done).records j ≡ committed_in s.records j)
-commits_about f me s (Propose client request c seen) done j = inr (proposed_none f me s c (free_number s.records me) refl j)
+commits_about f me s (Propose client request c seen named) done j = inr (proposed_none f me (spared f me named) s c (free_number s.records me) refl j)
 commits_about f me s (Handle m) done j = at_about s (instance_of_message m.sent.message) _ j
 commits_about f me s (GiveUp i) done j = at_about s i _ j
 commits_about f me s (Recover i) done j = at_about s i _ j

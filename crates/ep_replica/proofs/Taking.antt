@@ -29,12 +29,12 @@ pub record Named (k : Kept) (event : Happening) (k' : Kept) (o : Option ℕ) : T
   pub is : o ≡ Some taken
   pub submits : Submits k event taken k'
 
-pub named_taken : (k k' : Kept) (client request : ℕ) (command : Command) (seen : ℕ) (o : Option ℕ) → 0 < k.faults → (e : Entry) × Applied k (Propose client request command seen) e k'
-    → ((before : List Entry) (e : Entry) → k'.entries ≡ before ++ e ∷ [] → o ≡ first_named e.frames) → Named k (Propose client request command seen) k' o
-named_taken k k' client request command seen o some p names =
+pub named_taken : (k k' : Kept) (client request : ℕ) (command : Command) (seen : ℕ) (spared : Option ℕ) (o : Option ℕ) → 0 < k.faults → (e : Entry) × Applied k (Propose client request command seen spared) e k'
+    → ((before : List Entry) (e : Entry) → k'.entries ≡ before ++ e ∷ [] → o ≡ first_named e.frames) → Named k (Propose client request command seen spared) k' o
+named_taken k k' client request command seen spared o some p names =
     let e : Entry = p.0 in
-    let a : Applied k (Propose client request command seen) e k' = p.1 in
-    let t : Takes k.me (state_of k) (entry_of e) = proposals_name_lem k.faults k.me (state_of k) (entry_of e) client request seen command some (ap event_of a.event) a.step in
+    let a : Applied k (Propose client request command seen spared) e k' = p.1 in
+    let t : Takes k.me (state_of k) (entry_of e) = proposals_name_lem k.faults k.me (state_of k) (entry_of e) client request seen spared command some (ap event_of a.event) a.step in
     let i : ℕ = instance_of k.me (t.number + 1) in
     let about : instance_of_message (t.frame).sent.message ≡ i = t.about t.frame (at_in (frames_at e.frames) 0 t.frame t.first) in
     record {

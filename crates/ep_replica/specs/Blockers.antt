@@ -34,7 +34,7 @@ pub record Remembers (k : Kept) (due : List Bool) (blockers : List (Option ℕ))
 -- The instance that a step may commit.
 
 abbrev pub about : Event → Option ℕ
-about (Propose client request c seen) = None
+about (Propose client request c seen named) = None
 about (Handle m) = Some (instance_of_message m.sent.message)
 about (GiveUp i) = Some i
 about (Recover i) = Some i

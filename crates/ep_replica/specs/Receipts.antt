@@ -12,8 +12,8 @@ use Rattle.ep_rules.specs.OneMap.{Store}
 
 -- the proposal of instance i that an event with these frames is: the first frame is about the instance
 abbrev pub proposed_by : Event → List Frame → ℕ → Option Proposal
-proposed_by (Propose client request c seen) [] i = None
-proposed_by (Propose client request c seen) (m ∷ ms) i = cond (eqb (instance_of_message m.sent.message) i) (Some (record { client = client; request = request; seen = seen })) None
+proposed_by (Propose client request c seen named) [] i = None
+proposed_by (Propose client request c seen named) (m ∷ ms) i = cond (eqb (instance_of_message m.sent.message) i) (Some (record { client = client; request = request; seen = seen })) None
 proposed_by (Handle m) out i = None
 proposed_by (GiveUp j) out i = None
 proposed_by (Recover j) out i = None

@@ -26,6 +26,7 @@ pub(crate) fn open_in(journal: &Journal, event: &Event) -> Option<InstanceId>
             request: _,
             command: _,
             seen: _,
+            spared: _,
         }
         | Event::Execute(_) => return None,
     };

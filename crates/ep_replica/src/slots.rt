@@ -23,6 +23,7 @@ fn proposal_in(entry: &Entry) -> Option<(InstanceId, Proposal)>
         request,
         command: _,
         seen,
+        spared: _,
     } = &entry.event
     else {
         return None;

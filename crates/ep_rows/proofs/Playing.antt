@@ -15,6 +15,8 @@ use Rattle.ep_rows.specs.Worlds.{World, opening, Act, moved}
 
 pub data Line : Type 0 where
   Proposal : (r : ℕ) → (c : Command) → Line
+  -- the fast quorum lacks replica s
+  Sparing : (r s : ℕ) → (c : Command) → Line
   Resignation : (r i : ℕ) → Line
   Recovery : (r i : ℕ) → Line
   Deliver : (m : ℕ) → Line
@@ -29,7 +31,8 @@ deliver None = None
 deliver (Some m) = Some (act m.to (Handle (record { sent = m; entry = 0; place = 0; stamp = 0 })))
 
 abbrev act_of : World → Line → Option Act
-act_of w (Proposal r c) = Some (act r (Propose 1 1 c 0))
+act_of w (Proposal r c) = Some (act r (Propose 1 1 c 0 None))
+act_of w (Sparing r s c) = Some (act r (Propose 1 1 c 0 (Some s)))
 act_of w (Resignation r i) = Some (act r (GiveUp i))
 act_of w (Recovery r i) = Some (act r (Recover i))
 act_of w (Deliver m) = deliver (slice_get w.sent (pred m))

@@ -8,13 +8,13 @@ use Rattle.ep_base.specs.declared.message.Message.TheVariants.{PrepareOk, Nack}
 use Rattle.ep_base.specs.declared.reply.Answer.TheVariants.{Told}
 use Rattle.ep_base.specs.declared.reply.Reply.TheVariants.{Absent, Present}
 use Rattle.ep_base.specs.declared.vote.VoteStatus.TheVariants.{PreAccepted}
-use Rattle.ep_rules.specs.Cells.{TooFewAnswers}
+use Rattle.ep_rules.specs.Cells.{OutOfRange, TooFewAnswers}
 use Rattle.ep_rows.specs.OneMap.{empty, opened, after, reply, answers_of}
 use Rattle.ep_rows.specs.Operations.{history_of}
 use Rattle.ep_rows.specs.States.{State, command_in}
 use Rattle.ep_rows.specs.Steps.{IsExecution}
 use Rattle.ep_rows.proofs.OneByOne.{execution, closed_none, closed_one}
-use Rattle.ep_rows.proofs.Playing.{Line, Proposal, Resignation, Recovery, Deliver, Execution, Played, play, fresh, given, committed, put_x, get_x, attrs, decree, put_as}
+use Rattle.ep_rows.proofs.Playing.{Line, Proposal, Sparing, Resignation, Recovery, Deliver, Execution, Played, play, fresh, given, committed, put_x, get_x, attrs, decree, put_as}
 
 -- one put, three replicas: the fast path, and all three commit
 abbrev one_put : Played
@@ -22,6 +22,20 @@ one_put = play 1 fresh (Proposal 0 (put_x 49) ∷ given (1 ∷ 2 ∷ 3 ∷ 4 ∷
 
 one_put_commits : map (λ r. committed one_put r (instance_of 0 1)) (0 ∷ 1 ∷ 2 ∷ []) ≡ Some (decree (put_x 49) 1 []) ∷ Some (decree (put_x 49) 1 []) ∷ Some (decree (put_x 49) 1 []) ∷ []
 one_put_commits = refl
+
+-- the same, where replica 1 is spared: replica 2 alone is asked
+abbrev spared_put : Played
+spared_put = play 1 fresh (Sparing 0 1 (put_x 49) ∷ given (1 ∷ 2 ∷ 3 ∷ 4 ∷ []) [])
+
+spared_put_commits : map (λ r. committed spared_put r (instance_of 0 1)) (0 ∷ 1 ∷ 2 ∷ []) ≡ Some (decree (put_x 49) 1 []) ∷ Some (decree (put_x 49) 1 []) ∷ Some (decree (put_x 49) 1 []) ∷ []
+spared_put_commits = refl
+
+-- nobody spares itself, nor a replica that isn't there
+abbrev spared_badly : Played
+spared_badly = play 1 fresh (Sparing 0 0 (put_x 49) ∷ (Sparing 0 3 (put_x 49) ∷ []))
+
+spared_badly_is_refused : spared_badly.refused ≡ OutOfRange ∷ OutOfRange ∷ []
+spared_badly_is_refused = refl
 
 -- two puts of one key at once: the second leader's PreAccept comes too late to see the first
 abbrev two_puts : Played

@@ -2,7 +2,7 @@
 use Rattle.std.proofs.Common.{List, ◌≡◌, ℕ, zero, suc, ◌+◌, ◌<◌, ◌≤◌, Bool, true, false, ◌&&◌, not, eqb, ◌≢◌, ◌⊎◌, inl, inr, Option, Some, None, is_some, refl, sym, ap, subst, ◌∙◌, arith}
 use Rattle.std.proofs.lemmas.Bool.{and_left, or_cases, and_parts, and_from, eqb-true, eq-eqb, ne_eqb, leb-true, le-leb, false≢true, false_from_ne_true, cases_order}
 use Rattle.ep_base.proofs.Same.{Decides-same_decree}
-use Rattle.ep_base.specs.Quorums.{size, spared, is_fast}
+use Rattle.ep_base.specs.Quorums.{size, is_fast}
 use Rattle.ep_base.specs.Sameness.{is_noop}
 use Rattle.ep_base.specs.Commands.{Command, Noop}
 use Rattle.ep_base.specs.declared.decree.Decree.{Decree}
@@ -15,7 +15,7 @@ use Rattle.ep_rules.specs.Phases.{holds}
 use Rattle.ep_rules.specs.Recovery.{Choice, CommitIt, AcceptIt, AcceptFast, ProposeIt, ProposeNoop, answered_ballot, top_ballot, votes, did_commit, did_accept_at, did_preaccept_at, did_preaccept_this, is_backed, is_fast_witness, with_vote_of, choose_at, choose}
 use Rattle.ep_rules.proofs.Attributes.{within}
 use Rattle.ep_rules.proofs.Counting.{count_more, count_le, meet, count_without, count_some, least_some, least_none}
-use Rattle.ep_rules.proofs.Facts.{Backed, Quiet, Seen, sees, can_see, CanSee, History, can_accept, CanChoose, CanBeFast, Safe, Free, Decided, IsValid, PreVote, AcceptVote, IsCast, IsLast, ballot_at, Reported, HistoryOk}
+use Rattle.ep_rules.proofs.Facts.{Backed, Quiet, Seen, sees, can_see, CanSee, History, can_accept, CanChoose, Member, CanBeFast, Safe, Free, Decided, IsValid, PreVote, AcceptVote, IsCast, IsLast, ballot_at, Reported, HistoryOk}
 use Rattle.ep_rules.proofs.Stable.{some_of}
 
 -- Votes and answers.
@@ -237,6 +237,13 @@ module _ (f l : ℕ) (two : 0 < f) (h : History) (ok : HistoryOk f l h) (b : ℕ
       let m : f ≤ count (size f) (votes_for x) = leb-true _ _ many in
       record { ballot = l; from_default = (omega arith); many = (omega arith) }
 
+  -- who voted at the default ballot is of the fast quorum, which is one set
+  same_quorum : (y : Decree) (can : CanBeFast f l h y) → (k : ℕ) → Member f l h k → is_fast l can.spared k ≡ true
+  same_quorum y can k m = elim can.named [
+    | inl e ↦ (let i : Some m.spared ≡ Some can.spared = sym m.named ∙ e in let s : m.spared ≡ can.spared = cc in subst (λ n. is_fast l n k ≡ true) s m.asked)
+    | inr n ↦ absurd (not_both m.named n)
+  ]
+
   -- f equal votes at the default ballot
   witness_safe : NoCommit → NoAccept → top ≡ l → (k : ℕ) (v : Vote) → k < size f → answer k ≡ Some (Some v) → k ≢ l → is_preaccept v.status ≡ true → v.ballot ≡ l → l < size f → is_backed f l answer v.decree ≡ true → MayAccept f l h b v.decree
   witness_safe nc na is k v lt e ne p at small many =
@@ -250,7 +257,7 @@ module _ (f l : ℕ) (two : 0 < f) (h : History) (ok : HistoryOk f l h) (b : ℕ
             | inr (inl under) ↦ absurd (omega arith)
             | inr (inr more) ↦ absurd (not_above c more less can)
           ];
-          quick = λ y can. elim (can.members k lt member) [
+          quick = λ y can. elim (can.members k lt (same_quorum y can k member)) [
             | inl o ↦ (let i : Some y ≡ Some v.decree = sym o ∙ early in cc)
             | inr o ↦ absurd (let m = r.promised in let n = r.before in omega arith)
           ];
@@ -303,7 +310,7 @@ module _ (f l : ℕ) (two : 0 < f) (h : History) (ok : HistoryOk f l h) (b : ℕ
       let t = member_cast y k v.status v.ballot v.decree p e at ne u a in
       and_from _ _ (and_from _ _ t.0 (eq-eqb _ _ at)) ((Decides-same_decree v.decree y).1 t.1)
 
-  member_votes : NoCommit → NoAccept → top ≡ l → (y : Decree) → CanBeFast f l h y → (k : ℕ) → k < size f → is_fast f l k ≡ true → k ≢ l → (v : Option Vote) → answer k ≡ Some v → votes (did_preaccept_this l y) (Some v) ≡ true
+  member_votes : NoCommit → NoAccept → top ≡ l → (y : Decree) (can : CanBeFast f l h y) → (k : ℕ) → k < size f → is_fast l can.spared k ≡ true → k ≢ l → (v : Option Vote) → answer k ≡ Some v → votes (did_preaccept_this l y) (Some v) ≡ true
   member_votes nc na is y can k lt member ne v e =
       let r = each k v e in
       let low = r.told.low in
@@ -324,8 +331,8 @@ module _ (f l : ℕ) (two : 0 < f) (h : History) (ok : HistoryOk f l h) (b : ℕ
   -- all but one of the answers, where the leader is silent
   enough_votes : NoCommit → NoAccept → top ≡ l → (y : Decree) → CanBeFast f l h y → answer l ≡ None → f ≤ count (size f) (votes_for y)
   enough_votes nc na is y can silent =
-      let most = count_without (size f) (λ r. is_some (answer r)) (spared f l) in
-      let le = count_le (size f) (λ r. is_some (answer r) && not (eqb r (spared f l))) (votes_for y) (λ k lt e.
+      let most = count_without (size f) (λ r. is_some (answer r)) can.spared in
+      let le = count_le (size f) (λ r. is_some (answer r) && not (eqb r can.spared)) (votes_for y) (λ k lt e.
       let t = and_parts _ _ e in
       let ne : k ≢ l = unheard_leader (answer l) refl silent k t.0 in
       let other : is_other l k ≡ true = ap not (ne_eqb k l ne) in

@@ -62,7 +62,7 @@ closed_same : (g : Graph) (done : List ℕ) (answers : List (ℕ × Answer)) →
 closed_same g done answers none closed = subst (λ xs. IsClosed g (done ++ order_of xs)) (sym none) (rw append-nil closed)
 
 closed_after : (s : State) (e : Event) (done : List (ℕ × Answer)) → Executes s e done → IsClosed (graph_in s.records) s.executed → IsClosed (graph_in s.records) (s.executed ++ order_of done)
-closed_after s (Propose client request c seen) done h closed = closed_same (graph_in s.records) s.executed done h closed
+closed_after s (Propose client request c seen spared) done h closed = closed_same (graph_in s.records) s.executed done h closed
 closed_after s (Handle m) done h closed = closed_same (graph_in s.records) s.executed done h closed
 closed_after s (GiveUp i) done h closed = closed_same (graph_in s.records) s.executed done h closed
 closed_after s (Recover i) done h closed = closed_same (graph_in s.records) s.executed done h closed

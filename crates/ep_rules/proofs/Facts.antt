@@ -34,6 +34,8 @@ pub record History : Type 0 where
   pub early : ℕ → Option Decree
   -- what the leader proposed
   pub proposed : Option Command
+  -- the replica that its proposal spares
+  pub spared : Option ℕ
   -- what the leader committed on the fast path
   pub fast : Option Decree
   -- the command of each ballot's phase 1
@@ -49,10 +51,24 @@ module _ (f l : ℕ) where
   abbrev pub CanChoose : History → ℕ → Type 0
   CanChoose h b = size f < 2 * count (size f) (can_accept h b)
 
-  -- has the fast path committed y, or may it still
+  -- r is of the fast quorum of what the leader proposed, and not the leader itself
+  pub record Member (h : History) (r : ℕ) : Type 0 where
+    pub spared : ℕ
+    pub named : h.spared ≡ Some spared
+    pub asked : is_fast l spared r ≡ true
+
+  -- all others of that fast quorum voted for y at the default ballot
+  pub record AllEarly (h : History) (y : Decree) : Type 0 where
+    pub spared : ℕ
+    pub named : h.spared ≡ Some spared
+    pub each : (r : ℕ) → r < size f → is_fast l spared r ≡ true → h.early r ≡ Some y
+
+  -- has the fast path committed y, or may it still, whichever replica the proposal spares
   pub record CanBeFast (h : History) (y : Decree) : Type 0 where
     pub leader : (h.fast ≡ Some y) ⊎ ((h.chosen l ≡ None) × (h.promised l ≤ l))
-    pub members : (r : ℕ) → r < size f → is_fast f l r ≡ true → (h.early r ≡ Some y) ⊎ (h.promised r ≤ l)
+    pub spared : ℕ
+    pub named : (h.spared ≡ Some spared) ⊎ (h.spared ≡ None)
+    pub members : (r : ℕ) → r < size f → is_fast l spared r ≡ true → (h.early r ≡ Some y) ⊎ (h.promised r ≤ l)
 
   -- below b nothing but x is or can be committed
   pub record Safe (h : History) (b : ℕ) (x : Decree) : Type 0 where
@@ -153,12 +169,13 @@ module _ (f l : ℕ) where
   abbrev pub VotedAt : VoteStatus → ℕ → Option Vote → Type 0
   VotedAt s b v = (x : Decree) × (v ≡ Some (record { status = s; ballot = b; decree = x }))
 
-  pub record ProposingOk (h : History) (r : ℕ) (x : Record) (b : ℕ) (answers : Answers Attrs) : Type 0 where
+  pub record ProposingOk (h : History) (r : ℕ) (x : Record) (b s : ℕ) (answers : Answers Attrs) : Type 0 where
     pub mine : owner_of b ≡ r
     pub reached : b ≤ x.promised
     pub low : l ≤ b
     pub unchosen : h.chosen b ≡ None
     pub vote : x.promised ≡ b → is_committed x.vote ≡ false → VotedAt PreAccepted b x.vote
+    pub spared : b ≡ l → h.spared ≡ Some s
     pub views : (k : ℕ) (a : Attrs) → answer answers k ≡ Some a → View h k b a
     pub each : b ≡ l → (k : ℕ) (a : Attrs) → answer answers k ≡ Some a → (c : Command) × (h.early k ≡ Some (record { command = c; attrs = a }))
 
@@ -179,7 +196,7 @@ module _ (f l : ℕ) where
 
   abbrev pub LedOk : History → ℕ → Record → Option Led → Type 0
   LedOk h r x None = Unit {0}
-  LedOk h r x (Some (Proposing b answers)) = ProposingOk h r x b answers
+  LedOk h r x (Some (Proposing b s answers)) = ProposingOk h r x b s answers
   LedOk h r x (Some (Accepting b answers)) = AcceptingOk h r x b answers
   LedOk h r x (Some (Preparing b answers)) = PreparingOk h r x b answers
 
@@ -198,7 +215,7 @@ module _ (f l : ℕ) where
     pub asked : h.asked b ≡ Some x.command
     pub quiet : is_noop x.command ≡ true → Quiet h b
     pub origin : b ≡ l → Seen h l l x.attrs.deps
-    pub first : b ≡ l → (h.proposed ≡ Some x.command) × (is_fast f l to ≡ true)
+    pub first : b ≡ l → (h.proposed ≡ Some x.command) × Member h to
 
   -- a message that `from` sent to `to`
   abbrev pub MessageOk : History → ℕ → ℕ → Message → Type 0
@@ -216,9 +233,9 @@ module _ (f l : ℕ) where
     pub led : (b : ℕ) (x : Decree) → h.chosen b ≡ Some x → b ≤ h.promised (owner_of b)
     pub low : (b : ℕ) (x : Decree) → h.chosen b ≡ Some x → l ≤ b
     pub valid : (b : ℕ) (x : Decree) → h.chosen b ≡ Some x → IsValid h x.command
-    pub fast_early : (y : Decree) → h.fast ≡ Some y → (r : ℕ) → r < size f → is_fast f l r ≡ true → h.early r ≡ Some y
+    pub fast_early : (y : Decree) → h.fast ≡ Some y → AllEarly h y
     pub fast_proposed : (y : Decree) → h.fast ≡ Some y → h.proposed ≡ Some y.command
-    pub early_fast : (r : ℕ) (x : Decree) → h.early r ≡ Some x → is_fast f l r ≡ true
+    pub early_fast : (r : ℕ) (x : Decree) → h.early r ≡ Some x → Member h r
     pub early_proposed : (r : ℕ) (x : Decree) → h.early r ≡ Some x → h.proposed ≡ Some x.command
     pub from_default : (r : ℕ) → l ≤ h.promised r
     pub backed : (b : ℕ) (x : Decree) → h.chosen b ≡ Some x → is_noop x.command ≡ false → Backed h x
@@ -242,6 +259,7 @@ module _ (f l : ℕ) where
     pub early_kept : (k : ℕ) (x : Decree) → h.early k ≡ Some x → h'.early k ≡ Some x
     pub early_new : (k : ℕ) (x : Decree) → h'.early k ≡ Some x → (h.early k ≡ Some x) ⊎ (h.promised k ≤ l)
     pub proposed_kept : (c : Command) → h.proposed ≡ Some c → h'.proposed ≡ Some c
+    pub spared_kept : (s : ℕ) → h.spared ≡ Some s → h'.spared ≡ Some s
     pub fast_kept : (x : Decree) → h.fast ≡ Some x → h'.fast ≡ Some x
     pub fast_new : (x : Decree) → h'.fast ≡ Some x → (h.fast ≡ Some x) ⊎ ((h.chosen l ≡ None) × (h.promised l ≤ l))
     pub same_promised : (k : ℕ) → k ≢ r → h'.promised k ≡ h.promised k
@@ -250,6 +268,7 @@ module _ (f l : ℕ) where
     pub same_chosen : (b : ℕ) → owner_of b ≢ r → h'.chosen b ≡ h.chosen b
     pub same_fast : r ≢ l → h'.fast ≡ h.fast
     pub same_proposed : r ≢ l → h'.proposed ≡ h.proposed
+    pub same_spared : r ≢ l → h'.spared ≡ h.spared
     pub asked_kept : (b : ℕ) (c : Command) → h.asked b ≡ Some c → h'.asked b ≡ Some c
     pub seen_kept : (k b : ℕ) (d : List ℕ) → h.seen k b ≡ Some d → h'.seen k b ≡ Some d
     pub seen_new : (k b : ℕ) (d : List ℕ) → h'.seen k b ≡ Some d → (h.seen k b ≡ Some d) ⊎ (h.promised k ≤ b)
@@ -259,4 +278,4 @@ module _ (f l : ℕ) where
 -- what replica r knows of instance i
 pub record CellOk (f i : ℕ) (h : History) (r : ℕ) (c : Cell) : Type 0 where
   pub held : HeldOk f (leader_of i) h r (record_or_fresh i c.entry) c.led
-  pub fresh : c.entry ≡ None → r ≡ leader_of i → (h.proposed ≡ None) × (h.chosen (leader_of i) ≡ None) × (h.asked (leader_of i) ≡ None)
+  pub fresh : c.entry ≡ None → r ≡ leader_of i → (h.proposed ≡ None) × (h.chosen (leader_of i) ≡ None) × (h.asked (leader_of i) ≡ None) × (h.spared ≡ None)

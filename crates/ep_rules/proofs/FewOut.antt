@@ -5,7 +5,7 @@ use Rattle.ep_base.specs.Attributes.{join}
 use Rattle.ep_base.specs.Ballots.{ballot_of, highest_counter}
 use Rattle.ep_base.specs.Instances.{instance_of, leader_of}
 use Rattle.ep_base.specs.Messages.{instance_of_message}
-use Rattle.ep_base.specs.Quorums.{size, is_fast}
+use Rattle.ep_base.specs.Quorums.{size, spared, is_fast}
 use Rattle.ep_base.specs.declared.attrs.Attrs.{Attrs}
 use Rattle.ep_base.specs.Commands.{Command, Noop}
 use Rattle.ep_base.specs.declared.message.Message.{Message}
@@ -77,20 +77,20 @@ fast_few : (f i me : ℕ) (a : Attrs) (r : Record) (v : Option Vote) → length 
 fast_few f i me a r None = none_out f
 fast_few f i me a r (Some v) = few f (is_other me) _
 
-count_few : (f i me b : ℕ) (a : Attrs) (answers : Answers Attrs) (r : Record) → length (count_pre_accept_ok f i me b a answers r).out ≤ size f
-count_few f i me b a answers r =
+count_few : (f i me b s : ℕ) (a : Attrs) (answers : Answers Attrs) (r : Record) → length (count_pre_accept_ok f i me b s a answers r).out ≤ size f
+count_few f i me b s a answers r =
     let slow : length (slow_path f i me b answers r.vote).out ≤ size f = slow_few f i me b answers r.vote in
     either f (eqb b (leader_of i)) _ _
-    (either f (fast_answered f (leader_of i) answers) _ (kept (Proposing b answers)) (either f (all_equal f a answers) _ _ (fast_few f i me a r r.vote) slow) (none_out f))
-    (either f (leb f (others f me answers)) _ (kept (Proposing b answers)) slow (none_out f))
+    (either f (fast_answered f (leader_of i) s answers) _ (kept (Proposing b s answers)) (either f (all_equal f a answers) _ _ (fast_few f i me a r r.vote) slow) (none_out f))
+    (either f (leb f (others f me answers)) _ (kept (Proposing b s answers)) slow (none_out f))
 
-pre_accept_ok_few : (f i me b : ℕ) (a : Attrs) (r : Record) (more : Option (ℕ × Answers Attrs)) → length (use_pre_accept_ok f i me b a r more).out ≤ size f
+pre_accept_ok_few : (f i me b : ℕ) (a : Attrs) (r : Record) (more : Option (ℕ × ℕ × Answers Attrs)) → length (use_pre_accept_ok f i me b a r more).out ≤ size f
 pre_accept_ok_few f i me b a r None = none_out f
-pre_accept_ok_few f i me b a r (Some more) = either f (is_usable b r more.0) _ nothing (count_few f i me b a more.1 r) (none_out f)
+pre_accept_ok_few f i me b a r (Some more) = either f (is_usable b r more.0) _ nothing (count_few f i me b more.1 a more.2 r) (none_out f)
 
 give_up_few : (f i me : ℕ) (r : Record) (led : Option Led) → FewIn f (give_up f i me r led)
 give_up_few f i me r None = tt
-give_up_few f i me r (Some (Proposing b answers)) =
+give_up_few f i me r (Some (Proposing b s answers)) =
     either_outcome f (is_usable (leader_of i) r b) _ _ (either_outcome f (leb f (others f me answers)) (Ok (slow_path f i me b answers r.vote)) (Err TooFewAnswers) (slow_few f i me b answers r.vote) tt) tt
 give_up_few f i me r (Some (Accepting b answers)) = tt
 give_up_few f i me r (Some (Preparing b answers)) = tt
@@ -143,11 +143,11 @@ placed_few : (f i : ℕ) (o : Outcome) → FewIn f o → FewAt f (at i o)
 placed_few f i (Ok ch) h = h
 placed_few f i (Err e) h = tt
 
-proposed_few : (f me : ℕ) (s : State) (c : Command) (n : Option ℕ) → FewAt f (proposed f me s c n)
-proposed_few f me s c None = tt
-proposed_few f me s c (Some n) =
+proposed_few : (f me q : ℕ) (s : State) (c : Command) (n : Option ℕ) → FewAt f (proposed f me q s c n)
+proposed_few f me q s c None = tt
+proposed_few f me q s c (Some n) =
     let i : ℕ = instance_of me (n + 1) in
-    placed_few f i (propose f i c (interference s.records i c)) (limited_few f (interference s.records i c) _ (few f (is_fast f (leader_of i)) _))
+    placed_few f i (propose f i q c (interference s.records i c)) (limited_few f (interference s.records i c) _ (few f (is_fast (leader_of i) q) _))
 
 recover_few : (f i me : ℕ) (r : Record) (told : ℕ) → FewIn f (recover f i me r told)
 recover_few f i me r told =
@@ -155,7 +155,7 @@ recover_few f i me r told =
     (either_outcome f (leb (next_counter r told) highest_counter) (Ok (prepare_phase f i me (ballot_of (next_counter r told) me) r)) (Err BallotsExhausted) (few f (is_other me) _) tt)
 
 acts_few : (f me : ℕ) (s : State) (e : Event) → FewAt f (acts f me s e)
-acts_few f me s (Propose client request c seen) = proposed_few f me s c (free_number s.records me)
+acts_few f me s (Propose client request c seen named) = proposed_few f me (spared f me named) s c (free_number s.records me)
 acts_few f me s (Handle m) = placed_few f (instance_of_message m.sent.message) _ (handled_few f me m.sent.from s m.sent.message)
 acts_few f me s (GiveUp i) = placed_few f i _ (give_up_few f i me (record_in s i) (get s.leads i))
 acts_few f me s (Recover i) = placed_few f i _ (recover_few f i me (record_in s i) (cell_in s i).told)

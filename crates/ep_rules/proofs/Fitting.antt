@@ -6,7 +6,7 @@ use Rattle.ep_base.specs.Attributes.{join}
 use Rattle.ep_base.specs.Ballots.{ballot_of, counter_of, owner_of, highest_counter}
 use Rattle.ep_base.specs.Fitting.{BallotFits, VoteFits, BallotsFit}
 use Rattle.ep_base.specs.Instances.{instance_of, leader_of, highest_number}
-use Rattle.ep_base.specs.Quorums.{size, is_fast}
+use Rattle.ep_base.specs.Quorums.{size, spared, is_fast}
 use Rattle.ep_base.specs.declared.attrs.Attrs.{Attrs}
 use Rattle.ep_base.specs.Commands.{Command}
 use Rattle.ep_base.specs.declared.decree.Decree.{Decree}
@@ -74,16 +74,16 @@ those_fit me (suc n) p m other fits = fit_append me (to_those p n m) _ (those_fi
 other_is : (me r : ℕ) → is_other me r ≡ true → r ≢ me
 other_is me r e same = absurd (grind (arith, e, same))
 
-fast_is : (f l r : ℕ) → is_fast f l r ≡ true → r ≢ l
-fast_is f l r e same = other_is l r (and_parts _ _ e).0 same
+fast_is : (l s r : ℕ) → is_fast l s r ≡ true → r ≢ l
+fast_is l s r e same = other_is l r (and_parts _ _ e).0 same
 
 default_fits : (i : ℕ) → leader_of i < 256 → BallotFits i (leader_of i)
 default_fits i small low = omega arith
 
 -- The phases.
 
-first_fits : (asked : ℕ → Bool) (f i me b : ℕ) (x : Decree) → ((r : ℕ) → asked r ≡ true → r ≢ me) → BallotFits i b → ChangeFits i me (first_phase asked f i b x)
-first_fits asked f i me b x other fits =
+first_fits : (asked : ℕ → Bool) (f i me b s : ℕ) (x : Decree) → ((r : ℕ) → asked r ≡ true → r ≢ me) → BallotFits i b → ChangeFits i me (first_phase asked f i b s x)
+first_fits asked f i me b s x other fits =
     record { entry = record { promised = fits; vote = fits }; out = those_fit me (size f) asked (PreAccept i b x) other fits }
 
 accept_fits : (f i me b : ℕ) (x : Decree) → BallotFits i b → ChangeFits i me (accept_phase f i me b x)
@@ -125,9 +125,9 @@ nack_fits i me from b r small other fits record_fits less = (other, (fits, count
 
 -- The events.
 
-propose_fits : (f i : ℕ) (c : Command) (own : Attrs) → leader_of i < 256 → OutcomeFits i (leader_of i) (propose f i c own)
-propose_fits f i c own small =
-    limited_fits i (leader_of i) own _ (first_fits (is_fast f (leader_of i)) f i (leader_of i) (leader_of i) _ (fast_is f (leader_of i)) (default_fits i small))
+propose_fits : (f i s : ℕ) (c : Command) (own : Attrs) → leader_of i < 256 → OutcomeFits i (leader_of i) (propose f i s c own)
+propose_fits f i s c own small =
+    limited_fits i (leader_of i) own _ (first_fits (is_fast (leader_of i) s) f i (leader_of i) (leader_of i) s _ (fast_is (leader_of i) s) (default_fits i small))
 
 pre_accept_fits : (i me from b : ℕ) (x : Decree) (own : Attrs) (r : Record) → leader_of i < 256 → from ≢ me → BallotFits i b → RecordFits i r → OutcomeFits i me (on_pre_accept i from b x own r)
 pre_accept_fits i me from b x own r small other fits record_fits =
@@ -157,18 +157,18 @@ fast_fits f i me a r (Some v) small fits = commit_fits f i me _ r small fits
 kept_fits : (i me : ℕ) (l : Led) → ChangeFits i me (record { entry = None; led = Some (Some l); told = None; out = [] })
 kept_fits i me l = record { entry = tt; out = tt }
 
-count_fits : (f i me b : ℕ) (a : Attrs) (answers : Answers Attrs) (r : Record) → leader_of i < 256 → BallotFits i b → RecordFits i r → ChangeFits i me (count_pre_accept_ok f i me b a answers r)
-count_fits f i me b a answers r small fits record_fits =
+count_fits : (f i me b s : ℕ) (a : Attrs) (answers : Answers Attrs) (r : Record) → leader_of i < 256 → BallotFits i b → RecordFits i r → ChangeFits i me (count_pre_accept_ok f i me b s a answers r)
+count_fits f i me b s a answers r small fits record_fits =
     split i me (eqb b (leader_of i)) _ _
-    (λ e. split i me (fast_answered f (leader_of i) answers) (cond (all_equal f a answers) (fast_path f i me a r r.vote) (slow_path f i me b answers r.vote)) (kept (Proposing b answers))
+    (λ e. split i me (fast_answered f (leader_of i) s answers) (cond (all_equal f a answers) (fast_path f i me a r r.vote) (slow_path f i me b answers r.vote)) (kept (Proposing b s answers))
     (λ g. split i me (all_equal f a answers) (fast_path f i me a r r.vote) (slow_path f i me b answers r.vote) (λ h. fast_fits f i me a r r.vote small record_fits) (λ h. slow_fits f i me b answers r.vote fits))
-    (λ g. kept_fits i me (Proposing b answers)))
-    (λ e. split i me (leb f (others f me answers)) (slow_path f i me b answers r.vote) (kept (Proposing b answers)) (λ g. slow_fits f i me b answers r.vote fits) (λ g. kept_fits i me (Proposing b answers)))
+    (λ g. kept_fits i me (Proposing b s answers)))
+    (λ e. split i me (leb f (others f me answers)) (slow_path f i me b answers r.vote) (kept (Proposing b s answers)) (λ g. slow_fits f i me b answers r.vote fits) (λ g. kept_fits i me (Proposing b s answers)))
 
-use_fits : (f i me b : ℕ) (a : Attrs) (r : Record) (more : Option (ℕ × Answers Attrs)) → leader_of i < 256 → BallotFits i b → RecordFits i r → ChangeFits i me (use_pre_accept_ok f i me b a r more)
+use_fits : (f i me b : ℕ) (a : Attrs) (r : Record) (more : Option (ℕ × ℕ × Answers Attrs)) → leader_of i < 256 → BallotFits i b → RecordFits i r → ChangeFits i me (use_pre_accept_ok f i me b a r more)
 use_fits f i me b a r None small fits record_fits = nothing_fits i me
 use_fits f i me b a r (Some more) small fits record_fits =
-    split i me (is_usable b r more.0) _ nothing (λ e. count_fits f i me b a more.1 r small fits record_fits) (λ e. nothing_fits i me)
+    split i me (is_usable b r more.0) _ nothing (λ e. count_fits f i me b more.1 a more.2 r small fits record_fits) (λ e. nothing_fits i me)
 
 pre_accept_ok_fits : (f i me from b : ℕ) (a : Attrs) (r : Record) (led : Option Led) → leader_of i < 256 → BallotFits i b → RecordFits i r → ChangeFits i me (on_pre_accept_ok f i me from b a r led)
 pre_accept_ok_fits f i me from b a r led small fits record_fits = use_fits f i me b a r (more_proposing from a led) small fits record_fits
@@ -183,7 +183,7 @@ give_up_with_fits f i me b answers r small =
 
 give_up_fits : (f i me : ℕ) (r : Record) (led : Option Led) → leader_of i < 256 → OutcomeFits i me (give_up f i me r led)
 give_up_fits f i me r None small = tt
-give_up_fits f i me r (Some (Proposing b answers)) small = give_up_with_fits f i me b answers r small
+give_up_fits f i me r (Some (Proposing b s answers)) small = give_up_with_fits f i me b answers r small
 give_up_fits f i me r (Some (Accepting b answers)) small = tt
 give_up_fits f i me r (Some (Preparing b answers)) small = tt
 
@@ -204,7 +204,7 @@ accept_ok_fits f i me from b r led small fits = use_accept_fits f i me b r (more
 -- Explicit prepare.
 
 recover_with_fits : (f i me b : ℕ) (c : Command) (own : Attrs) → BallotFits i b → OutcomeFits i me (recover_with f i me b c own)
-recover_with_fits f i me b c own fits = limited_fits i me own _ (first_fits (is_other me) f i me b _ (other_is me) fits)
+recover_with_fits f i me b c own fits = limited_fits i me own _ (first_fits (is_other me) f i me b me _ (other_is me) fits)
 
 act_fits : (f i me b : ℕ) (own : Command → Attrs) (r : Record) (choice : Choice) → leader_of i < 256 → BallotFits i b → RecordFits i r → OutcomeFits i me (act_on f i me b own r choice)
 act_fits f i me b own r (CommitIt x) small fits record_fits = commit_fits f i me x r small record_fits
@@ -283,14 +283,14 @@ handled_fits f me from s (PrepareOk i b v) few other fits ballots w =
     prepare_ok_fits f i me from b v (interference s.records i) (record_in s i) (get s.leads i) small ballot (found_fits i (get s.records i) small (fits i))
 handled_fits f me from s (Nack i b p) few other fits ballots w = record { entry = tt; out = tt }
 
-proposed_fits : (f me : ℕ) (s : State) (c : Command) (n : Option ℕ) → me < 256 → ((k : ℕ) → n ≡ Some k → k < 2000) → PlacedFits me (proposed f me s c n)
-proposed_fits f me s c None small low = tt
-proposed_fits f me s c (Some n) small low =
+proposed_fits : (f me q : ℕ) (s : State) (c : Command) (n : Option ℕ) → me < 256 → ((k : ℕ) → n ≡ Some k → k < 2000) → PlacedFits me (proposed f me q s c n)
+proposed_fits f me q s c None small low = tt
+proposed_fits f me q s c (Some n) small low =
     let less : n < 2000 = low n refl in
     let i : ℕ = instance_of me (n + 1) in
     let is : leader_of i ≡ me = div-mul-add me 65536 (n + 1) (omega arith) in
-    placed_fits i me (propose f i c (interference s.records i c))
-    (subst (λ l. OutcomeFits i l (propose f i c (interference s.records i c))) is (propose_fits f i c (interference s.records i c) (subst (λ l. l < 256) (sym is) small)))
+    placed_fits i me (propose f i q c (interference s.records i c))
+    (subst (λ l. OutcomeFits i l (propose f i q c (interference s.records i c))) is (propose_fits f i q c (interference s.records i c) (subst (λ l. l < 256) (sym is) small)))
 
 pub screened_within : (f me : ℕ) (e : Event) (b : Bool) → cond b (cond (is_for me e) None (Some NotMine)) (Some OutOfRange) ≡ None → b ≡ true
 screened_within f me e true h = refl
@@ -304,10 +304,10 @@ screened_for false c h = absurd (cc)
 -- what a replica's event records fits, and what it sends has a spelling
 pub acts_fit : (f me : ℕ) (s : State) (e : Event) → size f ≤ 256 → me < size f → StateFits s → EventFits e → screened f me e ≡ None → PlacedFits me (acts f me s e)
 unfolding free_number
-acts_fit f me s (Propose client request c seen) few here fits event sc =
-    proposed_fits f me s c (free_number s.records me) (omega arith) (λ k e. (least_some highest_number (is_free s.records me) k e).0)
+acts_fit f me s (Propose client request c seen named) few here fits event sc =
+    proposed_fits f me (spared f me named) s c (free_number s.records me) (omega arith) (λ k e. (least_some highest_number (is_free s.records me) k e).0)
 acts_fit f me s (Handle m) few here fits event sc =
-    let w : is_within (size f) (Handle m) ≡ true = screened_within f me (Handle m) _ sc in
+    let w : is_within f me (Handle m) ≡ true = screened_within f me (Handle m) _ sc in
     let mine : m.sent.to ≡ me = eqb-true m.sent.to me (screened_for _ _ sc) in
     let named : message_within (size f) m.sent.message ≡ true = (and_parts _ _ (and_parts _ _ w).1).1 in
     placed_fits _ me _ (handled_fits f me m.sent.from s m.sent.message few (λ same. event.1 (same ∙ sym mine)) fits event.0 named)

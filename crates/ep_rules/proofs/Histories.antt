@@ -2,12 +2,11 @@
 use Rattle.std.proofs.Common.{List, ◌≡◌, ℕ, ◌<◌, ◌≤◌, Bool, true, false, cond, ◌&&◌, ◌||◌, eqb, ◌≢◌, ◌⊎◌, inl, inr, Option, Some, None, refl, sym, ap, subst, ◌∙◌, arith}
 use Rattle.std.proofs.lemmas.Bool.{or_cases, or_left, or_right, and_parts, and_from, eqb-true, eq-eqb, ne_eqb, cases_eq}
 use Rattle.ep_base.specs.Ballots.{owner_of}
-use Rattle.ep_base.specs.Quorums.{size, is_fast}
 use Rattle.ep_base.specs.Sameness.{is_noop}
 use Rattle.ep_base.specs.Commands.{Command}
 use Rattle.ep_base.specs.declared.decree.Decree.{Decree}
-use Rattle.ep_rules.proofs.Facts.{Free, Seen, Backed, Quiet, History, Safe, IsValid, HistoryOk, Advance}
-use Rattle.ep_rules.proofs.Stable.{safe_kept, valid_kept, free_kept, quiet_kept, backed_kept, seen_kept, none_before}
+use Rattle.ep_rules.proofs.Facts.{Member, AllEarly, Free, Seen, Backed, Quiet, History, Safe, IsValid, HistoryOk, Advance}
+use Rattle.ep_rules.proofs.Stable.{member_kept, all_early_kept, safe_kept, valid_kept, free_kept, quiet_kept, backed_kept, seen_kept, none_before}
 
 abbrev pub put_at : {X : Type 0} → (ℕ → X) → ℕ → X → ℕ → X
 put_at g k v j = cond (eqb j k) v (g j)
@@ -53,13 +52,13 @@ pub record NewAsk (f l : ℕ) (h' : History) (b : ℕ) (c : Command) : Type 0 wh
   pub valid : IsValid f l h' c
 
 pub record NewEarly (f l : ℕ) (h' : History) (k : ℕ) (x : Decree) : Type 0 where
-  pub member : is_fast f l k ≡ true
+  pub member : Member f l h' k
   pub proposed : h'.proposed ≡ Some x.command
   pub seen : Seen f l h' k l x.attrs.deps
   pub origin : Seen f l h' l l x.attrs.deps
 
 pub record NewFast (f l : ℕ) (h' : History) (y : Decree) : Type 0 where
-  pub early : (k : ℕ) → k < size f → is_fast f l k ≡ true → h'.early k ≡ Some y
+  pub early : AllEarly f l h' y
   pub proposed : h'.proposed ≡ Some y.command
   pub origin : Seen f l h' l l y.attrs.deps
 
@@ -77,9 +76,9 @@ history_next f l r h h' go new ok = record {
   led = λ b x e. elim (new.chosen b x e) [ inl old ↦ (let o = ok.led b x old in let up = go.promised_up (owner_of b) in omega arith) | inr t ↦ t.led ];
   low = λ b x e. elim (new.chosen b x e) [ inl old ↦ ok.low b x old | inr t ↦ t.low ];
   valid = λ b x e. elim (new.chosen b x e) [ inl old ↦ valid_kept f l r h h' go x.command (ok.valid b x old) | inr t ↦ t.valid ];
-  fast_early = λ y e k m q. elim (new.fast y e) [ inl old ↦ go.early_kept k y (ok.fast_early y old k m q) | inr t ↦ t.early k m q ];
+  fast_early = λ y e. elim (new.fast y e) [ inl old ↦ all_early_kept f l r h h' go y (ok.fast_early y old) | inr t ↦ t.early ];
   fast_proposed = λ y e. elim (new.fast y e) [ inl old ↦ go.proposed_kept _ (ok.fast_proposed y old) | inr t ↦ t.proposed ];
-  early_fast = λ k x e. elim (new.early k x e) [ inl old ↦ ok.early_fast k x old | inr t ↦ t.member ];
+  early_fast = λ k x e. elim (new.early k x e) [ inl old ↦ member_kept f l r h h' go k (ok.early_fast k x old) | inr t ↦ t.member ];
   early_proposed = λ k x e. elim (new.early k x e) [ inl old ↦ go.proposed_kept _ (ok.early_proposed k x old) | inr t ↦ t.proposed ];
   from_default = λ k. (let o = ok.from_default k in let up = go.promised_up k in omega arith);
   backed = λ b x e n. elim (new.chosen b x e) [ inl old ↦ backed_kept f l r h h' go x (ok.backed b x old n) | inr t ↦ t.backed n ];
@@ -108,6 +107,7 @@ advance_trans f l r a b c p q = record {
   early_kept = λ k x e. q.early_kept k x (p.early_kept k x e);
   early_new = λ k x e. elim (q.early_new k x e) [ inl o ↦ p.early_new k x o | inr m ↦ inr (let u = p.promised_up k in omega arith) ];
   proposed_kept = λ x e. q.proposed_kept x (p.proposed_kept x e);
+  spared_kept = λ s e. q.spared_kept s (p.spared_kept s e);
   fast_kept = λ x e. q.fast_kept x (p.fast_kept x e);
   fast_new = λ x e. elim (q.fast_new x e) [ inl o ↦ p.fast_new x o | inr m ↦ inr (none_before _ _ (p.chosen_kept l) m.0, (let u = p.promised_up l in omega (arith, m.1))) ];
   same_promised = λ k n. q.same_promised k n ∙ p.same_promised k n;
@@ -116,6 +116,7 @@ advance_trans f l r a b c p q = record {
   same_chosen = λ m n. q.same_chosen m n ∙ p.same_chosen m n;
   same_fast = λ n. q.same_fast n ∙ p.same_fast n;
   same_proposed = λ n. q.same_proposed n ∙ p.same_proposed n;
+  same_spared = λ n. q.same_spared n ∙ p.same_spared n;
   asked_kept = λ m x e. q.asked_kept m x (p.asked_kept m x e);
   seen_kept = λ k m d e. q.seen_kept k m d (p.seen_kept k m d e);
   seen_new = λ k m d e. elim (q.seen_new k m d e) [ inl o ↦ p.seen_new k m d o | inr n ↦ inr (let u = p.promised_up k in omega arith) ];
@@ -125,7 +126,7 @@ advance_trans f l r a b c p q = record {
 
 -- a promise or a vote only raises r's promised ballot
 abbrev pub promise : History → ℕ → ℕ → History
-promise h r b = record { promised = put_at h.promised r b; chosen = h.chosen; accepted = h.accepted; early = h.early; proposed = h.proposed; fast = h.fast; asked = h.asked; seen = h.seen }
+promise h r b = record { promised = put_at h.promised r b; chosen = h.chosen; accepted = h.accepted; early = h.early; proposed = h.proposed; spared = h.spared; fast = h.fast; asked = h.asked; seen = h.seen }
 
 put_up : (g : ℕ → ℕ) (r b k : ℕ) → g r ≤ b → g k ≤ put_at g r b k
 put_up g r b k le = elim (cases_eq k r) [ inl e ↦ (let p = put_here g r b k e in let q = ap g e in omega arith) | inr n ↦ (let p = put_other g r b k n in omega arith) ]
@@ -139,6 +140,7 @@ promise_advance f l r b h le = record {
   early_kept = λ k x e. e;
   early_new = λ k x e. inl e;
   proposed_kept = λ c e. e;
+  spared_kept = λ s e. e;
   fast_kept = λ x e. e;
   fast_new = λ x e. inl e;
   same_promised = λ k n. put_other h.promised r b k n;
@@ -147,6 +149,7 @@ promise_advance f l r b h le = record {
   same_chosen = λ c n. refl;
   same_fast = λ n. refl;
   same_proposed = λ n. refl;
+  same_spared = λ n. refl;
   asked_kept = λ c x e. e;
   seen_kept = λ k c d e. e;
   seen_new = λ k c d e. inl e;
@@ -159,7 +162,7 @@ promise_news f l r b h = record { chosen = λ c x e. inl e; early = λ k x e. in
 
 -- r votes to accept at b
 abbrev pub vote_accept : History → ℕ → ℕ → History
-vote_accept h r b = record { promised = put_at h.promised r b; chosen = h.chosen; accepted = mark h.accepted r b; early = h.early; proposed = h.proposed; fast = h.fast; asked = h.asked; seen = h.seen }
+vote_accept h r b = record { promised = put_at h.promised r b; chosen = h.chosen; accepted = mark h.accepted r b; early = h.early; proposed = h.proposed; spared = h.spared; fast = h.fast; asked = h.asked; seen = h.seen }
 
 mark_new : (h : History) (r b k c : ℕ) → h.promised r ≤ b → mark h.accepted r b k c ≡ true → (h.accepted k c ≡ true) ⊎ (h.promised k ≤ c)
 mark_new h r b k c le e =
@@ -177,6 +180,7 @@ vote_accept_advance f l r b h le = record {
   early_kept = λ k x e. e;
   early_new = λ k x e. inl e;
   proposed_kept = λ c e. e;
+  spared_kept = λ s e. e;
   fast_kept = λ x e. e;
   fast_new = λ x e. inl e;
   same_promised = λ k n. put_other h.promised r b k n;
@@ -185,6 +189,7 @@ vote_accept_advance f l r b h le = record {
   same_chosen = λ c n. refl;
   same_fast = λ n. refl;
   same_proposed = λ n. refl;
+  same_spared = λ n. refl;
   asked_kept = λ c x e. e;
   seen_kept = λ k c d e. e;
   seen_new = λ k c d e. inl e;
@@ -197,7 +202,7 @@ vote_accept_news f l r b h = record { chosen = λ c x e. inl e; early = λ k x e
 
 -- r begins the accept phase of its ballot b with x
 abbrev pub choose_at : History → ℕ → ℕ → Decree → History
-choose_at h r b x = record { promised = put_at h.promised r b; chosen = put_at h.chosen b (Some x); accepted = mark h.accepted r b; early = h.early; proposed = h.proposed; fast = h.fast; asked = h.asked; seen = h.seen }
+choose_at h r b x = record { promised = put_at h.promised r b; chosen = put_at h.chosen b (Some x); accepted = mark h.accepted r b; early = h.early; proposed = h.proposed; spared = h.spared; fast = h.fast; asked = h.asked; seen = h.seen }
 
 some_at : {X : Type 0} (g : ℕ → Option X) (b : ℕ) (v : X) → g b ≡ None → (c : ℕ) (x : X) → g c ≡ Some x → put_at g b (Some v) c ≡ Some x
 some_at g b v none c x e = elim (cases_eq c b) [ inl i ↦ absurd (let a = ap g i in cc) | inr n ↦ put_other g b (Some v) c n ∙ e ]
@@ -214,6 +219,7 @@ choose_at_advance f l r b x h le own none = record {
   early_kept = λ k x e. e;
   early_new = λ k x e. inl e;
   proposed_kept = λ c e. e;
+  spared_kept = λ s e. e;
   fast_kept = λ x e. e;
   fast_new = λ x e. inl e;
   same_promised = λ k n. put_other h.promised r b k n;
@@ -222,6 +228,7 @@ choose_at_advance f l r b x h le own none = record {
   same_chosen = λ c n. put_other h.chosen b (Some x) c (λ e. n (ap owner_of e ∙ own));
   same_fast = λ n. refl;
   same_proposed = λ n. refl;
+  same_spared = λ n. refl;
   asked_kept = λ c x e. e;
   seen_kept = λ k c d e. e;
   seen_new = λ k c d e. inl e;
@@ -242,12 +249,12 @@ choose_at_news f l r b x h new = record {
   proposed = λ c e. inl e;
 }
 
--- the leader proposes c
-abbrev pub propose_at : History → ℕ → Command → History
-propose_at h l c = record { promised = put_at h.promised l l; chosen = h.chosen; accepted = h.accepted; early = h.early; proposed = Some c; fast = h.fast; asked = h.asked; seen = h.seen }
+-- the leader proposes c, and spares s
+abbrev pub propose_at : History → ℕ → ℕ → Command → History
+propose_at h l s c = record { promised = put_at h.promised l l; chosen = h.chosen; accepted = h.accepted; early = h.early; proposed = Some c; spared = Some s; fast = h.fast; asked = h.asked; seen = h.seen }
 
-pub propose_at_advance : (f l : ℕ) (c : Command) (h : History) → h.promised l ≤ l → h.proposed ≡ None → Advance f l l h (propose_at h l c)
-propose_at_advance f l c h le none = record {
+pub propose_at_advance : (f l s : ℕ) (c : Command) (h : History) → h.promised l ≤ l → h.proposed ≡ None → h.spared ≡ None → Advance f l l h (propose_at h l s c)
+propose_at_advance f l s c h le none unspared = record {
   promised_up = λ k. put_up h.promised l l k le;
   chosen_kept = λ c x e. e;
   accepted_kept = λ k c e. e;
@@ -255,6 +262,7 @@ propose_at_advance f l c h le none = record {
   early_kept = λ k x e. e;
   early_new = λ k x e. inl e;
   proposed_kept = λ c e. absurd (cc);
+  spared_kept = λ k e. absurd (cc);
   fast_kept = λ x e. e;
   fast_new = λ x e. inl e;
   same_promised = λ k n. put_other h.promised l l k n;
@@ -263,6 +271,7 @@ propose_at_advance f l c h le none = record {
   same_chosen = λ c n. refl;
   same_fast = λ n. refl;
   same_proposed = λ n. absurd (n refl);
+  same_spared = λ n. absurd (n refl);
   asked_kept = λ c x e. e;
   seen_kept = λ k c d e. e;
   seen_new = λ k c d e. inl e;
@@ -270,8 +279,8 @@ propose_at_advance f l c h le none = record {
   same_seen = λ k n c. refl;
 }
 
-pub propose_at_news : (f l : ℕ) (c : Command) (h : History) → is_noop c ≡ false → News f l h (propose_at h l c)
-propose_at_news f l c h real = record {
+pub propose_at_news : (f l s : ℕ) (c : Command) (h : History) → is_noop c ≡ false → News f l h (propose_at h l s c)
+propose_at_news f l s c h real = record {
   chosen = λ c x e. inl e;
   early = λ k x e. inl e;
   fast = λ y e. inl e;
@@ -282,7 +291,7 @@ propose_at_news f l c h real = record {
 
 -- r votes for x at the default ballot
 abbrev pub vote_early : History → ℕ → ℕ → Decree → History
-vote_early h l r x = record { promised = put_at h.promised r l; chosen = h.chosen; accepted = h.accepted; early = put_at h.early r (Some x); proposed = h.proposed; fast = h.fast; asked = h.asked; seen = h.seen }
+vote_early h l r x = record { promised = put_at h.promised r l; chosen = h.chosen; accepted = h.accepted; early = put_at h.early r (Some x); proposed = h.proposed; spared = h.spared; fast = h.fast; asked = h.asked; seen = h.seen }
 
 early_back : (h : History) (l r : ℕ) (x : Decree) → h.promised r ≤ l → (k : ℕ) (y : Decree) → put_at h.early r (Some x) k ≡ Some y → (h.early k ≡ Some y) ⊎ (h.promised k ≤ l)
 early_back h l r x le k y e = elim (some_back h.early r x k y e) [ inl old ↦ inl old | inr t ↦ inr (let i = ap h.promised t.0 in omega arith) ]
@@ -296,6 +305,7 @@ vote_early_advance f l r x h le none = record {
   early_kept = some_at h.early r x none;
   early_new = early_back h l r x le;
   proposed_kept = λ c e. e;
+  spared_kept = λ s e. e;
   fast_kept = λ x e. e;
   fast_new = λ x e. inl e;
   same_promised = λ k n. put_other h.promised r l k n;
@@ -304,6 +314,7 @@ vote_early_advance f l r x h le none = record {
   same_chosen = λ c n. refl;
   same_fast = λ n. refl;
   same_proposed = λ n. refl;
+  same_spared = λ n. refl;
   asked_kept = λ c x e. e;
   seen_kept = λ k c d e. e;
   seen_new = λ k c d e. inl e;
@@ -326,7 +337,7 @@ vote_early_news f l r x h new = record {
 
 -- the leader commits x on the fast path
 abbrev pub take_fast : History → Decree → History
-take_fast h x = record { promised = h.promised; chosen = h.chosen; accepted = h.accepted; early = h.early; proposed = h.proposed; fast = Some x; asked = h.asked; seen = h.seen }
+take_fast h x = record { promised = h.promised; chosen = h.chosen; accepted = h.accepted; early = h.early; proposed = h.proposed; spared = h.spared; fast = Some x; asked = h.asked; seen = h.seen }
 
 pub take_fast_advance : (f l : ℕ) (x : Decree) (h : History) → h.promised l ≤ l → h.chosen l ≡ None → h.fast ≡ None → Advance f l l h (take_fast h x)
 take_fast_advance f l x h le unchosen none = record {
@@ -337,6 +348,7 @@ take_fast_advance f l x h le unchosen none = record {
   early_kept = λ k x e. e;
   early_new = λ k x e. inl e;
   proposed_kept = λ c e. e;
+  spared_kept = λ s e. e;
   fast_kept = λ y e. absurd (cc);
   fast_new = λ y e. inr (unchosen, le);
   same_promised = λ k n. refl;
@@ -345,6 +357,7 @@ take_fast_advance f l x h le unchosen none = record {
   same_chosen = λ c n. refl;
   same_fast = λ n. absurd (n refl);
   same_proposed = λ n. refl;
+  same_spared = λ n. refl;
   asked_kept = λ c x e. e;
   seen_kept = λ k c d e. e;
   seen_new = λ k c d e. inl e;
@@ -372,6 +385,7 @@ same_advance f l r h = record {
   early_kept = λ k x e. e;
   early_new = λ k x e. inl e;
   proposed_kept = λ c e. e;
+  spared_kept = λ s e. e;
   fast_kept = λ x e. e;
   fast_new = λ x e. inl e;
   same_promised = λ k n. refl;
@@ -380,6 +394,7 @@ same_advance f l r h = record {
   same_chosen = λ c n. refl;
   same_fast = λ n. refl;
   same_proposed = λ n. refl;
+  same_spared = λ n. refl;
   asked_kept = λ c x e. e;
   seen_kept = λ k c d e. e;
   seen_new = λ k c d e. inl e;
@@ -389,7 +404,7 @@ same_advance f l r h = record {
 
 -- r begins phase 1 of its ballot b for c
 abbrev pub ask : History → ℕ → Command → History
-ask h b c = record { promised = h.promised; chosen = h.chosen; accepted = h.accepted; early = h.early; proposed = h.proposed; fast = h.fast; asked = put_at h.asked b (Some c); seen = h.seen }
+ask h b c = record { promised = h.promised; chosen = h.chosen; accepted = h.accepted; early = h.early; proposed = h.proposed; spared = h.spared; fast = h.fast; asked = put_at h.asked b (Some c); seen = h.seen }
 
 pub ask_advance : (f l r b : ℕ) (c : Command) (h : History) → owner_of b ≡ r → h.asked b ≡ None → Advance f l r h (ask h b c)
 ask_advance f l r b c h own none = record {
@@ -400,6 +415,7 @@ ask_advance f l r b c h own none = record {
   early_kept = λ k x e. e;
   early_new = λ k x e. inl e;
   proposed_kept = λ c e. e;
+  spared_kept = λ s e. e;
   fast_kept = λ x e. e;
   fast_new = λ x e. inl e;
   same_promised = λ k n. refl;
@@ -408,6 +424,7 @@ ask_advance f l r b c h own none = record {
   same_chosen = λ c n. refl;
   same_fast = λ n. refl;
   same_proposed = λ n. refl;
+  same_spared = λ n. refl;
   asked_kept = some_at h.asked b c none;
   seen_kept = λ k c d e. e;
   seen_new = λ k c d e. inl e;
@@ -433,10 +450,10 @@ abbrev pub note : (ℕ → ℕ → Option (List ℕ)) → ℕ → ℕ → List �
 note g r b d k c = cond (eqb k r && eqb c b) (Some d) (g k c)
 
 abbrev pub with_seen : History → (ℕ → ℕ → Option (List ℕ)) → History
-with_seen h s = record { promised = h.promised; chosen = h.chosen; accepted = h.accepted; early = h.early; proposed = h.proposed; fast = h.fast; asked = h.asked; seen = s }
+with_seen h s = record { promised = h.promised; chosen = h.chosen; accepted = h.accepted; early = h.early; proposed = h.proposed; spared = h.spared; fast = h.fast; asked = h.asked; seen = s }
 
 abbrev pub see : History → ℕ → ℕ → List ℕ → History
-see h r b d = record { promised = h.promised; chosen = h.chosen; accepted = h.accepted; early = h.early; proposed = h.proposed; fast = h.fast; asked = h.asked; seen = note h.seen r b d }
+see h r b d = record { promised = h.promised; chosen = h.chosen; accepted = h.accepted; early = h.early; proposed = h.proposed; spared = h.spared; fast = h.fast; asked = h.asked; seen = note h.seen r b d }
 
 note_cases : (k r c b : ℕ) → ((k ≡ r) × (c ≡ b) × ((eqb k r && eqb c b) ≡ true)) ⊎ ((eqb k r && eqb c b) ≡ false)
 note_cases k r c b = go (eqb k r && eqb c b) refl
@@ -472,6 +489,7 @@ see_advance f l r b d h le none = record {
   early_kept = λ k x e. e;
   early_new = λ k x e. inl e;
   proposed_kept = λ c e. e;
+  spared_kept = λ s e. e;
   fast_kept = λ x e. e;
   fast_new = λ x e. inl e;
   same_promised = λ k n. refl;
@@ -480,6 +498,7 @@ see_advance f l r b d h le none = record {
   same_chosen = λ c n. refl;
   same_fast = λ n. refl;
   same_proposed = λ n. refl;
+  same_spared = λ n. refl;
   asked_kept = λ c x e. e;
   seen_kept = note_kept h.seen r b d none;
   seen_new = λ k c x e. elim (note_back h.seen r b d k c x e) [ inl o ↦ inl o | inr t ↦ inr (let i = ap h.promised t.0 in let j = t.1 in omega arith) ];

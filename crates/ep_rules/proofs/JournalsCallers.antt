@@ -48,7 +48,7 @@ module _ (f : ℕ) (i : ℕ) where
 
   executed_step : (w : World) (a : Act) (these : List Act) (e : Event) → Executes (w.states a.replica) e a.done → (IsExecutedIn (executions f (moved f w a) these) i → WasExecuted f (moved f w a) these i) →
       IsExecutedIn (exec_of w a e (executions f (moved f w a) these)) i → WasExecuted f w (a ∷ these) i
-  executed_step w a these (Propose client request c seen) h rec k = later w a these (rec k)
+  executed_step w a these (Propose client request c seen spared) h rec k = later w a these (rec k)
   executed_step w a these (Handle m) h rec k = later w a these (rec k)
   executed_step w a these (GiveUp j) h rec k = later w a these (rec k)
   executed_step w a these (Recover j) h rec k = later w a these (rec k)
@@ -63,14 +63,14 @@ module _ (f : ℕ) (i : ℕ) where
 
   -- and forth
   pub executed_rest : (w : World) (a : Act) (rest : List Execution) (e : Event) → IsExecutedIn rest i → IsExecutedIn (exec_of w a e rest) i
-  executed_rest w a rest (Propose client request c seen) k = k
+  executed_rest w a rest (Propose client request c seen spared) k = k
   executed_rest w a rest (Handle m) k = k
   executed_rest w a rest (GiveUp j) k = k
   executed_rest w a rest (Recover j) k = k
   executed_rest w a rest (Execute root) k = inr k
 
   pub executed_here : (w : World) (a : Act) (rest : List Execution) (e : Event) → Executes (w.states a.replica) e a.done → Has (order_of a.done) i → IsExecutedIn (exec_of w a e rest) i
-  executed_here w a rest (Propose client request c seen) h k = absurd (nothing_done a.done i h k)
+  executed_here w a rest (Propose client request c seen spared) h k = absurd (nothing_done a.done i h k)
   executed_here w a rest (Handle m) h k = absurd (nothing_done a.done i h k)
   executed_here w a rest (GiveUp j) h k = absurd (nothing_done a.done i h k)
   executed_here w a rest (Recover j) h k = absurd (nothing_done a.done i h k)
@@ -83,7 +83,7 @@ module _ (f : ℕ) (i : ℕ) where
   is_executed (a ∷ these) w h b (inr m) k = executed_rest w (act_of a) (executions f (moved f w (act_of a)) (acts_of these)) a.entry.event (is_executed these (moved f w (act_of a)) h.1 b m k)
 
 exec_both : (w : World) (a : Act) (xs ys : List Execution) (e : Event) → exec_of w a e (xs ++ ys) ≡ exec_of w a e xs ++ ys
-exec_both w a xs ys (Propose client request c seen) = refl
+exec_both w a xs ys (Propose client request c seen spared) = refl
 exec_both w a xs ys (Handle m) = refl
 exec_both w a xs ys (GiveUp j) = refl
 exec_both w a xs ys (Recover j) = refl

@@ -169,6 +169,7 @@ journals_propose_lem base f journal schedule given r i x e real =
         split = split_of (leader_of i) p.early p.at p.late schedule (journal (leader_of i)) p.whole mine (given.scheduled.0 (leader_of i));
         command = x.command;
         seen = t.seen;
+        spared = t.spared;
         event = ap (λ (z : Act). z.event) p.act_is ∙ t.event;
         number = t.number;
         free = free_then base f (leader_of i) p.early t.before t.number p.before_is t.free;

@@ -24,7 +24,7 @@ use Rattle.ep_rules.proofs.JournalsCommitted.{none_some}
 
 -- an act's execution, before those of the rest
 abbrev pub exec_of : World → Act → Event → List Execution → List Execution
-exec_of w a (Propose client request c seen) rest = rest
+exec_of w a (Propose client request c seen spared) rest = rest
 exec_of w a (Handle m) rest = rest
 exec_of w a (GiveUp i) rest = rest
 exec_of w a (Recover i) rest = rest
@@ -55,7 +55,7 @@ nothing_done done i none k = let z : Has [] i = subst (λ d. Has (order_of d) i)
 
 -- what an act executes is committed
 pub step_known : (s : State) (e : Event) (done : List (ℕ × Answer)) (i : ℕ) → Executes s e done → Has (order_of done) i → (x : Decree) × (committed_in s.records i ≡ Some x)
-step_known s (Propose client request c seen) done i h k = absurd (nothing_done done i h k)
+step_known s (Propose client request c seen spared) done i h k = absurd (nothing_done done i h k)
 step_known s (Handle m) done i h k = absurd (nothing_done done i h k)
 step_known s (GiveUp j) done i h k = absurd (nothing_done done i h k)
 step_known s (Recover j) done i h k = absurd (nothing_done done i h k)
@@ -145,7 +145,7 @@ module _ (base : Store) (f : ℕ) (all : ℕ → Option Decree) where
 
     local_step : (e : Event) → Executes (w.states a.replica) e a.done → ((i : ℕ) → Has (order_of a.done) i → command_in (w.states a.replica).records i ≡ told i) → After (eqb a.replica r) →
         IsLocal base graph told (w.states r).executed (History.of r (exec_of w a e rest))
-    local_step (Propose client request c seen) h same rec = no_step h rec
+    local_step (Propose client request c seen spared) h same rec = no_step h rec
     local_step (Handle m) h same rec = no_step h rec
     local_step (GiveUp i) h same rec = no_step h rec
     local_step (Recover i) h same rec = no_step h rec
@@ -171,7 +171,7 @@ module _ (f : ℕ) where
   -- (what the rest leaves, from what is executed after the act)
   done_step : (w : World) (a : Act) (later : List Execution) (done : Done) (e : Event) → Executes (w.states a.replica) e a.done → ((r : ℕ) → done r ≡ (w.states r).executed) →
       (next : Done) × ((r : ℕ) → next r ≡ ((moved f w a).states r).executed) × ((r : ℕ) → done_after done (exec_of w a e later) r ≡ done_after next later r)
-  done_step w a later done (Propose client request c seen) h is = (done, λ r. ungrown w a done h is r (eqb a.replica r), λ r. refl)
+  done_step w a later done (Propose client request c seen spared) h is = (done, λ r. ungrown w a done h is r (eqb a.replica r), λ r. refl)
   done_step w a later done (Handle m) h is = (done, λ r. ungrown w a done h is r (eqb a.replica r), λ r. refl)
   done_step w a later done (GiveUp i) h is = (done, λ r. ungrown w a done h is r (eqb a.replica r), λ r. refl)
   done_step w a later done (Recover i) h is = (done, λ r. ungrown w a done h is r (eqb a.replica r), λ r. refl)

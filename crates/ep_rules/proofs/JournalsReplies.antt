@@ -29,7 +29,7 @@ module _ (f : ℕ) where
   none_merged done seen rest none = ap (λ s. merged s rest) (sym (ap (λ d. seen ++ filter (is_new seen) (order_of d)) none ∙ append-nil seen))
 
   pub merged_step : (w : World) (a : Act) (seen : List ℕ) (rest : List Execution) (e : Event) → Executes (w.states a.replica) e a.done → merged seen (exec_of w a e rest) ≡ merged (seen ++ filter (is_new seen) (order_of a.done)) rest
-  merged_step w a seen rest (Propose client request c known) h = none_merged a.done seen rest h
+  merged_step w a seen rest (Propose client request c known spared) h = none_merged a.done seen rest h
   merged_step w a seen rest (Handle m) h = none_merged a.done seen rest h
   merged_step w a seen rest (GiveUp i) h = none_merged a.done seen rest h
   merged_step w a seen rest (Recover i) h = none_merged a.done seen rest h
@@ -48,7 +48,7 @@ at_place (d ∷ ds) (suc k) i x e = let t = at_place ds k i x e in ((let l = t.0
 
 module _ (base : Store) (f : ℕ) (c : ℕ → Command) (h : List ℕ) where
   pub all_rest : (w : World) (a : Act) (rest : List Execution) (e : Event) → AllByRecursion (AnswersBy base c h) (exec_of w a e rest) → AllByRecursion (AnswersBy base c h) rest
-  all_rest w a rest (Propose client request x seen) all = all
+  all_rest w a rest (Propose client request x seen spared) all = all
   all_rest w a rest (Handle m) all = all
   all_rest w a rest (GiveUp i) all = all
   all_rest w a rest (Recover i) all = all
@@ -58,7 +58,7 @@ module _ (base : Store) (f : ℕ) (c : ℕ → Command) (h : List ℕ) where
   done_none done k i x none e = none_some (i, x) (sym (ap (λ d. slice_get d k) none) ∙ e)
 
   pub here : (w : World) (a : Act) (rest : List Execution) (e : Event) → Executes (w.states a.replica) e a.done → AllByRecursion (AnswersBy base c h) (exec_of w a e rest) → (k i : ℕ) (x : Answer) → slice_get a.done k ≡ Some (i, x) → IsReply base c h i x
-  here w a rest (Propose client request x' seen) done all k i x e = done_none a.done k i x done e
+  here w a rest (Propose client request x' seen spared) done all k i x e = done_none a.done k i x done e
   here w a rest (Handle m) done all k i x e = done_none a.done k i x done e
   here w a rest (GiveUp j) done all k i x e = done_none a.done k i x done e
   here w a rest (Recover j) done all k i x e = done_none a.done k i x done e

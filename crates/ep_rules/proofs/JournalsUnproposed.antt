@@ -35,7 +35,7 @@ module _ (base : Store) (f : ℕ) where
       let runs = run_parts f p.before (p.proposal ∷ p.after) (opening base) (subst (IsRun f (opening base)) (sym p.stands) run) in
       let taken : IsTaken (acts f l (w.states l) p.proposal.event) = subst (λ q. IsTaken (acts f q (w.states q) p.proposal.event)) p.replica runs.1.0.step.taken in
       let then : HasRecord (leaves f l (w.states l) p.proposal.event p.proposal.done) i =
-      subst (λ j. HasRecord (leaves f l (w.states l) p.proposal.event p.proposal.done) j) p.instance (taken_record f l (w.states l) p.proposal.event p.proposal.done c p.client p.request p.seen p.number p.event p.free taken) in
+      subst (λ j. HasRecord (leaves f l (w.states l) p.proposal.event p.proposal.done) j) p.instance (taken_record f l (w.states l) p.proposal.event p.proposal.done c p.client p.request p.seen p.number p.spared p.event p.free taken) in
       let here : HasRecord ((moved f w p.proposal).states l) i = subst (λ b. HasRecord (cond b (leaves f l (w.states l) p.proposal.event p.proposal.done) (w.states l)) i) (sym (eq-eqb p.proposal.replica l p.replica)) then in
       let whole : ends f (opening base) these ≡ ends f (moved f w p.proposal) p.after = ap (λ z. ends f (opening base) z) (sym p.stands) ∙ ends_both f p.before (p.proposal ∷ p.after) (opening base) in
       subst (λ (z : World). HasRecord (z.states l) i) (sym whole) (ends_keeps (moved f w p.proposal) p.after l i here)

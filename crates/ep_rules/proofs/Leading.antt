@@ -5,7 +5,7 @@ use Rattle.ep_base.proofs.Same.{Decides-same_attrs}
 use Rattle.ep_base.specs.Attributes.{same_attrs}
 use Rattle.ep_base.specs.Ballots.{owner_of}
 use Rattle.ep_base.specs.Instances.{leader_of}
-use Rattle.ep_base.specs.Quorums.{size, spared, is_fast}
+use Rattle.ep_base.specs.Quorums.{size, is_fast}
 use Rattle.ep_base.specs.Sameness.{is_noop}
 use Rattle.ep_base.specs.declared.attrs.Attrs.{Attrs}
 use Rattle.ep_base.specs.Commands.{Command}
@@ -96,28 +96,28 @@ module _ {f i r : ℕ} (few : size f ≤ 256) (r_low : r < size f) {h : History}
 
 -- The fast quorum.
 
-fast_some : (f l k : ℕ) (answers : Answers Attrs) → is_fast f l k ≡ true → (not (is_fast f l k) || is_some (answer answers k)) ≡ true → is_some (answer answers k) ≡ true
-fast_some f l k answers m e = elim (or_cases _ _ e) [ inl n ↦ absurd (false≢true (sym (ap not m) ∙ n)) | inr t ↦ t ]
+fast_some : (l s k : ℕ) (answers : Answers Attrs) → is_fast l s k ≡ true → (not (is_fast l s k) || is_some (answer answers k)) ≡ true → is_some (answer answers k) ≡ true
+fast_some l s k answers m e = elim (or_cases _ _ e) [ inl n ↦ absurd (false≢true (sym (ap not m) ∙ n)) | inr t ↦ t ]
 
 -- each member answered, with these attributes
-fast_holds : (f l k : ℕ) (answers : Answers Attrs) (a : Attrs) → k < size f → is_fast f l k ≡ true → fast_answered f l answers ≡ true → all_equal f a answers ≡ true → (d : Attrs) × (answer answers k ≡ Some d) × (a ≡ d)
-fast_holds f l k answers a lt m all equal =
-    let some = fast_some f l k answers m (every_true (size f) (λ q. not (is_fast f l q) || is_some (answer answers q)) all k lt) in
+fast_holds : (f l s k : ℕ) (answers : Answers Attrs) (a : Attrs) → k < size f → is_fast l s k ≡ true → fast_answered f l s answers ≡ true → all_equal f a answers ≡ true → (d : Attrs) × (answer answers k ≡ Some d) × (a ≡ d)
+fast_holds f l s k answers a lt m all equal =
+    let some = fast_some l s k answers m (every_true (size f) (λ q. not (is_fast l s q) || is_some (answer answers q)) all k lt) in
     elim (or_cases _ _ (every_true (size f) (λ q. not (is_some (answer answers q)) || holds (same_attrs a) (answer answers q)) equal k lt)) [
       | inl n ↦ absurd (false≢true (sym (ap not some) ∙ n))
-      | inr t ↦ (let s = holds_some (same_attrs a) (answer answers k) t in (s.0, s.1, (Decides-same_attrs a s.0).0 s.2))
+      | inr t ↦ (let u = holds_some (same_attrs a) (answer answers k) t in (u.0, u.1, (Decides-same_attrs a u.0).0 u.2))
     ]
 
 -- it has f others than the leader
-fast_many : (f l r : ℕ) (answers : Answers Attrs) → r ≡ l → fast_answered f l answers ≡ true → f ≤ others f r answers
-fast_many f l r answers leads all =
+fast_many : (f l s r : ℕ) (answers : Answers Attrs) → r ≡ l → fast_answered f l s answers ≡ true → f ≤ others f r answers
+fast_many f l s r answers leads all =
     let every = count_all (size f) in
-    let one = count_without (size f) (λ k. true) (spared f l) in
-    let other = count_without (size f) (λ k. not (eqb k (spared f l))) l in
-    let le : count (size f) (λ k. not (eqb k (spared f l)) && not (eqb k l)) ≤ count (size f) (λ k. is_other r k && is_some (answer answers k)) = count_le (size f) _ _ (λ k lt e.
+    let one = count_without (size f) (λ k. true) s in
+    let other = count_without (size f) (λ k. not (eqb k s)) l in
+    let le : count (size f) (λ k. not (eqb k s) && not (eqb k l)) ≤ count (size f) (λ k. is_other r k && is_some (answer answers k)) = count_le (size f) _ _ (λ k lt e.
     let t = and_parts _ _ e in
-    let m : is_fast f l k ≡ true = and_from _ _ t.1 t.0 in
-    and_from _ _ (ap (λ n. not (eqb k n)) leads ∙ t.1) (fast_some f l k answers m (every_true (size f) (λ q. not (is_fast f l q) || is_some (answer answers q)) all k lt))) in
+    let m : is_fast l s k ≡ true = and_from _ _ t.1 t.0 in
+    and_from _ _ (ap (λ n. not (eqb k n)) leads ∙ t.1) (fast_some l s k answers m (every_true (size f) (λ q. not (is_fast l s q) || is_some (answer answers q)) all k lt))) in
     omega arith
 
 module _ {f i r : ℕ} {own : Command → Attrs} {new : Command → Type 0} (few : size f ≤ 256) (l_low : leader_of i < size f) (r_low : r < size f) {h : History} (ok : HistoryOk f (leader_of i) h) {c : Cell} (cell : CellOk f i h r c) where
@@ -152,9 +152,9 @@ module _ {f i r : ℕ} {own : Command → Attrs} {new : Command → Type 0} (few
       }
 
   -- the slow path
-  keep_slow : (b : ℕ) (old answers : Answers Attrs) → ProposingOk f (leader_of i) h r (record_of i c) b old → (record_of i c).promised ≡ b → is_committed (record_of i c).vote ≡ false → Views f (leader_of i) h b answers → f ≤ others f r answers →
+  keep_slow : (b sp : ℕ) (old answers : Answers Attrs) → ProposingOk f (leader_of i) h r (record_of i c) b sp old → (record_of i c).promised ≡ b → is_committed (record_of i c).vote ≡ false → Views f (leader_of i) h b answers → f ≤ others f r answers →
       Kept f i r own new h c (slow_path f i r b answers (record_of i c).vote)
-  keep_slow b old answers p at live views many =
+  keep_slow b sp old answers p at live views many =
       let s = p.vote at live in
       let y = s.0 in
       let cast : PreVote f (leader_of i) h r b y = last_cast cell PreAccepted b y s.1 in
@@ -172,10 +172,10 @@ module _ {f i r : ℕ} {own : Command → Attrs} {new : Command → Type 0} (few
       }))
 
   -- the fast path
-  keep_fast : (b : ℕ) (old answers : Answers Attrs) (a : Attrs) → b ≡ leader_of i → ProposingOk f (leader_of i) h r (record_of i c) b old → (record_of i c).promised ≡ b → is_committed (record_of i c).vote ≡ false →
+  keep_fast : (b sp : ℕ) (old answers : Answers Attrs) (a : Attrs) → b ≡ leader_of i → ProposingOk f (leader_of i) h r (record_of i c) b sp old → (record_of i c).promised ≡ b → is_committed (record_of i c).vote ≡ false →
       ((k : ℕ) (d : Attrs) → answer answers k ≡ Some d → (e : Command) × (h.early k ≡ Some (record { command = e; attrs = d }))) →
-      Seen f (leader_of i) h (leader_of i) (leader_of i) a.deps → fast_answered f (leader_of i) answers ≡ true → all_equal f a answers ≡ true → Kept f i r own new h c (fast_path f i r a (record_of i c) (record_of i c).vote)
-  keep_fast b old answers a first p at live each origin all equal =
+      Seen f (leader_of i) h (leader_of i) (leader_of i) a.deps → fast_answered f (leader_of i) sp answers ≡ true → all_equal f a answers ≡ true → Kept f i r own new h c (fast_path f i r a (record_of i c) (record_of i c).vote)
+  keep_fast b sp old answers a first p at live each origin all equal =
       let l = leader_of i in
       let is = (cell.held).promised in
       let s = p.vote at live in
@@ -186,8 +186,8 @@ module _ {f i r : ℕ} {own : Command → Attrs} {new : Command → Type 0} (few
       let promised_l : h.promised l ≤ l = (let j = ap h.promised leads in omega arith) in
       let unchosen : h.chosen l ≡ None = ap h.chosen (sym first) ∙ p.unchosen in
       let proposed : h.proposed ≡ Some y.command = cast.proposed first in
-      let early : (k : ℕ) → k < size f → is_fast f l k ≡ true → h.early k ≡ Some x = (λ k lt m.
-      let w = fast_holds f l k answers a lt m all equal in
+      let early : (k : ℕ) → k < size f → is_fast l sp k ≡ true → h.early k ≡ Some x = (λ k lt m.
+      let w = fast_holds f l sp k answers a lt m all equal in
       let e = each k w.0 w.1 in
       let asked = ok.early_proposed k _ e.1 in
       let cmd : e.0 ≡ y.command = (let j : Some e.0 ≡ Some y.command = sym asked ∙ proposed in cc) in
@@ -198,7 +198,7 @@ module _ {f i r : ℕ} {own : Command → Attrs} {new : Command → Type 0} (few
       (record {
         after = take_fast h x;
         advance = go;
-        history = history_next f l r h (take_fast h x) go (take_fast_news f l x h (record { early = early; proposed = proposed; origin = seen_kept f l r h (take_fast h x) go l l a.deps origin })) ok;
+        history = history_next f l r h (take_fast h x) go (take_fast_news f l x h (record { early = record { spared = sp; named = p.spared first; each = early }; proposed = proposed; origin = seen_kept f l r h (take_fast h x) go l l a.deps origin })) ok;
         cell = record { held = commit_held cell (take_fast h x) x refl (λ _. refl) (λ _. refl) decided; fresh = λ e. absurd (cc) };
         out = sent_to_those _ (is_other r) (size f) (Commit i x) (λ k lt e. decided);
         fresh_seen = (λ k b d e. inl e);
@@ -207,9 +207,9 @@ module _ {f i r : ℕ} {own : Command → Attrs} {new : Command → Type 0} (few
 
   -- Answers to PreAccept.
 
-  keep_count_pre_accept_ok : (from b : ℕ) (a : Attrs) (answers : Answers Attrs) → ProposingOk f (leader_of i) h r (record_of i c) b answers → (record_of i c).promised ≡ b → is_committed (record_of i c).vote ≡ false →
-      MessageOk f (leader_of i) h from r (PreAcceptOk i b a) → Kept f i r own new h c (count_pre_accept_ok f i r b a (with_answer answers from a) (record_of i c))
-  keep_count_pre_accept_ok from b a answers p at live told =
+  keep_count_pre_accept_ok : (from b sp : ℕ) (a : Attrs) (answers : Answers Attrs) → ProposingOk f (leader_of i) h r (record_of i c) b sp answers → (record_of i c).promised ≡ b → is_committed (record_of i c).vote ≡ false →
+      MessageOk f (leader_of i) h from r (PreAcceptOk i b a) → Kept f i r own new h c (count_pre_accept_ok f i r b sp a (with_answer answers from a) (record_of i c))
+  keep_count_pre_accept_ok from b sp a answers p at live told =
       let l = leader_of i in
       let all = with_answer answers from a in
       let more : b ≡ l → (k : ℕ) (d : Attrs) → answer all k ≡ Some d → (e : Command) × (h.early k ≡ Some (record { command = e; attrs = d })) = (λ first k d e.
@@ -219,27 +219,27 @@ module _ {f i r : ℕ} {own : Command → Attrs} {new : Command → Type 0} (few
       ]) in
       let views : Views f l h b all = (λ k d e.
       elim (answer_back answers from a k d e) [ inl o ↦ p.views k d o | inr t ↦ subst (λ w. View f l h k b w) t.1 (subst (λ j. View f l h j b a) (sym t.0) told.1) ]) in
-      let stay = keep_led ok cell (Proposing b all) (record { mine = p.mine; reached = p.reached; low = p.low; unchosen = p.unchosen; vote = p.vote; views = views; each = more }) in
+      let stay = keep_led ok cell (Proposing b sp all) (record { mine = p.mine; reached = p.reached; low = p.low; unchosen = p.unchosen; vote = p.vote; spared = p.spared; views = views; each = more }) in
       split (Kept f i r own new h c) (eqb b l) _ _
       (λ first.
       let j = eqb-true b l first in
       let leads : r ≡ l = (let o = ap owner_of j in let m = p.mine in omega arith) in
-      split (Kept f i r own new h c) (fast_answered f l all) _ _
+      split (Kept f i r own new h c) (fast_answered f l sp all) _ _
       (λ came. split (Kept f i r own new h c) (all_equal f a all) _ _
-      (λ equal. keep_fast b answers all a j p at live (more j) (ok.early_origin from _ (told.0 j).1) came equal)
-      (λ e. keep_slow b answers all p at live views (fast_many f l r all leads came)))
+      (λ equal. keep_fast b sp answers all a j p at live (more j) (ok.early_origin from _ (told.0 j).1) came equal)
+      (λ e. keep_slow b sp answers all p at live views (fast_many f l sp r all leads came)))
       (λ e. stay))
-      (λ e. split (Kept f i r own new h c) (leb f (others f r all)) _ _ (λ m. keep_slow b answers all p at live views (leb-true _ _ m)) (λ e. stay))
+      (λ e. split (Kept f i r own new h c) (leb f (others f r all)) _ _ (λ m. keep_slow b sp answers all p at live views (leb-true _ _ m)) (λ e. stay))
 
   keep_led_pre_accept_ok : (from b : ℕ) (a : Attrs) (led : Option Led) → LedOk f (leader_of i) h r (record_of i c) led → MessageOk f (leader_of i) h from r (PreAcceptOk i b a) → Kept f i r own new h c (on_pre_accept_ok f i r from b a (record_of i c) led)
   keep_led_pre_accept_ok from b a None p told = keep_nothing ok cell
   keep_led_pre_accept_ok from b a (Some (Accepting lb answers)) p told = keep_nothing ok cell
   keep_led_pre_accept_ok from b a (Some (Preparing lb answers)) p told = keep_nothing ok cell
-  keep_led_pre_accept_ok from b a (Some (Proposing lb answers)) p told =
+  keep_led_pre_accept_ok from b a (Some (Proposing lb sp answers)) p told =
       split (λ more. Kept f i r own new h c (use_pre_accept_ok f i r b a (record_of i c) more)) (is_some (answer answers from)) _ _
       (λ e. keep_nothing ok cell)
       (λ e. split (Kept f i r own new h c) (is_usable b (record_of i c) lb) _ _
-      (λ e. let u = usable b (record_of i c) lb e in keep_count_pre_accept_ok from b a answers (subst (λ n. ProposingOk f (leader_of i) h r (record_of i c) n answers) u.0 p) u.1 u.2 told)
+      (λ e. let u = usable b (record_of i c) lb e in keep_count_pre_accept_ok from b sp a answers (subst (λ n. ProposingOk f (leader_of i) h r (record_of i c) n sp answers) u.0 p) u.1 u.2 told)
       (λ e. keep_nothing ok cell))
 
   pub keep_pre_accept_ok : (from b : ℕ) (a : Attrs) → MessageOk f (leader_of i) h from r (PreAcceptOk i b a) → Kept f i r own new h c (on_pre_accept_ok f i r from b a (record_of i c) c.led)
@@ -267,7 +267,7 @@ module _ {f i r : ℕ} {own : Command → Attrs} {new : Command → Type 0} (few
 
   keep_led_accept_ok : (from b : ℕ) (led : Option Led) → LedOk f (leader_of i) h r (record_of i c) led → h.accepted from b ≡ true → Kept f i r own new h c (on_accept_ok f i r from b (record_of i c) led)
   keep_led_accept_ok from b None p told = keep_nothing ok cell
-  keep_led_accept_ok from b (Some (Proposing lb answers)) p told = keep_nothing ok cell
+  keep_led_accept_ok from b (Some (Proposing lb sp answers)) p told = keep_nothing ok cell
   keep_led_accept_ok from b (Some (Preparing lb answers)) p told = keep_nothing ok cell
   keep_led_accept_ok from b (Some (Accepting lb answers)) p told =
       split (λ more. Kept f i r own new h c (use_accept_ok f i r b (record_of i c) more)) (is_some (answer answers from)) _ _
@@ -285,10 +285,10 @@ module _ {f i r : ℕ} (own : Command → Attrs) (new : Command → Type 0) (few
   keep_led_give_up None p = tt
   keep_led_give_up (Some (Accepting b answers)) p = tt
   keep_led_give_up (Some (Preparing b answers)) p = tt
-  keep_led_give_up (Some (Proposing b answers)) p =
+  keep_led_give_up (Some (Proposing b sp answers)) p =
       split (KeptOk f i r own new h c) (is_usable (leader_of i) (record_of i c) b) _ _
       (λ e. split (KeptOk f i r own new h c) (leb f (others f r answers)) _ _
-      (λ m. let u = usable (leader_of i) (record_of i c) b e in keep_slow few l_low r_low ok cell b answers answers p (u.1 ∙ sym u.0) u.2 p.views (leb-true _ _ m))
+      (λ m. let u = usable (leader_of i) (record_of i c) b e in keep_slow few l_low r_low ok cell b sp answers answers p (u.1 ∙ sym u.0) u.2 p.views (leb-true _ _ m))
       (λ m. tt))
       (λ e. tt)
 

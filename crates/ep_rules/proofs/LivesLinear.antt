@@ -202,6 +202,7 @@ module _ (start : Contents) (f : ℕ → ℕ) (sizes : (g : ℕ) → (0 < f g) �
         client = p.client;
         request = p.request;
         seen = p.seen;
+        spared = p.spared;
         event = p.event;
         number = p.number;
         free = ap (λ s. free_number s.records (leader_of i)) same ∙ ap (λ acts. free_number ((ends (f g) (first_of start f sizes turns g) acts).states (leader_of i)).records (leader_of i)) t.is ∙ p.free;
@@ -219,6 +220,7 @@ module _ (start : Contents) (f : ℕ → ℕ) (sizes : (g : ℕ) → (0 < f g) �
       client = p.client;
       request = p.request;
       seen = p.seen;
+      spared = p.spared;
       event = p.event;
       number = p.number;
       free = ap (λ s. free_number s.records (leader_of i)) (sym (same_free g i p.before p.after p.proposal p.stands p.replica)) ∙ p.free;

@@ -4,7 +4,7 @@ use Rattle.std.proofs.lemmas.Bool.{or_left, false≢true}
 use Rattle.ep_base.specs.Ballots.{ballot_of, highest_counter}
 use Rattle.ep_base.specs.Instances.{instance_of, leader_of, highest_number}
 use Rattle.ep_base.specs.Messages.{instance_of_message}
-use Rattle.ep_base.specs.Quorums.{size, is_fast}
+use Rattle.ep_base.specs.Quorums.{size, spared, is_fast}
 use Rattle.ep_base.specs.declared.attrs.Attrs.{Attrs}
 use Rattle.ep_base.specs.Commands.{Command, Noop}
 use Rattle.ep_base.specs.declared.decree.Decree.{Decree}
@@ -65,8 +65,8 @@ module _ (f i me : ℕ) (x : Record) where
   local_recorded : (y : Record) (from : ℕ) (m : Message) → instance_of_message m ≡ i → (is_committed x.vote ≡ true → y.vote ≡ x.vote) → Local i x (recorded y from m)
   local_recorded y from m e same = record { about = (e, tt); stays = same }
 
-  local_first_phase : Live → (asked : ℕ → Bool) (b : ℕ) (d : Decree) → Local i x (first_phase asked f i b d)
-  local_first_phase live asked b d = record { about = sent_to_those _ asked (size f) (PreAccept i b d) (λ k lt e. refl); stays = λ done. absurd (false≢true (sym live ∙ done)) }
+  local_first_phase : Live → (asked : ℕ → Bool) (b s : ℕ) (d : Decree) → Local i x (first_phase asked f i b s d)
+  local_first_phase live asked b s d = record { about = sent_to_those _ asked (size f) (PreAccept i b d) (λ k lt e. refl); stays = λ done. absurd (false≢true (sym live ∙ done)) }
 
   local_accept_phase : Live → (b : ℕ) (d : Decree) → Local i x (accept_phase f i me b d)
   local_accept_phase live b d = record { about = sent_to_those _ (is_other me) (size f) (Accept i b d) (λ k lt e. refl); stays = λ done. absurd (false≢true (sym live ∙ done)) }
@@ -79,8 +79,8 @@ module _ (f i me : ℕ) (x : Record) where
 
   -- The events.
 
-  local_propose : Live → (c : Command) (own : Attrs) → LocalOk i x (propose f i c own)
-  local_propose live c own = local_limited own (first_phase (is_fast f (leader_of i)) f i (leader_of i) (record { command = c; attrs = own })) (local_first_phase live (is_fast f (leader_of i)) (leader_of i) (record { command = c; attrs = own }))
+  local_propose : Live → (s : ℕ) (c : Command) (own : Attrs) → LocalOk i x (propose f i s c own)
+  local_propose live s c own = local_limited own (first_phase (is_fast (leader_of i) s) f i (leader_of i) s (record { command = c; attrs = own })) (local_first_phase live (is_fast (leader_of i) s) (leader_of i) s (record { command = c; attrs = own }))
 
   local_pre_accept : (from b : ℕ) (d : Decree) (own : Attrs) → LocalOk i x (on_pre_accept i from b d own x)
   local_pre_accept from b d own =
@@ -105,27 +105,27 @@ module _ (f i me : ℕ) (x : Record) where
   local_fast live a None = local_nothing
   local_fast live a (Some v) = local_commit_phase live _
 
-  local_count_pre_accept_ok : Live → (b : ℕ) (a : Attrs) (answers : Answers Attrs) → Local i x (count_pre_accept_ok f i me b a answers x)
-  local_count_pre_accept_ok live b a answers =
+  local_count_pre_accept_ok : Live → (b s : ℕ) (a : Attrs) (answers : Answers Attrs) → Local i x (count_pre_accept_ok f i me b s a answers x)
+  local_count_pre_accept_ok live b s a answers =
       split (Local i x) (eqb b (leader_of i)) _ _
-      (λ e. split (Local i x) (fast_answered f (leader_of i) answers) _ _
+      (λ e. split (Local i x) (fast_answered f (leader_of i) s answers) _ _
       (λ e. split (Local i x) (all_equal f a answers) _ _ (λ e. local_fast live a x.vote) (λ e. local_slow live b answers x.vote))
-      (λ e. local_kept (Proposing b answers)))
-      (λ e. split (Local i x) (leb f (others f me answers)) _ _ (λ e. local_slow live b answers x.vote) (λ e. local_kept (Proposing b answers)))
+      (λ e. local_kept (Proposing b s answers)))
+      (λ e. split (Local i x) (leb f (others f me answers)) _ _ (λ e. local_slow live b answers x.vote) (λ e. local_kept (Proposing b s answers)))
 
   local_pre_accept_ok : (from b : ℕ) (a : Attrs) (led : Option Led) → Local i x (on_pre_accept_ok f i me from b a x led)
   local_pre_accept_ok from b a None = local_nothing
   local_pre_accept_ok from b a (Some (Accepting lb answers)) = local_nothing
   local_pre_accept_ok from b a (Some (Preparing lb answers)) = local_nothing
-  local_pre_accept_ok from b a (Some (Proposing lb answers)) =
+  local_pre_accept_ok from b a (Some (Proposing lb s answers)) =
       split (λ more. Local i x (use_pre_accept_ok f i me b a x more)) (is_some (answer answers from)) _ _ (λ e. local_nothing) (λ e.
-      split (Local i x) (is_usable b x lb) _ _ (λ u. local_count_pre_accept_ok (usable b x lb u).2 b a (with_answer answers from a)) (λ u. local_nothing))
+      split (Local i x) (is_usable b x lb) _ _ (λ u. local_count_pre_accept_ok (usable b x lb u).2 b s a (with_answer answers from a)) (λ u. local_nothing))
 
   local_give_up : (led : Option Led) → LocalOk i x (give_up f i me x led)
   local_give_up None = tt
   local_give_up (Some (Accepting b answers)) = tt
   local_give_up (Some (Preparing b answers)) = tt
-  local_give_up (Some (Proposing b answers)) =
+  local_give_up (Some (Proposing b s answers)) =
       split (LocalOk i x) (is_usable (leader_of i) x b) _ _
       (λ u. split (LocalOk i x) (leb f (others f me answers)) _ _ (λ m. local_slow (usable (leader_of i) x b u).2 b answers x.vote) (λ m. tt))
       (λ u. tt)
@@ -136,7 +136,7 @@ module _ (f i me : ℕ) (x : Record) where
 
   local_accept_ok : (from b : ℕ) (led : Option Led) → Local i x (on_accept_ok f i me from b x led)
   local_accept_ok from b None = local_nothing
-  local_accept_ok from b (Some (Proposing lb answers)) = local_nothing
+  local_accept_ok from b (Some (Proposing lb s answers)) = local_nothing
   local_accept_ok from b (Some (Preparing lb answers)) = local_nothing
   local_accept_ok from b (Some (Accepting lb answers)) =
       split (λ more. Local i x (use_accept_ok f i me b x more)) (is_some (answer answers from)) _ _ (λ e. local_nothing) (λ e.
@@ -157,7 +157,7 @@ module _ (f i me : ℕ) (x : Record) where
       split (Local i x) (eqb b x.promised) _ _ (λ u. local_nothing) (λ u. local_recorded _ from _ refl (λ done. refl)))
 
   local_recover_with : Live → (b : ℕ) (c : Command) (own : Attrs) → LocalOk i x (recover_with f i me b c own)
-  local_recover_with live b c own = local_limited own _ (local_first_phase live (is_other me) b (record { command = c; attrs = own }))
+  local_recover_with live b c own = local_limited own _ (local_first_phase live (is_other me) b me (record { command = c; attrs = own }))
 
   local_choice : Live → (b : ℕ) (own : Command → Attrs) (ch : Choice) → LocalOk i x (act_on f i me b own x ch)
   local_choice live b own (CommitIt d) = local_commit_phase live d
@@ -172,7 +172,7 @@ module _ (f i me : ℕ) (x : Record) where
 
   local_prepare_ok : (from b : ℕ) (v : Option Vote) (own : Command → Attrs) (led : Option Led) → LocalOk i x (on_prepare_ok f i me from b v own x led)
   local_prepare_ok from b v own None = local_nothing
-  local_prepare_ok from b v own (Some (Proposing lb answers)) = local_nothing
+  local_prepare_ok from b v own (Some (Proposing lb s answers)) = local_nothing
   local_prepare_ok from b v own (Some (Accepting lb answers)) = local_nothing
   local_prepare_ok from b v own (Some (Preparing lb answers)) =
       split (λ more. LocalOk i x (use_prepare_ok f i me b own x more)) (is_some (answer answers from)) _ _ (λ e. local_nothing) (λ e.
@@ -207,14 +207,14 @@ local_handled f me from s (Prepare i b) = local_prepare f i me (record_in s i) f
 local_handled f me from s (PrepareOk i b v) = local_prepare_ok f i me (record_in s i) from b v (interference s.records i) (get s.leads i)
 local_handled f me from s (Nack i b p) = record { about = tt; stays = λ done. tt }
 
-local_proposed : (f me : ℕ) (s : State) (c : Command) (n : Option ℕ) → free_number s.records me ≡ n → LocalAct s (proposed f me s c n)
-local_proposed f me s c None e = tt
-local_proposed f me s c (Some n) e =
+local_proposed : (f me q : ℕ) (s : State) (c : Command) (n : Option ℕ) → free_number s.records me ≡ n → LocalAct s (proposed f me q s c n)
+local_proposed f me q s c None e = tt
+local_proposed f me q s c (Some n) e =
     let i = instance_of me (n + 1) in
-    local_at s i _ (local_propose f i me (record_in s i) (ap (λ o. is_committed (record_or_fresh i o).vote) (free_found s.records me n e).1) c (interference s.records i c))
+    local_at s i _ (local_propose f i me (record_in s i) (ap (λ o. is_committed (record_or_fresh i o).vote) (free_found s.records me n e).1) q c (interference s.records i c))
 
 pub local_acts : (f me : ℕ) (s : State) (e : Event) → LocalAct s (acts f me s e)
-local_acts f me s (Propose client request c seen) = local_proposed f me s c (free_number s.records me) refl
+local_acts f me s (Propose client request c seen named) = local_proposed f me (spared f me named) s c (free_number s.records me) refl
 local_acts f me s (Handle m) = local_at s (instance_of_message m.sent.message) _ (local_handled f me m.sent.from s m.sent.message)
 local_acts f me s (GiveUp i) = local_at s i _ (local_give_up f i me (record_in s i) (get s.leads i))
 local_acts f me s (Recover i) = local_at s i _ (local_recover f i me (record_in s i) (cell_in s i).told)

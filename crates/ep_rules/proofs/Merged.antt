@@ -88,7 +88,7 @@ module _ (base : Store) (f : ℕ) (journal : Journals) (whole : List Scheduled) 
   stands before rest a is = subst (λ z. In a.entry z) (scheduled.0 a.replica) (in_of a whole (subst (λ z. In a z) is (in_right a before (a ∷ rest) (inl refl))))
 
   there : (before rest : List Scheduled) (a : Scheduled) (w : World) → before ++ (a ∷ rest) ≡ whole → AreSent before w → (e : Event) → a.entry.event ≡ e → IsThere w.sent e
-  there before rest a w is sent (Propose client request c seen) e = tt
+  there before rest a w is sent (Propose client request c seen spared) e = tt
   there before rest a w is sent (GiveUp i) e = tt
   there before rest a w is sent (Recover i) e = tt
   there before rest a w is sent (Execute root) e = tt

@@ -3,7 +3,7 @@ use Rattle.std.proofs.Common.{◌≡◌, ◌≢◌, ℕ, ◌+◌, ◌<◌, Bool,
 use Rattle.std.proofs.lemmas.Bool.{and_parts, eq-eqb, ne_eqb, ltb-true, cases_eq}
 use Rattle.ep_base.specs.Instances.{instance_of, leader_of, highest_number}
 use Rattle.ep_base.specs.Messages.{instance_of_message}
-use Rattle.ep_base.specs.Quorums.{size}
+use Rattle.ep_base.specs.Quorums.{size, spared}
 use Rattle.ep_base.specs.Commands.{Command}
 use Rattle.ep_base.specs.declared.message.Message.{Message}
 use Rattle.ep_base.specs.declared.message.Message.TheVariants.{PreAccept, PreAcceptOk, Accept, AcceptOk, Commit, Prepare, PrepareOk, Nack}
@@ -90,8 +90,8 @@ screens true true x y e = (refl, refl)
 screens true false x y e = absurd (cc)
 screens false b x y e = absurd (cc)
 
-pub unscreened : (f me : ℕ) (e : Event) → screened f me e ≡ None → (is_within (size f) e ≡ true) × (is_for me e ≡ true)
-unscreened f me e none = screens (is_within (size f) e) (is_for me e) _ _ none
+pub unscreened : (f me : ℕ) (e : Event) → screened f me e ≡ None → (is_within f me e ≡ true) × (is_for me e ≡ true)
+unscreened f me e none = screens (is_within f me e) (is_for me e) _ _ none
 
 -- every act is in an instance that one of the replicas leads
 
@@ -119,12 +119,12 @@ handled_in n s e = message_in n s.message (and_parts (ltb s.to n) (message_withi
 own_leader : (me n : ℕ) → n < highest_number → leader_of (instance_of me (n + 1)) ≡ me
 own_leader me n lt = omega arith
 
-proposed_in : (f me : ℕ) (s : State) (c : Command) → me < size f → (n : Option ℕ) → free_number s.records me ≡ n → IsIn f (proposed f me s c n)
-proposed_in f me s c low None e = tt
-proposed_in f me s c low (Some n) e = is_in_at f (instance_of me (n + 1)) _ (subst (λ l. l < size f) (sym (own_leader me n (free_found s.records me n e).0)) low)
+proposed_in : (f me k : ℕ) (s : State) (c : Command) → me < size f → (n : Option ℕ) → free_number s.records me ≡ n → IsIn f (proposed f me k s c n)
+proposed_in f me k s c low None e = tt
+proposed_in f me k s c low (Some n) e = is_in_at f (instance_of me (n + 1)) _ (subst (λ l. l < size f) (sym (own_leader me n (free_found s.records me n e).0)) low)
 
-pub acts_in : (f me : ℕ) (s : State) (e : Event) → me < size f → is_within (size f) e ≡ true → IsIn f (acts f me s e)
-acts_in f me s (Propose client request c seen) low e = proposed_in f me s c low (free_number s.records me) refl
+pub acts_in : (f me : ℕ) (s : State) (e : Event) → me < size f → is_within f me e ≡ true → IsIn f (acts f me s e)
+acts_in f me s (Propose client request c seen named) low e = proposed_in f me (spared f me named) s c low (free_number s.records me) refl
 acts_in f me s (Handle m) low e = is_in_at f _ _ (handled_in (size f) m.sent e)
 acts_in f me s (GiveUp i) low e = is_in_at f i _ (ltb-true _ _ e)
 acts_in f me s (Recover i) low e = is_in_at f i _ (ltb-true _ _ e)

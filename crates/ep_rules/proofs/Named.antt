@@ -46,8 +46,8 @@ those_has p (suc n) r m lt e = elim (cases_eq r n) [
 ]
 
 -- some replica is neither the leader nor spared
-fast_one : (f l r : ℕ) → (r ≡ l → ⊥) → (r ≡ spared f l → ⊥) → is_fast f l r ≡ true
-fast_one f l r a b = ap (λ t. not t && not (eqb r (spared f l))) (ne_eqb r l a) ∙ ap (λ t. not t) (ne_eqb r (spared f l) b)
+fast_one : (l s r : ℕ) → (r ≡ l → ⊥) → (r ≡ s → ⊥) → is_fast l s r ≡ true
+fast_one l s r a b = ap (λ t. not t && not (eqb r s)) (ne_eqb r l a) ∙ ap (λ t. not t) (ne_eqb r s b)
 
 free_of : {A B : Type 0} → A ⊎ (A → ⊥) → B ⊎ (B → ⊥) → ((A → ⊥) × (B → ⊥)) ⊎ (A ⊎ B)
 free_of (inl a) q = inr (inl a)
@@ -64,8 +64,8 @@ one_of_three l s = elim (free_of (cases_eq 0 l) (cases_eq 0 s)) [
   ])
 ]
 
-some_fast : (f l : ℕ) → 0 < f → (r : ℕ) × (r < size f) × (is_fast f l r ≡ true)
-some_fast f l some = let t = one_of_three l (spared f l) in (t.0, (let lt = t.1 in omega arith), fast_one f l t.0 t.2 t.3)
+some_fast : (f l s : ℕ) → 0 < f → (r : ℕ) × (r < size f) × (is_fast l s r ≡ true)
+some_fast f l s some = let t = one_of_three l s in (t.0, (let lt = t.1 in omega arith), fast_one l s t.0 t.2 t.3)
 
 in_sent : (me : ℕ) (p : ℕ × Message) (out : List (ℕ × Message)) → In p out → In (record { from = me; to = p.0; message = p.1 }) (sent_from me out)
 in_sent me p [] h = absurd h
@@ -81,17 +81,17 @@ limited_sent : (me i : ℕ) (ch : Change) (b : Bool) → IsTaken (at i (cond b (
 limited_sent me i ch true h = refl
 limited_sent me i ch false h = absurd h
 
-module _ (f me : ℕ) (s : State) (e : Entry) (c : Command) (some : 0 < f) where
-  named : (n : Option ℕ) → free_number s.records me ≡ n → IsTaken (proposed f me s c n) → messages_of e.out ≡ sent_by me (proposed f me s c n) → Takes me s e
+module _ (f me q : ℕ) (s : State) (e : Entry) (c : Command) (some : 0 < f) where
+  named : (n : Option ℕ) → free_number s.records me ≡ n → IsTaken (proposed f me q s c n) → messages_of e.out ≡ sent_by me (proposed f me q s c n) → Takes me s e
   named None free h out = absurd h
   named (Some k) free h out =
       let i : ℕ = instance_of me (k + 1) in
       let own : Attrs = interference s.records i c in
       let x : Decree = record { command = c; attrs = own } in
       let m : Message = PreAccept i (leader_of i) x in
-      let asked : ℕ → Bool = (λ r. is_fast f (leader_of i) r) in
-      let is : messages_of e.out ≡ sent_from me (to_those asked (size f) m) = out ∙ limited_sent me i (first_phase asked f i (leader_of i) x) (leb own.seq 1000000) h in
-      let r = some_fast f (leader_of i) some in
+      let asked : ℕ → Bool = is_fast (leader_of i) q in
+      let is : messages_of e.out ≡ sent_from me (to_those asked (size f) m) = out ∙ limited_sent me i (first_phase asked f i (leader_of i) q x) (leb own.seq 1000000) h in
+      let r = some_fast f (leader_of i) q some in
       let first = head_of e.out (record { from = me; to = r.0; message = m }) (subst (λ z. In (record { from = me; to = r.0; message = m }) z) (sym is) (in_sent me (r.0, m) (to_those asked (size f) m) (those_has asked (size f) r.0 m r.1 r.2))) in
       record {
         number = k;
@@ -102,5 +102,5 @@ module _ (f me : ℕ) (s : State) (e : Entry) (c : Command) (some : 0 < f) where
       }
 
 pub proposals_name_lem : ProposalsName
-proposals_name_lem f me s e client request seen c some is h =
-    named f me s e c some (free_number s.records me) refl (subst (λ v. IsTaken (acts f me s v)) is h.step.taken) (h.sent ∙ ap (λ v. sent_by me (acts f me s v)) is)
+proposals_name_lem f me s e client request seen spare c some is h =
+    named f me (spared f me spare) s e c some (free_number s.records me) refl (subst (λ v. IsTaken (acts f me s v)) is h.step.taken) (h.sent ∙ ap (λ v. sent_by me (acts f me s v)) is)

@@ -39,7 +39,7 @@ none_more done ds none o = subst (λ xs. Once (done ++ order_of xs)) (sym none) 
 
 -- an event executes what wasn't executed before it
 pub event_once : (s : State) (e : Event) (ds : List (ℕ × Answer)) → Executes s e ds → Once s.executed → Once (s.executed ++ order_of ds)
-event_once s (Propose client request c seen) ds h o = none_more s.executed ds h o
+event_once s (Propose client request c seen spared) ds h o = none_more s.executed ds h o
 event_once s (Handle m) ds h o = none_more s.executed ds h o
 event_once s (GiveUp i) ds h o = none_more s.executed ds h o
 event_once s (Recover i) ds h o = none_more s.executed ds h o

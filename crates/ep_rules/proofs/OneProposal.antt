@@ -3,7 +3,7 @@ use Rattle.std.proofs.Common.{◌≡◌, ℕ, ◌+◌, Bool, true, false, cond, 
 use Rattle.std.proofs.lemmas.Bool.{cases_eq}
 use Rattle.std.proofs.lemmas.Option.{same_Some}
 use Rattle.ep_base.specs.Instances.{instance_of, leader_of, highest_number}
-use Rattle.ep_base.specs.Quorums.{is_fast}
+use Rattle.ep_base.specs.Quorums.{spared, is_fast}
 use Rattle.ep_base.specs.declared.attrs.Attrs.{Attrs}
 use Rattle.ep_base.specs.Commands.{Command}
 use Rattle.ep_base.specs.declared.decree.Decree.{Decree}
@@ -105,18 +105,19 @@ limited_record : (s : State) (i : ℕ) (ch : Change) (r : Record) (b : Bool) →
 limited_record s i ch r true e h = (r, ap (λ o. get (with_entry s.records i o) i) e ∙ insert_same s.records i r)
 limited_record s i ch r false e h = absurd h
 
-proposed_record : (f me : ℕ) (s : State) (c : Command) (n : ℕ) → IsTaken (proposed f me s c (Some n)) → HasRecord (changed_by s (proposed f me s c (Some n))) (instance_of me (n + 1))
-proposed_record f me s c n h =
+proposed_record : (f me q : ℕ) (s : State) (c : Command) (n : ℕ) → IsTaken (proposed f me q s c (Some n)) → HasRecord (changed_by s (proposed f me q s c (Some n))) (instance_of me (n + 1))
+proposed_record f me q s c n h =
     let i : ℕ = instance_of me (n + 1) in
     let own : Attrs = interference s.records i c in
     let x : Decree = record { command = c; attrs = own } in
-    limited_record s i (first_phase (λ r. is_fast f (leader_of i) r) f i (leader_of i) x) _ (leb own.seq 1000000) refl h
+    limited_record s i (first_phase (is_fast (leader_of i) q) f i (leader_of i) q x) _ (leb own.seq 1000000) refl h
 
-pub taken_record : (f me : ℕ) (s : State) (e : Event) (done : List (ℕ × Answer)) (c : Command) (client request seen n : ℕ) → e ≡ Propose client request c seen → free_number s.records me ≡ Some n → IsTaken (acts f me s e) →
+pub taken_record : (f me : ℕ) (s : State) (e : Event) (done : List (ℕ × Answer)) (c : Command) (client request seen n : ℕ) (named : Option ℕ) → e ≡ Propose client request c seen named → free_number s.records me ≡ Some n → IsTaken (acts f me s e) →
     HasRecord (leaves f me s e done) (instance_of me (n + 1))
-taken_record f me s e done c client request seen n is free h =
-    let whole : acts f me s e ≡ proposed f me s c (Some n) = ap (λ v. acts f me s v) is ∙ ap (λ o. proposed f me s c o) free in
-    let t = subst (λ o. HasRecord (changed_by s o) (instance_of me (n + 1))) (sym whole) (proposed_record f me s c n (subst IsTaken whole h)) in
+taken_record f me s e done c client request seen n named is free h =
+    let q : ℕ = spared f me named in
+    let whole : acts f me s e ≡ proposed f me q s c (Some n) = ap (λ v. acts f me s v) is ∙ ap (λ o. proposed f me q s c o) free in
+    let t = subst (λ o. HasRecord (changed_by s o) (instance_of me (n + 1))) (sym whole) (proposed_record f me q s c n (subst IsTaken whole h)) in
     (t.0, t.1)
 
 module _ (base : Store) (f me : ℕ) (es : List Entry) (steps : AreSteps f me (fresh_state base) es) (i : ℕ) where
@@ -128,7 +129,7 @@ module _ (base : Store) (f me : ℕ) (es : List Entry) (steps : AreSteps f me (f
   never_again client request other_client other_request p q more is =
       let s : State = left f me (fresh_state base) p.before in
       let there : HasRecord (leaves f me s p.proposal.event p.proposal.done) i =
-      subst (λ j. HasRecord (leaves f me s p.proposal.event p.proposal.done) j) p.instance (taken_record f me s p.proposal.event p.proposal.done p.command client request p.seen p.number p.event p.free (at_proposal client request p).step.taken) in
+      subst (λ j. HasRecord (leaves f me s p.proposal.event p.proposal.done) j) p.instance (taken_record f me s p.proposal.event p.proposal.done p.command client request p.seen p.number p.spared p.event p.free (at_proposal client request p).step.taken) in
       let still = record_stays f me (leaves f me s p.proposal.event p.proposal.done) more i there in
       let same : left f me (fresh_state base) q.before ≡ left f me (leaves f me s p.proposal.event p.proposal.done) more = ap (λ l. left f me (fresh_state base) l) is ∙ left_parts f me (fresh_state base) p.before (p.proposal ∷ more) in
       none_some still.0 (sym (was_free base f me es i other_client other_request q) ∙ ap (λ (z : State). get z.records i) same ∙ still.1)
@@ -144,11 +145,12 @@ one_proposal_lem base f me es steps i client request other_client other_request 
 pub proposals_tell_lem : ProposalsTell
 proposals_tell_lem base f me es some steps i client request = (
   (λ p.
-      let t : Takes me (left f me (fresh_state base) p.before) p.proposal = proposals_name_lem f me (left f me (fresh_state base) p.before) p.proposal client request p.seen p.command some p.event (at_proposal base f me es steps i client request p) in
+      let t : Takes me (left f me (fresh_state base) p.before) p.proposal = proposals_name_lem f me (left f me (fresh_state base) p.before) p.proposal client request p.seen p.spared p.command some p.event (at_proposal base f me es steps i client request p) in
       let is : t.number ≡ p.number = same_Some t.number p.number (sym t.free ∙ p.free) in
       record {
         command = p.command;
         seen = p.seen;
+        spared = p.spared;
         event = p.event;
         frame = t.frame;
         first = t.first;
@@ -157,7 +159,7 @@ proposals_tell_lem base f me es some steps i client request = (
   (λ e h tells.
       let at : Parts e es = parts e es h in
       let mine : IsEntry f me (left f me (fresh_state base) at.before) e = step_at f me (fresh_state base) at.before e at.rest (subst (AreSteps f me (fresh_state base)) (sym at.split) steps) in
-      let t : Takes me (left f me (fresh_state base) at.before) e = proposals_name_lem f me (left f me (fresh_state base) at.before) e client request tells.seen tells.command some tells.event mine in (
+      let t : Takes me (left f me (fresh_state base) at.before) e = proposals_name_lem f me (left f me (fresh_state base) at.before) e client request tells.seen tells.spared tells.command some tells.event mine in (
         record {
           before = at.before;
           proposal = e;
@@ -165,6 +167,7 @@ proposals_tell_lem base f me es some steps i client request = (
           split = at.split;
           command = tells.command;
           seen = tells.seen;
+          spared = tells.spared;
           event = tells.event;
           number = t.number;
           free = t.free;

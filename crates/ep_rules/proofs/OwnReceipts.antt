@@ -39,6 +39,7 @@ proposes_still base f me es more i client request p = record {
   split = sym (append_assoc p.before (p.proposal ∷ p.rest) more) ∙ ap (λ z. z ++ more) p.split;
   command = p.command;
   seen = p.seen;
+  spared = p.spared;
   event = p.event;
   number = p.number;
   free = p.free;

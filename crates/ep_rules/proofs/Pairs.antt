@@ -7,7 +7,7 @@ use Rattle.std.specs.Ordering.{nat_cmp, eq_by_cmp}
 use Rattle.ep_base.proofs.Interfering.{Decides-interfere, Interferes-symmetric, Interferes-noop}
 use Rattle.ep_base.specs.Instances.{leader_of}
 use Rattle.ep_base.specs.Interference.{interfere}
-use Rattle.ep_base.specs.Quorums.{size, spared}
+use Rattle.ep_base.specs.Quorums.{size}
 use Rattle.ep_base.specs.Sameness.{is_noop}
 use Rattle.ep_base.specs.Commands.{Command, Noop, Get, Put, Del, Swap, Cas, Seal, Opaque}
 use Rattle.ep_base.specs.declared.decree.Decree.{Decree}
@@ -254,14 +254,16 @@ module _ (f l : ℕ) (two : 0 < f) (small : l < size f) (h : History) (ok : Hist
 
   fast_backed : (x : Decree) → h.fast ≡ Some x → Backed f l h x
   fast_backed x e =
+      let a = ok.fast_early x e in
+      let s = a.spared in
       let all = count_all (size f) in
-      let one = count_without (size f) (λ k. true) (spared f l) in
-      let other = count_without (size f) (λ k. not (eqb k (spared f l))) l in
-      let le : count (size f) (λ k. not (eqb k (spared f l)) && not (eqb k l)) + 1 ≤ count (size f) (sees f l h l x.attrs.deps) = count_more (size f) l (λ k. not (eqb k (spared f l)) && not (eqb k l)) (sees f l h l x.attrs.deps) small
-      (and_right (not (eqb l (spared f l))) (not (eqb l l)) (ap not (eq-eqb l l refl)))
+      let one = count_without (size f) (λ k. true) s in
+      let other = count_without (size f) (λ k. not (eqb k s)) l in
+      let le : count (size f) (λ k. not (eqb k s) && not (eqb k l)) + 1 ≤ count (size f) (sees f l h l x.attrs.deps) = count_more (size f) l (λ k. not (eqb k s) && not (eqb k l)) (sees f l h l x.attrs.deps) small
+      (and_right (not (eqb l s)) (not (eqb l l)) (ap not (eq-eqb l l refl)))
       (seen_sees l l x.attrs.deps (ok.fast_origin x e))
-      (λ k lt g. let t = and_parts (not (eqb k (spared f l))) (not (eqb k l)) g in
-      seen_sees k l x.attrs.deps (ok.early_seen k x (ok.fast_early x e k lt (and_from (not (eqb k l)) (not (eqb k (spared f l))) t.1 t.0)))) in
+      (λ k lt g. let t = and_parts (not (eqb k s)) (not (eqb k l)) g in
+      seen_sees k l x.attrs.deps (ok.early_seen k x (a.each k lt (and_from (not (eqb k l)) (not (eqb k s)) t.1 t.0)))) in
       record { ballot = l; from_default = (omega arith); many = (omega arith) }
 
   decided_backed : (x : Decree) → is_noop x.command ≡ false → Decided f l h x → Backed f l h x

@@ -15,7 +15,7 @@ use Rattle.ep_rules.proofs.Merged.{in_split, in_messages, of_in, in_of}
 module _ (f : ℕ) where
   -- the frames' messages are the world's
   there : (w : World) (frames : List Frame) → messages_of frames ≡ w.sent → (e : Event) → IsAmong frames e → IsThere w.sent e
-  there w frames is (Propose client request c seen) h = tt
+  there w frames is (Propose client request c seen spared) h = tt
   there w frames is (Handle m) h = subst (λ s. In m.sent s) is (in_messages m frames h)
   there w frames is (GiveUp i) h = tt
   there w frames is (Recover i) h = tt

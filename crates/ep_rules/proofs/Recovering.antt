@@ -112,7 +112,7 @@ module _ {f i r : ℕ} {own : Command → Attrs} {new : Command → Type 0} {h :
   keep_first_in : (s : ℕ → ℕ → Option (List ℕ)) (b : ℕ) (x : Decree) → MayChoose f i r h c b → MayPropose f (leader_of i) h b x.command →
       Advance f (leader_of i) r h (ask h b x.command) → Advance f (leader_of i) r (ask h b x.command) (with_seen (ask h b x.command) s) → HistoryOk f (leader_of i) (with_seen (ask h b x.command) s) → FreshSeen r own h (with_seen (ask h b x.command) s) →
       ((n : ℕ) → b < n → s r n ≡ None) → (is_noop x.command ≡ false → Seen f (leader_of i) (with_seen (ask h b x.command) s) r b x.attrs.deps) →
-      Kept f i r own new h c (first_phase (is_other r) f i b x)
+      Kept f i r own new h c (first_phase (is_other r) f i b r x)
   keep_first_in s b x p may one step ok2 fresh blank seen =
       let l = leader_of i in
       let is = (cell.held).promised in
@@ -147,7 +147,7 @@ module _ {f i r : ℕ} {own : Command → Attrs} {new : Command → Type 0} {h :
               };
               unfast = λ j u. ((cell.held).vote 0).unfast j p.live;
             };
-            leads = record { mine = p.owned; reached = (omega arith); low = (omega arith); unchosen = p.unchosen; vote = λ e u. (x, refl); views = λ k a g. absurd (cc); each = λ e k a g. absurd (cc) };
+            leads = record { mine = p.owned; reached = (omega arith); low = (omega arith); unchosen = p.unchosen; vote = λ e u. (x, refl); spared = λ e. absurd (omega arith); views = λ k a g. absurd (cc); each = λ e k a g. absurd (cc) };
           };
           fresh = λ e. absurd (cc);
         };
@@ -165,7 +165,7 @@ module _ {f i r : ℕ} {own : Command → Attrs} {new : Command → Type 0} {h :
         proposed_new = (λ x e. inl e);
       }
 
-  keep_first_phase : (b : ℕ) (x : Command) → MayChoose f i r h c b → MayPropose f (leader_of i) h b x → Kept f i r own new h c (first_phase (is_other r) f i b (record { command = x; attrs = own x }))
+  keep_first_phase : (b : ℕ) (x : Command) → MayChoose f i r h c b → MayPropose f (leader_of i) h b x → Kept f i r own new h c (first_phase (is_other r) f i b r (record { command = x; attrs = own x }))
   keep_first_phase b x p may =
       let l = leader_of i in
       let promised = (cell.held).promised in
@@ -177,7 +177,7 @@ module _ {f i r : ℕ} {own : Command → Attrs} {new : Command → Type 0} {h :
       let ok1 : HistoryOk f l h1 = history_next f l r h h1 one (ask_news f l b x h (record { unchosen = p.unchosen; low = (omega arith); led = led; free = λ lt. free_kept f l r h h1 one b may.0; valid = may.1 })) ok in
       go (is_noop x) refl one ok1
     where
-      go : (n : Bool) → is_noop x ≡ n → Advance f (leader_of i) r h (ask h b x) → HistoryOk f (leader_of i) (ask h b x) → Kept f i r own new h c (first_phase (is_other r) f i b (record { command = x; attrs = own x }))
+      go : (n : Bool) → is_noop x ≡ n → Advance f (leader_of i) r h (ask h b x) → HistoryOk f (leader_of i) (ask h b x) → Kept f i r own new h c (first_phase (is_other r) f i b r (record { command = x; attrs = own x }))
       go true noop one ok1 = keep_first_in h.seen b (record { command = x; attrs = own x }) p may one (same_advance f (leader_of i) r (ask h b x)) ok1 (λ k b d e. inl e)
           (λ n lt. later_unseen cell n (let at = p.at in omega arith)) (λ n. absurd (cc))
       go false real one ok1 =
@@ -210,7 +210,7 @@ module _ {f i r : ℕ} (own : Command → Attrs) (new : Command → Type 0) (two
       })
 
   keep_propose_at : (b : ℕ) → MayChoose f i r h c b → (x : Command) → MayPropose f (leader_of i) h b x → KeptOk f i r own new h c (recover_with f i r b x (own x))
-  keep_propose_at b p x may = keep_limited (own x) (first_phase (is_other r) f i b (record { command = x; attrs = own x })) (keep_first_phase ok cell b x p may)
+  keep_propose_at b p x may = keep_limited (own x) (first_phase (is_other r) f i b r (record { command = x; attrs = own x })) (keep_first_phase ok cell b x p may)
 
   keep_choice : (b : ℕ) → MayChoose f i r h c b → (ch : Choice) → ChoiceOk f (leader_of i) h b ch → KeptOk f i r own new h c (act_on f i r b own (record_of i c) ch)
   keep_choice b p (CommitIt x) may = keep_commit_phase ok cell x may
@@ -238,7 +238,7 @@ module _ {f i r : ℕ} (own : Command → Attrs) (new : Command → Type 0) (two
 
   keep_led_prepare_ok : (from b : ℕ) (v : Option Vote) (led : Option Led) → LedOk f (leader_of i) h r (record_of i c) led → Reported f (leader_of i) h from b v → KeptOk f i r own new h c (on_prepare_ok f i r from b v own (record_of i c) led)
   keep_led_prepare_ok from b v None p told = keep_nothing ok cell
-  keep_led_prepare_ok from b v (Some (Proposing lb answers)) p told = keep_nothing ok cell
+  keep_led_prepare_ok from b v (Some (Proposing lb sp answers)) p told = keep_nothing ok cell
   keep_led_prepare_ok from b v (Some (Accepting lb answers)) p told = keep_nothing ok cell
   keep_led_prepare_ok from b v (Some (Preparing lb answers)) p told =
       split (λ more. KeptOk f i r own new h c (use_prepare_ok f i r b own (record_of i c) more)) (is_some (answer answers from)) _ _
@@ -252,8 +252,8 @@ module _ {f i r : ℕ} (own : Command → Attrs) (new : Command → Type 0) (two
 
 -- Proposals.
 module _ {f i r : ℕ} (own : Command → Attrs) (new : Command → Type 0) (few : size f ≤ 256) (l_low : leader_of i < size f) {h : History} (ok : HistoryOk f (leader_of i) h) {c : Cell} (cell : CellOk f i h r c) where
-  keep_new : (x : Command) → new x → is_noop x ≡ false → r ≡ leader_of i → c.entry ≡ None → Kept f i r own new h c (first_phase (is_fast f (leader_of i)) f i (leader_of i) (record { command = x; attrs = own x }))
-  keep_new x now real leads none =
+  keep_new : (s : ℕ) (x : Command) → new x → is_noop x ≡ false → r ≡ leader_of i → c.entry ≡ None → Kept f i r own new h c (first_phase (is_fast (leader_of i) s) f i (leader_of i) s (record { command = x; attrs = own x }))
+  keep_new s x now real leads none =
       let l = leader_of i in
       let fresh = cell.fresh none leads in
       let same : record_of i c ≡ fresh_record i = ap (record_or_fresh i) none in
@@ -264,11 +264,11 @@ module _ {f i r : ℕ} (own : Command → Attrs) (new : Command → Type 0) (few
       let y : Decree = record { command = x; attrs = own x } in
       let d = (own x).deps in
       let owner : owner_of l ≡ l = omega arith in
-      let h1 = propose_at h l x in
+      let h1 = propose_at h l s x in
       let h2 = ask h1 l x in
       let h3 = see h2 r l d in
-      let one : Advance f l r h h1 = subst (λ k. Advance f l k h h1) (sym leads) (propose_at_advance f l x h at fresh.0) in
-      let ok1 : HistoryOk f l h1 = history_next f l r h h1 one (propose_at_news f l x h real) ok in
+      let one : Advance f l r h h1 = subst (λ k. Advance f l k h h1) (sym leads) (propose_at_advance f l s x h at fresh.0 fresh.3) in
+      let ok1 : HistoryOk f l h1 = history_next f l r h h1 one (propose_at_news f l s x h real) ok in
       let two : Advance f l r h1 h2 = ask_advance f l r l x h1 (owner ∙ sym leads) fresh.2 in
       let led : l ≤ h1.promised (owner_of l) = (let p = put_here h.promised l l (owner_of l) owner in omega arith) in
       let ok2 : HistoryOk f l h2 = history_next f l r h1 h2 two (ask_news f l l x h1 (record { unchosen = fresh.1; low = (omega arith); led = led; free = λ lt. absurd (omega arith); valid = inr refl })) ok1 in
@@ -302,11 +302,11 @@ module _ {f i r : ℕ} (own : Command → Attrs) (new : Command → Type 0) (few
               };
               unfast = λ j u. told.unfast j refl;
             };
-            leads = record { mine = owner ∙ sym leads; reached = (omega arith); low = (omega arith); unchosen = fresh.1; vote = λ e u. (y, refl); views = λ k a g. absurd (cc); each = λ e k a g. absurd (cc) };
+            leads = record { mine = owner ∙ sym leads; reached = (omega arith); low = (omega arith); unchosen = fresh.1; vote = λ e u. (y, refl); spared = λ e. refl; views = λ k a g. absurd (cc); each = λ e k a g. absurd (cc) };
           };
           fresh = λ e. absurd (cc);
         };
-        out = sent_to_those _ (is_fast f l) (size f) (PreAccept i l y) (λ k lt e. record {
+        out = sent_to_those _ (is_fast l s) (size f) (PreAccept i l y) (λ k lt e. record {
           apart = λ j. false≢true (sym (ap not (eq-eqb k l (sym j ∙ owner))) ∙ (and_parts _ _ e).0);
           low = (omega arith);
           free = λ lt. absurd (omega arith);
@@ -314,14 +314,14 @@ module _ {f i r : ℕ} (own : Command → Attrs) (new : Command → Type 0) (few
           asked = asked;
           quiet = λ n. absurd (false≢true (sym real ∙ n));
           origin = λ j. subst (λ n. Seen f l h3 n l d) leads seen;
-          first = λ j. (refl, e);
+          first = λ j. (refl, record { spared = s; named = refl; asked = e });
         });
         fresh_seen = note_fresh r own h2 l x asked;
         proposed_new = (λ z e. inr (let j : x ≡ z = cc in subst new j now));
       }
 
-  pub keep_propose : (x : Command) → new x → is_noop x ≡ false → r ≡ leader_of i → c.entry ≡ None → KeptOk f i r own new h c (propose f i x (own x))
-  keep_propose x now real leads none = keep_limited (own x) (first_phase (is_fast f (leader_of i)) f i (leader_of i) (record { command = x; attrs = own x })) (keep_new x now real leads none)
+  pub keep_propose : (s : ℕ) (x : Command) → new x → is_noop x ≡ false → r ≡ leader_of i → c.entry ≡ None → KeptOk f i r own new h c (propose f i s x (own x))
+  keep_propose s x now real leads none = keep_limited (own x) (first_phase (is_fast (leader_of i) s) f i (leader_of i) s (record { command = x; attrs = own x })) (keep_new s x now real leads none)
 
 -- All messages.
 module _ (f r : ℕ) (new : Command → Type 0) (two : 0 < f) (few : size f ≤ 256) (r_low : r < size f) (h : History) (s : State) where

@@ -5,13 +5,13 @@ use Rattle.ep_base.specs.Instances.{instance_of}
 use Rattle.ep_base.specs.declared.attrs.Attrs.{Attrs}
 use Rattle.ep_base.specs.Commands.{Command, Put}
 use Rattle.ep_base.specs.declared.decree.Decree.{Decree}
-use Rattle.ep_base.specs.declared.message.Message.TheVariants.{PreAcceptOk, Accept, Commit, Nack}
+use Rattle.ep_base.specs.declared.message.Message.TheVariants.{PreAccept, PreAcceptOk, Accept, Commit, Nack}
 use Rattle.ep_base.specs.declared.vote.VoteStatus.{VoteStatus}
 use Rattle.ep_base.specs.declared.vote.VoteStatus.TheVariants.{PreAccepted, Accepted, Committed}
 use Rattle.ep_base.specs.declared.vote.Vote.{Vote}
 use Rattle.ep_rules.specs.Answers.{Answers, answer}
-use Rattle.ep_rules.specs.Cells.{nothing, voted, fresh_record, NotLeading, TooFewAnswers}
-use Rattle.ep_rules.specs.Phases.{on_pre_accept, on_pre_accept_ok, give_up}
+use Rattle.ep_rules.specs.Cells.{nothing, kept, voted, fresh_record, NotLeading, TooFewAnswers}
+use Rattle.ep_rules.specs.Phases.{propose, on_pre_accept, on_pre_accept_ok, give_up}
 use Rattle.ep_rules.specs.Recovery.{Choice, CommitIt, AcceptFast, ProposeIt, ProposeNoop, choose}
 use Rattle.ep_rules.specs.declared.led.Led.{Led}
 use Rattle.ep_rules.specs.declared.led.Led.TheVariants.{Proposing, Accepting}
@@ -102,7 +102,31 @@ abbrev own_joined : Record
 own_joined = record { promised = ballot_of 1 4; vote = own.vote }
 
 abbrev leads : Answers Attrs → Option Led
-leads answers = Some (Proposing (ballot_of 0 0) answers)
+leads answers = Some (Proposing (ballot_of 0 0) 4 answers)
+
+-- a proposal that spares replica 1 asks the three others
+sparing_asks : propose 2 i 1 put_x alone
+    ≡ Ok (record {
+      entry = Some own;
+      led = Some (Some (Proposing (ballot_of 0 0) 1 []));
+      told = None;
+      out = (2, PreAccept i (ballot_of 0 0) put_alone) ∷ (3, PreAccept i (ballot_of 0 0) put_alone) ∷ (4, PreAccept i (ballot_of 0 0) put_alone) ∷ [];
+    })
+sparing_asks = refl
+
+-- its fast path waits for these, and not for any three
+sparing_waits : on_pre_accept_ok 2 i 0 3 (ballot_of 0 0) after own (Some (Proposing (ballot_of 0 0) 1 ((2, after) ∷ (1, after) ∷ [])))
+    ≡ kept (Proposing (ballot_of 0 0) 1 ((3, after) ∷ (2, after) ∷ (1, after) ∷ []))
+sparing_waits = refl
+
+sparing_commits : on_pre_accept_ok 2 i 0 3 (ballot_of 0 0) after own (Some (Proposing (ballot_of 0 0) 1 ((2, after) ∷ (4, after) ∷ [])))
+    ≡ record {
+      entry = Some (voted (ballot_of 0 0) Committed put_after);
+      led = Some None;
+      told = None;
+      out = (1, Commit i put_after) ∷ (2, Commit i put_after) ∷ (3, Commit i put_after) ∷ (4, Commit i put_after) ∷ [];
+    }
+sparing_commits = refl
 
 -- answers that differ: the accept phase with all of them joined
 slow_path : on_pre_accept_ok 2 i 0 3 (ballot_of 0 0) alone own (leads ((2, after) ∷ (1, alone) ∷ []))
@@ -137,7 +161,7 @@ uses_no_answer : on_pre_accept_ok 2 i 0 3 (ballot_of 0 0) alone own_joined (lead
 uses_no_answer = refl
 
 -- equal answers at a recovery ballot: the accept phase all the same
-no_fast_path_in_recovery : on_pre_accept_ok 2 i 1 2 (ballot_of 1 1) alone (voted (ballot_of 1 1) PreAccepted put_alone) (Some (Proposing (ballot_of 1 1) ((0, alone) ∷ [])))
+no_fast_path_in_recovery : on_pre_accept_ok 2 i 1 2 (ballot_of 1 1) alone (voted (ballot_of 1 1) PreAccepted put_alone) (Some (Proposing (ballot_of 1 1) 1 ((0, alone) ∷ [])))
     ≡ record {
       entry = Some (voted (ballot_of 1 1) Accepted put_alone);
       led = Some (Some (Accepting (ballot_of 1 1) []));

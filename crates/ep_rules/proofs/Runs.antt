@@ -4,7 +4,7 @@ use Rattle.std.proofs.lemmas.Bool.{false≢true, and_parts, or_left, eqb-true, n
 use Rattle.ep_base.specs.Ballots.{owner_of}
 use Rattle.ep_base.specs.Instances.{instance_of, leader_of}
 use Rattle.ep_base.specs.Messages.{instance_of_message}
-use Rattle.ep_base.specs.Quorums.{size}
+use Rattle.ep_base.specs.Quorums.{size, spared}
 use Rattle.ep_base.specs.Sameness.{is_noop}
 use Rattle.ep_base.specs.Commands.{Command}
 use Rattle.ep_base.specs.declared.decree.Decree.{Decree}
@@ -20,7 +20,7 @@ use Rattle.ep_rules.specs.Recovery.{recover}
 use Rattle.ep_rules.specs.Maps.{get}
 use Rattle.ep_rules.specs.Safety.{Agreement, Validity, WasProposed}
 use Rattle.ep_rules.specs.States.{fresh_state, or_zero, cell_in, record_in, free_number}
-use Rattle.ep_rules.specs.Steps.{Sent, Event, Propose, Handle, GiveUp, Recover, Execute, is_within, is_for, handled, at, proposed, acts, sent_from}
+use Rattle.ep_rules.specs.Steps.{Sent, Event, Propose, Handle, GiveUp, Recover, Execute, may_ask, is_within, is_for, handled, at, proposed, acts, sent_from}
 use Rattle.ep_rules.specs.Worlds.{World, opening, In, Act, IsThere, Happens, moved, IsRun, ends, Committed as IsCommitted}
 use Rattle.ep_rules.proofs.Counting.{count_le}
 use Rattle.ep_rules.proofs.Facts.{History, can_accept, CanChoose, CanBeFast, Decided, slowly, quickly, IsCast, IsLast, CellOk, MessageOk, HistoryOk}
@@ -39,7 +39,7 @@ module _ (f l : ℕ) (h : History) (ok : HistoryOk f l h) where
   can_choose b many = let le = count_le (size f) (λ r. h.accepted r b) (can_accept f l h b) (λ k _ e. or_left _ _ e) in omega arith
 
   can_be_fast : (x : Decree) → h.fast ≡ Some x → CanBeFast f l h x
-  can_be_fast x e = record { leader = inl e; members = λ r lt m. inl (ok.fast_early x e r lt m) }
+  can_be_fast x e = let a = ok.fast_early x e in record { leader = inl e; spared = a.spared; named = inl a.named; members = λ r lt m. inl (a.each r lt m) }
 
   slow_slow : (b c : ℕ) (x y : Decree) → b < c → h.chosen b ≡ Some x → size f < 2 * count (size f) (λ r. h.accepted r b) → h.chosen c ≡ Some y → x ≡ y
   slow_slow b c x y lt ex many ey =
@@ -104,7 +104,8 @@ pub record IsProposal (w : World) (a : Act) (i : ℕ) (c : Command) : Type 0 whe
   pub client : ℕ
   pub request : ℕ
   pub seen : ℕ
-  pub event : a.event ≡ Propose client request c seen
+  pub spared : Option ℕ
+  pub event : a.event ≡ Propose client request c seen spared
   pub number : ℕ
   pub free : free_number (w.states (leader_of i)).records (leader_of i) ≡ Some number
   pub instance : instance_of (leader_of i) (number + 1) ≡ i
@@ -172,12 +173,12 @@ module _ (f : ℕ) (two : 0 < f) (few : size f ≤ 256) (w : World) (a : Act) (s
   kept_at n (Ok ch) p = p
   kept_at n (Err e) p = tt
 
-  kept_proposed : (client request : ℕ) (c : Command) (seen : ℕ) → a.event ≡ Propose client request c seen → is_noop c ≡ false → (n : Option ℕ) → free_number (w.states a.replica).records a.replica ≡ n → KeptAct (proposed f a.replica (w.states a.replica) c n)
-  kept_proposed client request c seen is real None e = tt
-  kept_proposed client request c seen is real (Some n) e =
+  kept_proposed : (client request : ℕ) (c : Command) (seen : ℕ) (spared : Option ℕ) (s : ℕ) → a.event ≡ Propose client request c seen spared → is_noop c ≡ false → (n : Option ℕ) → free_number (w.states a.replica).records a.replica ≡ n → KeptAct (proposed f a.replica s (w.states a.replica) c n)
+  kept_proposed client request c seen spared k is real None e = tt
+  kept_proposed client request c seen spared k is real (Some n) e =
       let s = w.states a.replica in
       let found = free_found s.records a.replica n e in
-      kept_at (instance_of a.replica (n + 1)) (propose f (instance_of a.replica (n + 1)) c (interference s.records (instance_of a.replica (n + 1)) c)) (λ at.
+      kept_at (instance_of a.replica (n + 1)) (propose f (instance_of a.replica (n + 1)) k c (interference s.records (instance_of a.replica (n + 1)) c)) (λ at.
       let own : a.replica ≡ leader_of i = (let d = ap leader_of at in let lt = found.0 in omega arith) in
       let none : (cell_in s i).entry ≡ None = subst (λ j. get s.records j ≡ None) at found.1 in
       let now : IsProposal w a i c = record {
@@ -185,13 +186,14 @@ module _ (f : ℕ) (two : 0 < f) (few : size f ≤ 256) (w : World) (a : Act) (s
         client = client;
         request = request;
         seen = seen;
+        spared = spared;
         event = is;
         number = n;
         free = subst (λ k. free_number (w.states k).records k ≡ Some n) own e;
         instance = ap (λ k. instance_of k (n + 1)) (sym own) ∙ at;
       } in
-      subst (λ j. KeptHere (propose f j c (interference s.records j c))) (sym at)
-      (keep_propose (interference s.records i) (IsProposal w a i) few leads v.ok (v.cells a.replica) c now real own none))
+      subst (λ j. KeptHere (propose f j k c (interference s.records j c))) (sym at)
+      (keep_propose (interference s.records i) (IsProposal w a i) few leads v.ok (v.cells a.replica) k c now real own none))
 
   kept_handled : (s : Sent) → SentOk f i v.history s → s.to ≡ a.replica → KeptAct (at (instance_of_message s.message) (handled f a.replica s.from (w.states a.replica) s.message))
   kept_handled s told mine =
@@ -203,9 +205,9 @@ module _ (f : ℕ) (two : 0 < f) (few : size f ≤ 256) (w : World) (a : Act) (s
       (keep_handled f a.replica (IsProposal w a i) two few small h t s.from s.message)
       leads v.ok (v.cells a.replica) (subst (λ k. MessageOk f (leader_of i) h s.from k s.message) mine (told is)))
 
-  keeps_act : (e : Event) → a.event ≡ e → is_within (size f) e ≡ true → is_for a.replica e ≡ true → IsThere w.sent e → KeptAct (acts f a.replica (w.states a.replica) e)
-  keeps_act (Propose client request c seen) is within mine there =
-      kept_proposed client request c seen is (not-true _ (and_parts (not (is_noop c)) _ within).0) (free_number (w.states a.replica).records a.replica) refl
+  keeps_act : (e : Event) → a.event ≡ e → is_within f a.replica e ≡ true → is_for a.replica e ≡ true → IsThere w.sent e → KeptAct (acts f a.replica (w.states a.replica) e)
+  keeps_act (Propose client request c seen named) is within mine there =
+      kept_proposed client request c seen named (spared f a.replica named) is (not-true _ (and_parts (not (is_noop c)) _ (and_parts (may_ask client request c) _ within).0).0) (free_number (w.states a.replica).records a.replica) refl
   keeps_act (Handle m) is within mine there = kept_handled m.sent (every_in (SentOk f i v.history) w.sent m.sent there v.sent) (eqb-true _ _ mine)
   keeps_act (GiveUp n) is within mine there =
       let s = w.states a.replica in
@@ -239,7 +241,7 @@ module _ (base : Store) (f : ℕ) (two : 0 < f) (few : size f ≤ 256) where
   -- The opening world.
 
   unfoldable pub first_history : ℕ → History
-  first_history l = record { promised = λ _. l; chosen = λ _. None; accepted = λ _ _. false; early = λ _. None; proposed = None; fast = None; asked = λ _. None; seen = λ _ _. None }
+  first_history l = record { promised = λ _. l; chosen = λ _. None; accepted = λ _ _. false; early = λ _. None; proposed = None; spared = None; fast = None; asked = λ _. None; seen = λ _ _. None }
 
   pub first_ok : (l : ℕ) → HistoryOk f l (first_history l)
   unfolding first_history
@@ -278,7 +280,7 @@ module _ (base : Store) (f : ℕ) (two : 0 < f) (few : size f ≤ 256) where
       vote = λ b. record { low = (omega arith); gap = λ c low high. refl; blank = λ c low high. refl; cast = record { unaccepted = refl; unvoted = refl; unseen = refl }; unfast = λ e u. refl };
       leads = tt;
     };
-    fresh = λ e is. (refl, refl, refl);
+    fresh = λ e is. (refl, refl, refl, refl);
   }
 
   pub cell_at_first : (i : ℕ) → cell_in (fresh_state base) i ≡ first_cell
@@ -391,6 +393,7 @@ module _ (base : Store) (f : ℕ) (two : 0 < f) (few : size f ≤ 256) where
           client = p.client;
           request = p.request;
           seen = p.seen;
+          spared = p.spared;
           event = p.event;
           number = p.number;
           free = p.free;

@@ -57,7 +57,7 @@ has_in (d ∷ ds) i k = elim (has_cons d.0 i (order_of ds) k) [
 -- Executions, and the acts that make them.
 module _ (base : Store) (f : ℕ) where
   act_step : (w : World) (a : Act) (rest : List Execution) (e : Event) (i : ℕ) → IsExecutedIn (exec_of w a e rest) i → Has (order_of a.done) i ⊎ IsExecutedIn rest i
-  act_step w a rest (Propose client request c seen) i k = inr k
+  act_step w a rest (Propose client request c seen spared) i k = inr k
   act_step w a rest (Handle m) i k = inr k
   act_step w a rest (GiveUp j) i k = inr k
   act_step w a rest (Recover j) i k = inr k

@@ -19,7 +19,7 @@ use Rattle.ep_rules.specs.declared.led.Led.TheVariants.{Proposing, Accepting, Pr
 use Rattle.ep_rules.specs.declared.record.Record.{Record}
 use Rattle.ep_rules.proofs.Attributes.{within}
 use Rattle.ep_rules.proofs.Counting.{count_le}
-use Rattle.ep_rules.proofs.Facts.{Quiet, View, Seen, Backed, sees, can_see, CanSee, History, can_accept, CanChoose, CanBeFast, Safe, Free, Decided, slowly, quickly, IsValid, IsCast, IsLast, ballot_at, Told, Reported, LedOk, HeldOk, CellOk, MessageOk, Advance}
+use Rattle.ep_rules.proofs.Facts.{Quiet, View, Seen, Backed, sees, can_see, CanSee, History, can_accept, CanChoose, Member, AllEarly, CanBeFast, Safe, Free, Decided, slowly, quickly, IsValid, IsCast, IsLast, ballot_at, Told, Reported, LedOk, HeldOk, CellOk, MessageOk, Advance}
 
 pub holds_some : {X : Type 0} (p : X → Bool) (o : Option X) → holds p o ≡ true → (x : X) × (o ≡ Some x) × (p x ≡ true)
 holds_some p None e = absurd (cc)
@@ -38,7 +38,22 @@ pub none_after : {X : Type 0} (o o' : Option X) → ((x : X) → o' ≡ Some x �
 none_after o None back e = refl
 none_after o (Some x) back e = absurd (let s = back x refl in cc)
 
+-- an answer was so before, or there was none
+pub some_before : {X : Type 0} (o o' : Option X) (y : X) → ((x : X) → o ≡ Some x → o' ≡ Some x) → o' ≡ Some y → (o ≡ Some y) ⊎ (o ≡ None)
+some_before None o' y keep e = inr refl
+some_before (Some x) o' y keep e = inl (sym (keep x refl) ∙ e)
+
 module _ (f l r : ℕ) (h h' : History) (go : Advance f l r h h') where
+  pub member_kept : (k : ℕ) → Member f l h k → Member f l h' k
+  member_kept k m = record { spared = m.spared; named = go.spared_kept m.spared m.named; asked = m.asked }
+
+  pub all_early_kept : (y : Decree) → AllEarly f l h y → AllEarly f l h' y
+  all_early_kept y a = record { spared = a.spared; named = go.spared_kept a.spared a.named; each = λ k lt m. go.early_kept k y (a.each k lt m) }
+
+  spared_before : (s : ℕ) → ((h'.spared ≡ Some s) ⊎ (h'.spared ≡ None)) → (h.spared ≡ Some s) ⊎ (h.spared ≡ None)
+  spared_before s (inl e) = some_before h.spared h'.spared s go.spared_kept e
+  spared_before s (inr n) = inr (none_before h.spared h'.spared go.spared_kept n)
+
   can_accept_before : (b k : ℕ) → can_accept f l h' b k ≡ true → can_accept f l h b k ≡ true
   can_accept_before b k e =
       elim (or_cases _ _ e) [
@@ -56,6 +71,8 @@ module _ (f l r : ℕ) (h h' : History) (go : Advance f l r h h') where
   pub can_be_fast_before : (y : Decree) → CanBeFast f l h' y → CanBeFast f l h y
   can_be_fast_before y c = record {
     leader = leader_before y c.leader;
+    spared = c.spared;
+    named = spared_before c.spared c.named;
     members = λ k b m. elim (c.members k b m) [
       | inl e ↦ go.early_new k y e
       | inr p ↦ inr (let up = go.promised_up k in omega arith)
@@ -176,12 +193,13 @@ module _ (f l r : ℕ) (h h' : History) (go : Advance f l r h h') where
   -- what is led, where the ballots of r's are chosen at as they were
   pub led_same : (k : ℕ) (x : Record) (led : Option Led) → ((b : ℕ) → owner_of b ≡ k → h'.chosen b ≡ h.chosen b) → ((b : ℕ) → owner_of b ≡ k → h'.asked b ≡ h.asked b) → LedOk f l h k x led → LedOk f l h' k x led
   led_same k x None same same_asked p = tt
-  led_same k x (Some (Proposing b answers)) same same_asked p = record {
+  led_same k x (Some (Proposing b s answers)) same same_asked p = record {
     mine = p.mine;
     reached = p.reached;
     low = p.low;
     unchosen = same b p.mine ∙ p.unchosen;
     vote = p.vote;
+    spared = λ e. go.spared_kept s (p.spared e);
     views = λ j a is. view_kept j b a (p.views j a is);
     each = λ e j a is. (let t = p.each e j a is in (t.0, go.early_kept j _ t.1));
   }
@@ -199,12 +217,13 @@ module _ (f l r : ℕ) (h h' : History) (go : Advance f l r h h') where
   -- the same, after a promise or a vote at a ballot that isn't led here
   pub led_moved : (k : ℕ) (x x' : Record) (led : Option Led) → ((b : ℕ) → owner_of b ≡ k → h'.chosen b ≡ h.chosen b) → ((b : ℕ) → owner_of b ≡ k → h'.asked b ≡ h.asked b) → x.promised ≤ x'.promised → ((b : ℕ) → owner_of b ≡ k → b ≤ x.promised → x'.promised ≢ b) → LedOk f l h k x led → LedOk f l h' k x' led
   led_moved k x x' None same same_asked up ne p = tt
-  led_moved k x x' (Some (Proposing b answers)) same same_asked up ne p = record {
+  led_moved k x x' (Some (Proposing b s answers)) same same_asked up ne p = record {
     mine = p.mine;
     reached = (let le = p.reached in omega arith);
     low = p.low;
     unchosen = same b p.mine ∙ p.unchosen;
     vote = λ e u. absurd (ne b p.mine p.reached e);
+    spared = λ e. go.spared_kept s (p.spared e);
     views = λ j a is. view_kept j b a (p.views j a is);
     each = λ e j a is. (let t = p.each e j a is in (t.0, go.early_kept j _ t.1));
   }
@@ -242,7 +261,7 @@ module _ (f l r : ℕ) (h h' : History) (go : Advance f l r h h') where
     asked = go.asked_kept b _ p.asked;
     quiet = λ n. quiet_kept b (p.quiet n);
     origin = λ e. seen_kept l l _ (p.origin e);
-    first = λ e. (go.proposed_kept _ (p.first e).0, (p.first e).1);
+    first = λ e. (go.proposed_kept _ (p.first e).0, member_kept to (p.first e).1);
   }
   message_kept from to (PreAcceptOk i b a) p = ((λ e. (let t = p.0 e in (t.0, go.early_kept from _ t.1))), view_kept from b a p.1)
   message_kept from to (Accept i b x) p = (go.chosen_kept b x p.0, p.1)
@@ -259,5 +278,5 @@ cell_other f i r h h' go k c own ne p = record {
   fresh = λ e is. (
       let t = p.fresh e is in
       let n : r ≢ leader_of i = (λ j. ne (is ∙ sym j)) in
-      (go.same_proposed n ∙ t.0, go.same_chosen (leader_of i) (λ j. n (sym j ∙ own)) ∙ t.1, go.same_asked (leader_of i) (λ j. n (sym j ∙ own)) ∙ t.2));
+      (go.same_proposed n ∙ t.0, go.same_chosen (leader_of i) (λ j. n (sym j ∙ own)) ∙ t.1, go.same_asked (leader_of i) (λ j. n (sym j ∙ own)) ∙ t.2, go.same_spared n ∙ t.3));
 }

@@ -18,7 +18,7 @@ use Rattle.ep_rules.proofs.Attributes.{within_trans, within_join_left, within_jo
 use Rattle.ep_rules.proofs.Facts.{Seen, History, Decided, IsLast, ballot_at, NoVote, Told, CellOk, AskOk, HistoryOk, Advance}
 use Rattle.ep_rules.proofs.Histories.{advance_trans, with_seen, see, note, note_here, note_other, note_back, see_advance, see_news, put_same, mark_here, mark_other, history_next, promise, promise_advance, promise_news, vote_accept, vote_accept_advance, vote_accept_news, vote_early, vote_early_advance, vote_early_news, same_advance}
 use Rattle.ep_rules.proofs.Keeping.{record_of, split, FreshSeen, Kept, KeptOk, keep_nothing, keep_nack, keep_committed, keep_limited, later_unseen, later_unaccepted}
-use Rattle.ep_rules.proofs.Stable.{seen_kept, quiet_kept, free_kept, told_same, led_moved}
+use Rattle.ep_rules.proofs.Stable.{member_kept, seen_kept, quiet_kept, free_kept, told_same, led_moved}
 
 -- What the tests say of the last vote.
 
@@ -233,7 +233,7 @@ module _ {f i r : ℕ} {own : Command → Attrs} {new : Command → Type 0} {h :
       record {
         after = vote_early h1 l r y;
         advance = go;
-        history = history_next f l r h1 (vote_early h1 l r y) step (vote_early_news f l r y h1 (record { member = asked.1; proposed = asked.0; seen = seen; origin = origin })) ok1;
+        history = history_next f l r h1 (vote_early h1 l r y) step (vote_early_news f l r y h1 (record { member = member_kept f l r h (vote_early h1 l r y) go r asked.1; proposed = asked.0; seen = seen; origin = origin })) ok1;
         cell = record {
           held = record {
             promised = put_same h.promised r l;

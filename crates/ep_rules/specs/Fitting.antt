@@ -17,7 +17,7 @@ StateFits s = (i : ℕ) (r : Record) → get s.records i ≡ Some r → RecordFi
 
 -- a handled message has a spelling, and comes from another replica
 abbrev pub EventFits : Event → Type 0
-EventFits (Propose client request c seen) = Unit {0}
+EventFits (Propose client request c seen spared) = Unit {0}
 EventFits (Handle m) = BallotsFit m.sent.message × (m.sent.from ≢ m.sent.to)
 EventFits (GiveUp i) = Unit {0}
 EventFits (Recover i) = Unit {0}

@@ -1,5 +1,5 @@
 -- The life of a cluster: generations, one after the other. Each is a world of its own. It opens with the map that the seal of the one before has left.
-use Rattle.std.specs.Prelude.{◌≡◌, ◌≢◌, ◌⊎◌, ◌↔◌, ℕ, zero, suc, ◌+◌, ◌<◌, ◌≤◌, max, eqb, Bool, true, false, ◌&&◌, ◌||◌, cond, length, List, [], ◌∷◌, ◌++◌, Some, slice_index_or as get_or}
+use Rattle.std.specs.Prelude.{◌≡◌, ◌≢◌, ◌⊎◌, ◌↔◌, ℕ, zero, suc, ◌+◌, ◌<◌, ◌≤◌, max, eqb, Bool, true, false, ◌&&◌, ◌||◌, cond, length, List, [], ◌∷◌, ◌++◌, Option, Some, slice_index_or as get_or}
 use Rattle.ep_base.specs.Instances.{instance_of, leader_of}
 use Rattle.ep_base.specs.Interference.{interfere}
 use Rattle.ep_base.specs.Places.{place, Has}
@@ -139,7 +139,8 @@ pub record WasProposedIn (start : Contents) (f : ℕ → ℕ) (turns : List Turn
   pub client : ℕ
   pub request : ℕ
   pub seen : ℕ
-  pub event : proposal.event ≡ Propose client request c seen
+  pub spared : Option ℕ
+  pub event : proposal.event ≡ Propose client request c seen spared
   pub number : ℕ
   pub free : free_number (((lived f (birth start) before).worlds g).states (leader_of i)).records (leader_of i) ≡ Some number
   pub instance : instance_of (leader_of i) (number + 1) ≡ i

@@ -1,5 +1,5 @@
 -- Laws of journals: where they match, they are one run of a world; and what a world plays are journals that match.
-use Rattle.std.specs.Prelude.{◌≡◌, ◌≢◌, ◌⊎◌, ◌↔◌, ℕ, ◌+◌, ◌<◌, ◌≤◌, true, false, max, length, List, [], ◌∷◌, ◌++◌, Some, slice_get}
+use Rattle.std.specs.Prelude.{◌≡◌, ◌≢◌, ◌⊎◌, ◌↔◌, ℕ, ◌+◌, ◌<◌, ◌≤◌, true, false, max, length, List, [], ◌∷◌, ◌++◌, Option, Some, slice_get}
 use Rattle.ep_base.specs.Instances.{instance_of, leader_of}
 use Rattle.ep_base.specs.Interference.{interfere}
 use Rattle.ep_base.specs.Messages.{instance_of_message}
@@ -138,7 +138,7 @@ pub record Takes (me : ℕ) (s : State) (e : Entry) : Type 0 where
 -- What a proposal sends tells which instance it takes.
 abbrev pub ProposalsName : Type 0
 ProposalsName =
-    (f me : ℕ) (s : State) (e : Entry) (client request seen : ℕ) (c : Command) → 0 < f → e.event ≡ Propose client request c seen → IsEntry f me s e → Takes me s e
+    (f me : ℕ) (s : State) (e : Entry) (client request seen : ℕ) (spared : Option ℕ) (c : Command) → 0 < f → e.event ≡ Propose client request c seen spared → IsEntry f me s e → Takes me s e
 
 -- A replica proposes one command at most as an instance.
 abbrev pub OneProposal : Type 0

@@ -1,6 +1,6 @@
 -- Phase 1, the accept phase and commit at one instance (EPaxos, figure 2; Sutra, 2019, for the two ballots).
 -- f: how many replicas may fail; i: the instance; me: who acts; b: a ballot; x: a decree; r: the replica's record of i;
--- own: the attributes that the interference set gives the command at this replica.
+-- own: the attributes that the interference set gives the command at this replica; s: the replica that the fast quorum lacks.
 use Rattle.std.specs.Prelude.{ℕ, zero, suc, Bool, false, ◌&&◌, ◌||◌, not, eqb, ltb, leb, cond, [], Option, Some, None, Result, Ok, Err, is_some}
 use Rattle.ep_base.specs.Attributes.{join, same_attrs}
 use Rattle.ep_base.specs.Instances.{leader_of}
@@ -28,9 +28,9 @@ limited own ch = cond (leb own.seq 1000000) (Ok ch) (Err SeqExhausted)
 
 -- The phases that a leader begins.
 
--- phase 1 at b: the leader votes itself, and asks those that pass
-abbrev pub first_phase : (ℕ → Bool) → ℕ → ℕ → ℕ → Decree → Change
-first_phase asked f i b x = record { entry = Some (voted b PreAccepted x); led = Some (Some (Proposing b [])); told = None; out = to_those asked (size f) (PreAccept i b x) }
+-- phase 1 at b: the leader votes itself, and asks those that pass; s is kept
+abbrev pub first_phase : (ℕ → Bool) → ℕ → ℕ → ℕ → ℕ → Decree → Change
+first_phase asked f i b s x = record { entry = Some (voted b PreAccepted x); led = Some (Some (Proposing b s [])); told = None; out = to_those asked (size f) (PreAccept i b x) }
 
 -- the accept phase at b: the leader accepts, and asks all others to
 abbrev pub accept_phase : ℕ → ℕ → ℕ → ℕ → Decree → Change
@@ -46,9 +46,9 @@ commit_phase f i me x r = record { entry = Some (with_commit i r x); led = Some 
 
 -- The events.
 
--- a command is proposed as an instance of one's own, of which nothing is recorded
-abbrev pub propose : ℕ → ℕ → Command → Attrs → Outcome
-propose f i c own = limited own (first_phase (is_fast f (leader_of i)) f i (leader_of i) (record { command = c; attrs = own }))
+-- a command is proposed as an instance of one's own, of which nothing is recorded; the leader asks all others but s
+abbrev pub propose : ℕ → ℕ → ℕ → Command → Attrs → Outcome
+propose f i s c own = limited own (first_phase (is_fast (leader_of i) s) f i (leader_of i) s (record { command = c; attrs = own }))
 
 abbrev pub with_attrs : Decree → Attrs → Decree
 with_attrs x a = record { command = x.command; attrs = a }
@@ -78,9 +78,9 @@ is_usable b r led = eqb led b && (eqb r.promised b && not (is_committed r.vote))
 abbrev pub others : {X : Type 0} → ℕ → ℕ → Answers X → ℕ
 others f me answers = count (size f) (λ r. is_other me r && is_some (answer answers r))
 
--- all others of the fast quorum answered
-abbrev pub fast_answered : ℕ → ℕ → Answers Attrs → Bool
-fast_answered f l answers = every (size f) (λ r. not (is_fast f l r) || is_some (answer answers r))
+-- all others of the fast quorum that lacks s answered
+abbrev pub fast_answered : ℕ → ℕ → ℕ → Answers Attrs → Bool
+fast_answered f l s answers = every (size f) (λ r. not (is_fast l s r) || is_some (answer answers r))
 
 abbrev pub holds : {X : Type 0} → (X → Bool) → Option X → Bool
 holds p None = false
@@ -114,24 +114,24 @@ fast_path f i me a r (Some v) = commit_phase f i me (with_attrs v.decree a) r
 
 -- an answer has come in phase 1: at the default ballot all others of the fast quorum have to answer, and the same for the fast path;
 -- at another one f others are enough, and there is no fast path
-abbrev pub count_pre_accept_ok : ℕ → ℕ → ℕ → ℕ → Attrs → Answers Attrs → Record → Change
-count_pre_accept_ok f i me b a answers r =
+abbrev pub count_pre_accept_ok : ℕ → ℕ → ℕ → ℕ → ℕ → Attrs → Answers Attrs → Record → Change
+count_pre_accept_ok f i me b s a answers r =
     cond (eqb b (leader_of i))
-    (cond (fast_answered f (leader_of i) answers)
+    (cond (fast_answered f (leader_of i) s answers)
     (cond (all_equal f a answers) (fast_path f i me a r r.vote) (slow_path f i me b answers r.vote))
-    (kept (Proposing b answers)))
-    (cond (leb f (others f me answers)) (slow_path f i me b answers r.vote) (kept (Proposing b answers)))
+    (kept (Proposing b s answers)))
+    (cond (leb f (others f me answers)) (slow_path f i me b answers r.vote) (kept (Proposing b s answers)))
 
--- the ballot led in phase 1, and the answers with this one, if that replica has not answered yet
-abbrev pub more_proposing : ℕ → Attrs → Option Led → Option (ℕ × Answers Attrs)
+-- the ballot led in phase 1, the spared replica, and the answers with this one, if that replica has not answered yet
+abbrev pub more_proposing : ℕ → Attrs → Option Led → Option (ℕ × ℕ × Answers Attrs)
 more_proposing from a None = None
-more_proposing from a (Some (Proposing b answers)) = cond (is_some (answer answers from)) None (Some (b, with_answer answers from a))
+more_proposing from a (Some (Proposing b s answers)) = cond (is_some (answer answers from)) None (Some (b, s, with_answer answers from a))
 more_proposing from a (Some (Accepting b answers)) = None
 more_proposing from a (Some (Preparing b answers)) = None
 
-abbrev pub use_pre_accept_ok : ℕ → ℕ → ℕ → ℕ → Attrs → Record → Option (ℕ × Answers Attrs) → Change
+abbrev pub use_pre_accept_ok : ℕ → ℕ → ℕ → ℕ → Attrs → Record → Option (ℕ × ℕ × Answers Attrs) → Change
 use_pre_accept_ok f i me b a r None = nothing
-use_pre_accept_ok f i me b a r (Some more) = cond (is_usable b r more.0) (count_pre_accept_ok f i me b a more.1 r) nothing
+use_pre_accept_ok f i me b a r (Some more) = cond (is_usable b r more.0) (count_pre_accept_ok f i me b more.1 a more.2 r) nothing
 
 abbrev pub on_pre_accept_ok : ℕ → ℕ → ℕ → ℕ → ℕ → Attrs → Record → Option Led → Change
 on_pre_accept_ok f i me from b a r led = use_pre_accept_ok f i me b a r (more_proposing from a led)
@@ -145,7 +145,7 @@ give_up_with f i me b answers r =
 
 abbrev pub give_up : ℕ → ℕ → ℕ → Record → Option Led → Outcome
 give_up f i me r None = Err NotLeading
-give_up f i me r (Some (Proposing b answers)) = give_up_with f i me b answers r
+give_up f i me r (Some (Proposing b s answers)) = give_up_with f i me b answers r
 give_up f i me r (Some (Accepting b answers)) = Err NotLeading
 give_up f i me r (Some (Preparing b answers)) = Err NotLeading
 
@@ -159,7 +159,7 @@ count_accept_ok f i me b answers r = cond (leb f (others f me answers)) (commit_
 
 abbrev pub more_accepting : ℕ → Option Led → Option (ℕ × Answers (Unit {0}))
 more_accepting from None = None
-more_accepting from (Some (Proposing b answers)) = None
+more_accepting from (Some (Proposing b s answers)) = None
 more_accepting from (Some (Accepting b answers)) = cond (is_some (answer answers from)) None (Some (b, with_answer answers from tt))
 more_accepting from (Some (Preparing b answers)) = None
 

@@ -88,9 +88,9 @@ choose f l vote =
     (choose_at vote (least n (λ r. votes (did_preaccept_at top) (vote r))) (λ x. ProposeIt x.command)
     ProposeNoop)))
 
--- phase 1 at a recovery ballot asks all others
+-- phase 1 at a recovery ballot asks all others: the leader spares nobody but itself
 abbrev pub recover_with : ℕ → ℕ → ℕ → ℕ → Command → Attrs → Outcome
-recover_with f i me b c own = limited own (first_phase (is_other me) f i b (record { command = c; attrs = own }))
+recover_with f i me b c own = limited own (first_phase (is_other me) f i b me (record { command = c; attrs = own }))
 
 -- what the leader of b does with the choice
 abbrev pub act_on : ℕ → ℕ → ℕ → ℕ → (Command → Attrs) → Record → Choice → Outcome
@@ -139,7 +139,7 @@ count_prepare_ok f i me b answers own r =
 
 abbrev pub more_preparing : ℕ → Option Vote → Option Led → Option (ℕ × Answers (Option Vote))
 more_preparing from v None = None
-more_preparing from v (Some (Proposing b answers)) = None
+more_preparing from v (Some (Proposing b s answers)) = None
 more_preparing from v (Some (Accepting b answers)) = None
 more_preparing from v (Some (Preparing b answers)) = cond (is_some (answer answers from)) None (Some (b, with_answer answers from v))
 

@@ -1,5 +1,5 @@
 -- What holds in every run: of 2f+1 replicas, of any acts from the opening world.
-use Rattle.std.specs.Prelude.{◌≡◌, ◌≢◌, ◌⊎◌, ℕ, ◌+◌, ◌<◌, ◌≤◌, true, false, List, ◌∷◌, ◌++◌, Some}
+use Rattle.std.specs.Prelude.{◌≡◌, ◌≢◌, ◌⊎◌, ℕ, ◌+◌, ◌<◌, ◌≤◌, true, false, List, ◌∷◌, ◌++◌, Option, Some}
 use Rattle.ep_base.specs.Instances.{instance_of, leader_of}
 use Rattle.ep_base.specs.Interference.{interfere}
 use Rattle.ep_base.specs.Quorums.{size}
@@ -32,7 +32,8 @@ pub record WasProposed (base : Store) (f : ℕ) (acts : List Act) (i : ℕ) (c :
   pub client : ℕ
   pub request : ℕ
   pub seen : ℕ
-  pub event : proposal.event ≡ Propose client request c seen
+  pub spared : Option ℕ
+  pub event : proposal.event ≡ Propose client request c seen spared
   pub number : ℕ
   pub free : free_number ((ends f (opening base) before).states (leader_of i)).records (leader_of i) ≡ Some number
   pub instance : instance_of (leader_of i) (number + 1) ≡ i

@@ -3,7 +3,7 @@ use Rattle.std.specs.Prelude.{◌≡◌, ◌⊎◌, ℕ, ◌+◌, Bool, true, �
 use Rattle.ep_base.specs.Ballots.{owner_of}
 use Rattle.ep_base.specs.Instances.{instance_of, leader_of}
 use Rattle.ep_base.specs.Messages.{instance_of_message}
-use Rattle.ep_base.specs.Quorums.{size}
+use Rattle.ep_base.specs.Quorums.{size, spared, may_spare}
 use Rattle.ep_base.specs.Sameness.{is_noop}
 use Rattle.ep_base.specs.Commands.{Command}
 use Rattle.ep_base.specs.declared.message.Message.{Message}
@@ -33,8 +33,8 @@ pub record Frame : Type 0 where
   pub stamp : ℕ
 
 pub data Event : Type 0 where
-  -- a client's request; `seen` is the greatest stamp that the client knows of
-  Propose : (client request : ℕ) → (command : Command) → (seen : ℕ) → Event
+  -- a client's request; `seen` is the greatest stamp that the client knows of, `named` the replica to be spared, the usual one if there is none
+  Propose : (client request : ℕ) → (command : Command) → (seen : ℕ) → (named : Option ℕ) → Event
   -- a message; the step looks at it alone, and not at where it comes from
   Handle : (frame : Frame) → Event
   GiveUp : (instance : ℕ) → Event
@@ -63,15 +63,19 @@ message_within n (Prepare i b) = ltb (leader_of i) n && ltb (owner_of b) n
 message_within n (PrepareOk i b v) = ltb (leader_of i) n && (ltb (owner_of b) n && vote_within n v)
 message_within n (Nack i b p) = ltb (leader_of i) n && (ltb (owner_of b) n && ltb (owner_of p) n)
 
-abbrev pub is_within : ℕ → Event → Bool
-is_within n (Propose client request c seen) = not (is_noop c) && (ltb 0 client && ltb 0 request)
-is_within n (Handle m) = ltb m.sent.from n && (ltb m.sent.to n && message_within n m.sent.message)
-is_within n (GiveUp i) = ltb (leader_of i) n
-is_within n (Recover i) = ltb (leader_of i) n
-is_within n (Execute i) = ltb (leader_of i) n
+-- a client may ask for the command
+abbrev pub may_ask : ℕ → ℕ → Command → Bool
+may_ask client request c = not (is_noop c) && (ltb 0 client && ltb 0 request)
+
+abbrev pub is_within : ℕ → ℕ → Event → Bool
+is_within f me (Propose client request c seen named) = may_ask client request c && may_spare f me named
+is_within f me (Handle m) = ltb m.sent.from (size f) && (ltb m.sent.to (size f) && message_within (size f) m.sent.message)
+is_within f me (GiveUp i) = ltb (leader_of i) (size f)
+is_within f me (Recover i) = ltb (leader_of i) (size f)
+is_within f me (Execute i) = ltb (leader_of i) (size f)
 
 abbrev pub is_for : ℕ → Event → Bool
-is_for me (Propose client request c seen) = true
+is_for me (Propose client request c seen named) = true
 is_for me (Handle m) = eqb m.sent.to me
 is_for me (GiveUp i) = true
 is_for me (Recover i) = true
@@ -79,7 +83,7 @@ is_for me (Execute i) = true
 
 -- why no state of the replica takes the event
 abbrev pub screened : ℕ → ℕ → Event → Option Refusal
-screened f me e = cond (is_within (size f) e) (cond (is_for me e) None (Some NotMine)) (Some OutOfRange)
+screened f me e = cond (is_within f me e) (cond (is_for me e) None (Some NotMine)) (Some OutOfRange)
 
 -- Events of the protocol.
 
@@ -99,13 +103,13 @@ abbrev pub at : ℕ → Outcome → Result (ℕ × Change) Refusal
 at i (Ok ch) = Ok (i, ch)
 at i (Err e) = Err e
 
-abbrev pub proposed : ℕ → ℕ → State → Command → Option ℕ → Result (ℕ × Change) Refusal
-proposed f me s c None = Err SpaceFull
-proposed f me s c (Some n) = let i = instance_of me (n + 1) in at i (propose f i c (interference s.records i c))
+abbrev pub proposed : ℕ → ℕ → ℕ → State → Command → Option ℕ → Result (ℕ × Change) Refusal
+proposed f me spare s c None = Err SpaceFull
+proposed f me spare s c (Some n) = let i = instance_of me (n + 1) in at i (propose f i spare c (interference s.records i c))
 
 -- what an event changes, or why it is refused; an execution changes nothing of what the protocol knows
 abbrev pub acts : ℕ → ℕ → State → Event → Result (ℕ × Change) Refusal
-acts f me s (Propose client request c seen) = proposed f me s c (free_number s.records me)
+acts f me s (Propose client request c seen named) = proposed f me (spared f me named) s c (free_number s.records me)
 acts f me s (Handle m) = at (instance_of_message m.sent.message) (handled f me m.sent.from s m.sent.message)
 acts f me s (GiveUp i) = at i (give_up f i me (record_in s i) (get s.leads i))
 acts f me s (Recover i) = at i (recover f i me (record_in s i) (cell_in s i).told)
@@ -128,7 +132,7 @@ IsExecution s root done =
 
 -- what an event executes
 abbrev pub Executes : State → Event → List (ℕ × Answer) → Type 0
-Executes s (Propose client request c seen) done = done ≡ []
+Executes s (Propose client request c seen named) done = done ≡ []
 Executes s (Handle m) done = done ≡ []
 Executes s (GiveUp i) done = done ≡ []
 Executes s (Recover i) done = done ≡ []
@@ -171,7 +175,7 @@ pub record IsStep (f me : ℕ) (s : State) (e : Event) (done : List (ℕ × Answ
 
 -- a root that waits for an instance is refused, with the least one
 abbrev pub Waits : State → Event → Refusal → Type 0
-Waits s (Propose client request c seen) why = ⊥
+Waits s (Propose client request c seen named) why = ⊥
 Waits s (Handle m) why = ⊥
 Waits s (GiveUp i) why = ⊥
 Waits s (Recover i) why = ⊥

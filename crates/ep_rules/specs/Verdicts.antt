@@ -76,7 +76,8 @@ pub record Proposes (base : Store) (f me : ℕ) (es : List Entry) (i client requ
   pub split : before ++ (proposal ∷ rest) ≡ es
   pub command : Command
   pub seen : ℕ
-  pub event : proposal.event ≡ Propose client request command seen
+  pub spared : Option ℕ
+  pub event : proposal.event ≡ Propose client request command seen spared
   pub number : ℕ
   pub free : free_number (left f me (fresh_state base) before).records me ≡ Some number
   pub instance : instance_of me (number + 1) ≡ i
@@ -85,7 +86,8 @@ pub record Proposes (base : Store) (f me : ℕ) (es : List Entry) (i client requ
 pub record TellsOf (e : Entry) (i client request : ℕ) : Type 0 where
   pub command : Command
   pub seen : ℕ
-  pub event : e.event ≡ Propose client request command seen
+  pub spared : Option ℕ
+  pub event : e.event ≡ Propose client request command seen spared
   pub frame : Frame
   pub first : slice_get e.out 0 ≡ Some frame
   pub about : instance_of_message frame.sent.message ≡ i

@@ -27,7 +27,7 @@ pub record Act : Type 0 where
 
 -- What an event handles was sent: a message is handled never, once, or often, and in any order.
 abbrev pub IsThere : List Sent → Event → Type 0
-IsThere sent (Propose client request c seen) = Unit {0}
+IsThere sent (Propose client request c seen spared) = Unit {0}
 IsThere sent (Handle m) = In m.sent sent
 IsThere sent (GiveUp i) = Unit {0}
 IsThere sent (Recover i) = Unit {0}

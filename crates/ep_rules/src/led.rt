@@ -4,14 +4,15 @@ ghost use Rattle.std.specs.Prelude.{◌≡◌, IfOk};
 
 use crate::answers::Answers;
 use crate::duplicate::Duplicate;
-use ep_base::{Attrs, Ballot, Vote};
+use ep_base::{Attrs, Ballot, ReplicaId, Vote};
 use std::alloc::{AllocError, Global};
 
 /// What a replica leads in an instance: a ballot, and the answers so far.
 #[derive(Drop)]
 pub enum Led {
-    /// Phase 1: the attributes with which replicas pre-accepted.
-    Proposing(Ballot, Answers<Attrs>),
+    /// Phase 1: the replica that isn't asked, beside the leader (at a recovery ballot, where all others are, the leader
+    /// itself), and the attributes with which replicas pre-accepted.
+    Proposing(Ballot, ReplicaId, Answers<Attrs>),
     /// The accept phase: who accepted.
     Accepting(Ballot, Answers<()>),
     /// Explicit prepare: the last votes, the leader's own among them.
@@ -24,7 +25,9 @@ impl Led {
         ensures { IfOk result (λ l. l ≡ self.now) }
     {
         match self {
-            Led::Proposing(ballot, answers) => Ok(Led::Proposing(*ballot, answers.copy(alloc)?)),
+            Led::Proposing(ballot, spared, answers) => {
+                Ok(Led::Proposing(*ballot, *spared, answers.copy(alloc)?))
+            }
             Led::Accepting(ballot, answers) => Ok(Led::Accepting(*ballot, answers.copy(alloc)?)),
             Led::Preparing(ballot, answers) => Ok(Led::Preparing(*ballot, answers.copy(alloc)?)),
         }

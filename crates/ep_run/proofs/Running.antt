@@ -71,7 +71,7 @@ proposers_in_more ps (x ∷ xs) s = proposers_in_more (proposers_of ps x.lines) 
 
 -- a line asks its replica
 pub asks_replica : (ps : List ℕ) (ts : List Receipt) (l : AgendaLine) → (asked_of ps ts l).0 ≡ replica_of l
-asks_replica ps ts (Propose replica client command) = refl
+asks_replica ps ts (Propose replica client command named) = refl
 asks_replica ps ts (GiveUp replica i) = refl
 asks_replica ps ts (Recover replica i) = refl
 
@@ -87,7 +87,7 @@ tasks_counted r ps ts (l ∷ ls) =
     omega (arith, length-append (cond (eqb t.0 r) (t.1 ∷ []) []) (tasks_at r (asked_by (proposers_after ps l.1) ts ls)), here, tasks_counted r (proposers_after ps l.1) ts ls)
 
 pub fits_replica : (n : ℕ) (l : AgendaLine) → FitsCluster n l → replica_of l < n
-fits_replica n (Propose replica client command) h = h.0
+fits_replica n (Propose replica client command named) h = h.0
 fits_replica n (GiveUp replica i) h = h.0
 fits_replica n (Recover replica i) h = h.0
 

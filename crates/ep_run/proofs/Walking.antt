@@ -144,8 +144,8 @@ pub lists_line :
     (number : ℕ) (line : AgendaLine) (r : ℕ) (ps : List ℕ) (ts : List Receipt) (ns : List Node) (cs cs' : List Cursor) (rs rs' : List (ℕ × EventFault)) (f : Option StepFault) → r ≡ replica_of line →
     ((uses : ℕ → List Use) → AreAt cs ns uses → f ≡ next_refusal (uses r)) → ((uses : ℕ → List Use) → AreAt cs ns uses → AreAt cs' ns (without_next r uses)) →
     rs' ≡ rs ++ refusal_of number (fate_of f) → Lists ((number, asked_of ps ts line) ∷ []) ns cs cs' rs rs'
-lists_line number (Propose replica client command) r ps ts ns cs cs' rs rs' f asks why rest is =
-    subst (λ (q : ℕ). Lists ((number, (q, (asked_of ps ts (Propose replica client command)).1)) ∷ []) ns cs cs' rs rs') asks (lists_one number r (asked_of ps ts (Propose replica client command)).1 ns cs cs' rs rs' f why rest is)
+lists_line number (Propose replica client command named) r ps ts ns cs cs' rs rs' f asks why rest is =
+    subst (λ (q : ℕ). Lists ((number, (q, (asked_of ps ts (Propose replica client command named)).1)) ∷ []) ns cs cs' rs rs') asks (lists_one number r (asked_of ps ts (Propose replica client command named)).1 ns cs cs' rs rs' f why rest is)
 lists_line number (GiveUp replica i) r ps ts ns cs cs' rs rs' f asks why rest is =
     subst (λ (q : ℕ). Lists ((number, (q, (asked_of ps ts (GiveUp replica i)).1)) ∷ []) ns cs cs' rs rs') asks (lists_one number r (asked_of ps ts (GiveUp replica i)).1 ns cs cs' rs rs' f why rest is)
 lists_line number (Recover replica i) r ps ts ns cs cs' rs rs' f asks why rest is =

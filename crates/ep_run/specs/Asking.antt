@@ -11,13 +11,13 @@ use Rattle.ep_run.specs.declared.submission.Submission.{Submission}
 
 -- the replica, and what the line asks of it, where these clients have proposed before, and these receipts were given
 abbrev pub asked_of : List ℕ → List Receipt → AgendaLine → ℕ × Task
-asked_of proposers receipts (Propose replica client command) = (replica, task.Propose client (times client proposers + 1) command (greatest client receipts))
+asked_of proposers receipts (Propose replica client command spared) = (replica, task.Propose client (times client proposers + 1) command (greatest client receipts) spared)
 asked_of proposers receipts (GiveUp replica i) = (replica, task.GiveUp i)
 asked_of proposers receipts (Recover replica i) = (replica, task.Recover i)
 
 -- the clients that have proposed, the line's included
 abbrev pub proposers_after : List ℕ → AgendaLine → List ℕ
-proposers_after proposers (Propose replica client command) = proposers ++ client ∷ []
+proposers_after proposers (Propose replica client command spared) = proposers ++ client ∷ []
 proposers_after proposers (GiveUp replica i) = proposers
 proposers_after proposers (Recover replica i) = proposers
 

@@ -62,7 +62,7 @@ AreBeginnings (given ∷ []) receipts = IsPrefix given receipts
 AreBeginnings (given ∷ next ∷ later) receipts = IsPrefix given next × AreBeginnings (next ∷ later) receipts
 
 abbrev pub replica_of : AgendaLine → ℕ
-replica_of (Propose replica client command) = replica
+replica_of (Propose replica client command spared) = replica
 replica_of (GiveUp replica i) = replica
 replica_of (Recover replica i) = replica
 

@@ -27,8 +27,9 @@ pub(crate) fn asked_by(
             replica,
             client,
             command,
+            spared,
         } => {
-            let proposal = proposal(alloc, clients, *client, command)?;
+            let proposal = proposal(alloc, clients, *client, command, *spared)?;
             Ok((*replica, proposal))
         }
         AgendaLine::GiveUp(replica, instance) => { Ok((*replica, Task::GiveUp(*instance))) }
@@ -42,8 +43,9 @@ fn proposal(
     clients: &mut Clients,
     client: u32,
     command: &Command,
+    spared: Option<ReplicaId>,
 ) -> Result<Task, AllocError>
-    ensures asked { IfOk result (λ a. (ps : List ℕ) (ts : List Receipt) → AreCounted clients.old ps ts → a ≡ Propose client (times client ps + 1) command.now (greatest client ts)) }
+    ensures asked { IfOk result (λ a. (ps : List ℕ) (ts : List Receipt) → AreCounted clients.old ps ts → a ≡ Propose client (times client ps + 1) command.now (greatest client ts) spared) }
     ensures counted { OnOk result ((ps : List ℕ) (ts : List Receipt) → AreCounted clients.old ps ts → AreCounted clients.new (ps ++ client ∷ []) ts) }
 {
     let known = clients.count(client)?;
@@ -53,5 +55,6 @@ fn proposal(
         request: known.requests,
         command,
         seen: known.seen,
+        spared,
     })
 }

@@ -38,6 +38,7 @@ fn replica(line: &AgendaLine) -> ReplicaId
             replica,
             client: _,
             command: _,
+            spared: _,
         } => *replica,
         AgendaLine::GiveUp(replica, _) => *replica,
         AgendaLine::Recover(replica, _) => *replica,

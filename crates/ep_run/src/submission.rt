@@ -4,6 +4,7 @@ use crate::asking::asked_by;
 use ep_base::ReplicaId;
 use ep_host::{Act, HostFault, LockHost, Start, Task};
 use ep_replay::{Clients, step_cause};
+use ep_replica::Proposal;
 use ep_report::EventFault;
 use ep_script::AgendaLine;
 use std::alloc::{AllocError, Global};
@@ -65,9 +66,22 @@ impl Submission {
                 request,
                 command,
                 seen,
+                spared,
             } => {
                 let command = command.copy(alloc)?;
-                host.submit(rt, self.replica, *client, *request, command, *seen)?;
+                match spared {
+                    None => {
+                        host.submit(rt, self.replica, *client, *request, command, *seen)?;
+                    }
+                    Some(spared) => {
+                        let proposal = Proposal {
+                            client: *client,
+                            request: *request,
+                            seen: *seen,
+                        };
+                        host.submit_sparing(rt, self.replica, proposal, command, *spared)?;
+                    }
+                }
                 Ok(())
             }
             Task::GiveUp(instance) => host.direct(rt, self.replica, Act::GiveUp(*instance)),

@@ -10,8 +10,9 @@ use Rattle.std.proofs.lemmas.List.Elements.{All-nil, All-push}
 use Rattle.std.proofs.lemmas.Map.Keys.{IsDistinct-push}
 use Rattle.ep_base.specs.Instances.{instance_of, leader_of, highest_number}
 use Rattle.ep_base.specs.declared.version.Version.{Version}
+use Rattle.ep_base.specs.declared.version_kind.VersionKind.TheVariants.{V1, V2, V3}
 use Rattle.ep_script.specs.Parts.{number_of}
-use Rattle.ep_script.specs.Grammar.{number_in, count_of, replica_of, instance_parts, parts_of, place_of, command_of, propose_of, agenda_line, section_of, weather_between, weather_of, kind_of, plain_run_line, run_line}
+use Rattle.ep_script.specs.Grammar.{number_in, count_of, replica_of, instance_parts, parts_of, place_of, command_of, proposer, propose_of, spared_of, sparing_of, agenda_line, section_of, weather_between, weather_of, kind_of, plain_run_line, run_line}
 use Rattle.ep_script.specs.Plan.{SectionPlan, no_section, with_weather, same_frame, has_frame}
 use Rattle.ep_script.specs.Fits.{FitsCluster, FitsWeather, FitsRun, FitsSection, AllFit}
 use Rattle.ep_script.specs.declared.agenda_line.AgendaLine.{AgendaLine}
@@ -82,22 +83,51 @@ place_fits n (r ∷ i ∷ []) =
     (λ replica h. if_mapped (λ instance. (replica, instance)) (λ x. leader_of x < n) (λ p. (p.0 < n) × (leader_of p.1 < n)) (instance_parts n (parts_of i)) (instance_fits n (parts_of i)) (λ x k. (h, k)))
 place_fits n (r ∷ i ∷ w ∷ more) = tt
 
-propose_fits : (n : ℕ) (v : Version) (ws : List (List ℕ)) → IfSome (propose_of n v ws) (FitsCluster n)
-propose_fits n v [] = tt
-propose_fits n v (r ∷ []) = tt
-propose_fits n v (r ∷ c ∷ command) =
-    if_then (λ replica. option_and_then (λ client. option_map (λ x. Propose replica client x) (command_of v command)) (count_of c)) (λ replica. replica < n) (FitsCluster n) (replica_of n r) (replica_fits n r)
-    (λ replica h. if_then (λ client. option_map (λ x. Propose replica client x) (command_of v command)) (λ client. 1 ≤ client) (FitsCluster n) (count_of c) (count_fits c)
-    (λ client k. if_mapped (λ x. Propose replica client x) (λ _. Unit {0}) (FitsCluster n) (command_of v command) (if_any (command_of v command)) (λ x _. (h, k))))
+-- a replica that proposes isn't the one to be spared
+proposer_fits : (n : ℕ) (spared : Option ℕ) (w : List ℕ) → IfSome spared (λ s. s < n) → IfSome (option_and_then (proposer spared) (replica_of n w)) (λ r. (r < n) × IfSome spared (λ s. (s < n) × (s ≢ r)))
+proposer_fits n spared w below = if_then (proposer spared) (λ r. r < n) (λ r. (r < n) × IfSome spared (λ s. (s < n) × (s ≢ r))) (replica_of n w) (replica_fits n w) (λ r h. other spared below r h)
+  where
+    other : (o : Option ℕ) → IfSome o (λ s. s < n) → (r : ℕ) → r < n → IfSome (proposer o r) (λ x. (x < n) × IfSome o (λ s. (s < n) × (s ≢ x)))
+    other None under r h = (h, tt)
+    other (Some s) under r h = go (s == r) refl
+      where
+        apart : (s == r) ≡ false → s ≢ r
+        apart e = grind (arith, nat_tests)
+
+        go : (t : Bool) → (s == r) ≡ t → IfSome (cond t None (Some r)) (λ x. (x < n) × ((s < n) × (s ≢ x)))
+        go true e = tt
+        go false e = (h, (under, apart e))
+
+propose_fits : (n : ℕ) (v : Version) (spared : Option ℕ) (ws : List (List ℕ)) → IfSome spared (λ s. s < n) → IfSome (propose_of n v spared ws) (FitsCluster n)
+propose_fits n v spared [] below = tt
+propose_fits n v spared (r ∷ []) below = tt
+propose_fits n v spared (r ∷ c ∷ command) below =
+    if_then (λ replica. option_and_then (λ client. option_map (λ x. Propose replica client x spared) (command_of v command)) (count_of c)) (λ replica. (replica < n) × IfSome spared (λ s. (s < n) × (s ≢ replica))) (FitsCluster n)
+    (option_and_then (proposer spared) (replica_of n r)) (proposer_fits n spared r below)
+    (λ replica h. if_then (λ client. option_map (λ x. Propose replica client x spared) (command_of v command)) (λ client. 1 ≤ client) (FitsCluster n) (count_of c) (count_fits c)
+    (λ client k. if_mapped (λ x. Propose replica client x spared) (λ _. Unit {0}) (FitsCluster n) (command_of v command) (if_any (command_of v command)) (λ x _. (h.0, k, h.1))))
+
+spared_fits : (n : ℕ) (v : Version) (ws : List (List ℕ)) → IfSome (spared_of n v ws) (FitsCluster n)
+spared_fits n v [] = tt
+spared_fits n v (s ∷ []) = tt
+spared_fits n v (s ∷ p ∷ ws) =
+    if_either (FitsCluster n) (bytes_eq p (codes "propose")) _ None
+    (if_then (λ spared. propose_of n v (Some spared) ws) (λ spared. spared < n) (FitsCluster n) (replica_of n s) (replica_fits n s) (λ spared h. propose_fits n v (Some spared) ws h)) tt
+
+sparing_fits : (n : ℕ) (v : Version) (ws : List (List ℕ)) → IfSome (sparing_of n v ws) (FitsCluster n)
+sparing_fits n V1 ws = tt
+sparing_fits n V2 ws = tt
+sparing_fits n (V3 g) ws = spared_fits n (V3 g) ws
 
 agenda_fits : (n : ℕ) (v : Version) (ws : List (List ℕ)) → IfSome (agenda_line n v ws) (FitsCluster n)
 agenda_fits n v [] = tt
 agenda_fits n v (w ∷ ws) =
-    if_either (FitsCluster n) (bytes_eq w (codes "propose")) _ _ (propose_fits n v ws)
+    if_either (FitsCluster n) (bytes_eq w (codes "propose")) _ _ (propose_fits n v None ws tt)
+    (if_either (FitsCluster n) (bytes_eq w (codes "sparing")) _ _ (sparing_fits n v ws)
     (if_either (FitsCluster n) (bytes_eq w (codes "giveup")) _ _
     (if_mapped (λ p. GiveUp p.0 p.1) (λ p. (p.0 < n) × (leader_of p.1 < n)) (FitsCluster n) (place_of n ws) (place_fits n ws) (λ p h. h))
     (if_either (FitsCluster n) (bytes_eq w (codes "recover")) _ None
-    (if_mapped (λ p. Recover p.0 p.1) (λ p. (p.0 < n) × (leader_of p.1 < n)) (FitsCluster n) (place_of n ws) (place_fits n ws) (λ p h. h)) tt))
+    (if_mapped (λ p. Recover p.0 p.1) (λ p. (p.0 < n) × (leader_of p.1 < n)) (FitsCluster n) (place_of n ws) (place_fits n ws) (λ p h. h)) tt)))
 
 between_fits : (n : ℕ) (kind : WeatherWord) (a b j : ℕ) → a < n → b < n → 1 ≤ j → IfSome (weather_between kind a b j) (FitsWeather n)
 between_fits n kind a b j below-a below-b counted = go (a == b) refl

@@ -1,5 +1,5 @@
 -- What a line that was read keeps to.
-use Rattle.std.specs.Prelude.{◌≢◌, ℕ, ◌<◌, ◌≤◌, List, All}
+use Rattle.std.specs.Prelude.{◌≢◌, ℕ, ◌<◌, ◌≤◌, List, All, IfSome}
 use Rattle.std.specs.List.{IsDistinct}
 use Rattle.ep_base.specs.Instances.{leader_of}
 use Rattle.ep_script.specs.Plan.{SectionPlan, same_frame}
@@ -11,9 +11,9 @@ use Rattle.ep_script.specs.declared.run_line.RunLine.{RunLine}
 use Rattle.ep_script.specs.declared.run_line.RunLine.TheVariants.{Agenda, Weather, Section}
 use Rattle.ep_script.specs.declared.weather_line.WeatherLine.{WeatherLine}
 
--- it names replicas of a cluster of n, and a client that is one
+-- it names replicas of a cluster of n, a client that is one, and no replica that it spares itself
 abbrev pub FitsCluster : ℕ → AgendaLine → Type 0
-FitsCluster n (Propose replica client command) = (replica < n) × (1 ≤ client)
+FitsCluster n (Propose replica client command spared) = (replica < n) × (1 ≤ client) × IfSome spared (λ s. (s < n) × (s ≢ replica))
 FitsCluster n (GiveUp replica instance) = (replica < n) × (leader_of instance < n)
 FitsCluster n (Recover replica instance) = (replica < n) × (leader_of instance < n)
 

@@ -9,6 +9,7 @@ use Rattle.ep_base.specs.Commands.{Command, Get, Put, Del, Swap, Cas, Seal, Opaq
 use Rattle.ep_base.specs.Values.{most_value}
 use Rattle.ep_base.specs.Versions.{knows}
 use Rattle.ep_base.specs.declared.version.Version.{Version}
+use Rattle.ep_base.specs.declared.version_kind.VersionKind.TheVariants.{V1, V2, V3}
 use Rattle.ep_script.specs.Word.{bytes_of}
 use Rattle.ep_script.specs.Parts.{number_of, digits_of}
 use Rattle.ep_script.specs.declared.agenda_line.AgendaLine.{AgendaLine}
@@ -172,11 +173,29 @@ known_in v c = if knows v c then Some c else None
 abbrev pub command_of : Version → List (List ℕ) → Option Command
 command_of v ws = option_and_then (known_in v) (any_command_of ws)
 
--- `propose R C` and a command
-abbrev pub propose_of : ℕ → Version → List (List ℕ) → Option AgendaLine
-propose_of n v [] = None
-propose_of n v (r ∷ []) = None
-propose_of n v (r ∷ c ∷ command) = option_and_then (λ replica. option_and_then (λ client. option_map (λ x. agenda.Propose replica client x) (command_of v command)) (count_of c)) (replica_of n r)
+-- the replica that proposes, where this one is to be spared, or the usual one: no replica spares itself
+abbrev pub proposer : Option ℕ → ℕ → Option ℕ
+proposer None r = Some r
+proposer (Some s) r = if s == r then None else Some r
+
+-- `propose R C` and a command, where this replica is to be spared, or the usual one
+abbrev pub propose_of : ℕ → Version → Option ℕ → List (List ℕ) → Option AgendaLine
+propose_of n v spared [] = None
+propose_of n v spared (r ∷ []) = None
+propose_of n v spared (r ∷ c ∷ command) =
+    option_and_then (λ replica. option_and_then (λ client. option_map (λ x. agenda.Propose replica client x spared) (command_of v command)) (count_of c)) (option_and_then (proposer spared) (replica_of n r))
+
+-- the replica to be spared, and then `propose`
+abbrev pub spared_of : ℕ → Version → List (List ℕ) → Option AgendaLine
+spared_of n v [] = None
+spared_of n v (s ∷ []) = None
+spared_of n v (s ∷ p ∷ ws) = if bytes_eq p (codes "propose") then option_and_then (λ spared. propose_of n v (Some spared) ws) (replica_of n s) else None
+
+-- `sparing S propose R C` and a command, in version 3 alone
+abbrev pub sparing_of : ℕ → Version → List (List ℕ) → Option AgendaLine
+sparing_of n V1 ws = None
+sparing_of n V2 ws = None
+sparing_of n (V3 g) ws = spared_of n (V3 g) ws
 
 -- a replica and an instance
 abbrev pub place_of : ℕ → List (List ℕ) → Option (ℕ × ℕ)
@@ -185,11 +204,12 @@ place_of n (r ∷ []) = None
 place_of n (r ∷ i ∷ []) = option_and_then (λ replica. option_map (λ instance. (replica, instance)) (instance_parts n (parts_of i))) (replica_of n r)
 place_of n (r ∷ i ∷ w ∷ more) = None
 
--- what a replica is to do: `propose`, `giveup` and `recover`
+-- what a replica is to do: `propose`, `sparing`, `giveup` and `recover`
 abbrev pub agenda_line : ℕ → Version → List (List ℕ) → Option AgendaLine
 agenda_line n v [] = None
 agenda_line n v (w ∷ ws) =
-    if bytes_eq w (codes "propose") then propose_of n v ws
+    if bytes_eq w (codes "propose") then propose_of n v None ws
+    else if bytes_eq w (codes "sparing") then sparing_of n v ws
     else if bytes_eq w (codes "giveup") then option_map (λ p. agenda.GiveUp p.0 p.1) (place_of n ws)
     else if bytes_eq w (codes "recover") then option_map (λ p. agenda.Recover p.0 p.1) (place_of n ws)
     else None

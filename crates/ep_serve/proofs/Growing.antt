@@ -13,7 +13,7 @@ use Rattle.ep_serve.specs.Lasting.{Crashes}
 use Rattle.ep_serve.specs.declared.due.Due.{Due}
 use Rattle.ep_serve.specs.declared.due.Due.TheVariants.{Taken, Refused, Value, Open, Leads, Synced, State, Ready, Handled, Malformed}
 use Rattle.ep_serve.specs.declared.mode.Mode.{Mode}
-use Rattle.ep_bundle.specs.declared.dialect.Dialect.{Dialect}
+use Rattle.ep_bundle.specs.declared.journal_dialect.JournalDialect.{JournalDialect}
 use Rattle.ep_wire.specs.declared.request.Request.{Request}
 use Rattle.ep_wire.specs.declared.request.Request.TheVariants as request
 
@@ -72,13 +72,13 @@ wait_more : (mode : Mode) (n : ℕ) (k k' : Kept) (rs : List Request) (ds : List
 wait_more mode n k k' [] ds h = extends_same k k' h.1
 wait_more mode n k k' (r ∷ rs) ds h = extends_more k h.2 k' (acts_more k h.2 r h.0 h.3) (wait_more mode n h.2 k' rs h.1 h.5)
 
-pub waiting_more : (mode : Mode) (how : Dialect) (k k' : Kept) (l l' : Left) (ds : List Due) → Waiting mode how k l ds k' l' → Extends k k'
+pub waiting_more : (mode : Mode) (how : JournalDialect) (k k' : Kept) (l l' : Left) (ds : List Due) → Waiting mode how k l ds k' l' → Extends k k'
 waiting_more mode how k k' l l' ds w = wait_more mode (length k.entries) k k' w.requests ds w.acted
 
-batch_more : (mode : Mode) (how : Dialect) (k k' : Kept) (l l' : Left) (out : List ℕ) → IsBatch mode how k l out k' l' → Extends k k'
+batch_more : (mode : Mode) (how : JournalDialect) (k k' : Kept) (l l' : Left) (out : List ℕ) → IsBatch mode how k l out k' l' → Extends k k'
 batch_more mode how k k' l l' out b = extends_more k b.before k' (waiting_more mode how k b.before l b.from b.dues b.waiting) (acts_more b.before k' b.last b.due b.acted)
 
-pub served_more_entries : (b : ℕ) (mode : Mode) (how : Dialect) (w : Crashes) (k k' : Kept) (l l' : Left) (out : List ℕ) → AreServed b mode how w k l out k' l' → Extends k k'
+pub served_more_entries : (b : ℕ) (mode : Mode) (how : JournalDialect) (w : Crashes) (k k' : Kept) (l l' : Left) (out : List ℕ) → AreServed b mode how w k l out k' l' → Extends k k'
 served_more_entries zero mode how w k k' l l' out h = extends_same k k' h.1
 served_more_entries (suc b) mode how w k k' l l' out h = extends_more k h.2 k' (batch_more mode how k h.2 l h.3 h.0 h.4) (served_more_entries b mode how w h.2 k' h.3 l' h.1 h.6)
 

@@ -5,7 +5,7 @@ use Rattle.std.proofs.KnownBytes.{Appends-nil, Appends-trans}
 use Rattle.ep_bundle.specs.Reading.{Left}
 use Rattle.ep_replica.specs.Kept.{Kept}
 use Rattle.ep_wire.specs.Requests.{next_request, ReadsRequest}
-use Rattle.ep_bundle.specs.declared.dialect.Dialect.{Dialect}
+use Rattle.ep_bundle.specs.declared.journal_dialect.JournalDialect.{JournalDialect}
 use Rattle.ep_wire.specs.declared.request.Request.{Request}
 use Rattle.ep_wire.specs.declared.request_fault.RequestFault.{RequestFault}
 use Rattle.ep_wire.specs.declared.request_fault.RequestFault.TheVariants as request
@@ -22,7 +22,7 @@ use Rattle.ep_serve.proofs.Growing.{Extends, served_more_entries, extends_more}
 use Rattle.ep_serve.proofs.Keeping.{Passes, lasts_on, lasts_from_on}
 use Rattle.ep_serve.proofs.Lists.{take_more}
 
-pub read_more : (how : Dialect) (l l' m : Left) (rs : List Request) (r : Request) → AreRead how l rs l' → next_request how l' ≡ Ok (Some r, m) → AreRead how l (rs ++ r ∷ []) m
+pub read_more : (how : JournalDialect) (l l' m : Left) (rs : List Request) (r : Request) → AreRead how l rs l' → next_request how l' ≡ Ok (Some r, m) → AreRead how l (rs ++ r ∷ []) m
 read_more how l l' m [] r e next = (m, subst (λ (x : Left). next_request how x ≡ Ok (Some r, m)) e next, refl)
 read_more how l l' m (q ∷ rs) r h next = (h.0, h.1, read_more how h.0 l' m rs r h.2 next)
 
@@ -30,19 +30,19 @@ pub wait_more : (mode : Mode) (n : ℕ) (k k' m : Kept) (rs : List Request) (ds 
 wait_more mode n k k' m [] ds r d h a w = (d, [], m, subst (λ (x : Kept). Acts x r d m) h.1 a, w, (refl, refl), ap (λ (x : List Due). x ++ d ∷ []) h.0)
 wait_more mode n k k' m (q ∷ rs) ds r d h a w = (h.0, h.1 ++ d ∷ [], h.2, h.3, h.4, wait_more mode n h.2 k' m rs h.1 r d h.5 a w, ap (λ (x : List Due). x ++ d ∷ []) h.6)
 
-pub served_more : (b : ℕ) (mode : Mode) (how : Dialect) (w : Crashes) (k m k' : Kept) (l l1 l' : Left) (out more : List ℕ) → AreServed b mode how w k l out m l1 → IsBatch mode how m l1 more k' l' → Lasts w k' → AreServed (suc b) mode how w k l (out ++ more) k' l'
+pub served_more : (b : ℕ) (mode : Mode) (how : JournalDialect) (w : Crashes) (k m k' : Kept) (l l1 l' : Left) (out more : List ℕ) → AreServed b mode how w k l out m l1 → IsBatch mode how m l1 more k' l' → Lasts w k' → AreServed (suc b) mode how w k l (out ++ more) k' l'
 served_more zero mode how w k m k' l l1 l' out more h batch lasts =
     (more, [], k', l', subst (λ (x : Kept). IsBatch mode how x l more k' l') h.1 (subst (λ (x : Left). IsBatch mode how m x more k' l') h.2 batch), lasts, (refl, refl, refl), ap (λ (x : List ℕ). x ++ more) h.0 ∙ sym (append-nil more))
 served_more (suc b) mode how w k m k' l l1 l' out more h batch lasts =
     (h.0, h.1 ++ more, h.2, h.3, h.4, h.5, served_more b mode how w h.2 m k' h.3 l1 l' h.1 more h.6 batch lasts, ap (λ (x : List ℕ). x ++ more) h.7 ∙ append_assoc h.0 h.1 more)
 
 -- what lasted lasts on
-served_on : (b : ℕ) (mode : Mode) (how : Dialect) (w w' : Crashes) (s k k' : Kept) (l l' : Left) (out : List ℕ) → Passes w w' s → Extends k' s → AreServed b mode how w k l out k' l' → AreServed b mode how w' k l out k' l'
+served_on : (b : ℕ) (mode : Mode) (how : JournalDialect) (w w' : Crashes) (s k k' : Kept) (l l' : Left) (out : List ℕ) → Passes w w' s → Extends k' s → AreServed b mode how w k l out k' l' → AreServed b mode how w' k l out k' l'
 served_on zero mode how w w' s k k' l l' out p e h = h
 served_on (suc b) mode how w w' s k k' l l' out p e h =
     (h.0, h.1, h.2, h.3, h.4, lasts_on w w' s h.2 p (extends_more h.2 k' s (served_more_entries b mode how w h.2 k' h.3 l' h.1 h.6) e) h.5, served_on b mode how w w' s h.2 k' h.3 l' h.1 p e h.6, h.7)
 
-pub serves_on : (mode : Mode) (how : Dialect) (w w' : Crashes) (s k k' : Kept) (l l' : Left) (old new : Option (List ℕ)) → Passes w w' s → Extends k' s → Serves mode how w k l old new k' l' → Serves mode how w' k l old new k' l'
+pub serves_on : (mode : Mode) (how : JournalDialect) (w w' : Crashes) (s k k' : Kept) (l l' : Left) (old new : Option (List ℕ)) → Passes w w' s → Extends k' s → Serves mode how w k l old new k' l' → Serves mode how w' k l old new k' l'
 serves_on mode how w w' s k k' l l' old new p e h = record {
   begun =
       subst (λ (t : ℕ). LastsFrom w' t k) (sym p.start)
@@ -56,7 +56,7 @@ serves_on mode how w w' s k k' l l' old new p e h = record {
 pub same_extends : (k : Kept) → Extends k k
 same_extends k = ([], λ t. record k { entries = sym (append-nil k.entries) t })
 
-abbrev pub service_on : (mode : Mode) (how : Dialect) (w w' : Crashes) (k k' : Kept) (l l' : Left) (old new : Option (List ℕ)) (ds : List Due) (s : InService mode how w k l old new k' l' ds) → Passes w w' s.replica → InService mode how w' k l old new k' l' ds
+abbrev pub service_on : (mode : Mode) (how : JournalDialect) (w w' : Crashes) (k k' : Kept) (l l' : Left) (old new : Option (List ℕ)) (ds : List Due) (s : InService mode how w k l old new k' l' ds) → Passes w w' s.replica → InService mode how w' k l old new k' l' ds
 service_on mode how w w' k k' l l' old new ds s p = record {
   replica = s.replica;
   from = s.from;
@@ -64,7 +64,7 @@ service_on mode how w w' k k' l l' old new ds s p = record {
   waiting = s.waiting;
 }
 
-abbrev pub begins : (mode : Mode) (how : Dialect) (w : Crashes) (k : Kept) (l : Left) (old : Option (List ℕ)) → LastsFrom w w.start k → InService mode how w k l old old k l []
+abbrev pub begins : (mode : Mode) (how : JournalDialect) (w : Crashes) (k : Kept) (l : Left) (old : Option (List ℕ)) → LastsFrom w w.start k → InService mode how w k l old old k l []
 begins mode how w k l old begun = record {
   replica = k;
   from = l;
@@ -73,7 +73,7 @@ begins mode how w k l old begun = record {
 }
 
 -- its answer waits
-abbrev pub one_waits : (mode : Mode) (how : Dialect) (w : Crashes) (k k' m : Kept) (l l' l'' : Left) (old new : Option (List ℕ)) (ds : List Due) (r : Request) (d : Due) (s : InService mode how w k l old new k' l' ds)
+abbrev pub one_waits : (mode : Mode) (how : JournalDialect) (w : Crashes) (k k' m : Kept) (l l' l'' : Left) (old new : Option (List ℕ)) (ds : List Due) (r : Request) (d : Due) (s : InService mode how w k l old new k' l' ds)
     → next_request how l' ≡ Ok (Some r, l'') → Acts k' r d m → MayWait mode (length s.replica.entries) r m → InService mode how w k l old new m l'' (ds ++ d ∷ [])
 one_waits mode how w k k' m l l' l'' old new ds r d s next a may = record {
   replica = s.replica;
@@ -87,7 +87,7 @@ one_waits mode how w k k' m l l' l'' old new ds r d s next a may = record {
 }
 
 -- its answer is written, and all that waited
-abbrev pub one_is_written : (mode : Mode) (how : Dialect) (w : Crashes) (k k' m : Kept) (l l' l'' : Left) (old mid new : Option (List ℕ)) (ds : List Due) (r : Request) (d : Due) (s : InService mode how w k l old mid k' l' ds)
+abbrev pub one_is_written : (mode : Mode) (how : JournalDialect) (w : Crashes) (k k' m : Kept) (l l' l'' : Left) (old mid new : Option (List ℕ)) (ds : List Due) (r : Request) (d : Due) (s : InService mode how w k l old mid k' l' ds)
     → next_request how l' ≡ Ok (Some r, l'') → Acts k' r d m → ¬ MayWait mode (length s.replica.entries) r m → Tell m (ds ++ d ∷ []) mid new → Lasts w m → InService mode how w k l old new m l'' []
 one_is_written mode how w k k' m l l' l'' old mid new ds r d s next a may t lasts = record {
   replica = m;
@@ -124,14 +124,14 @@ tell_next k i ds d old mid new lt is s t = subst (λ (xs : List Due). Tell k xs 
 
 -- The end of a run.
 
-pub all_served : (mode : Mode) (how : Dialect) (w : Crashes) (k k' : Kept) (l l' : Left) (old held new : Option (List ℕ)) (ds : List Due) → InService mode how w k l old held k' l' ds → Lasts w k' → Tell k' ds held new → ServesAll mode how w k l old new k' l'
+pub all_served : (mode : Mode) (how : JournalDialect) (w : Crashes) (k k' : Kept) (l l' : Left) (old held new : Option (List ℕ)) (ds : List Due) → InService mode how w k l old held k' l' ds → Lasts w k' → Tell k' ds held new → ServesAll mode how w k l old new k' l'
 all_served mode how w k k' l l' old held new ds s lasts t = record { dues = ds; held = held; before = s; lasts = lasts; told = t }
 
 -- at most one request more was done
-abbrev pub DoesLast : Dialect → Kept → Left → Kept → Type 0
+abbrev pub DoesLast : JournalDialect → Kept → Left → Kept → Type 0
 DoesLast how k l k' = (k' ≡ k) ⊎ DoesNext how k l k'
 
-breaks_off : (mode : Mode) (how : Dialect) (w : Crashes) (k k' m : Kept) (l l' : Left) (old held new : Option (List ℕ)) (ds : List Due) → InService mode how w k l old held k' l' ds → new ≡ held → DoesLast how k' l' m → BreaksOff mode how w k l old new m
+breaks_off : (mode : Mode) (how : JournalDialect) (w : Crashes) (k k' m : Kept) (l l' : Left) (old held new : Option (List ℕ)) (ds : List Due) → InService mode how w k l old held k' l' ds → new ≡ held → DoesLast how k' l' m → BreaksOff mode how w k l old new m
 breaks_off mode how w k k' m l l' old held new ds s is last = record {
   before = k';
   from = l';
@@ -140,7 +140,7 @@ breaks_off mode how w k k' m l l' old held new ds s is last = record {
   last = last;
 }
 
-short : (mode : Mode) (how : Dialect) (w : Crashes) (k k' m : Kept) (l l' : Left) (old held new : Option (List ℕ)) (ds : List Due) (e : ServeFault) → InService mode how w k l old held k' l' ds → IsSilent e held new → DoesLast how k' l' m → (e ≡ WriteFailed → Lasts w m)
+short : (mode : Mode) (how : JournalDialect) (w : Crashes) (k k' m : Kept) (l l' : Left) (old held new : Option (List ℕ)) (ds : List Due) (e : ServeFault) → InService mode how w k l old held k' l' ds → IsSilent e held new → DoesLast how k' l' m → (e ≡ WriteFailed → Lasts w m)
     → Ends mode how w k l old new (Err e) m
 short mode how w k k' m l l' old held new ds Memory s is last lasts = inl (breaks_off mode how w k k' m l l' old held new ds s is last)
 short mode how w k k' m l l' old held new ds ReadFailed s is last lasts = absurd is
@@ -148,22 +148,22 @@ short mode how w k k' m l l' old held new ds (BadRequest at) s is last lasts = a
 short mode how w k k' m l l' old held new ds WriteFailed s is last lasts = (held, breaks_off mode how w k k' m l l' old held held ds s refl last, lasts refl)
 short mode how w k k' m l l' old held new ds (LogFailed cause) s is last lasts = breaks_off mode how w k k' m l l' old held new ds s is last
 
-pub cut_short : (mode : Mode) (how : Dialect) (w : Crashes) (k k' m : Kept) (l l' : Left) (old held new : Option (List ℕ)) (ds : List Due) (r : Result Unit ServeFault) (e : ServeFault) → InService mode how w k l old held k' l' ds → IsSilent e held new → DoesLast how k' l' m → (e ≡ WriteFailed → Lasts w m)
+pub cut_short : (mode : Mode) (how : JournalDialect) (w : Crashes) (k k' m : Kept) (l l' : Left) (old held new : Option (List ℕ)) (ds : List Due) (r : Result Unit ServeFault) (e : ServeFault) → InService mode how w k l old held k' l' ds → IsSilent e held new → DoesLast how k' l' m → (e ≡ WriteFailed → Lasts w m)
     → IsErrAnd r (λ x. x ≡ e) → Ends mode how w k l old new r m
 cut_short mode how w k k' m l l' old held new ds (Ok x) e s silent last lasts is = absurd is
 cut_short mode how w k k' m l l' old held new ds (Err f) e s silent last lasts is = subst (λ (x : ServeFault). Ends mode how w k l old new (Err x) m) (sym is) (short mode how w k k' m l l' old held new ds e s silent last lasts)
 
-pub ends_well : (mode : Mode) (how how' : Dialect) (w : Crashes) (k k' : Kept) (l l' : Left) (old new : Option (List ℕ)) (found : Option Request) (p : ℕ) (left : Option (List ℕ)) → how' ≡ how → ServesAll mode how w k l old new k' l' → ReadsRequest how' l' (Ok found) p left → found ≡ None
+pub ends_well : (mode : Mode) (how how' : JournalDialect) (w : Crashes) (k k' : Kept) (l l' : Left) (old new : Option (List ℕ)) (found : Option Request) (p : ℕ) (left : Option (List ℕ)) → how' ≡ how → ServesAll mode how w k l old new k' l' → ReadsRequest how' l' (Ok found) p left → found ≡ None
     → Ends mode how w k l old new (Ok tt) k'
 ends_well mode how how' w k k' l l' old new found p left e s read is = (
   l',
   s,
-  (record { at = p; bytes = read.0 }, subst (λ (x : Dialect). next_request x l' ≡ Ok (None, record { at = p; bytes = read.0 })) e (read.2 ∙ ap (λ (f : Option Request). Ok (f, record { at = p; bytes = read.0 })) is)),
+  (record { at = p; bytes = read.0 }, subst (λ (x : JournalDialect). next_request x l' ≡ Ok (None, record { at = p; bytes = read.0 })) e (read.2 ∙ ap (λ (f : Option Request). Ok (f, record { at = p; bytes = read.0 })) is)),
 )
 
-pub ends_badly : (mode : Mode) (how how' : Dialect) (w : Crashes) (k k' : Kept) (l l' : Left) (old new : Option (List ℕ)) (f : RequestFault) (e : ServeFault) (p : ℕ) (left : Option (List ℕ)) → how' ≡ how → ServesAll mode how w k l old new k' l' → ReadsRequest how' l' (Err f) p left → e ≡ of_request f
+pub ends_badly : (mode : Mode) (how how' : JournalDialect) (w : Crashes) (k k' : Kept) (l l' : Left) (old new : Option (List ℕ)) (f : RequestFault) (e : ServeFault) (p : ℕ) (left : Option (List ℕ)) → how' ≡ how → ServesAll mode how w k l old new k' l' → ReadsRequest how' l' (Err f) p left → e ≡ of_request f
     → Ends mode how w k l old new (Err e) k'
-ends_badly mode how how' w k k' l l' old new f e p left size_is all read is = subst (λ (x : ServeFault). Ends mode how w k l old new (Err x) k') (sym is) (go f (subst (λ (x : Dialect). ReadsRequest x l' (Err f) p left) size_is read))
+ends_badly mode how how' w k k' l l' old new f e p left size_is all read is = subst (λ (x : ServeFault). Ends mode how w k l old new (Err x) k') (sym is) (go f (subst (λ (x : JournalDialect). ReadsRequest x l' (Err f) p left) size_is read))
   where
     go : (f : RequestFault) → ReadsRequest how l' (Err f) p left → Ends mode how w k l old new (Err (of_request f)) k'
     go request.Memory h = inr (l', all)
@@ -171,5 +171,5 @@ ends_badly mode how how' w k k' l l' old new f e p left size_is all read is = su
     go (request.BadRequest at) h = (l', all, h.0, h.1)
 
 -- the loop's end, which no input reaches
-pub ends_never : (mode : Mode) (how : Dialect) (w : Crashes) (k k' : Kept) (l l' : Left) (old held : Option (List ℕ)) (ds : List Due) → InService mode how w k l old held k' l' ds → Ends mode how w k l old held (Err Memory) k'
+pub ends_never : (mode : Mode) (how : JournalDialect) (w : Crashes) (k k' : Kept) (l l' : Left) (old held : Option (List ℕ)) (ds : List Due) → InService mode how w k l old held k' l' ds → Ends mode how w k l old held (Err Memory) k'
 ends_never mode how w k k' l l' old held ds s = inl (breaks_off mode how w k k' k' l l' old held held ds s refl (inl refl))

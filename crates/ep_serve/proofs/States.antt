@@ -7,7 +7,7 @@ use Rattle.ep_node.specs.Nodes.{IsCut, IsQuiet, Logged}
 use Rattle.ep_replica.specs.Kept.{Kept}
 use Rattle.ep_bundle.specs.Reading.{Left}
 use Rattle.ep_wire.specs.Requests.{next_request, ReadsRequest}
-use Rattle.ep_bundle.specs.declared.dialect.Dialect.{Dialect}
+use Rattle.ep_bundle.specs.declared.journal_dialect.JournalDialect.{JournalDialect}
 use Rattle.ep_wire.specs.declared.request.Request.{Request}
 use Rattle.ep_serve.specs.Acting.{Acts}
 use Rattle.ep_serve.specs.Answering.{Tell}
@@ -63,7 +63,7 @@ written_on : {D : Type 0} (seen : D → Option (List ℕ)) (moment : D → ℕ) 
 written_on seen moment left_since mode start node node' zs old held new left p q before r d xs s own next acted may told quiet kept goes known =
     let stays : IsKept start.digest seen moment left_since node.device node'.device node'.replica = subst (λ (x : List ℕ). IsKept x seen moment left_since node.device node'.device node'.replica) own kept in
     let onward : GoesOn start.digest seen moment left_since node.device node'.device node.replica node.synced = subst (λ (x : List ℕ). GoesOn x seen moment left_since node.device node'.device node.replica node.synced) own goes in
-    let how : Dialect = dialect_of start.replica in
+    let how : JournalDialect = dialect_of start.replica in
     let w' : Crashes = crashes start.digest seen moment left_since start.device node'.device in
     let extends : Extends s.service.replica node.replica = waiting_more mode how s.service.replica node.replica s.service.from (record { at = p; bytes = s.ys }) before s.service.waiting in
     let moved : InService mode how w' start.replica (record { at = 0; bytes = zs }) old held node.replica (record { at = p; bytes = s.ys }) before =
@@ -78,11 +78,11 @@ written_on seen moment left_since mode start node node' zs old held new left p q
     }
 
 -- the request that was read, in the service's dialect
-read_as : (how how' : Dialect) (l : Left) (found : Option Request) (r : Request) (q : ℕ) (left' : Option (List ℕ)) → how ≡ how' → (read : ReadsRequest how l (Ok found) q left') → found ≡ Some r → next_request how' l ≡ Ok (Some r, record { at = q; bytes = read.0 })
+read_as : (how how' : JournalDialect) (l : Left) (found : Option Request) (r : Request) (q : ℕ) (left' : Option (List ℕ)) → how ≡ how' → (read : ReadsRequest how l (Ok found) q left') → found ≡ Some r → next_request how' l ≡ Ok (Some r, record { at = q; bytes = read.0 })
 read_as how how' l found r q left' same read is =
-    subst (λ (x : Dialect). next_request x l ≡ Ok (Some r, record { at = q; bytes = read.0 })) same (read.2 ∙ ap (λ (f : Option Request). Ok (f, record { at = q; bytes = read.0 })) is)
+    subst (λ (x : JournalDialect). next_request x l ≡ Ok (Some r, record { at = q; bytes = read.0 })) same (read.2 ∙ ap (λ (f : Option Request). Ok (f, record { at = q; bytes = read.0 })) is)
 
-pub stands_next : {D : Type 0} (seen : D → Option (List ℕ)) (moment : D → ℕ) (left_since : D → ℕ → List ℕ → Type 0) (mode : Mode) (start node node' : Logged D) (zs : List ℕ) (old held new left left' : Option (List ℕ)) (p q : ℕ) (how : Dialect) (before after : List Due) (found : Option Request) (r : Request)
+pub stands_next : {D : Type 0} (seen : D → Option (List ℕ)) (moment : D → ℕ) (left_since : D → ℕ → List ℕ → Type 0) (mode : Mode) (start node node' : Logged D) (zs : List ℕ) (old held new left left' : Option (List ℕ)) (p q : ℕ) (how : JournalDialect) (before after : List Due) (found : Option Request) (r : Request)
     → (s : Stands seen moment left_since mode start node zs old held p left before) → node.digest ≡ start.digest → how ≡ dialect_of start.replica → ReadsRequest how (record { at = p; bytes = s.ys }) (Ok found) q left' → found ≡ Some r
     → (m : Mode) → m ≡ mode → Waits m node r before held node' after new (IsKept node.digest seen moment left_since node.device node'.device node'.replica) → GoesOn node.digest seen moment left_since node.device node'.device node.replica node.synced → StaysKnown seen start.device node.device
     → Stands seen moment left_since mode start node' zs old new q left' after
@@ -105,7 +105,7 @@ pub goes_on_to : {D : Type 0} (seen : D → Option (List ℕ)) (moment : D → �
     → InService mode (dialect_of start.replica) (crashes start.digest seen moment left_since start.device node'.device) start.replica (record { at = 0; bytes = zs }) old held node.replica (record { at = p; bytes = s.ys }) before
 goes_on_to seen moment left_since mode start node node' zs old held left p before s own goes known =
     let onward : GoesOn start.digest seen moment left_since node.device node'.device node.replica node.synced = subst (λ (x : List ℕ). GoesOn x seen moment left_since node.device node'.device node.replica node.synced) own goes in
-    let how : Dialect = dialect_of start.replica in
+    let how : JournalDialect = dialect_of start.replica in
     service_on mode how (crashes start.digest seen moment left_since start.device node.device) (crashes start.digest seen moment left_since start.device node'.device) start.replica node.replica (record { at = 0; bytes = zs }) (record { at = p; bytes = s.ys }) old held before s.service
     (passes start.digest seen moment left_since start.device node.device node'.device node.replica s.service.replica node.synced known s.synced (waiting_more mode how s.service.replica node.replica s.service.from (record { at = p; bytes = s.ys }) before s.service.waiting) onward)
 
@@ -116,7 +116,7 @@ pub settled_so : (e : ServeFault) (P : Type 0) → IfSettled (Err e) P → e ≡
 settled_so e P h is = subst (λ (x : ServeFault). IfSettled (Err x) P) is h
 
 -- a fault at a request
-pub stopped : {D : Type 0} (seen : D → Option (List ℕ)) (moment : D → ℕ) (left_since : D → ℕ → List ℕ → Type 0) (mode : Mode) (start node node' : Logged D) (zs : List ℕ) (old held new left left' : Option (List ℕ)) (p q : ℕ) (how : Dialect) (before : List Due) (found : Option Request) (asked : Request) (e : ServeFault) (r : Result Unit ServeFault)
+pub stopped : {D : Type 0} (seen : D → Option (List ℕ)) (moment : D → ℕ) (left_since : D → ℕ → List ℕ → Type 0) (mode : Mode) (start node node' : Logged D) (zs : List ℕ) (old held new left left' : Option (List ℕ)) (p q : ℕ) (how : JournalDialect) (before : List Due) (found : Option Request) (asked : Request) (e : ServeFault) (r : Result Unit ServeFault)
     (s : Stands seen moment left_since mode start node zs old held p left before) → node.digest ≡ start.digest → how ≡ dialect_of start.replica → ReadsRequest how (record { at = p; bytes = s.ys }) (Ok found) q left' → found ≡ Some asked → DoesOne node.replica asked node'.replica → IsSilent e held new → IfUnwritten (Err e) (IsQuiet node' × IsKept node.digest seen moment left_since node.device node'.device node'.replica)
     → GoesOn node.digest seen moment left_since node.device node'.device node.replica node.synced → StaysKnown seen start.device node.device → IsErrAnd r (λ x. x ≡ e)
     → Ends mode (dialect_of start.replica) (crashes start.digest seen moment left_since start.device node'.device) start.replica (record { at = 0; bytes = zs }) old new r node'.replica
@@ -144,7 +144,7 @@ pub all_settled : {D : Type 0} (seen : D → Option (List ℕ)) (moment : D → 
     → ServesAll mode (dialect_of start.replica) (crashes start.digest seen moment left_since start.device node'.device) start.replica (record { at = 0; bytes = zs }) old new node'.replica (record { at = p; bytes = s.ys })
 all_settled seen moment left_since mode start node node' zs old held new left p before after s own same told kept goes known =
     let stays : IsKept start.digest seen moment left_since node.device node'.device node.replica = subst (λ (x : List ℕ). IsKept x seen moment left_since node.device node'.device node.replica) own kept in
-    let how : Dialect = dialect_of start.replica in
+    let how : JournalDialect = dialect_of start.replica in
     let w' : Crashes = crashes start.digest seen moment left_since start.device node'.device in
     subst (λ (x : Kept). ServesAll mode how w' start.replica (record { at = 0; bytes = zs }) old new x (record { at = p; bytes = s.ys })) (sym same)
     (all_served mode how w' start.replica node.replica (record { at = 0; bytes = zs }) (record { at = p; bytes = s.ys }) old held new before (goes_on_to seen moment left_since mode start node node' zs old held left p before s own goes known)

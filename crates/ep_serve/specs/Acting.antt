@@ -42,7 +42,7 @@ IsFarAhead k seen = stamp_after k.opening.since (entries_of k.entries) + 2 ^ 40 
 
 -- the stamp that an event's client has seen; 0 where no client asks for it
 abbrev pub seen_by : Happening → ℕ
-seen_by (event.Propose client number command seen) = seen
+seen_by (event.Propose client number command seen named) = seen
 seen_by (event.Handle frame) = 0
 seen_by (event.GiveUp i) = 0
 seen_by (event.Recover i) = 0

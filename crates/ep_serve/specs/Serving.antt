@@ -15,16 +15,16 @@ use Rattle.ep_serve.specs.declared.mode.Mode.TheVariants.{Asked}
 use Rattle.ep_serve.specs.declared.serve_fault.ServeFault.{ServeFault}
 use Rattle.ep_serve.specs.declared.serve_fault.ServeFault.TheVariants.{Memory, ReadFailed, BadRequest, WriteFailed, LogFailed}
 use Rattle.ep_wire.specs.Requests.{next_request}
-use Rattle.ep_bundle.specs.declared.dialect.Dialect.{Dialect}
+use Rattle.ep_bundle.specs.declared.journal_dialect.JournalDialect.{JournalDialect}
 use Rattle.ep_wire.specs.declared.request.Request.{Request}
 use Rattle.ep_wire.specs.declared.request.Request.TheVariants as request
 
 -- what requests to a node of this replica are spelled in
-abbrev pub dialect_of : Kept → Dialect
-dialect_of k = record { version = k.version; size = k.faults }
+abbrev pub dialect_of : Kept → JournalDialect
+dialect_of k = record { version = k.version; size = k.faults; me = k.me }
 
 -- the requests stand there, one after the other, in a node's dialect
-abbrev pub AreRead : Dialect → Left → List Request → Left → Type 0
+abbrev pub AreRead : JournalDialect → Left → List Request → Left → Type 0
 AreRead how l [] l' = l' ≡ l
 AreRead how l (r ∷ rs) l' = (m : Left) × (next_request how l ≡ Ok (Some r, m)) × AreRead how m rs l'
 
@@ -57,13 +57,13 @@ AllWait mode synced k [] ds k' = (ds ≡ []) × (k' ≡ k)
 AllWait mode synced k (r ∷ rs) ds k' = (d : Due) × (more : List Due) × (m : Kept) × Acts k r d m × MayWait mode synced r m × AllWait mode synced m rs more k' × (ds ≡ d ∷ more)
 
 -- Requests whose answers wait, of a replica all of whose entries are on the disk.
-pub record Waiting (mode : Mode) (how : Dialect) (k : Kept) (l : Left) (ds : List Due) (k' : Kept) (l' : Left) : Type 0 where
+pub record Waiting (mode : Mode) (how : JournalDialect) (k : Kept) (l : Left) (ds : List Due) (k' : Kept) (l' : Left) : Type 0 where
   pub requests : List Request
   pub read : AreRead how l requests l'
   pub acted : AllWait mode (length k.entries) k requests ds k'
 
 -- Requests whose answers are written together: those that wait, and the first one whose answer may not. They are told by the replica that they leave.
-pub record IsBatch (mode : Mode) (how : Dialect) (k : Kept) (l : Left) (out : List ℕ) (k' : Kept) (l' : Left) : Type 0 where
+pub record IsBatch (mode : Mode) (how : JournalDialect) (k : Kept) (l : Left) (out : List ℕ) (k' : Kept) (l' : Left) : Type 0 where
   pub dues : List Due
   pub before : Kept
   pub from : Left
@@ -76,13 +76,13 @@ pub record IsBatch (mode : Mode) (how : Dialect) (k : Kept) (l : Left) (out : Li
   pub told : AllTold k' (dues ++ due ∷ []) out
 
 -- So many batches, one after the other. Of each the entries of the replica that told it are on the disk from a moment on, which isn't after this one.
-abbrev pub AreServed : ℕ → Mode → Dialect → Crashes → Kept → Left → List ℕ → Kept → Left → Type 0
+abbrev pub AreServed : ℕ → Mode → JournalDialect → Crashes → Kept → Left → List ℕ → Kept → Left → Type 0
 AreServed zero mode how w k l out k' l' = (out ≡ []) × (k' ≡ k) × (l' ≡ l)
 AreServed (suc b) mode how w k l out k' l' =
     (first rest : List ℕ) × (m : Kept) × (l1 : Left) × IsBatch mode how k l first m l1 × Lasts w m × AreServed b mode how w m l1 rest k' l' × (out ≡ first ++ rest)
 
 -- In batches requests were answered, and nothing but these answers was written. What was on the disk at first is there at each moment.
-pub record Serves (mode : Mode) (how : Dialect) (w : Crashes) (k : Kept) (l : Left) (old new : Option (List ℕ)) (k' : Kept) (l' : Left) : Type 0 where
+pub record Serves (mode : Mode) (how : JournalDialect) (w : Crashes) (k : Kept) (l : Left) (old new : Option (List ℕ)) (k' : Kept) (l' : Left) : Type 0 where
   pub begun : LastsFrom w w.start k
   pub batches : ℕ
   pub out : List ℕ
@@ -90,14 +90,14 @@ pub record Serves (mode : Mode) (how : Dialect) (w : Crashes) (k : Kept) (l : Le
   pub appended : Appends old new out
 
 -- requests are served up to `replica` and `from`, and those since then wait for their answers
-pub record InService (mode : Mode) (how : Dialect) (w : Crashes) (k : Kept) (l : Left) (old new : Option (List ℕ)) (k' : Kept) (l' : Left) (dues : List Due) : Type 0 where
+pub record InService (mode : Mode) (how : JournalDialect) (w : Crashes) (k : Kept) (l : Left) (old new : Option (List ℕ)) (k' : Kept) (l' : Left) (dues : List Due) : Type 0 where
   pub replica : Kept
   pub from : Left
   pub served : Serves mode how w k l old new replica from
   pub waiting : Waiting mode how replica from dues k' l'
 
 -- all requests were answered, those too that waited at the end, which are told in the same way
-pub record ServesAll (mode : Mode) (how : Dialect) (w : Crashes) (k : Kept) (l : Left) (old new : Option (List ℕ)) (k' : Kept) (l' : Left) : Type 0 where
+pub record ServesAll (mode : Mode) (how : JournalDialect) (w : Crashes) (k : Kept) (l : Left) (old new : Option (List ℕ)) (k' : Kept) (l' : Left) : Type 0 where
   pub dues : List Due
   pub held : Option (List ℕ)
   pub before : InService mode how w k l old held k' l' dues
@@ -105,7 +105,7 @@ pub record ServesAll (mode : Mode) (how : Dialect) (w : Crashes) (k : Kept) (l :
   pub told : Tell k' dues held new
 
 -- no request follows
-abbrev pub IsOver : Dialect → Left → Type 0
+abbrev pub IsOver : JournalDialect → Left → Type 0
 IsOver how l = (m : Left) × (next_request how l ≡ Ok (None, m))
 
 -- one request more was done, or it stopped for want of memory
@@ -113,11 +113,11 @@ abbrev pub DoesOne : Kept → Request → Kept → Type 0
 DoesOne k r k' = ((d : Due) × Acts k r d k') ⊎ IsCutShort k r k'
 
 -- the next request, where it is one
-abbrev pub DoesNext : Dialect → Kept → Left → Kept → Type 0
+abbrev pub DoesNext : JournalDialect → Kept → Left → Kept → Type 0
 DoesNext how k l k' = (r : Request) × (m : Left) × (next_request how l ≡ Ok (Some r, m)) × DoesOne k r k'
 
 -- Batches of requests were answered, others that were done waited for their answers, and then at most one more was done.
-pub record BreaksOff (mode : Mode) (how : Dialect) (w : Crashes) (k : Kept) (l : Left) (old new : Option (List ℕ)) (k' : Kept) : Type 0 where
+pub record BreaksOff (mode : Mode) (how : JournalDialect) (w : Crashes) (k : Kept) (l : Left) (old new : Option (List ℕ)) (k' : Kept) : Type 0 where
   pub before : Kept
   pub from : Left
   pub dues : List Due
@@ -127,7 +127,7 @@ pub record BreaksOff (mode : Mode) (how : Dialect) (w : Crashes) (k : Kept) (l :
 -- What is written when a node no longer serves, of its replica k' then: at the end of the input, where it can't be read, and where its bytes are no request,
 -- all requests before were answered; for want of memory all, or some batches of those that were done; where the log failed, some batches; where writing failed, these
 -- and what the sink made of one more, of which nothing is known but that what it tells is on the disk.
-abbrev pub Ends : Mode → Dialect → Crashes → Kept → Left → Option (List ℕ) → Option (List ℕ) → Result Unit ServeFault → Kept → Type 0
+abbrev pub Ends : Mode → JournalDialect → Crashes → Kept → Left → Option (List ℕ) → Option (List ℕ) → Result Unit ServeFault → Kept → Type 0
 Ends mode how w k l old new (Ok x) k' = (l' : Left) × ServesAll mode how w k l old new k' l' × IsOver how l'
 Ends mode how w k l old new (Err Memory) k' = BreaksOff mode how w k l old new k' ⊎ ((l' : Left) × ServesAll mode how w k l old new k' l')
 Ends mode how w k l old new (Err ReadFailed) k' = (l' : Left) × ServesAll mode how w k l old new k' l'

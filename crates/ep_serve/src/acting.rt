@@ -51,6 +51,7 @@ fn seen_by(event: &Event) -> u64
             request: _,
             command: _,
             seen,
+            spared: _,
         } => *seen,
         Event::Handle(_) | Event::GiveUp(_) | Event::Recover(_) | Event::Execute(_) => 0,
     }

@@ -12,16 +12,17 @@ use crate::serve_fault::ServeFault;
 use ep_base::{Sink, Source};
 use ep_device::Device;
 use ep_node::Node;
-use ep_wire::{Dialect, read_request};
+use ep_wire::{JournalDialect, read_request};
 use std::alloc::Global;
 
 /// What requests to the node are spelled in.
-pub fn dialect_of<D: Device>(node: &Node<D>) -> Dialect
+pub fn dialect_of<D: Device>(node: &Node<D>) -> JournalDialect
     ensures { result ≡ dialect_of node.now.replica }
 {
-    Dialect {
+    JournalDialect {
         version: node.version(),
         size: node.size(),
+        me: node.me(),
     }
 }
 

@@ -26,7 +26,7 @@ handled_text n b = codes "handle " ++ number_text n ++ codes "from " ++ decimal 
 
 -- an event that sends these frames; the frame that it handles, if it handles one, is the message of this number
 abbrev pub happening_text : Option ℕ → Happening → List (List ℕ) → List ℕ
-happening_text n (taken.Propose client request command seen) frames = taken_text (taken.Propose client request command seen) frames
+happening_text n (taken.Propose client request command seen spared) frames = taken_text (taken.Propose client request command seen spared) frames
 happening_text n (taken.Handle b) frames = handled_text n b
 happening_text n (taken.GiveUp i) frames = taken_text (taken.GiveUp i) frames
 happening_text n (taken.Recover i) frames = taken_text (taken.Recover i) frames
@@ -60,12 +60,17 @@ made_line n r e = place_text n.line r e ++ happened_text n e ++ codes "\n"
 
 -- Events that are refused.
 
+-- the replica that is to be spared, if one is named
+abbrev pub spared_text : Option ℕ → List ℕ
+spared_text None = []
+spared_text (Some s) = codes "sparing " ++ decimal s ++ codes " "
+
 abbrev pub proposal_text : ℕ → ℕ → Command → List ℕ
 proposal_text replica client command = codes "propose " ++ decimal replica ++ codes " " ++ decimal client ++ codes " " ++ command_text command
 
 -- the event as a script has it
 abbrev pub asked_text : WorldEvent → List ℕ
-asked_text (Propose replica client request command seen) = proposal_text replica client command
+asked_text (Propose replica client request command seen spared) = spared_text spared ++ proposal_text replica client command
 asked_text (GiveUp replica i) = codes "giveup " ++ decimal replica ++ codes " " ++ instance_text i
 asked_text (Recover replica i) = codes "recover " ++ decimal replica ++ codes " " ++ instance_text i
 asked_text (Execute replica i) = codes "execute " ++ decimal replica ++ codes " " ++ instance_text i

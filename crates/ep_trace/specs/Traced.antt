@@ -20,7 +20,7 @@ use Rattle.ep_world.specs.declared.world_event.WorldEvent.TheVariants as event
 
 -- the message that the event gives
 abbrev pub given_by : WorldEvent → Option ℕ
-given_by (event.Propose replica client request command seen) = None
+given_by (event.Propose replica client request command seen spared) = None
 given_by (event.GiveUp replica i) = None
 given_by (event.Recover replica i) = None
 given_by (event.Execute replica i) = None

@@ -1,7 +1,7 @@
 //! The lines of events.
 
 ghost use Rattle.std.specs.Prelude.{◌≡◌, ◌+◌, ◌++◌, OnOk, codes, decimal};
-ghost use Rattle.ep_trace.specs.Lines.{number_text, handled_text, happening_text, receiver_text, more_sent, sent_text, place_text, happened_text, made_line, proposal_text, asked_text, refused_line};
+ghost use Rattle.ep_trace.specs.Lines.{number_text, handled_text, happening_text, receiver_text, more_sent, sent_text, place_text, happened_text, made_line, spared_text, proposal_text, asked_text, refused_line};
 ghost use Rattle.ep_view.specs.Lines.{words_at};
 ghost use Rattle.ep_report.specs.Parts.{instance_text};
 
@@ -175,6 +175,19 @@ fn push_proposal(
     push_command(text, command)
 }
 
+// Appends what stands before a proposal that names the replica to be spared.
+fn push_spared(text: &mut Vec<u8>, spared: Option<ReplicaId>) -> Result<(), AllocError>
+    ensures { OnOk result (text.new.items ≡ text.old.items ++ spared_text spared) }
+{
+    let Some(replica) = spared else {
+        return Ok(());
+    };
+    text.extend_from_slice(b"sparing ")?;
+    push_number(text, u64::from(replica.index()))?;
+    text.push(b' ')?;
+    Ok(())
+}
+
 // Appends a line's first word, and a replica and an instance.
 fn push_named(
     text: &mut Vec<u8>,
@@ -201,7 +214,11 @@ fn push_asked(text: &mut Vec<u8>, event: &WorldEvent) -> Result<(), AllocError>
             request: _,
             command,
             seen: _,
-        } => push_proposal(text, *replica, *client, command),
+            spared,
+        } => {
+            push_spared(text, *spared)?;
+            push_proposal(text, *replica, *client, command)
+        }
         WorldEvent::GiveUp { replica, instance } => {
             push_named(text, b"giveup ", *replica, *instance)
         }

@@ -26,7 +26,7 @@ use Rattle.ep_view.specs.declared.selection.Selection.{Selection}
 
 -- the instances is, and the one that a proposal takes, or that is recovered
 abbrev pub with_begun : Event → List (List ℕ) → List ℕ → List ℕ
-with_begun (Propose client request command seen) frames is = with_taken frames is
+with_begun (Propose client request command seen spared) frames is = with_taken frames is
 with_begun (Handle b) frames is = is
 with_begun (GiveUp i) frames is = is
 with_begun (Recover i) frames is = union (i ∷ []) is

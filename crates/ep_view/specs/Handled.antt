@@ -12,7 +12,7 @@ use Rattle.ep_view.specs.declared.handled.Handled.{Handled}
 
 -- the event handles the frame of these bytes
 abbrev pub handles : List ℕ → Event → Bool
-handles b (Propose client request command seen) = false
+handles b (Propose client request command seen spared) = false
 handles b (Handle other) = same_list b other
 handles b (GiveUp i) = false
 handles b (Recover i) = false

@@ -14,7 +14,7 @@ is_one_of (i ∷ is) j = cond (eqb i j) true (is_one_of is j)
 
 -- the event names one of the instances; a proposal names none, but what it sends does
 abbrev pub names : List ℕ → Event → Bool
-names is (Propose client request command seen) = false
+names is (Propose client request command seen spared) = false
 names is (Handle b) = is_one_of is (instance_at b)
 names is (GiveUp j) = is_one_of is j
 names is (Recover j) = is_one_of is j

@@ -33,7 +33,7 @@ took_text (b ∷ bs) = codes "; took " ++ instance_text (instance_at b)
 
 -- an event, and for a proposal the instance that it takes
 abbrev pub taken_text : Event → List (List ℕ) → List ℕ
-taken_text (Propose client request command seen) frames = event_text (Propose client request command seen) ++ took_text frames
+taken_text (Propose client request command seen spared) frames = event_text (Propose client request command seen spared) ++ took_text frames
 taken_text (Handle b) frames = event_text (Handle b)
 taken_text (GiveUp i) frames = event_text (GiveUp i)
 taken_text (Recover i) frames = event_text (Recover i)

@@ -18,7 +18,7 @@ use Rattle.ep_view.specs.Handled.{is_handled}
 use Rattle.ep_view.specs.Labels.{mermaid_words}
 use Rattle.ep_view.specs.Shown.{IsInOrder}
 use Rattle.ep_view.specs.Walks.{told_at}
-use Rattle.ep_view.specs.Words.{event_text}
+use Rattle.ep_view.specs.Words.{event_text, sparing_text}
 use Rattle.ep_view.specs.declared.selection.Selection.{Selection}
 
 unfoldable pub pre_accept_ok_text : ℕ → List ℕ
@@ -50,7 +50,7 @@ as_text (b ∷ bs) = codes " as " ++ instance_text (instance_at b)
 
 -- an event of replica r: a frame that is handled is an arrow from its sender, and all else a note
 abbrev pub happened : ℕ → Event → List (List ℕ) → List ℕ
-happened r (Propose client request command seen) frames = note_start r ++ codes "propose " ++ mermaid_words (command_text command) ++ as_text frames
+happened r (Propose client request command seen spared) frames = note_start r ++ codes "propose " ++ mermaid_words (command_text command) ++ sparing_text spared ++ as_text frames
 happened r (Handle b) frames = arrow_start (sender_at b) (codes "->>") r ++ brief_text (message_at b)
 happened r (GiveUp i) frames = note_start r ++ event_text (GiveUp i)
 happened r (Recover i) frames = note_start r ++ event_text (Recover i)

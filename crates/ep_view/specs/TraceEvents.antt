@@ -62,7 +62,7 @@ enters_text r e b = begun (codes "\"ph\":\"f\",\"bp\":\"e\",\"cat\":\"frame\"") 
 
 -- the arrow of the frame that an entry handles
 abbrev pub arrow_of : ℕ → Entry → Event → List ℕ
-arrow_of r e (Propose client request command seen) = []
+arrow_of r e (Propose client request command seen spared) = []
 arrow_of r e (Handle b) = leaves_text r e b ++ enters_text r e b
 arrow_of r e (GiveUp i) = []
 arrow_of r e (Recover i) = []
@@ -83,7 +83,7 @@ commit_of r e b = cond (is_commit b) (instant_text r e (codes "committed " ++ in
 
 -- where a Commit is handled
 abbrev pub commit_handled : ℕ → Entry → Event → List ℕ
-commit_handled r e (Propose client request command seen) = []
+commit_handled r e (Propose client request command seen spared) = []
 commit_handled r e (Handle b) = commit_of r e b
 commit_handled r e (GiveUp i) = []
 commit_handled r e (Recover i) = []

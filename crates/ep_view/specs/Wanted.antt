@@ -24,7 +24,7 @@ is_on_key (Some key) command = has_key key (keys_of command)
 
 -- the event is a proposal of that client, of a command on that key
 abbrev pub is_wanted : Option (List ℕ) → Option ℕ → Event → Bool
-is_wanted key client (Propose c request command seen) = is_of_client client c && is_on_key key command
+is_wanted key client (Propose c request command seen spared) = is_of_client client c && is_on_key key command
 is_wanted key client (Handle b) = false
 is_wanted key client (GiveUp i) = false
 is_wanted key client (Recover i) = false

@@ -1,6 +1,7 @@
 -- What messages and events are told as.
-use Rattle.std.specs.Prelude.{ℕ, List, ◌++◌, Option, Some, None, codes, decimal}
+use Rattle.std.specs.Prelude.{ℕ, List, [], ◌++◌, Option, Some, None, codes, decimal}
 use Rattle.ep_base.specs.Ballots.{counter_of, owner_of}
+use Rattle.ep_base.specs.Commands.{Command}
 use Rattle.ep_base.specs.declared.attrs.Attrs.{Attrs}
 use Rattle.ep_base.specs.declared.decree.Decree.{Decree}
 use Rattle.ep_base.specs.declared.message.Message.{Message}
@@ -55,9 +56,18 @@ origin_text b = decimal (sender_at b) ++ codes ":" ++ decimal (origin_at b).entr
 
 -- Events.
 
-abbrev pub event_text : Event → List ℕ
-event_text (Propose client request command seen) =
+-- a command that is proposed, with its client's request
+abbrev pub request_text : ℕ → ℕ → Command → ℕ → List ℕ
+request_text client request command seen =
     codes "propose " ++ command_text command ++ codes " (client " ++ decimal client ++ codes " request " ++ decimal request ++ codes " seen " ++ decimal seen ++ codes ")"
+
+-- the replica that a proposal names as the spared one
+abbrev pub sparing_text : Option ℕ → List ℕ
+sparing_text None = []
+sparing_text (Some s) = codes " sparing " ++ decimal s
+
+abbrev pub event_text : Event → List ℕ
+event_text (Propose client request command seen spared) = request_text client request command seen ++ sparing_text spared
 event_text (Handle b) = codes "handle " ++ origin_text b ++ codes " " ++ message_text (message_at b)
 event_text (GiveUp i) = codes "give up " ++ instance_text i
 event_text (Recover i) = codes "recover " ++ instance_text i

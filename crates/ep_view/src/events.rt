@@ -3,23 +3,35 @@
 ghost use Rattle.std.specs.Prelude.{◌≡◌, ◌++◌, IfOk, OnOk};
 ghost use Rattle.ep_journal.specs.declared.event.Event.TheVariants as event;
 ghost use Rattle.ep_report.specs.Parts.{command_text, instance_text};
-ghost use Rattle.ep_view.specs.Words.{event_text};
+ghost use Rattle.ep_view.specs.Words.{event_text, request_text, sparing_text};
 
 use crate::messages::{push_message, push_origin};
-use ep_base::{Command, InstanceId};
+use ep_base::{Command, InstanceId, ReplicaId};
 use ep_frame::Frame;
 use ep_journal::Event;
 use ep_report::{push_command, push_instance, push_number};
 use std::alloc::{AllocError, Global};
 
-fn push_proposal(
+/// Appends the replica that a proposal names as the spared one, if it does.
+pub(crate) fn push_sparing(text: &mut Vec<u8>, spared: Option<ReplicaId>) -> Result<(), AllocError>
+    ensures { OnOk result (text.new.items ≡ text.old.items ++ sparing_text spared) }
+{
+    let Some(replica) = spared else {
+        return Ok(());
+    };
+    text.extend_from_slice(b" sparing ")?;
+    push_number(text, u64::from(replica.index()))
+}
+
+// Appends a command that is proposed, with its client's request.
+fn push_request(
     text: &mut Vec<u8>,
     client: u32,
     request: u32,
     command: &Command,
     seen: u64,
 ) -> Result<(), AllocError>
-    ensures { OnOk result (text.new.items ≡ text.old.items ++ event_text (event.Propose client request command.now seen)) }
+    ensures { OnOk result (text.new.items ≡ text.old.items ++ request_text client request command.now seen) }
 {
     text.extend_from_slice(b"propose ")?;
     push_command(text, command)?;
@@ -61,7 +73,11 @@ pub fn push_event(text: &mut Vec<u8>, event: &Event) -> Result<(), AllocError>
             request,
             command,
             seen,
-        } => push_proposal(text, *client, *request, command, *seen),
+            spared,
+        } => {
+            push_request(text, *client, *request, command, *seen)?;
+            push_sparing(text, *spared)
+        }
         Event::Handle(frame) => push_handling(text, frame),
         Event::GiveUp(instance) => push_named(text, b"give up ", *instance),
         Event::Recover(instance) => push_named(text, b"recover ", *instance),

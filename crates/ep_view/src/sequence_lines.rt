@@ -5,10 +5,10 @@ ghost use Rattle.ep_frame.specs.Meaning.{message_at, sender_at};
 ghost use Rattle.ep_report.specs.Parts.{instance_text, command_text, answer_text};
 ghost use Rattle.ep_view.specs.Handled.{is_in};
 ghost use Rattle.ep_view.specs.Labels.{mermaid_words};
-ghost use Rattle.ep_view.specs.Words.{event_text};
+ghost use Rattle.ep_view.specs.Words.{event_text, sparing_text};
 ghost use Rattle.ep_view.specs.Sequences.{pre_accept_ok_text, brief_text, note_start, arrow_start, as_text, happened, answered, all_answered, lost_line, lost_lines, entry_lines};
 
-use crate::events::{command_words, push_event};
+use crate::events::{command_words, push_event, push_sparing};
 use crate::handled::Handled;
 use crate::labels::push_mermaid_words;
 use ep_base::{Answer, Command, InstanceId, Message, ReplicaId};
@@ -99,12 +99,18 @@ fn push_as(text: &mut Vec<u8>, frames: &[Frame]) -> Result<(), AllocError>
     push_instance(text, first.instance())
 }
 
-fn push_proposed(text: &mut Vec<u8>, command: &Command, frames: &[Frame]) -> Result<(), AllocError>
-    ensures { OnOk result (text.new.items ≡ text.old.items ++ (codes "propose " ++ mermaid_words (command_text command.now) ++ as_text frames.now)) }
+fn push_proposed(
+    text: &mut Vec<u8>,
+    command: &Command,
+    spared: Option<ReplicaId>,
+    frames: &[Frame],
+) -> Result<(), AllocError>
+    ensures { OnOk result (text.new.items ≡ text.old.items ++ (codes "propose " ++ mermaid_words (command_text command.now) ++ sparing_text spared ++ as_text frames.now)) }
 {
     let words = command_words(*text.allocator(), command)?;
     text.extend_from_slice(b"propose ")?;
     push_mermaid_words(text, &words)?;
+    push_sparing(text, spared)?;
     push_as(text, frames)
 }
 
@@ -112,12 +118,13 @@ fn push_proposal(
     text: &mut Vec<u8>,
     replica: ReplicaId,
     command: &Command,
+    spared: Option<ReplicaId>,
     frames: &[Frame],
 ) -> Result<(), AllocError>
-    ensures { OnOk result (text.new.items ≡ text.old.items ++ (note_start replica ++ codes "propose " ++ mermaid_words (command_text command.now) ++ as_text frames.now)) }
+    ensures { OnOk result (text.new.items ≡ text.old.items ++ (note_start replica ++ codes "propose " ++ mermaid_words (command_text command.now) ++ sparing_text spared ++ as_text frames.now)) }
 {
     push_note_start(text, replica.index())?;
-    push_proposed(text, command, frames)
+    push_proposed(text, command, spared, frames)
 }
 
 fn push_handled(text: &mut Vec<u8>, replica: ReplicaId, frame: &Frame) -> Result<(), AllocError>
@@ -144,7 +151,11 @@ fn push_happened(
     ensures { OnOk result (text.new.items ≡ text.old.items ++ happened replica event.now frames.now) }
 {
     match event {
-        Event::Propose { command, .. } => push_proposal(text, replica, command, frames),
+        Event::Propose {
+            command,
+            spared,
+            ..
+        } => push_proposal(text, replica, command, *spared, frames),
         Event::Handle(frame) => push_handled(text, replica, frame),
         Event::GiveUp(_) | Event::Recover(_) | Event::Execute(_) => push_noted(
             text, replica, event,

@@ -137,6 +137,7 @@ function entryOf(line, index) {
     reader.next(); entry.client = parseInt(reader.next());
     reader.next(); entry.request = parseInt(reader.next());
     reader.next(); reader.next();
+    if (reader.isNext('sparing')) { reader.next(); reader.next(); }
   } else if (entry.kind === 'handle') {
     entry.from = reader.next().split(':').map(Number);
     entry.message = reader.message();

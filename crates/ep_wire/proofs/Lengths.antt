@@ -10,7 +10,7 @@ use Rattle.ep_bundle.proofs.Readings.{cut, fails, goes_on, numbered, same_readin
 use Rattle.ep_base.specs.declared.version.Version.{Version}
 use Rattle.ep_wire.specs.Front.{Gathers}
 use Rattle.ep_wire.specs.Requests.{is_length, next_request, size_field, sized, some, unless_over}
-use Rattle.ep_bundle.specs.declared.dialect.Dialect.{Dialect}
+use Rattle.ep_bundle.specs.declared.journal_dialect.JournalDialect.{JournalDialect}
 use Rattle.ep_wire.specs.declared.request.Request.{Request}
 use Rattle.std.specs.Prelude.{IsErr, IsErrAnd}
 
@@ -90,21 +90,21 @@ split {A = A} {B = B} l o k = go (eqb (length l.bytes) 0) o
     go false (Err x) = refl
 
 -- the length is at fault
-pub next_fails : (how : Dialect) (at : ℕ) (zs : List ℕ) (e : BundleFault) (r : Result (Option Request) BundleFault) (p q : ℕ) (left left' : Option (List ℕ)) → Reads (unless_over (record { at = at; bytes = zs }) (size_field how.version (record { at = at; bytes = zs }))) (Err e) p left → IsErrAnd r (λ x. x ≡ e)
+pub next_fails : (how : JournalDialect) (at : ℕ) (zs : List ℕ) (e : BundleFault) (r : Result (Option Request) BundleFault) (p q : ℕ) (left left' : Option (List ℕ)) → Reads (unless_over (record { at = at; bytes = zs }) (size_field how.version (record { at = at; bytes = zs }))) (Err e) p left → IsErrAnd r (λ x. x ≡ e)
     → Reads (next_request how (record { at = at; bytes = zs })) r q left'
 next_fails how at zs e r p q left left' h is =
     same_reading (next_request how (from at zs)) (and_then (unless_over (from at zs) (size_field how.version (from at zs))) (after (sized how))) r q left' (split (from at zs) (size_field how.version (from at zs)) (sized how))
     (fails (unless_over (from at zs) (size_field how.version (from at zs))) (after (sized how)) e r p q left left' h is)
 
 -- what comes after the length, or none
-pub next_goes_on : (how : Dialect) (at : ℕ) (zs : List ℕ) (len : Option ℕ) (p : ℕ) (left : Option (List ℕ)) (r : Result (Option Request) BundleFault) (q : ℕ) (left' : Option (List ℕ)) → Reads (unless_over (record { at = at; bytes = zs }) (size_field how.version (record { at = at; bytes = zs }))) (Ok len) p left
+pub next_goes_on : (how : JournalDialect) (at : ℕ) (zs : List ℕ) (len : Option ℕ) (p : ℕ) (left : Option (List ℕ)) (r : Result (Option Request) BundleFault) (q : ℕ) (left' : Option (List ℕ)) → Reads (unless_over (record { at = at; bytes = zs }) (size_field how.version (record { at = at; bytes = zs }))) (Ok len) p left
     → ((ys : List ℕ) → left ≡ Some ys → Reads (after (sized how) len (record { at = p; bytes = ys })) r q left') → Reads (next_request how (record { at = at; bytes = zs })) r q left'
 next_goes_on how at zs len p left r q left' h next =
     same_reading (next_request how (from at zs)) (and_then (unless_over (from at zs) (size_field how.version (from at zs))) (after (sized how))) r q left' (split (from at zs) (size_field how.version (from at zs)) (sized how))
     (goes_on (unless_over (from at zs) (size_field how.version (from at zs))) (after (sized how)) len p left r q left' h next)
 
 -- a length, and a request behind it
-pub next_ends : (how : Dialect) (at : ℕ) (zs : List ℕ) (len p : ℕ) (left : Option (List ℕ)) (r : Request) (q : ℕ) (left' : Option (List ℕ)) → Reads (unless_over (record { at = at; bytes = zs }) (size_field how.version (record { at = at; bytes = zs }))) (Ok (Some len)) p left
+pub next_ends : (how : JournalDialect) (at : ℕ) (zs : List ℕ) (len p : ℕ) (left : Option (List ℕ)) (r : Request) (q : ℕ) (left' : Option (List ℕ)) → Reads (unless_over (record { at = at; bytes = zs }) (size_field how.version (record { at = at; bytes = zs }))) (Ok (Some len)) p left
     → ((ys : List ℕ) → left ≡ Some ys → Reads (sized how len (record { at = p; bytes = ys })) (Ok r) q left') → Reads (next_request how (record { at = at; bytes = zs })) (Ok (Some r)) q left'
 next_ends how at zs len p left r q left' h read =
     next_goes_on how at zs (Some len) p left (Ok (Some r)) q left' h

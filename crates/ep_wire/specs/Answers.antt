@@ -14,7 +14,7 @@ use Rattle.ep_journal.specs.declared.step_fault.StepFault.TheVariants.{Memory, O
 use Rattle.ep_rules.specs.declared.receipt.Receipt.{Receipt}
 use Rattle.ep_rules.specs.States.{or_zero}
 use Rattle.ep_wire.specs.declared.request_field.RequestField.{RequestField}
-use Rattle.ep_wire.specs.declared.request_field.RequestField.TheVariants.{Kind, Client, ClientRequest, Seen, Op, KeyLength, ValueLength, Key, Value, Replica, Number, Rest, FirstLength, SecondLength, BodyLength, FirstKey, SecondKey, Body, After, Most}
+use Rattle.ep_wire.specs.declared.request_field.RequestField.TheVariants.{Kind, Client, ClientRequest, Seen, Op, KeyLength, ValueLength, Key, Value, Replica, Number, Rest, FirstLength, SecondLength, BodyLength, FirstKey, SecondKey, Body, After, Most, Spared}
 use Rattle.ep_wire.specs.declared.lead_progress.LeadProgress.{LeadProgress}
 use Rattle.ep_wire.specs.declared.lead_progress.LeadProgress.TheVariants.{Proposing, Accepting, Preparing}
 use Rattle.ep_wire.specs.declared.malformed.Malformed.{Malformed}
@@ -34,7 +34,7 @@ first_about (b ∷ bs) = Some (instance_at b)
 
 -- the instance that a proposal took
 abbrev pub taken_as : Event → List (List ℕ) → Option ℕ
-taken_as (Propose client request command seen) frames = first_about frames
+taken_as (Propose client request command seen named) frames = first_about frames
 taken_as (Handle b) frames = None
 taken_as (GiveUp i) frames = None
 taken_as (Recover i) frames = None
@@ -160,6 +160,7 @@ field_code SecondKey = 17
 field_code Body = 18
 field_code After = 19
 field_code Most = 20
+field_code Spared = 21
 
 abbrev pub malformed_bytes : Malformed → List ℕ
 malformed_bytes m = number_bytes 4 10 ++ number_bytes 1 7 ++ number_bytes 1 (field_code m.field) ++ number_bytes 8 m.at

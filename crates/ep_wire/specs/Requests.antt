@@ -7,16 +7,16 @@ use Rattle.ep_base.specs.declared.version.Version.{Version}
 use Rattle.ep_base.specs.declared.version_kind.VersionKind.TheVariants.{V1, V2, V3}
 use Rattle.ep_bundle.specs.Journals.{ended}
 use Rattle.ep_bundle.specs.Reading.{Left, Reading, and_then, run, number, field, map_ok}
-use Rattle.ep_bundle.specs.Stages.{instance, counted, command}
+use Rattle.ep_bundle.specs.Stages.{instance, counted, command, spared}
 use Rattle.ep_bundle.specs.declared.bundle_fault.BundleFault.{BundleFault}
 use Rattle.ep_bundle.specs.declared.bundle_fault.BundleFault.TheVariants as bundle
 use Rattle.ep_bundle.specs.declared.bundle_fault.BundleFault.TheVariants.{BadBundle, NotARun}
 use Rattle.ep_frame.specs.Faults.{fault_of}
 use Rattle.ep_frame.specs.declared.fault.FrameFault.{FrameFault}
 use Rattle.ep_journal.specs.declared.event.Event.TheVariants as event
-use Rattle.ep_bundle.specs.declared.dialect.Dialect.{Dialect}
+use Rattle.ep_bundle.specs.declared.journal_dialect.JournalDialect.{JournalDialect}
 use Rattle.ep_wire.specs.declared.request_field.RequestField.{RequestField}
-use Rattle.ep_wire.specs.declared.request_field.RequestField.TheVariants.{Kind, Client, ClientRequest, Seen, Op, KeyLength, ValueLength, Key, Value, Replica, Number, Rest, FirstLength, SecondLength, BodyLength, FirstKey, SecondKey, Body, After, Most}
+use Rattle.ep_wire.specs.declared.request_field.RequestField.TheVariants.{Kind, Client, ClientRequest, Seen, Op, KeyLength, ValueLength, Key, Value, Replica, Number, Rest, FirstLength, SecondLength, BodyLength, FirstKey, SecondKey, Body, After, Most, Spared}
 use Rattle.ep_wire.specs.declared.request.Request.{Request}
 use Rattle.ep_wire.specs.declared.request.Request.TheVariants.{Event, BadFrame, Advance, Get, NextOpen, Leads, Sync, State, ExecuteAll, Ready, Handled, Malformed}
 use Rattle.ep_wire.specs.declared.request_fault.RequestFault.{RequestFault}
@@ -43,10 +43,14 @@ abbrev pub given : {A : Type 0} → Reading A → Result A ℕ
 given (Ok p) = Ok p.0
 given (Err e) = Err (place_of e)
 
--- a proposal, as it stands in a bundle of the version
-abbrev pub proposal : Version → Left → Reading Request
-proposal v l =
-    and_then (counted l) (λ client l. and_then (counted l) (λ request l. and_then (number 8 l) (λ seen l. and_then (command v l) (λ c l. Ok (Event (event.Propose client request c seen), l)))))
+-- a proposal, as it stands in a bundle of the version, which names this replica to be spared, or none
+abbrev pub proposal : Version → Option ℕ → Left → Reading Request
+proposal v named l =
+    and_then (counted l) (λ client l. and_then (counted l) (λ request l. and_then (number 8 l) (λ seen l. and_then (command v l) (λ c l. Ok (Event (event.Propose client request c seen named), l)))))
+
+-- the replica that a proposal of the node's spares, and then the proposal
+abbrev pub sparing : JournalDialect → Left → Reading Request
+sparing how l = and_then (spared (size how.size) how.me l) (λ r l. proposal how.version (Some r) l)
 
 -- a peer's bytes: the frame that they are is to be handled
 abbrev pub framed : Result (Unit {0}) FrameFault → List ℕ → Request
@@ -61,14 +65,14 @@ abbrev pub about : ℕ → ℕ → Request
 about kind i = cond (eqb kind 3) (Event (event.GiveUp i)) (cond (eqb kind 4) (Event (event.Recover i)) (cond (eqb kind 5) (Event (event.Execute i)) (Leads i)))
 
 -- an instance alone
-abbrev pub named : Dialect → List ℕ → Result ℕ ℕ
+abbrev pub named : JournalDialect → List ℕ → Result ℕ ℕ
 named how bs = given (alone (instance how.version (size how.size) (whole bs)))
 
 abbrev pub key : List ℕ → Result Request ℕ
 key bs = cond (eqb (length bs) 0 || ltb 255 (length bs)) (Err 5) (Ok (Get bs))
 
 -- three zero bytes are no instance
-abbrev pub next_open : Dialect → List ℕ → Result Request ℕ
+abbrev pub next_open : JournalDialect → List ℕ → Result Request ℕ
 next_open how bs = cond (same_list bs (0 ∷ 0 ∷ 0 ∷ [])) (Ok (NextOpen None)) (map_ok (λ i. NextOpen (Some i)) (named how bs))
 
 -- how many entries were told before, and how many open instances are asked for at most
@@ -80,20 +84,22 @@ abbrev pub byte_at : List ℕ → ℕ → ℕ
 byte_at bs i = get_or bs i 0
 
 -- a replica of the cluster alone
-abbrev pub handled : Dialect → List ℕ → Result Request ℕ
+abbrev pub handled : JournalDialect → List ℕ → Result Request ℕ
 handled how bs =
     cond (eqb (length bs) 0 || leb (size how.size) (byte_at bs 0)) (Err 5)
     (cond (eqb (length bs) 1) (Ok (Handled (byte_at bs 0)))
     (Err 6))
 
--- there is such a kind
-abbrev pub is_kind : ℕ → Bool
-is_kind kind = leb 1 kind && leb kind 13 || eqb kind 15
+-- there is such a kind: 14, by which a proposal names the replica that it spares, in version 3 alone
+abbrev pub is_kind : Version → ℕ → Bool
+is_kind V1 kind = leb 1 kind && leb kind 13 || eqb kind 15
+is_kind V2 kind = leb 1 kind && leb kind 13 || eqb kind 15
+is_kind (V3 g) kind = leb 1 kind && leb kind 15
 
 -- the request of such a kind with this body, or where the first field begins that is at fault
-abbrev pub body_of : Dialect → ℕ → List ℕ → Result Request ℕ
+abbrev pub body_of : JournalDialect → ℕ → List ℕ → Result Request ℕ
 body_of how kind bs =
-    cond (eqb kind 1) (given (alone (proposal how.version (whole bs))))
+    cond (eqb kind 1) (given (alone (proposal how.version None (whole bs))))
     (cond (eqb kind 2) (Ok (framed (fault_of bs) bs))
     (cond (eqb kind 6) (bare Advance bs)
     (cond (eqb kind 7) (key bs)
@@ -102,8 +108,9 @@ body_of how kind bs =
     (cond (eqb kind 11) (bare State bs)
     (cond (eqb kind 12) (bare ExecuteAll bs)
     (cond (eqb kind 13) (given (alone (ready (whole bs))))
+    (cond (eqb kind 14) (given (alone (sparing how (whole bs))))
     (cond (eqb kind 15) (handled how bs)
-    (map_ok (about kind) (named how bs)))))))))))
+    (map_ok (about kind) (named how bs))))))))))))
 
 -- Fields, each with the place behind it: the one in which this place is, or what stands behind them.
 abbrev pub field_in : List (RequestField × ℕ) → ℕ → RequestField
@@ -114,10 +121,11 @@ field_in (f ∷ fs) at = cond (ltb at f.1) f.0 (field_in fs at)
 abbrev pub early_fields : ℕ → ℕ → List (RequestField × ℕ)
 early_fields k n = (Client, 9) ∷ (ClientRequest, 13) ∷ (Seen, 21) ∷ (Op, 22) ∷ (KeyLength, 23) ∷ (ValueLength, 25) ∷ (Key, 25 + k) ∷ (Value, 25 + k + n) ∷ []
 
--- of one of version 3 with so many bytes of both keys and of the body
-abbrev pub late_fields : ℕ → ℕ → ℕ → List (RequestField × ℕ)
-late_fields k m n =
-    (Client, 9) ∷ (ClientRequest, 13) ∷ (Seen, 21) ∷ (Op, 22) ∷ (FirstLength, 23) ∷ (SecondLength, 24) ∷ (BodyLength, 28) ∷ (FirstKey, 28 + k) ∷ (SecondKey, 28 + k + m) ∷ (Body, 28 + k + m + n) ∷ []
+-- of one of version 3, which begins here, with so many bytes of both keys and of the body
+abbrev pub late_fields : ℕ → ℕ → ℕ → ℕ → List (RequestField × ℕ)
+late_fields from k m n =
+    (Client, from + 4) ∷ (ClientRequest, from + 8) ∷ (Seen, from + 16) ∷ (Op, from + 17) ∷ (FirstLength, from + 18) ∷ (SecondLength, from + 19) ∷ (BodyLength, from + 23)
+    ∷ (FirstKey, from + 23 + k) ∷ (SecondKey, from + 23 + k + m) ∷ (Body, from + 23 + k + m + n) ∷ []
 
 abbrev pub instance_fields : List (RequestField × ℕ)
 instance_fields = (Replica, 6) ∷ (Number, 8) ∷ []
@@ -129,10 +137,17 @@ two_at bs i = 256 * byte_at bs i + byte_at bs (i + 1)
 abbrev pub four_at : List ℕ → ℕ → ℕ
 four_at bs i = 65536 * two_at bs i + two_at bs (i + 2)
 
+-- of a body in which one of version 3 begins at this place of the request
+abbrev pub late_fields_in : ℕ → List ℕ → List (RequestField × ℕ)
+late_fields_in from bs = late_fields from (byte_at bs (from + 12)) (byte_at bs (from + 13)) (four_at bs (from + 14))
+
 abbrev pub proposal_fields : Version → List ℕ → List (RequestField × ℕ)
 proposal_fields V1 bs = early_fields (byte_at bs 17) (two_at bs 18)
 proposal_fields V2 bs = early_fields (byte_at bs 17) (two_at bs 18)
-proposal_fields (V3 g) bs = late_fields (byte_at bs 17) (byte_at bs 18) (four_at bs 19)
+proposal_fields (V3 g) bs = late_fields_in 5 bs
+
+abbrev pub sparing_fields : List ℕ → List (RequestField × ℕ)
+sparing_fields bs = (Spared, 6) ∷ late_fields_in 6 bs
 
 abbrev pub ready_fields : List (RequestField × ℕ)
 ready_fields = (After, 9) ∷ (Most, 10) ∷ []
@@ -150,9 +165,10 @@ fields_of v kind bs =
     cond (eqb kind 1) (proposal_fields v bs)
     (cond (eqb kind 7) ((Key, 260) ∷ [])
     (cond (eqb kind 13) ready_fields
+    (cond (eqb kind 14) (sparing_fields bs)
     (cond (eqb kind 15) handled_fields
     (cond (is_bare kind) []
-    instance_fields))))
+    instance_fields)))))
 
 -- what it is, or that it is malformed, with the field that begins there
 abbrev pub or_malformed : Version → ℕ → List ℕ → Result Request ℕ → Request
@@ -160,11 +176,11 @@ or_malformed v kind bs (Ok r) = r
 or_malformed v kind bs (Err at) = Malformed (record { field = field_in (fields_of v kind bs) at; at = at })
 
 -- the request of this kind with this body
-abbrev pub request_of : Dialect → ℕ → List ℕ → Request
-request_of how kind bs = cond (is_kind kind) (or_malformed how.version kind bs (body_of how kind bs)) (Malformed (record { field = Kind; at = 4 }))
+abbrev pub request_of : JournalDialect → ℕ → List ℕ → Request
+request_of how kind bs = cond (is_kind how.version kind) (or_malformed how.version kind bs (body_of how kind bs)) (Malformed (record { field = Kind; at = 4 }))
 
 -- the kind and the body, in so many bytes
-abbrev pub sized : Dialect → ℕ → Left → Reading Request
+abbrev pub sized : JournalDialect → ℕ → Left → Reading Request
 sized how len l = and_then (field 1 0 255 l) (λ kind l. and_then (run (len - 1) l) (λ bs l. Ok (request_of how kind bs, l)))
 
 -- in version 3 a frame may have 200,000 bytes
@@ -180,7 +196,7 @@ is_length v x = leb 1 x && leb x (most_length v)
 abbrev pub size_field : Version → Left → Reading ℕ
 size_field v l = and_then (number 4 l) (λ x m. cond (is_length v x) (Ok (x, m)) (Err (BadBundle l.at)))
 
-abbrev pub request : Dialect → Left → Reading Request
+abbrev pub request : JournalDialect → Left → Reading Request
 request how l = and_then (size_field how.version l) (sized how)
 
 abbrev pub some : {A : Type 0} → Reading A → Reading (Option A)
@@ -190,12 +206,12 @@ abbrev pub unless_over : {A : Type 0} → Left → Reading A → Reading (Option
 unless_over l o = cond (eqb (length l.bytes) 0) (Ok (None, l)) (some o)
 
 -- the next request, unless the input is over
-abbrev pub next_request : Dialect → Left → Reading (Option Request)
+abbrev pub next_request : JournalDialect → Left → Reading (Option Request)
 next_request how l = unless_over l (request how l)
 
 -- What a call answers, the place at which it leaves off, and the bytes that its source then has left: it is the next request, or none where the
 -- input is over; or its length is out of range or its bytes are cut, which is told at its first byte; or the source or memory failed.
-abbrev pub ReadsRequest : Dialect → Left → Result (Option Request) RequestFault → ℕ → Option (List ℕ) → Type 0
+abbrev pub ReadsRequest : JournalDialect → Left → Result (Option Request) RequestFault → ℕ → Option (List ℕ) → Type 0
 ReadsRequest how l (Ok next) place left = (bytes : List ℕ) × (left ≡ Some bytes) × (next_request how l ≡ Ok (next, record { at = place; bytes = bytes }))
 ReadsRequest how l (Err Memory) place left = Unit {0}
 ReadsRequest how l (Err ReadFailed) place left = Unit {0}

@@ -316,6 +316,7 @@ fn field_code(field: RequestField) -> u8
         RequestField::Body => 18,
         RequestField::After => 19,
         RequestField::Most => 20,
+        RequestField::Spared => 21,
     }
 }
 

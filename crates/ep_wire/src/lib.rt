@@ -3,7 +3,7 @@
 //! `ep_serve` reads requests and writes answers by this crate. It keeps to docs/FORMATS.md, section 10: a request is read
 //! exactly where its bytes are one, a malformed one is told by its first wrong field, and an answer's bytes are those of specs/Answers.antt.
 //!
-//! Start with `request.rt`, `dialect.rt`, `reading.rt` and specs/Requests.antt; then `answers.rt` and specs/Answers.antt.
+//! Start with `request.rt`, `reading.rt` and specs/Requests.antt; then `answers.rt` and specs/Answers.antt.
 //!
 //! A request's length, kind and body are read before kind and body are judged; then a body is read by `ep_bundle`'s stages, of
 //! which nothing may be left. So a malformed request is read to its end, and the next one can be read.
@@ -28,7 +28,7 @@ pub use answers::{
     write_leading, write_malformed, write_no_value, write_refused, write_state, write_synced,
     write_taken, write_value,
 };
-pub use ep_bundle::Dialect;
+pub use ep_bundle::JournalDialect;
 pub use lead_progress::LeadProgress;
 pub use malformed::Malformed;
 pub use node_state::NodeState;

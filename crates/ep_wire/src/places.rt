@@ -1,7 +1,7 @@
 //! Which field of a request stands at a place.
 
 ghost use Rattle.std.specs.Prelude.{◌≡◌, ◌<◌, ◌+◌, ◌^◌, ◌∷◌, []};
-ghost use Rattle.ep_wire.specs.Requests.{byte_at, early_fields, field_in, fields_of, four_at, handled_fields, instance_fields, is_bare, late_fields, proposal_fields, ready_fields, two_at};
+ghost use Rattle.ep_wire.specs.Requests.{byte_at, early_fields, field_in, fields_of, four_at, handled_fields, instance_fields, is_bare, late_fields, late_fields_in, proposal_fields, ready_fields, sparing_fields, two_at};
 ghost use Rattle.ep_wire.specs.declared.request_field.RequestField.TheVariants.{Key};
 
 use crate::malformed::Malformed;
@@ -63,32 +63,33 @@ fn early_field(key: u64, value: u64, at: u64) -> RequestField
     }
 }
 
-/// The same of version 3, where both keys and the body have so many bytes.
-fn late_field(first: u64, second: u64, body: u64, at: u64) -> RequestField
+/// The same of one of version 3 that begins here, where both keys and the body have so many bytes.
+fn late_field(from: u64, first: u64, second: u64, body: u64, at: u64) -> RequestField
+    requires from { from < 2 ^ 8 }
     requires first { first < 2 ^ 8 }
     requires second { second < 2 ^ 8 }
     requires body { body < 2 ^ 32 }
-    ensures { result ≡ field_in (late_fields first second body) at }
+    ensures { result ≡ field_in (late_fields from first second body) at }
 {
-    if at < 9 {
+    if at < from + 4 {
         RequestField::Client
-    } else if at < 13 {
+    } else if at < from + 8 {
         RequestField::ClientRequest
-    } else if at < 21 {
+    } else if at < from + 16 {
         RequestField::Seen
-    } else if at < 22 {
+    } else if at < from + 17 {
         RequestField::Op
-    } else if at < 23 {
+    } else if at < from + 18 {
         RequestField::FirstLength
-    } else if at < 24 {
+    } else if at < from + 19 {
         RequestField::SecondLength
-    } else if at < 28 {
+    } else if at < from + 23 {
         RequestField::BodyLength
-    } else if at < 28 + first {
+    } else if at < from + 23 + first {
         RequestField::FirstKey
-    } else if at < 28 + first + second {
+    } else if at < from + 23 + first + second {
         RequestField::SecondKey
-    } else if at < 28 + first + second + body {
+    } else if at < from + 23 + first + second + body {
         RequestField::Body
     } else {
         RequestField::Rest
@@ -102,13 +103,15 @@ fn early_field_in(body: &[u8], at: u64) -> RequestField
     early_field(u64::from(byte_at(body, 17)), two_at(body, 18), at)
 }
 
-/// The same of version 3.
-fn late_field_in(body: &[u8], at: u64) -> RequestField
-    ensures { result ≡ field_in (late_fields (byte_at body.now 17) (byte_at body.now 18) (four_at body.now 19)) at }
+/// The same of one of version 3, which begins here.
+fn late_field_in(from: u8, body: &[u8], at: u64) -> RequestField
+    ensures { result ≡ field_in (late_fields_in from body.now) at }
 {
-    let first = u64::from(byte_at(body, 17));
-    let second = u64::from(byte_at(body, 18));
-    late_field(first, second, four_at(body, 19), at)
+    let begin = from as u64;
+    let start = from as usize;
+    let first = u64::from(byte_at(body, start + 12));
+    let second = u64::from(byte_at(body, start + 13));
+    late_field(begin, first, second, four_at(body, start + 14), at)
 }
 
 /// The same of the version.
@@ -117,7 +120,18 @@ fn proposal_field(version: Version, body: &[u8], at: u64) -> RequestField
 {
     match version.kind() {
         VersionKind::V1 | VersionKind::V2 => early_field_in(body, at),
-        VersionKind::V3(_) => late_field_in(body, at),
+        VersionKind::V3(_) => late_field_in(5, body, at),
+    }
+}
+
+/// The field at this place of a proposal that names the replica that it spares.
+fn sparing_field(body: &[u8], at: u64) -> RequestField
+    ensures { result ≡ field_in (sparing_fields body.now) at }
+{
+    if at < 6 {
+        RequestField::Spared
+    } else {
+        late_field_in(6, body, at)
     }
 }
 
@@ -188,6 +202,9 @@ fn field_at(version: Version, kind: u8, body: &[u8], at: u64) -> RequestField
     }
     if kind == 13 {
         return ready_field(at);
+    }
+    if kind == 14 {
+        return sparing_field(body, at);
     }
     if kind == 15 {
         return handled_field(at);

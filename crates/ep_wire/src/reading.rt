@@ -11,7 +11,7 @@ use crate::request::Request;
 use crate::request_fault::RequestFault;
 use byteorder::{BigEndian, ByteOrder};
 use ep_base::{Source, Version, VersionKind};
-use ep_bundle::{BundleFault, Dialect, field_u8, read_run};
+use ep_bundle::{BundleFault, JournalDialect, field_u8, read_run};
 use std::alloc::Global;
 
 /// How many bytes a request of the version has at most: in version 3 a frame may have 200,000.
@@ -63,7 +63,7 @@ fn read_sized<S: Source>(
     alloc: Global,
     source: &mut S,
     place: &mut u64,
-    dialect: &Dialect,
+    dialect: &JournalDialect,
     length: u32,
 ) -> Result<Request, BundleFault>
     requires { 1 ≤ length }
@@ -81,7 +81,7 @@ fn read_next<S: Source>(
     alloc: Global,
     source: &mut S,
     place: &mut u64,
-    dialect: &Dialect,
+    dialect: &JournalDialect,
 ) -> Result<Option<Request>, BundleFault>
     ensures bytes { (zs : List ℕ) → S.left source.old ≡ Some zs → Reads (next_request dialect.now (record { at = place.old; bytes = zs })) result place.new (S.left source.new) }
     ensures told { FailsAsTold has_read_failed result (S.has_failed source.old) (S.has_failed source.new) }
@@ -101,7 +101,7 @@ pub fn read_request<S: Source>(
     alloc: Global,
     source: &mut S,
     place: &mut u64,
-    dialect: &Dialect,
+    dialect: &JournalDialect,
 ) -> Result<Option<Request>, RequestFault>
     ensures bytes { (zs : List ℕ) → S.left source.old ≡ Some zs → ReadsRequest dialect.now (record { at = place.old; bytes = zs }) result place.new (S.left source.new) }
     ensures told { FailsAsTold is_read_failed result (S.has_failed source.old) (S.has_failed source.new) }

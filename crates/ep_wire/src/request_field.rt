@@ -43,4 +43,6 @@ pub enum RequestField {
     After,
     /// How many open instances are asked for at most.
     Most,
+    /// The replica that a proposal spares.
+    Spared,
 }

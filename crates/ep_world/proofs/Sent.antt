@@ -160,7 +160,7 @@ among_pair : (frames : List Frame) (r q : ℕ) (x y : Happening) → of_replica 
 among_pair frames r q x y is h = subst (λ (o : Option (ℕ × Happening)). HandlesOf frames o) is h
 
 pub among : (w : Played) (h : IsWorld w) (event : WorldEvent) (r : ℕ) (x : Happening) → asked w event ≡ Some (r, x) → IsAmong (frames_of h.schedule) (event_of x)
-among w h (Propose replica client request command seen) r x is = among_pair (frames_of h.schedule) replica r (taken.Propose client request command seen) x is tt
+among w h (Propose replica client request command seen named) r x is = among_pair (frames_of h.schedule) replica r (taken.Propose client request command seen named) x is tt
 among w h (GiveUp replica instance) r x is = among_pair (frames_of h.schedule) replica r (taken.GiveUp instance) x is tt
 among w h (Recover replica instance) r x is = among_pair (frames_of h.schedule) replica r (taken.Recover instance) x is tt
 among w h (Execute replica instance) r x is = among_pair (frames_of h.schedule) replica r (taken.Execute instance) x is tt

@@ -23,7 +23,7 @@ given (Some bytes) = Some ((frame_at bytes).sent.to, taken.Handle bytes)
 
 -- the replica that the event is for, and what happens to it; none where there is no such message
 abbrev pub asked : Played → WorldEvent → Option (ℕ × Happening)
-asked w (Propose replica client request command seen) = Some (replica, taken.Propose client request command seen)
+asked w (Propose replica client request command seen spared) = Some (replica, taken.Propose client request command seen spared)
 asked w (GiveUp replica instance) = Some (replica, taken.GiveUp instance)
 asked w (Recover replica instance) = Some (replica, taken.Recover instance)
 asked w (Execute replica instance) = Some (replica, taken.Execute instance)

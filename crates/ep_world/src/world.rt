@@ -113,6 +113,7 @@ impl World {
                 request,
                 command,
                 seen,
+                spared,
             } => self.take(
                 replica,
                 Event::Propose {
@@ -120,6 +121,7 @@ impl World {
                     request,
                     command,
                     seen,
+                    spared,
                 },
             ),
             WorldEvent::GiveUp { replica, instance } => self.take(replica, Event::GiveUp(instance)),

@@ -8,13 +8,15 @@ use std::alloc::{AllocError, Global};
 /// An event at one of the replicas, or the delivery of a message.
 #[derive(Drop)]
 pub enum WorldEvent {
-    /// A client's request at a replica, the client and the request from 1; `seen` is the greatest stamp that the client knows of, 0 where none.
+    /// A client's request at a replica, the client and the request from 1; `seen` is the greatest stamp that the client knows of, 0 where none;
+    /// `spared` is the replica that isn't asked, none for the usual one.
     Propose {
         replica: ReplicaId,
         client: u32,
         request: u32,
         command: Command,
         seen: u64,
+        spared: Option<ReplicaId>,
     },
     /// The replica, which leads the instance, waits no longer for its fast quorum.
     GiveUp {
@@ -47,12 +49,14 @@ impl WorldEvent {
                 request,
                 command,
                 seen,
+                spared,
             } => Ok(WorldEvent::Propose {
                 replica: *replica,
                 client: *client,
                 request: *request,
                 command: command.copy(alloc)?,
                 seen: *seen,
+                spared: *spared,
             }),
             WorldEvent::GiveUp { replica, instance } => Ok(WorldEvent::GiveUp {
                 replica: *replica,

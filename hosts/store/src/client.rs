@@ -133,6 +133,7 @@ mod tests {
             CommandFault::Waiting,
             CommandFault::NotInTime,
             CommandFault::NoMemory,
+            CommandFault::MapFull,
             CommandFault::Node(Fault::Memory),
             CommandFault::Node(Fault::SpaceFull),
             CommandFault::Node(Fault::StampFull),

@@ -516,6 +516,7 @@ pub(crate) fn fault_of(told: Told) -> CommandFault {
         Told::Refused(fault) => CommandFault::Node(fault),
         Told::Alone => CommandFault::NoMajority,
         Told::Late => CommandFault::Waiting,
+        Told::MapFull => CommandFault::MapFull,
         Told::Ending => CommandFault::Ending,
         _ => CommandFault::StoreEnds,
     }

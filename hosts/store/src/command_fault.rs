@@ -26,8 +26,10 @@ pub enum CommandFault {
     Contended,
     /// It wasn't done: the store ends, and hadn't proposed it.
     Ending,
-    /// It wasn't done: its time was over before it was proposed, since others wait before it.
+    /// It wasn't done: its time was over before it was proposed, since others wait before it, or the generation changes.
     Waiting,
+    /// It wasn't done: the map would pass what it may have.
+    MapFull,
     /// It wasn't done: its time is over, and it would have had to look first.
     NotInTime,
     /// It wasn't done: the node refused it.
@@ -117,7 +119,10 @@ impl fmt::Display for CommandFault {
             CommandFault::NoMajority => f.write_str("TRYAGAIN the command wasn't done: no majority is reached"),
             CommandFault::Lost => f.write_str("TRYAGAIN the command wasn't done: others have taken its places"),
             CommandFault::Contended => f.write_str("TRYAGAIN the command wasn't done: others changed the key at each try"),
-            CommandFault::Waiting => f.write_str("TRYAGAIN the command wasn't done: too many others wait"),
+            CommandFault::Waiting => f.write_str("TRYAGAIN the command wasn't done: its time was over before it was proposed"),
+            CommandFault::MapFull => {
+                f.write_str("OOM the command wasn't done: the map has no room for it (--most-map); delete something first")
+            }
             CommandFault::Ending => f.write_str("TRYAGAIN the command wasn't done: the store ends"),
             CommandFault::NotInTime => f.write_str("TRYAGAIN the command wasn't done: no majority has answered in time"),
             CommandFault::Node(fault) => match fault {

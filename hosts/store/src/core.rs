@@ -1,5 +1,6 @@
 //! The core of a replica, as a driver sees it: wherever it runs.
 use crate::node_fault::NodeFault;
+use crate::opening::Opening;
 use crate::outcome::{Asked, Outcome, Report};
 use epaxos::{Instance, State};
 use std::path::PathBuf;
@@ -27,6 +28,21 @@ pub trait Core {
 
     /// What all keys have, in their order, after all that was executed. None where another program has to be asked, `epaxos contents`.
     fn contents(&mut self) -> Result<Option<Pairs>, NodeFault>;
+
+    /// Where it has executed a seal: has what it goes on with made ready, beside what it is asked meanwhile.
+    fn prepare(&mut self) -> Result<(), NodeFault> {
+        Ok(())
+    }
+
+    /// Whether all is ready that can be.
+    fn is_prepared(&self) -> bool {
+        true
+    }
+
+    /// What its generation opened with. None where the file has to be read.
+    fn opening(&mut self) -> Option<Opening> {
+        None
+    }
 
     /// Ends it, once it has answered all, and starts it again: so it goes on to the next generation, where it has executed a seal. How far it is then.
     fn start_again(&mut self, begin: &Begin) -> Result<State, NodeFault>;
@@ -81,6 +97,18 @@ impl<C: Core + ?Sized> Core for Box<C> {
 
     fn contents(&mut self) -> Result<Option<Pairs>, NodeFault> {
         (**self).contents()
+    }
+
+    fn prepare(&mut self) -> Result<(), NodeFault> {
+        (**self).prepare()
+    }
+
+    fn is_prepared(&self) -> bool {
+        (**self).is_prepared()
+    }
+
+    fn opening(&mut self) -> Option<Opening> {
+        (**self).opening()
     }
 
     fn start_again(&mut self, begin: &Begin) -> Result<State, NodeFault> {

@@ -6,7 +6,7 @@ use crate::identities;
 use std::fs::{self, File, OpenOptions, TryLockError};
 use std::io::{self, Seek, Write};
 use std::path::{Path, PathBuf};
-use std::thread;
+use std::thread::{self, JoinHandle};
 use std::time::{Duration, Instant};
 
 /// How long to wait for a node that still ends.
@@ -216,20 +216,30 @@ impl Directory {
         removed.map_err(failed(folder))
     }
 
-    /// Drops what isn't needed of generations that were left: all but the last `kept` ones, whose marks go last.
-    pub fn drop_left(&self, kept: usize) {
-        let left = self.generations_with("left");
-        for generation in &left[..left.len().saturating_sub(kept)] {
-            let folder = self.generations().join(generation.to_string());
-            let files = fs::read_dir(&folder).into_iter().flatten().flatten().map(|entry| entry.path());
-            let mut files: Vec<PathBuf> = files.collect();
-            files.sort_by_key(|path| path.ends_with("left"));
-            // (what can't be dropped now is dropped later)
-            let dropped = files.iter().try_for_each(fs::remove_file).and_then(|()| fs::remove_dir(&folder));
-            if dropped.is_ok() {
-                let _ = fs::remove_file(self.receipts(*generation));
-            }
+    /// Drops what isn't needed of generations that were left: all but the last `kept` ones, whose marks go last. A thread does it, where there is
+    /// something: long files take a while.
+    pub fn drop_left_beside(&self, kept: usize) -> Option<JoinHandle<()>> {
+        let mut left = self.generations_with("left");
+        left.truncate(left.len().saturating_sub(kept));
+        if left.is_empty() {
+            return None;
         }
+        let of = |generation: &u32| (self.generations().join(generation.to_string()), self.receipts(*generation));
+        let left: Vec<_> = left.iter().map(of).collect();
+        let drop_all = move || left.iter().for_each(|(folder, receipts)| drop_one(folder, receipts));
+        // (what can't be dropped now is dropped later)
+        thread::Builder::new().name("drop".into()).spawn(drop_all).ok()
+    }
+}
+
+/// Drops the folder of a generation that was left, its mark last, and then its receipts.
+fn drop_one(folder: &Path, receipts: &Path) {
+    let files = fs::read_dir(folder).into_iter().flatten().flatten().map(|entry| entry.path());
+    let mut files: Vec<PathBuf> = files.collect();
+    files.sort_by_key(|path| path.ends_with("left"));
+    let dropped = files.iter().try_for_each(fs::remove_file).and_then(|()| fs::remove_dir(folder));
+    if dropped.is_ok() {
+        let _ = fs::remove_file(receipts);
     }
 }
 
@@ -339,14 +349,15 @@ mod tests {
                 fs::write(directory.generations().join(format!("{generation}/left")), "4").unwrap();
             }
         }
-        directory.drop_left(2);
+        let drop_left = |kept| directory.drop_left_beside(kept).unwrap().join().unwrap();
+        drop_left(2);
         assert_eq!(directory.generations_with("opening"), [2, 3, 4]);
         assert!(!directory.receipts(1).exists() && directory.receipts(2).exists());
         assert!(!directory.generations().join("1").exists());
         directory.take_back(4).unwrap();
         assert_eq!((directory.newest(), directory.generations_with("left")), (Some(3), vec![]));
         fs::write(directory.generations().join("2/left"), "3").unwrap();
-        directory.drop_left(0);
+        drop_left(0);
         assert_eq!(directory.generations_with("opening"), [3]);
         fs::remove_dir_all(path).unwrap();
     }

@@ -2,6 +2,7 @@
 use crate::commits::{Commits, Committed, Lacking};
 use crate::core::{Core, Pairs};
 use crate::directory::Directory;
+use crate::distances::Distances;
 use crate::frames::Head;
 use crate::generation::{Generation, Limits, Stage};
 use crate::manage_fault::ManageFault;
@@ -15,18 +16,19 @@ use crate::outcome::{Asked, Outcome, Outgoing, Report, receipts};
 use crate::peers::{Membership, Peers, Place};
 use crate::plants::{Plant, changed};
 use crate::receipts::Receipts;
+use crate::room::{Judgement, Room};
 use crate::stop_fault::StopFault;
 use crate::teller::Teller;
 use crate::under_way::UnderWay;
 use crate::watch::Watch;
 use crate::wishes::{Manage, Wish};
 use epaxos::{Answer, Call, Fault, Instance, MOST_COMMANDS, OpenInstance, OwnedAnswer, OwnedCommand, Proposed, State};
-use std::collections::{BTreeSet, HashMap, VecDeque};
+use std::collections::{BTreeSet, VecDeque};
 use std::fmt::Write;
 use std::path::PathBuf;
+use std::sync::Arc;
 use std::sync::mpsc::{Receiver, RecvTimeoutError};
-use std::sync::{Arc, Mutex};
-use std::thread;
+use std::thread::{self, JoinHandle};
 use std::time::{Duration, Instant};
 
 /// At most so many events share one sync, and those that come once there are so many bytes wait for the next one.
@@ -41,10 +43,10 @@ const BETWEEN_INFOS: Duration = Duration::from_millis(50);
 const MOST_TOLD: u8 = 255;
 /// Where no majority is reached, what clients propose is held for so long since then: a peer may just be starting.
 const ALONE_PATIENCE: Duration = Duration::from_secs(1);
-/// At most so many commands are handed to another replica.
-const MOST_HANDED: usize = 1_000;
 /// Commits that nobody here waits for may wait so long for something that their sync is shared with.
 const COMMITS_PATIENCE: Duration = Duration::from_millis(3);
+/// Where the map is full, the next generation tells what others have deleted, so long after the present one has begun.
+const FULL_PAUSE: Duration = Duration::from_secs(30);
 /// So many bytes of Commits are sent a peer again at once.
 const MOST_AGAIN: usize = 4 << 20;
 
@@ -103,6 +105,8 @@ pub enum Told {
     Alone,
     /// It wasn't proposed, as it waited for too long.
     Late,
+    /// It wasn't proposed, as the map has no room for it.
+    MapFull,
     /// It wasn't proposed, as the store ends.
     Ending,
     Value(Option<Vec<u8>>),
@@ -118,14 +122,10 @@ pub enum Told {
 enum Request {
     /// A client's command, and whom to tell.
     Propose {
-        call: Call,
-        command: OwnedCommand,
+        proposal: Proposal,
         reply: Teller,
     },
-    Seal {
-        call: Call,
-        command: OwnedCommand,
-    },
+    Seal(Proposal),
     /// A frame that came from a peer.
     Frame {
         from: u8,
@@ -136,12 +136,28 @@ enum Request {
     Recover(Instance),
 }
 
+/// A command that is to be proposed.
+struct Proposal {
+    call: Call,
+    command: OwnedCommand,
+    /// The replica that it names as the spared one, if it names one.
+    spared: Option<u8>,
+}
+
+impl Proposal {
+    fn event(&self) -> epaxos::Event<'_> {
+        let (call, command) = (self.call, self.command.lent());
+        match self.spared {
+            None => epaxos::Event::Propose { call, command },
+            Some(spared) => epaxos::Event::ProposeSparing { call, command, spared },
+        }
+    }
+}
+
 impl Request {
     fn event(&self) -> epaxos::Event<'_> {
         match self {
-            Request::Propose { call, command, .. } | Request::Seal { call, command } => {
-                epaxos::Event::Propose { call: *call, command: command.lent() }
-            }
+            Request::Propose { proposal, .. } | Request::Seal(proposal) => proposal.event(),
             Request::Frame { bytes, .. } => epaxos::Event::Handle(bytes),
             Request::GiveUp(instance) => epaxos::Event::GiveUp(*instance),
             Request::Recover(instance) => epaxos::Event::Recover(*instance),
@@ -189,8 +205,6 @@ pub struct Held {
     pub seen: u64,
     pub command: OwnedCommand,
     pub reply: Teller,
-    /// Whether another replica handed it to this one, which doesn't hand it on.
-    pub is_handed: bool,
 }
 
 /// A command that is under way.
@@ -199,6 +213,7 @@ pub struct Waiting {
     pub reply: Teller,
     /// How many bytes its key and its value have.
     pub bytes: usize,
+    pub command: OwnedCommand,
 }
 
 /// What a driver begins with.
@@ -238,10 +253,8 @@ pub struct Driver<C> {
     pub(crate) held: VecDeque<Held>,
     /// Since when no majority is known to be reached.
     pub(crate) alone_since: Option<Instant>,
-    /// The clients whose commands another replica proposes, with its number and since when, by client and request.
-    pub(crate) handed: HashMap<(u32, u32), (u8, Instant, Teller)>,
-    /// What is to be told to replicas that have handed commands to this one.
-    pub(crate) answers: Arc<Mutex<Vec<(u8, Message)>>>,
+    /// How far the peers are, and which of them proposals spare.
+    pub(crate) distances: Distances,
     /// Commits that wait for something else to be asked, and until when.
     pub(crate) delayed: (Batch, Option<Instant>),
     /// Who asks for INFO, and when the core may be asked for them.
@@ -272,6 +285,12 @@ pub struct Driver<C> {
     pub(crate) changes: (u64, Duration),
     /// Until when it ends, since it was told to.
     pub(crate) ends_at: Option<Instant>,
+    /// What drops generations that were left.
+    pub(crate) dropping: Option<JoinHandle<()>>,
+    /// How much the map may grow.
+    pub(crate) room: Room,
+    /// Whether a generation has just begun: what was held for it isn't to wait for an event.
+    pub(crate) is_fresh: bool,
 }
 
 /// How many bytes the keys and values of a command have.
@@ -314,8 +333,7 @@ impl<C: Core> Driver<C> {
             patience: parts.patience,
             held: VecDeque::new(),
             alone_since: None,
-            handed: HashMap::new(),
-            answers: Arc::default(),
+            distances: Distances::new(place.replicas, place.replica, now),
             delayed: (Batch::default(), None),
             infos: Vec::new(),
             next_info: now,
@@ -336,7 +354,15 @@ impl<C: Core> Driver<C> {
             metrics: parts.metrics,
             changes: (0, Duration::ZERO),
             ends_at: None,
+            dropping: None,
+            room: Room::default(),
+            is_fresh: false,
         }
+    }
+
+    /// The map may have so many bytes.
+    pub fn with_most_map(self, most: Option<u64>) -> Driver<C> {
+        Driver { room: Room::new(most), ..self }
     }
 
     /// Drives the core until something ends.
@@ -368,6 +394,7 @@ impl<C: Core> Driver<C> {
         let batch = self.gather()?;
         let mut batch = self.with_commits(batch);
         self.tick()?;
+        self.ping_peers();
         self.release(&mut batch);
         self.seal(&mut batch);
         if !self.generation.is_sealed() {
@@ -377,7 +404,6 @@ impl<C: Core> Driver<C> {
         self.carry_out(batch)?;
         self.tell_infos()?;
         self.close()?;
-        self.answer_peers();
         self.go_on()?;
         self.tell_metrics();
         Ok(())
@@ -386,7 +412,9 @@ impl<C: Core> Driver<C> {
     fn tell_metrics(&self) {
         let (metrics, generation) = (&self.metrics, &self.generation);
         let reached = self.peer_numbers().filter(|replica| self.is_reached(*replica)).count();
-        let far = self.quorum(self.place.replica).filter_map(|peer| self.watch.shortest_round_trip(peer)).max();
+        let spared = self.distances.spared();
+        let asked = self.peer_numbers().filter(|peer| *peer != spared);
+        let far = asked.filter_map(|peer| self.distances.shortest(peer)).max();
         for (number, value) in [
             (&metrics.generation, generation.number.into()),
             (&metrics.entries, generation.entries.into()),
@@ -407,7 +435,7 @@ impl<C: Core> Driver<C> {
     fn gather(&mut self) -> Result<Batch, StopFault> {
         let mut batch = Batch::default();
         let early = self.others.take_early(self.generation.number);
-        if early.is_empty() {
+        if early.is_empty() && !std::mem::take(&mut self.is_fresh) {
             let Some(first) = self.wait()? else {
                 return Ok(batch);
             };
@@ -476,15 +504,7 @@ impl<C: Core> Driver<C> {
                 What::Manage(manage, fault) => self.manage(manage, fault, reply),
                 What::Propose { .. } if self.ends_at.is_some() => reply.send(Told::Ending),
                 What::Propose { client, request, seen, command } => {
-                    self.held.push_back(Held {
-                        since: Instant::now(),
-                        client,
-                        request,
-                        seen,
-                        command,
-                        reply,
-                        is_handed: false,
-                    });
+                    self.held.push_back(Held { since: Instant::now(), client, request, seen, command, reply });
                 }
             },
         }
@@ -514,7 +534,8 @@ impl<C: Core> Driver<C> {
     /// up a number, and nothing would come of it. At the end of a generation it is held until the next one.
     fn release(&mut self, batch: &mut Batch) {
         let now = Instant::now();
-        while self.held.front().is_some_and(|held| now >= held.since + self.patience) {
+        let is_over = |held: &Held| now >= held.since + self.patience || held.reply.begun().is_given_up();
+        while self.held.front().is_some_and(is_over) {
             self.held.pop_front().into_iter().for_each(|held| held.reply.send(Told::Late));
         }
         if self.is_alone() {
@@ -524,18 +545,43 @@ impl<C: Core> Driver<C> {
             return;
         }
         self.alone_since = None;
-        if self.generation.is_holding(now) {
+        if self.generation.is_holding() {
             return;
         }
-        self.hand_on(now);
-        let (mut count, mut bytes) = (0, 0);
+        let (mut count, mut bytes, mut left) = (0, 0, VecDeque::new());
         while self.generation.has_room(count) && self.waiting.has_room(count, bytes) {
-            let Some(Held { client, request, seen, command, reply, .. }) = self.held.pop_front() else {
+            let Some(held) = self.held.pop_front() else {
                 break;
             };
+            let judgement = self.room.judge(&held.command);
+            self.generation.is_short |= match judgement {
+                Judgement::NextGeneration => true,
+                // (others may have deleted something since it began)
+                Judgement::Full => now >= self.generation.begun + FULL_PAUSE,
+                _ => false,
+            };
+            if let Judgement::Waits | Judgement::NextGeneration = judgement {
+                left.push_back(held);
+                continue;
+            }
+            let Held { client, request, seen, command, reply, .. } = held;
+            if judgement == Judgement::Full {
+                reply.send(Told::MapFull);
+                continue;
+            }
+            if !reply.begun().begin() {
+                reply.send(Told::Late);
+                continue;
+            }
             (count, bytes) = (count + 1, bytes + length(&command));
-            let call = Call { client, request, seen };
-            batch.requests.push(Request::Propose { call, command, reply });
+            self.room.reserve(&command);
+            let proposal = self.proposal(Call { client, request, seen }, command);
+            batch.requests.push(Request::Propose { proposal, reply });
+        }
+        // (what finds no room in the map stands before what came later)
+        if !left.is_empty() {
+            left.append(&mut self.held);
+            self.held = left;
         }
     }
 
@@ -553,7 +599,31 @@ impl<C: Core> Driver<C> {
         let (client, requests) = self.sealer;
         self.sealer.1 += 1;
         let command = OwnedCommand::Seal { value: self.next_members().write().into_bytes() };
-        batch.requests.push(Request::Seal { call: Call::new(client, requests + 1), command });
+        batch.requests.push(Request::Seal(self.proposal(Call::new(client, requests + 1), command)));
+    }
+
+    /// A proposal of now: it spares the peer that is lost, or is the farthest.
+    fn proposal(&mut self, call: Call, command: OwnedCommand) -> Proposal {
+        self.distances.choose(Instant::now());
+        Proposal { call, command, spared: self.distances.named() }
+    }
+
+    /// Learns which peers are reached, and pings those where that is due.
+    fn ping_peers(&mut self) {
+        let now = Instant::now();
+        self.distances.look(now);
+        for peer in self.peer_numbers() {
+            self.distances.reach(peer, self.is_reached(peer), now);
+            if let Some(number) = self.distances.ping(peer, now) {
+                self.peers.send(peer, Message::Ping(number).write());
+            }
+        }
+    }
+
+    /// A peer has answered a ping.
+    pub(crate) fn hear_pong(&mut self, peer: u8, number: u64) {
+        let took = self.distances.answer(peer, number, Instant::now());
+        took.into_iter().for_each(|took| self.watch.measure(peer, took));
     }
 
     /// Looks for open instances, for a while: for the least ones by one question, which mostly tells all, and for those behind them one by one.
@@ -573,9 +643,9 @@ impl<C: Core> Driver<C> {
                 Some(after) => {
                     self.metrics.asks.add(1);
                     let found = self.node.next_open(after).map_err(StopFault::Node)?;
-                    found
-                        .into_iter()
-                        .for_each(|instance| self.watch.find(&[OpenInstance { instance, since: None, led: None }]));
+                    found.into_iter().for_each(|instance| {
+                        self.watch.find(&[OpenInstance { instance, since: None, led: None, spared: None }])
+                    });
                     left -= 1;
                     found.is_none()
                 }
@@ -607,39 +677,6 @@ impl<C: Core> Driver<C> {
     pub(crate) fn peer_numbers(&self) -> impl Iterator<Item = u8> + use<C> {
         let me = self.place.replica;
         (0..self.place.replicas as u8).filter(move |replica| *replica != me)
-    }
-
-    /// Whether a member of this replica's fast quorum can't be reached.
-    fn is_hopeless(&self) -> bool {
-        !self.is_whole(self.place.replica)
-    }
-
-    /// The other members of a replica's fast quorum than this one: all replicas but the one just below it.
-    fn quorum(&self, replica: u8) -> impl Iterator<Item = u8> + use<C> {
-        let replicas = self.place.replicas as u8;
-        let below = (replica + replicas - 1) % replicas;
-        self.peer_numbers().filter(move |peer| *peer != below)
-    }
-
-    /// Whether all of a replica's fast quorum is reached, as far as this one knows.
-    fn is_whole(&self, replica: u8) -> bool {
-        self.quorum(replica).all(|peer| self.is_reached(peer))
-    }
-
-    /// Where a member of this replica's fast quorum is gone, commands are handed to a replica whose quorum is whole, if there is one: here
-    /// each would wait in vain, and then be given up. What was handed to this one isn't handed on.
-    fn hand_on(&mut self, now: Instant) {
-        let helper = self.peer_numbers().find(|peer| self.is_reached(*peer) && self.is_whole(*peer));
-        let Some(helper) = helper.filter(|_| self.is_hopeless()) else { return };
-        for held in std::mem::take(&mut self.held) {
-            if held.is_handed || self.handed.len() >= MOST_HANDED {
-                self.held.push_back(held);
-                continue;
-            }
-            let Held { client, request, seen, command, reply, .. } = held;
-            self.peers.send(helper, Message::Ask { client, request, seen, command }.write());
-            self.handed.insert((client, request), (helper, now, reply));
-        }
     }
 
     /// Whether so few peers are reached that nothing can be recovered.
@@ -733,6 +770,7 @@ impl<C: Core> Driver<C> {
             }
             // A receipt for nobody is of a proposal before this start, or its client waits no longer.
             if let Some(waiting) = self.waiting.remove((receipt.client, receipt.request)) {
+                self.room.settle(&waiting.command, Some(&receipt.answer));
                 let is_undone = self.plant == Some(Plant::Again) && receipt.entry % 8 == 0;
                 let reply = if is_undone { OwnedAnswer::Closed } else { receipt.answer.to_owned() };
                 waiting.reply.send(Told::Done { stamp: receipt.stamp, reply });
@@ -834,23 +872,28 @@ impl<C: Core> Driver<C> {
         proposed: &mut impl Iterator<Item = Proposed>,
     ) -> Result<(), StopFault> {
         match (request, done) {
-            (Request::Propose { call, command, reply }, Ok(())) => {
+            (Request::Propose { proposal: Proposal { call, command, spared }, reply }, Ok(())) => {
                 let instance = self.own_instance(call, proposed)?;
+                self.watch.propose(instance, spared);
                 if matches!(command, OwnedCommand::Put { .. }) && self.plant == Some(Plant::Early) {
                     reply.send(Told::Done { stamp: call.seen, reply: OwnedAnswer::Absent });
                 } else {
                     let bytes = length(&command);
-                    self.waiting.insert((call.client, call.request), Waiting { instance, reply, bytes });
+                    self.waiting.insert((call.client, call.request), Waiting { instance, reply, bytes, command });
                 }
             }
-            (Request::Seal { call, .. }, Ok(())) => _ = self.own_instance(call, proposed)?,
+            (Request::Seal(Proposal { call, spared, .. }), Ok(())) => {
+                let instance = self.own_instance(call, proposed)?;
+                self.watch.propose(instance, spared);
+            }
             (Request::Frame { from, head, bytes }, Ok(())) => {
                 self.others.see(from, head.entry);
                 if head.is_commit() {
                     self.commits.here.insert(head.instance);
                     self.watch.forget(head.instance);
                 } else if head.is_pre_accept_ok() {
-                    self.watch.answer(head.instance, from, Instant::now());
+                    let took = self.watch.answer(head.instance, from, Instant::now());
+                    took.into_iter().for_each(|took| self.distances.note(from, took));
                 } else if (head.is_prepare() || head.is_accept()) && !self.commits.here.has(head.instance) {
                     self.watch.put_off(head.instance, head.ballot, Instant::now());
                 }
@@ -860,15 +903,19 @@ impl<C: Core> Driver<C> {
                     self.generation.note_seal(Instant::now());
                 }
             }
-            (Request::Propose { call, command, reply }, Err(Fault::SpaceFull)) => {
+            (Request::Propose { proposal: Proposal { call, command, .. }, reply }, Err(Fault::SpaceFull)) => {
+                self.room.settle(&command, None);
                 // It waits for the next generation.
                 self.generation.used = MOST_COMMANDS;
                 let Call { client, request, seen } = call;
-                let since = Instant::now();
-                self.held.push_front(Held { since, client, request, seen, command, reply, is_handed: true });
+                reply.begun().take_back();
+                self.held.push_front(Held { since: Instant::now(), client, request, seen, command, reply });
             }
-            (Request::Propose { reply, .. }, Err(fault)) => reply.send(Told::Refused(fault)),
-            (Request::Seal { .. }, Err(_)) => self.generation.lose_seal(),
+            (Request::Propose { proposal: Proposal { command, .. }, reply }, Err(fault)) => {
+                self.room.settle(&command, None);
+                reply.send(Told::Refused(fault));
+            }
+            (Request::Seal(_), Err(_)) => self.generation.lose_seal(),
             // Nothing of such a frame is believed.
             (Request::Frame { .. }, Err(_)) => self.refused_frames += 1,
             (Request::GiveUp(instance) | Request::Recover(instance), Err(fault)) => match fault {
@@ -933,17 +980,19 @@ impl<C: Core> Driver<C> {
         line("instances_total", &MOST_COMMANDS);
         line("dependencies", &self.generation.dependencies);
         line("log_bytes", &self.generation.log);
-        line("commands_waiting", &(self.waiting.count() + self.handed.len() + self.held.len()));
+        line("map_bytes", &self.room.map);
+        line("commands_waiting", &(self.waiting.count() + self.held.len()));
         line("instances_open", &open);
         line("frames_refused", &self.refused_frames);
         line("frames_lost", &self.peers.lost());
         line("commits_sent_again", &self.sent_again);
         line("accepts_begun", &self.metrics.accepts.get());
         line("recoveries_begun", &self.metrics.recoveries.get());
+        line("spared", &self.distances.spared());
         for replica in self.peer_numbers() {
             let state = if self.is_reached(replica) { "reached" } else { "lost" };
             line(&format!("peer_{replica}"), &state);
-            if let Some(far) = self.watch.shortest_round_trip(replica) {
+            if let Some(far) = self.distances.shortest(replica) {
                 line(&format!("peer_{replica}_round_trip_ms"), &format_args!("{:.1}", far.as_secs_f64() * 1e3));
             }
         }

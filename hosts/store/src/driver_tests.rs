@@ -1,11 +1,13 @@
 //! A driver of a cluster of one, over a core in memory.
 use super::*;
 use crate::identities::Identities;
+use crate::link::Link;
 use crate::plain::{Plain, World};
 use crate::receipts;
 use crate::sealed::Key;
 use crate::waiting::Waiting;
 use std::fs;
+use std::sync::atomic::{AtomicBool, Ordering};
 use std::sync::mpsc::{SyncSender, channel, sync_channel};
 
 /// A driver without peers, and where its events go.
@@ -203,7 +205,7 @@ fn a_commit_is_asked_for_once_and_sent_again_to_who_lacks_it() {
     let frames =
         vec![outgoing(0, commit(2)), outgoing(1, commit(2)), outgoing(0, commit(3)), outgoing(0, frame(1, 1, 3))];
     let instance = |number| Instance { replica: 0, number };
-    let open = |number| OpenInstance { instance: instance(number), since: None, led: None };
+    let open = |number| OpenInstance { instance: instance(number), since: None, led: None, spared: None };
     driver.node.report = Report { frames, committed: vec![instance(1), instance(2), instance(3)], open: vec![open(9)] };
     driver.recollect().unwrap();
     let mut committed = Committed::new(1);
@@ -351,4 +353,160 @@ fn who_leaves_waits_for_those_that_stay() {
         }
         fs::remove_dir_all(&folder).unwrap();
     }
+}
+
+/// A way to a peer that is reached, or isn't, and the messages that went there.
+#[derive(Default)]
+struct Way(AtomicBool, std::sync::Mutex<Vec<Message>>);
+
+impl Link for Way {
+    fn send(&self, bytes: Vec<u8>) {
+        self.1.lock().unwrap().extend(Message::read(&bytes));
+    }
+
+    fn send_first(&self, bytes: Vec<u8>) {
+        self.send(bytes);
+    }
+
+    fn is_reached(&self) -> bool {
+        self.0.load(Ordering::Relaxed)
+    }
+}
+
+impl Way {
+    /// The number of the last ping that went there.
+    fn pinged(&self) -> Option<u64> {
+        let is_ping = |message: &Message| if let Message::Ping(number) = message { Some(*number) } else { None };
+        self.1.lock().unwrap().iter().rev().find_map(is_ping)
+    }
+}
+
+/// Proposals name the peer whose pongs take longest, or one that isn't reached, and nothing is handed to another replica.
+#[test]
+fn proposals_spare_the_farthest_or_who_is_lost() {
+    let ways: Vec<Arc<Way>> = (0..3).map(|_| Arc::default()).collect();
+    let links = ways.iter().map(|way| Some(way.clone() as Arc<dyn Link>)).collect();
+    let place = Place { replicas: 3, replica: 0 };
+    let (mut driver, sender, folder) = driver_over("spares", place, Peers::over(links));
+    [1, 2].into_iter().for_each(|peer| _ = driver.others.hear(peer, 1, false));
+    let (told, _answers) = channel();
+    let mut request = 0;
+    // Whom a command names that is asked for now, where just these are reached.
+    let mut named = |driver: &mut Driver<Plain>, reached: [bool; 2]| {
+        reached.into_iter().zip(&ways[1..]).for_each(|(is_reached, way)| way.0.store(is_reached, Ordering::Relaxed));
+        request += 1;
+        ask(&sender, &told, request, put(request));
+        driver.turn().unwrap();
+        driver.turn().unwrap();
+        (driver.node.spared.len() == request as usize).then(|| *driver.node.spared.last().unwrap())
+    };
+    // The usual one by itself.
+    assert_eq!(named(&mut driver, [true, true]), Some(None));
+    let pong = |driver: &mut Driver<Plain>, from: u8| {
+        let bytes = Message::Pong(ways[usize::from(from)].pinged().unwrap()).write();
+        assert!(sender.send(Event::Came { from, bytes }).is_ok());
+        driver.turn().unwrap();
+    };
+    pong(&mut driver, 2);
+    thread::sleep(Duration::from_millis(30));
+    pong(&mut driver, 1);
+    assert_eq!(named(&mut driver, [true, true]), Some(Some(1)));
+    assert_eq!(named(&mut driver, [true, false]), Some(None));
+    assert_eq!(named(&mut driver, [false, true]), Some(Some(1)));
+    // A ping is answered.
+    assert!(sender.send(Event::Came { from: 2, bytes: Message::Ping(9).write() }).is_ok());
+    driver.turn().unwrap();
+    assert!(ways[2].1.lock().unwrap().contains(&Message::Pong(9)));
+    // Alone it proposes nothing.
+    assert_eq!(named(&mut driver, [false, false]), None);
+    fs::remove_dir_all(&folder).unwrap();
+}
+
+#[test]
+fn a_seal_that_is_under_way_stops_nobody() {
+    let (mut driver, sender, folder) = driver("under-way");
+    let (told, answers) = channel();
+    driver.limits.numbers = 5_000;
+    driver.generation.note_seal(Instant::now());
+    ask(&sender, &told, 1, put(1));
+    driver.turn().unwrap();
+    assert!(matches!(answers.try_recv(), Ok((1, Told::Done { reply: OwnedAnswer::Absent, .. }))));
+    // What is proposed after it is committed waits for the next generation.
+    driver.node.world.with(1, |life| life.seal = Some(Vec::new()));
+    driver.commit_seal(None);
+    driver.is_unexecuted = false;
+    ask(&sender, &told, 2, put(2));
+    driver.turn().unwrap();
+    assert!(answers.try_recv().is_err() && driver.held.len() == 1 && driver.waiting.is_empty());
+    // The next generation is served once it is ready, and what was held is proposed then, whether or not anything comes.
+    (driver.node.state.is_sealed, driver.node.is_ready, driver.is_unexecuted) = (true, false, true);
+    driver.turn().unwrap();
+    driver.turn().unwrap();
+    assert_eq!((driver.generation.number, driver.held.len()), (1, 1));
+    driver.node.is_ready = true;
+    driver.turn().unwrap();
+    assert_eq!(driver.generation.number, 2);
+    driver.next_tick = Instant::now() + Duration::from_secs(60);
+    driver.watch = Watch::new(driver.place, Instant::now() + Duration::from_secs(60), 1);
+    let start = Instant::now();
+    driver.turn().unwrap();
+    assert!(matches!(answers.try_recv(), Ok((2, Told::Done { reply: OwnedAnswer::Absent, .. }))));
+    assert!(start.elapsed() < Duration::from_secs(20));
+    fs::remove_dir_all(&folder).unwrap();
+}
+
+#[test]
+fn what_was_given_up_is_not_proposed() {
+    let (mut driver, sender, folder) = driver("given-up");
+    let (told, answers) = channel();
+    driver.limits.numbers = 5_000;
+    let give_up = |request: u32| {
+        let (begun, told) = (Arc::<crate::begun::Begun>::default(), told.clone());
+        let reply = Teller::of(begun.clone(), move |it| _ = told.send((request, it)));
+        let what = What::Propose { client: 2, request, seen: 0, command: put(request) };
+        assert!(sender.send(Event::Ask(Ask { what, reply })).is_ok() && begun.give_up());
+    };
+    // (before what is proposed, and behind it)
+    give_up(1);
+    ask(&sender, &told, 2, put(2));
+    give_up(3);
+    driver.turn().unwrap();
+    let told: Vec<_> = answers.try_iter().collect();
+    assert!(matches!(told[..], [(1, Told::Late), (3, Told::Late), (2, Told::Done { .. })]));
+    assert_eq!((driver.generation.used, keys(&driver)), (1, 1));
+    fs::remove_dir_all(&folder).unwrap();
+}
+
+#[test]
+fn a_map_without_room_takes_reads_and_deletes() {
+    let (driver, sender, folder) = driver("full-map");
+    let mut driver = driver.with_most_map(Some(1_000));
+    driver.limits.numbers = 5_000;
+    driver.meet_members().unwrap();
+    let (told, answers) = channel();
+    let key = |number: u32| number.to_be_bytes().to_vec();
+    let put = |number: u32, length| OwnedCommand::Put { key: key(number), value: vec![1; length] };
+    let asked = |driver: &mut Driver<Plain>, request: u32, command: OwnedCommand| {
+        ask(&sender, &told, request, command);
+        driver.turn().unwrap();
+        answers.try_iter().map(|(_, told)| told).collect::<Vec<_>>()
+    };
+    let is_done = |told: &[Told]| matches!(told, [Told::Done { .. }]);
+    for number in 1..4 {
+        assert!(is_done(&asked(&mut driver, number, put(number, 291))));
+    }
+    // 900 of 1,000 bytes are used. The next generation tells how many are left: too few for such a key.
+    assert!(asked(&mut driver, 4, put(4, 291)).is_empty());
+    let told: Vec<_> = (5..9).flat_map(|it| asked(&mut driver, it, OwnedCommand::Get { key: key(1) })).collect();
+    assert_eq!((driver.generation.number, driver.room.map, keys(&driver)), (2, 900, 3));
+    assert_eq!(told.iter().filter(|told| matches!(told, Told::MapFull)).count(), 1);
+    assert_eq!(told.iter().filter(|told| matches!(told, Told::Done { .. })).count(), 4);
+    assert!(is_done(&asked(&mut driver, 9, put(5, 41))) && !driver.generation.is_short);
+    assert!(matches!(asked(&mut driver, 10, put(6, 92))[..], [Told::MapFull]));
+    let deleted = asked(&mut driver, 11, OwnedCommand::Del { key: key(1) });
+    assert!(is_done(&deleted) && is_done(&asked(&mut driver, 12, put(6, 291))));
+    // What others have deleted the next generation tells, once this one is old.
+    driver.generation.begun -= FULL_PAUSE;
+    assert!(matches!(asked(&mut driver, 13, put(7, 291))[..], [Told::MapFull]) && driver.generation.is_short);
+    fs::remove_dir_all(&folder).unwrap();
 }

@@ -2,7 +2,7 @@
 use epaxos::{MOST_COMMANDS, State};
 use std::time::{Duration, Instant};
 
-/// A seal that isn't committed for so long is proposed again, and commands aren't held for it any more.
+/// A seal that isn't committed for so long is proposed again.
 const SEAL_PATIENCE: Duration = Duration::from_millis(500);
 /// A change of generation may take at most one part in so many of the time.
 const SHARE_OF_CHANGES: u32 = 10;
@@ -48,8 +48,11 @@ pub struct Generation {
     pub stage: Stage,
     /// Whether its end was asked for.
     pub is_asked: bool,
+    /// Whether commands wait for room in the map that the next generation shares out.
+    pub is_short: bool,
     /// How many replicas go on, where a seal is committed that says so.
     pub next_size: Option<usize>,
+    pub begun: Instant,
     /// When it may be sealed first, but where it is urgent.
     pub(crate) least: Instant,
 }
@@ -65,26 +68,16 @@ impl Generation {
             log: 0,
             stage: if state.is_sealed { Stage::Sealed(now) } else { Stage::Open },
             is_asked: false,
+            is_short: false,
             next_size: None,
+            begun: now,
             least: now + cost * SHARE_OF_CHANGES,
         }
     }
 
-    /// Whether what clients propose is held, until the next generation or until the seal that is under way seems lost.
-    pub fn is_holding(&self, now: Instant) -> bool {
-        match self.stage {
-            Stage::Open => false,
-            Stage::Sealing(since) => now < since + SEAL_PATIENCE,
-            Stage::Committed | Stage::Sealed(_) => true,
-        }
-    }
-
-    /// When it isn't held any more, if nothing comes.
-    pub fn held_until(&self) -> Option<Instant> {
-        match self.stage {
-            Stage::Sealing(since) => Some(since + SEAL_PATIENCE),
-            _ => None,
-        }
+    /// Whether what clients propose is held until the next generation. A seal that is under way stops nobody.
+    pub fn is_holding(&self) -> bool {
+        matches!(self.stage, Stage::Committed | Stage::Sealed(_))
     }
 
     /// Whether so many more commands have numbers.
@@ -103,7 +96,8 @@ impl Generation {
             Stage::Sealing(since) => now >= since + SEAL_PATIENCE,
             Stage::Committed | Stage::Sealed(_) => false,
         };
-        let is_full = self.used >= limits.numbers || self.dependencies >= limits.dependencies || self.log >= limits.log;
+        let is_long = self.used >= limits.numbers || self.dependencies >= limits.dependencies || self.log >= limits.log;
+        let is_full = is_long || self.is_short;
         let is_urgent = self.used >= URGENT || self.dependencies >= limits.dependencies.saturating_mul(URGENT_TIMES);
         is_free && (self.is_asked || is_urgent || (is_full && now >= self.least))
     }
@@ -169,6 +163,9 @@ mod tests {
         // A change took 50 ms, so that the next one comes 500 ms later at the earliest, but where numbers run out.
         assert!(!at(1_500, 300, start).wants_seal(&LIMITS, start + Duration::from_millis(499)));
         assert!(at(1_890, 0, start).wants_seal(&LIMITS, start) && at(0, 900, start).wants_seal(&LIMITS, start));
+        let mut short = at(0, 0, start);
+        short.is_short = true;
+        assert!(!short.wants_seal(&LIMITS, start) && short.wants_seal(&LIMITS, now));
         let mut asked = at(0, 0, start);
         asked.is_asked = true;
         assert!(asked.wants_seal(&LIMITS, start));
@@ -180,17 +177,17 @@ mod tests {
         let later = start + SEAL_PATIENCE;
         let mut it = at(1_900, 0, start);
         it.note_seal(start);
-        assert!(it.is_holding(start) && !it.wants_seal(&LIMITS, start));
-        assert_eq!(it.held_until(), Some(later));
+        // It stops nobody.
+        assert!(!it.is_holding() && !it.wants_seal(&LIMITS, start));
         // It seems lost.
-        assert!(!it.is_holding(later) && it.wants_seal(&LIMITS, later));
+        assert!(!it.is_holding() && it.wants_seal(&LIMITS, later));
         it.note_seal(later);
-        assert!(it.is_holding(later));
+        assert_eq!(it.stage, Stage::Sealing(later));
         it.lose_seal();
         assert_eq!(it.stage, Stage::Open);
         assert!(it.commit_seal() && !it.commit_seal());
         it.lose_seal();
-        assert!(it.is_holding(later) && !it.wants_seal(&LIMITS, later));
+        assert!(it.is_holding() && !it.wants_seal(&LIMITS, later));
         it.learn(State { is_sealed: true, entries: 9, ..State::default() }, later);
         assert!(it.is_sealed() && it.entries == 9);
         assert!(!it.commit_seal() && it.is_sealed());

@@ -62,20 +62,40 @@ impl Generations {
 
     /// Generation 1 of a new replica, one of so many. Its opening is on the disk.
     pub fn begin(&self, replicas: u8) -> Result<Opened, GenerationsFault> {
-        self.hand(first_opening(replicas), |_, is_same| Wish::New { is_same })
+        self.hand(first_opening(replicas), false, |_, is_same| Wish::New { is_same })
     }
 
     /// The generation of an opening that a peer has, or that this process made as it closed the one before. Where its log is begun the opening is on
     /// the disk.
     pub fn take(&self, opening: Opened) -> Result<Opened, GenerationsFault> {
-        self.hand(opening, |generation, is_same| Wish::Take { generation, is_same })
+        self.hand(opening, false, |generation, is_same| Wish::Take { generation, is_same })
     }
 
-    fn hand(&self, opening: Opened, wish: impl Fn(u32, bool) -> Wish) -> Result<Opened, GenerationsFault> {
+    /// The same of an opening that [`write_ahead`](Generations::write_ahead) has written.
+    pub fn take_written(&self, opening: Opened) -> Result<Opened, GenerationsFault> {
+        self.hand(opening, true, |generation, is_same| Wish::Take { generation, is_same })
+    }
+
+    /// Writes an opening beside its place, where no start sees it: it is on the disk then, and so is the folder that it is in.
+    pub fn write_ahead(&self, opening: &Opened) -> Result<(), GenerationsFault> {
+        let folder = self.folder_of(opening.generation);
+        self.make(&folder).map_err(unusable(&folder))?;
+        Ok(write_new(&folder, "opening", &opening.bytes).map_err(unusable(&folder))?)
+    }
+
+    fn hand(
+        &self,
+        opening: Opened,
+        is_written: bool,
+        wish: impl Fn(u32, bool) -> Wish,
+    ) -> Result<Opened, GenerationsFault> {
         let (held, generation) = (self.look()?, opening.generation);
         let is_same = newest(&held) == generation && self.bytes(generation)? == opening.bytes;
         let plan = plan(&held, wish(generation, is_same))?;
-        if plan.writes {
+        if plan.writes && is_written {
+            let folder = self.folder_of(generation);
+            move_in(&folder, "opening").map_err(unusable(&folder))?;
+        } else if plan.writes {
             self.put(&opening)?;
         }
         let is_new = self.begins(plan)?;
@@ -85,15 +105,20 @@ impl Generations {
         Ok(Opened { is_new, ..opening })
     }
 
-    /// The header of this generation's log is on the disk: the replica acts in no earlier one any more.
+    /// The header of this generation's log is on the disk: the replica acts in no earlier one any more. Marked is the last one that is here, which it has
+    /// left, and what has no mark; other marks stay.
     pub fn leave_before(&self, generation: u32) -> Result<(), GenerationsFault> {
-        for one in self.look()?.into_iter().filter(|one| one.number < generation) {
+        let earlier: Vec<Held> = self.look()?.into_iter().filter(|one| one.number < generation).collect();
+        let last = earlier.last().map_or(0, |one| one.number);
+        for one in earlier {
             let folder = self.folder_of(one.number);
-            let left = if one.left_for < generation {
-                write(&folder, "left", generation.to_string().as_bytes())
-            } else {
+            let left = if one.left_for >= generation {
                 // (a mark that is there outlasts a crash from now on)
                 File::open(&folder).and_then(|folder| folder.sync_all())
+            } else if one.left_for == 0 || one.number == last {
+                write(&folder, "left", generation.to_string().as_bytes())
+            } else {
+                Ok(())
             };
             left.map_err(unusable(&folder))?;
         }
@@ -198,11 +223,20 @@ fn is_there(path: &Path) -> io::Result<bool> {
 
 /// Writes a file: after a crash it is as it was before, or whole.
 fn write(folder: &Path, name: &str, bytes: &[u8]) -> io::Result<()> {
-    let new = folder.join(format!("{name}.new"));
-    let mut file = File::create(&new)?;
+    write_new(folder, name, bytes)?;
+    move_in(folder, name)
+}
+
+/// Writes a file beside its place.
+fn write_new(folder: &Path, name: &str, bytes: &[u8]) -> io::Result<()> {
+    let mut file = File::create(folder.join(format!("{name}.new")))?;
     file.write_all(bytes)?;
-    file.sync_all()?;
-    fs::rename(&new, folder.join(name))?;
+    file.sync_all()
+}
+
+/// Moves what was written so into its place.
+fn move_in(folder: &Path, name: &str) -> io::Result<()> {
+    fs::rename(folder.join(format!("{name}.new")), folder.join(name))?;
     File::open(folder)?.sync_all()
 }
 
@@ -258,6 +292,65 @@ fn first_opening(replicas: u8) -> Opened {
 #[cfg(test)]
 mod tests {
     use super::*;
+
+    /// An opening of this generation, of three replicas.
+    fn next(generation: u32) -> Opened {
+        let mut bytes = [MAGIC, &[3], &generation.to_be_bytes()].concat();
+        bytes.resize(SHORTEST, 0);
+        opened(bytes).unwrap()
+    }
+
+    #[test]
+    fn an_opening_beside_its_place_is_none() {
+        let folder = std::env::temp_dir().join(format!("store-ahead-{}", std::process::id()));
+        fs::create_dir_all(&folder).unwrap();
+        let generations = Generations::open(&folder).unwrap();
+        let log = |generation| fs::write(generations.log(generation), [0; 43]).unwrap();
+        generations.begin(3).unwrap();
+        log(1);
+        generations.write_ahead(&next(2)).unwrap();
+        // The replica may act in generation 1 until the second one's opening is in its place.
+        assert_eq!(generations.go_on().unwrap().generation, 1);
+        let taken = generations.take_written(next(2)).unwrap();
+        assert_eq!(
+            (taken.generation, taken.is_new, fs::read(folder.join("2/opening")).unwrap()),
+            (2, true, next(2).bytes)
+        );
+        assert!(!folder.join("2/opening.new").exists());
+        // Written in part, as a crash leaves it, it is in nobody's way.
+        log(2);
+        fs::create_dir(folder.join("3")).unwrap();
+        fs::write(folder.join("3/opening.new"), "EP").unwrap();
+        assert_eq!(generations.go_on().unwrap().generation, 2);
+        generations.write_ahead(&next(3)).unwrap();
+        assert_eq!(generations.take_written(next(3)).unwrap().generation, 3);
+        fs::remove_dir_all(&folder).unwrap();
+    }
+
+    #[test]
+    fn what_is_left_is_marked_once() {
+        let folder = std::env::temp_dir().join(format!("store-marks-{}", std::process::id()));
+        fs::create_dir_all(&folder).unwrap();
+        let generations = Generations::open(&folder).unwrap();
+        let marks = || [1, 2, 3].map(|it| fs::read_to_string(folder.join(format!("{it}/left"))).unwrap_or_default());
+        generations.begin(3).unwrap();
+        generations.take(next(2)).unwrap();
+        generations.leave_before(2).unwrap();
+        assert_eq!(marks(), ["2", "", ""]);
+        // (a generation that was never acted in)
+        fs::create_dir(folder.join("3")).unwrap();
+        generations.take(next(4)).unwrap();
+        generations.leave_before(4).unwrap();
+        assert_eq!(marks(), ["2", "4", "4"]);
+        // Any of them keeps the replica from acting in an earlier one again.
+        [4, 3].iter().for_each(|it| fs::remove_dir_all(folder.join(it.to_string())).unwrap());
+        assert!(matches!(generations.go_on(), Err(GenerationsFault::Left(4))));
+        // The last one that is here names the generation that the replica acts in, whatever was lost before it.
+        generations.take(next(5)).unwrap();
+        generations.leave_before(5).unwrap();
+        assert_eq!(marks(), ["2", "5", ""]);
+        fs::remove_dir_all(&folder).unwrap();
+    }
 
     /// What a start does by the rules is in .ci/folders.py: the same rows for a node and for a core that is hosted here.
     #[test]

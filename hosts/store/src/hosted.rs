@@ -3,14 +3,19 @@ use crate::core::{Begin, Core, Pairs};
 use crate::file_fault::FileFault;
 use crate::generations::{Generations, Opened, opened};
 use crate::generations_fault::GenerationsFault;
+use crate::next::Next;
 use crate::node_fault::NodeFault;
+use crate::opening::Opening;
 use crate::outcome::{Asked, Outcome, Outgoing, Report};
 use crate::peers::Place;
 use epaxos::{Cluster, CommitFault, Fault, Instance, LogFile, OpenFault, Output, Replica, Setup, State};
 use std::fs;
 use std::path::{Path, PathBuf};
+use std::sync::Arc;
+use std::thread;
 
 /// Which replica it is, and where it runs.
+#[derive(Clone)]
 pub struct Hosting {
     pub place: Place,
     /// The folder of its generations.
@@ -21,9 +26,13 @@ pub struct Hosting {
 /// A core that is hosted here.
 pub struct Hosted {
     hosting: Hosting,
-    generations: Generations,
+    generations: Arc<Generations>,
     /// None where it could not be started again.
     acting: Option<Acting>,
+    /// The next generation, while it is made ready.
+    next: Option<Next>,
+    /// What the generation opened with, until somebody has asked.
+    opening: Option<Opening>,
     run: u64,
     /// What there is to tell people.
     lines: Vec<String>,
@@ -42,11 +51,11 @@ struct Acting {
 impl Hosted {
     /// Starts it, as the run of this number: no other one may have it.
     pub fn start(hosting: Hosting, begin: &Begin, run: u64) -> Result<Hosted, NodeFault> {
-        let generations = Generations::open(&hosting.folder).map_err(NodeFault::Generations)?;
+        let generations = Arc::new(Generations::open(&hosting.folder).map_err(NodeFault::Generations)?);
         let mut lines = Vec::new();
         let opening = hosting.open(&generations, begin)?;
-        let acting = Some(hosting.act(&generations, opening, &mut lines)?);
-        Ok(Hosted { hosting, generations, acting, run, lines })
+        let acting = Some(hosting.act(&generations, (opening, None), &mut lines)?);
+        Ok(Hosted { hosting, generations, acting, next: None, opening: None, run, lines })
     }
 
     fn acting(&mut self) -> Result<&mut Acting, NodeFault> {
@@ -110,32 +119,43 @@ impl Hosting {
     /// Closes the generation of a replica that has executed a seal: the next one.
     fn close(&self, generations: &Generations, replica: Replica) -> Result<Opened, NodeFault> {
         let bytes = replica.close(self.cluster()?).map_err(|(_, fault)| NodeFault::Close(fault))?;
-        let closed = opened(bytes).map_err(|why| GenerationsFault::BadOpening(None, why));
-        closed.and_then(|closed| generations.take(closed)).map_err(NodeFault::Generations)
+        generations.take(self.closed(bytes)?).map_err(NodeFault::Generations)
     }
 
-    /// Goes on with this generation, and with the next ones while one has executed a seal.
+    /// The opening that a replica has closed its generation with.
+    pub(crate) fn closed(&self, bytes: Vec<u8>) -> Result<Opened, NodeFault> {
+        opened(bytes).map_err(|why| NodeFault::Generations(GenerationsFault::BadOpening(None, why)))
+    }
+
+    /// How a replica begins with this opening, or goes on.
+    fn setup<'a>(&self, opening: &'a Opened) -> Result<Setup<'a>, NodeFault> {
+        let new = Setup::new(cluster(opening.replicas)?, self.place.replica);
+        Ok(Setup { opening: Some(&opening.bytes), core: self.core.clone(), ..new })
+    }
+
+    /// A replica that begins with this opening.
+    pub(crate) fn begin(&self, opening: &Opened) -> Result<Replica, NodeFault> {
+        self.setup(opening)?.begin().map_err(|fault| open_fault(fault, Some(opening.generation)))
+    }
+
+    /// Goes on with this generation, and with the next ones while one has executed a seal. The replica may have begun with the opening already.
     fn act(
         &self,
         generations: &Generations,
-        mut opening: Opened,
+        (mut opening, mut begun): (Opened, Option<Replica>),
         lines: &mut Vec<String>,
     ) -> Result<Acting, NodeFault> {
-        let me = self.place.replica;
         loop {
-            let setup = Setup {
-                opening: Some(&opening.bytes),
-                core: self.core.clone(),
-                ..Setup::new(cluster(opening.replicas)?, me)
-            };
             let path = generations.log(opening.generation);
             let failed = |error| NodeFault::Log(path.clone(), error);
-            let refused = |fault| open_fault(fault, Some(opening.generation));
+            let begun = begun.take().filter(|_| opening.is_new);
             let (mut file, mut replica) = if opening.is_new {
-                (LogFile::begin(&path).map_err(failed)?, setup.begin().map_err(refused)?)
+                let file = LogFile::begin(&path).map_err(failed)?;
+                (file, begun.map_or_else(|| self.begin(&opening), Ok)?)
             } else {
                 let (file, log) = LogFile::open(&path).map_err(failed)?;
-                (file, setup.open(&log).map_err(refused)?)
+                let refused = |fault| open_fault(fault, Some(opening.generation));
+                (file, self.setup(&opening)?.open(&log).map_err(refused)?)
             };
             let ready = replica.ready().map_err(NodeFault::Core)?;
             // (what was handed out before this start may be lost: it is sent again as anything that is lost is)
@@ -228,21 +248,50 @@ impl Core for Hosted {
         self.acting()?.replica.state().map_err(NodeFault::Core)
     }
 
+    fn prepare(&mut self) -> Result<(), NodeFault> {
+        let cluster = self.hosting.cluster()?;
+        let Some(acting) = self.acting.as_mut().filter(|_| self.next.is_none()) else { return Ok(()) };
+        if let Some(bytes) = acting.replica.next_opening(cluster).map_err(NodeFault::Close)? {
+            self.next = Some(Next::begin(self.hosting.clone(), self.generations.clone(), bytes)?);
+        }
+        Ok(())
+    }
+
+    fn is_prepared(&self) -> bool {
+        self.next.as_ref().is_none_or(Next::is_ready)
+    }
+
+    fn opening(&mut self) -> Option<Opening> {
+        self.opening.take()
+    }
+
     fn start_again(&mut self, begin: &Begin) -> Result<State, NodeFault> {
         let mut acting = self.acting.take();
+        let readied = self.next.take().map(Next::wait);
         let has_sealed = |it: &mut Acting| it.replica.state().is_ok_and(|state| state.is_sealed);
         let is_sealed = acting.as_mut().is_some_and(has_sealed);
-        let opening = match acting {
-            Some(acting) if is_sealed && *begin == Begin::Again => {
-                self.hosting.close(&self.generations, acting.replica)?
+        let (opening, begun) = match (readied, acting) {
+            (Some(readied), acting) if *begin == Begin::Again => {
+                let readied = readied?;
+                // (it acts no more; to let go of its map takes a while)
+                let _ = thread::Builder::new().name("left".into()).spawn(move || drop(acting));
+                self.opening = readied.opening;
+                let opening = self.generations.take_written(readied.opened).map_err(NodeFault::Generations)?;
+                (opening, Some(readied.replica))
             }
-            acting => {
+            (_, Some(acting)) if is_sealed && *begin == Begin::Again => {
+                (self.hosting.close(&self.generations, acting.replica)?, None)
+            }
+            (_, acting) => {
                 // (the log's lock goes with it)
                 drop(acting);
-                self.hosting.open(&self.generations, begin)?
+                (self.hosting.open(&self.generations, begin)?, None)
             }
         };
-        let acting = self.hosting.act(&self.generations, opening, &mut self.lines)?;
+        if begun.is_none() {
+            self.opening = Opening::of(&opening.bytes);
+        }
+        let acting = self.hosting.act(&self.generations, (opening, begun), &mut self.lines)?;
         self.run += 1;
         Ok(self.acting.insert(acting).state)
     }
@@ -256,7 +305,7 @@ impl Core for Hosted {
     }
 
     fn end(&mut self) {
-        self.acting = None;
+        (self.acting, self.next) = (None, None);
     }
 
     fn ended(&mut self) -> NodeFault {

@@ -41,12 +41,17 @@ impl Joining<'_> {
         let path = self.directory.taken();
         let failed = |error| StopFault::File(path.clone(), error);
         loop {
-            let event = match self.events.recv_timeout(PAUSE) {
+            let event = self.events.recv_timeout(PAUSE);
+            let now = Instant::now();
+            if let Some(it) = fetch.as_mut().filter(|it| it.due() <= now) {
+                let from = it.from();
+                it.again(now).iter().for_each(|want| self.peers.send(from, want.write()));
+            }
+            let event = match event {
                 Ok(event) => event,
                 Err(RecvTimeoutError::Timeout) => continue,
                 Err(RecvTimeoutError::Disconnected) => return Err(StopFault::Alone),
             };
-            let now = Instant::now();
             let (from, message) = match event {
                 Event::Came { from, bytes } => (from, Message::read(&bytes)),
                 Event::PeerReached(peer) => {
@@ -67,7 +72,7 @@ impl Joining<'_> {
             };
             match message {
                 Some(Message::Hello { generation, .. })
-                    if generation > looked && fetch.as_ref().is_none_or(|fetch| fetch.is_stale(now)) =>
+                    if generation > looked && fetch.as_ref().is_none_or(|fetch| fetch.is_over(now)) =>
                 {
                     let (begun, want) = Fetch::begin(&path, from, now).map_err(failed)?;
                     fetch = Some(begun);
@@ -76,7 +81,7 @@ impl Joining<'_> {
                 Some(piece @ Message::Piece { .. }) => {
                     let Some(it) = &mut fetch else { continue };
                     match it.take(from, piece, now).map_err(failed)? {
-                        Step::Ask(next) => self.peers.send(from, next.write()),
+                        Step::Ask(next) => next.iter().for_each(|want| self.peers.send(from, want.write())),
                         Step::Ignored => {}
                         Step::Done(generation) => {
                             fetch = None;

@@ -7,6 +7,7 @@
 //! which it was asked. A comparison that finds another value is tried again with that one. Of two commands either may be done first, so they never both
 //! have something of one connection.
 use crate::actions::Action;
+use crate::begun::Begun;
 use crate::command_fault::CommandFault;
 use crate::driver::{Ask, Event, Told, What};
 use crate::metrics::Metrics;
@@ -126,6 +127,8 @@ struct Flight {
     now: u64,
     lost: usize,
     tries: usize,
+    /// Whether its last command was proposed.
+    begun: Arc<Begun>,
 }
 
 #[derive(Clone, PartialEq, Eq, Debug)]
@@ -144,6 +147,7 @@ struct Launch {
     client: Client,
     seen: u64,
     command: OwnedCommand,
+    begun: Arc<Begun>,
 }
 
 impl Keys {
@@ -193,13 +197,22 @@ impl Keys {
         let asked = flight.asked.iter_mut().find(|asked| asked.id == id)?;
         asked.is_over = true;
         let changes = !asked.action.only_reads() && flight.step != Step::Read;
-        // A command that nobody waits for is left to itself.
+        // A command that nobody waits for is left to itself. One that wasn't proposed yet never is, and others that it was for get another one.
         let is_left = flight.asked.iter().all(|asked| asked.is_over);
+        let is_undone = (changes || is_left) && flight.begun.give_up();
         let number = flight.number;
-        let launch = if is_left { state.next(key.to_vec(), number) } else { None };
+        let launch = match (is_left, is_undone) {
+            (true, _) => state.next(key.to_vec(), number),
+            (false, true) => state.propose_anew(key.to_vec(), number),
+            (false, false) => None,
+        };
         drop(state);
         self.launch(launch);
-        Some(if changes { CommandFault::Unanswered } else { CommandFault::NotInTime })
+        Some(match (changes, is_undone) {
+            (false, _) => CommandFault::NotInTime,
+            (true, true) => CommandFault::Waiting,
+            (true, false) => CommandFault::Unanswered,
+        })
     }
 
     /// The rest of a key is over.
@@ -217,10 +230,10 @@ impl Keys {
 
     /// Hands a command to the driver.
     fn launch(self: &Arc<Keys>, launch: Option<Launch>) {
-        let Some(Launch { key, flight, client, seen, command }) = launch else { return };
+        let Some(Launch { key, flight, client, seen, command, begun }) = launch else { return };
         let what = What::Propose { client: client.number, request: client.requests, seen, command };
         let keys = self.clone();
-        let reply = Teller::new(move |told| keys.take(key, flight, client, told));
+        let reply = Teller::of(begun, move |told| keys.take(key, flight, client, told));
         match self.events.try_send(Event::Ask(Ask { what, reply })) {
             Err(TrySendError::Full(event)) => _ = self.overflow.send(event),
             // (where the driver has ended it isn't proposed any more)
@@ -281,6 +294,7 @@ impl State {
             now,
             lost: 0,
             tries: 0,
+            begun: Arc::default(),
         });
         let known = before.or_else(|| self.known.get(&key).cloned());
         self.propose(key, number, known)
@@ -329,6 +343,8 @@ impl State {
         flight.now = stored::now();
         let (step, after, command) = command(&flight.asked, &key, current, flight.now);
         (flight.step, flight.after, flight.together) = (step, after, flight.asked.len());
+        flight.begun = Arc::default();
+        let begun = flight.begun.clone();
         let client = match self.client() {
             Ok(client) => client,
             Err(fault) => {
@@ -336,7 +352,7 @@ impl State {
                 return self.fail(key, number, CommandFault::Numbers(fault));
             }
         };
-        Some(Launch { key, flight: number, client, seen: self.seen, command })
+        Some(Launch { key, flight: number, client, seen: self.seen, command, begun })
     }
 
     /// A client of the protocol with a new request. One whose requests are all made isn't used any more.
@@ -372,9 +388,18 @@ impl State {
             Told::Refused(fault) => self.fail(key, number, CommandFault::Node(fault)),
             Told::Alone => self.fail(key, number, CommandFault::NoMajority),
             Told::Late => self.fail(key, number, CommandFault::Waiting),
+            Told::MapFull => self.fail(key, number, CommandFault::MapFull),
             Told::Ending => self.fail(key, number, CommandFault::Ending),
             _ => self.fail(key, number, CommandFault::StoreEnds),
         }
+    }
+
+    /// Its command was given up: another one for the rest. What the first one is told is nobody's.
+    fn propose_anew(&mut self, key: Vec<u8>, number: u64) -> Option<Launch> {
+        self.flights += 1;
+        let anew = self.flights;
+        self.keys.get_mut(&key)?.flight(number)?.number = anew;
+        self.propose_again(key, anew)
     }
 
     /// Nothing was done: the same again, with what else waits by now.
@@ -552,6 +577,7 @@ mod tests {
         fn proposed(&self) -> (u32, u32, u64, OwnedCommand, Teller) {
             match self.events.lock().unwrap().recv_timeout(Duration::from_secs(60)).unwrap() {
                 Event::Ask(Ask { what: What::Propose { client, request, seen, command }, reply }) => {
+                    assert!(reply.begun().begin());
                     (client, request, seen, command, reply)
                 }
                 _ => panic!(),
@@ -762,6 +788,7 @@ mod tests {
             (Some(Told::Refused(Fault::Memory)), CommandFault::Node(Fault::Memory)),
             (Some(Told::Alone), CommandFault::NoMajority),
             (Some(Told::Late), CommandFault::Waiting),
+            (Some(Told::MapFull), CommandFault::MapFull),
             (Some(Told::Ending), CommandFault::Ending),
             (Some(Told::Ended), CommandFault::StoreEnds),
             // (the driver drops it)
@@ -821,6 +848,43 @@ mod tests {
         other.send(done(6, present("9")));
         store.proposed().4.send(done(7, present("9")));
         assert_eq!(store.told(), [(6, Reply::Integer(10))]);
+    }
+
+    #[test]
+    fn what_was_not_proposed_was_not_done() {
+        let store = Store::new();
+        let held = || match store.events.lock().unwrap().recv_timeout(Duration::from_secs(60)).unwrap() {
+            Event::Ask(Ask { what: What::Propose { command, .. }, reply }) => (command, reply),
+            _ => panic!(),
+        };
+        let put = |value: &str| OwnedCommand::Put { key: b"x".to_vec(), value: value.into() };
+        // Its first command found the generation closed. The next one waits for the next generation, and nobody for it any more.
+        let id = store.ask(0, "x", set("1"));
+        store.proposed().4.send(done(1, OwnedAnswer::Closed));
+        let (command, reply) = held();
+        assert_eq!((command, store.keys.withdraw(id, b"x")), (put("1"), Some(CommandFault::Waiting)));
+        assert!(!reply.begun().begin());
+        reply.send(Told::Late);
+        assert!(store.is_idle() && store.told().is_empty());
+        // What is asked with it is done without it.
+        let ids = [1, 2, 3].map(|number| store.ask(number, "x", Action::Add(1)));
+        let (command, reply) = held();
+        assert_eq!(command, get("x"));
+        assert!(reply.begun().begin());
+        reply.send(done(2, OwnedAnswer::Absent));
+        let (command, first) = held();
+        assert_eq!(command, cas("x", None, Some("3")));
+        assert_eq!(store.keys.withdraw(ids[0], b"x"), Some(CommandFault::Waiting));
+        let (command, second) = held();
+        assert_eq!(command, cas("x", None, Some("2")));
+        assert!(!first.begun().begin() && second.begun().begin());
+        // (what the given-up one is told is nobody's)
+        first.send(Told::Late);
+        assert_eq!(store.keys.withdraw(ids[1], b"x"), Some(CommandFault::Unanswered));
+        second.send(done(3, OwnedAnswer::Absent));
+        assert_eq!(store.told(), [(3, Reply::Integer(2))]);
+        assert_eq!(store.keys.withdraw(ids[2], b"x"), None);
+        assert!(store.is_idle());
     }
 
     #[test]

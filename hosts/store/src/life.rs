@@ -1,6 +1,6 @@
 //! How a driver goes from generation to generation: seals, openings, and who takes part.
 use crate::core::{Begin, Core};
-use crate::driver::{Driver, Held, Told, Waiting};
+use crate::driver::{Driver, Told, Waiting};
 use crate::generation::{Generation, Stage};
 use crate::identities::{Identity, digits};
 use crate::manage_fault::ManageFault;
@@ -19,7 +19,7 @@ use crate::wishes::{Change, Manage, Wish};
 use epaxos::OwnedAnswer;
 use std::collections::BTreeSet;
 use std::fmt::Write;
-use std::sync::Mutex;
+use std::thread::JoinHandle;
 use std::time::{Duration, Instant};
 
 /// Between two words to peers, and two looks at the log's length.
@@ -28,6 +28,8 @@ const TICK: Duration = Duration::from_secs(1);
 const MOST_WAIT_FOR_PEERS: Duration = Duration::from_millis(100);
 /// And so long by a replica that takes part in the next generation no more, for those that do: they may need its vote to end this one.
 const MOST_WAIT_AT_LEAVING: Duration = Duration::from_secs(10);
+/// Whether the next generation is ready is looked at that often, where it is waited for.
+const LOOK: Duration = Duration::from_millis(1);
 /// A replica that lags closes by itself in this time, or takes the opening of another one.
 const BEHIND: Duration = Duration::from_millis(150);
 /// Who asked for something is told no once so many generations have begun without it.
@@ -52,17 +54,19 @@ impl<C: Core> Driver<C> {
     /// When there is something to do next for all this.
     pub(crate) fn next_of_life(&self) -> Option<Instant> {
         let sealed = match self.generation.stage {
-            Stage::Sealed(since) => Some(since + self.most_wait_for_peers()),
+            Stage::Sealed(since) if self.node.is_prepared() => Some(since + self.most_wait_for_peers()),
+            Stage::Sealed(_) => Some(Instant::now() + LOOK),
             _ => None,
         };
         let behind = match (&self.fetch, self.behind_since) {
+            _ if self.generation.is_sealed() => None,
             (Some(fetch), _) => Some(fetch.due()),
             (None, since) => since.map(|since| since + BEHIND),
         };
         let held = self.held.front().map(|held| held.since + self.patience);
         let alone = self.alone_since.map(|since| since + TICK).filter(|_| held.is_some());
-        let holding = self.generation.held_until().filter(|_| held.is_some());
-        let all = [Some(self.next_tick), sealed, behind, held, alone, holding, self.ends_at];
+        let ping = self.distances.due();
+        let all = [Some(self.next_tick), ping, sealed, behind, held, alone, self.ends_at];
         all.into_iter().flatten().min()
     }
 
@@ -114,17 +118,8 @@ impl<C: Core> Driver<C> {
                 }
             }
             Some(piece @ Message::Piece { .. }) => self.take_piece(from, piece)?,
-            Some(Message::Ask { client, request, seen, command }) => {
-                let answers = self.answers.clone();
-                let reply = Teller::new(move |told| answer(&answers, from, (client, request), told));
-                let since = Instant::now();
-                self.held.push_back(Held { since, client, request, seen, command, reply, is_handed: true });
-            }
-            Some(Message::Answer { client, request, stamp, reply }) => {
-                if let Some((_, _, teller)) = self.handed.remove(&(client, request)) {
-                    teller.send(reply.map_or(Told::Doubtful, |reply| Told::Done { stamp, reply }));
-                }
-            }
+            Some(Message::Ping(number)) => self.peers.send(from, Message::Pong(number).write()),
+            Some(Message::Pong(number)) => self.hear_pong(from, number),
             Some(Message::Committed { generation, committed }) => {
                 // (of another generation's instances nothing follows)
                 if generation == self.generation.number {
@@ -163,7 +158,7 @@ impl<C: Core> Driver<C> {
         let Some(fetch) = &mut self.fetch else { return Ok(()) };
         let path = fetch.path().to_path_buf();
         match fetch.take(from, piece, Instant::now()).map_err(|error| StopFault::File(path.clone(), error))? {
-            Step::Ask(next) => self.peers.send(from, next.write()),
+            Step::Ask(next) => next.iter().for_each(|want| self.peers.send(from, want.write())),
             Step::Done(generation) => {
                 self.fetch = None;
                 if generation > self.generation.number {
@@ -179,26 +174,6 @@ impl<C: Core> Driver<C> {
             Step::Ignored => {}
         }
         Ok(())
-    }
-
-    /// Tells the replicas whose commands these were what became of them; and clients whose commands were handed to a replica that was lost
-    /// since that nobody knows.
-    pub(crate) fn answer_peers(&mut self) {
-        let answers = self.answers.lock().map(|mut answers| std::mem::take(&mut *answers)).unwrap_or_default();
-        for (to, answer) in answers {
-            self.peers.send(to, answer.write());
-        }
-        if self.handed.is_empty() {
-            return;
-        }
-        let now = Instant::now();
-        for (place, (to, since, reply)) in std::mem::take(&mut self.handed) {
-            if self.is_reached(to) && now < since + self.patience {
-                self.handed.insert(place, (to, since, reply));
-            } else {
-                reply.send(Told::Doubtful);
-            }
-        }
     }
 
     /// Where a seal is committed: executes what is known, until the seal was executed too.
@@ -232,15 +207,15 @@ impl<C: Core> Driver<C> {
     /// Goes on to a later generation, where that is due, or ends.
     pub(crate) fn go_on(&mut self) -> Result<(), StopFault> {
         let now = Instant::now();
-        let is_idle = self.waiting.is_empty() && self.handed.is_empty();
+        let is_idle = self.waiting.is_empty();
         if self.ends_at.is_some_and(|at| is_idle || now >= at) {
             return Err(StopFault::Asked);
         }
         if let Stage::Sealed(since) = self.generation.stage {
-            if now >= since + self.most_wait_for_peers() || !self.peer_numbers().any(|peer| self.is_waited_for(peer)) {
-                self.change(&Begin::Again)?;
-            }
-            return Ok(());
+            self.node.prepare().map_err(StopFault::Node)?;
+            let is_waiting = now < since + self.most_wait_for_peers();
+            let is_early = is_waiting && self.peer_numbers().any(|peer| self.is_waited_for(peer));
+            return if is_early || !self.node.is_prepared() { Ok(()) } else { self.change(&Begin::Again) };
         }
         match self.taken.take() {
             Some((generation, path)) if generation > self.generation.number => {
@@ -257,6 +232,14 @@ impl<C: Core> Driver<C> {
 
     /// Asks for an opening, where peers are in a later generation and this replica doesn't close its own.
     fn catch_up(&mut self, now: Instant) -> Result<(), StopFault> {
+        // (a peer that is lost may be back soon, and what came of it counts)
+        if let Some(fetch) = self.fetch.as_mut().filter(|fetch| !fetch.is_over(now)) {
+            if fetch.due() <= now {
+                let (from, wants) = (fetch.from(), fetch.again(now));
+                wants.iter().for_each(|want| self.peers.send(from, want.write()));
+            }
+            return Ok(());
+        }
         let own = self.generation.number;
         let later = |peer: &u8| self.is_reached(*peer) && self.others.generation(*peer) > own;
         let later: Vec<u8> = self.peer_numbers().filter(later).collect();
@@ -265,7 +248,7 @@ impl<C: Core> Driver<C> {
             return Ok(());
         }
         let since = *self.behind_since.get_or_insert(now);
-        if now < since + BEHIND || self.fetch.as_ref().is_some_and(|fetch| !fetch.is_stale(now)) {
+        if now < since + BEHIND {
             return Ok(());
         }
         let peer = later[Random::new().below(later.len() as u64) as usize];
@@ -278,8 +261,11 @@ impl<C: Core> Driver<C> {
 
     /// Ends the core, and starts it in a later generation.
     fn change(&mut self, begin: &Begin) -> Result<(), StopFault> {
-        let start = Instant::now();
+        // (what was made ready before counts)
+        let start = if let Stage::Sealed(since) = self.generation.stage { since } else { Instant::now() };
         let before = self.generation.number;
+        // (while files are dropped nothing else looks at the folder)
+        self.dropping.take().map(JoinHandle::join);
         let mut state = self.node.start_again(begin);
         if let (Begin::Take(path), Err(fault)) = (begin, &state)
             && fault.is_refusal()
@@ -303,8 +289,9 @@ impl<C: Core> Driver<C> {
             // (where it stays it is refused at the next start, and removed then)
             let _ = std::fs::remove_file(path);
         }
-        let opening = self.opening(state.generation)?;
+        let opening = self.node.opening().map_or_else(|| self.opening(state.generation), Ok)?;
         settle(self.waiting.take(), &opening, before);
+        self.room.begin(opening.map, self.place.replicas);
         if opening.wanted() != opening.replicas {
             return Err(self.resize(&opening));
         }
@@ -318,9 +305,10 @@ impl<C: Core> Driver<C> {
         (self.fetch, self.taken, self.behind_since, self.is_unexecuted) = (None, None, None, true);
         self.recollect()?;
         self.meet(&opening)?;
-        self.directory.drop_left(self.kept);
         self.greet_all();
         self.fulfil();
+        self.dropping = self.directory.drop_left_beside(self.kept);
+        self.is_fresh = true;
         Ok(())
     }
 
@@ -346,7 +334,12 @@ impl<C: Core> Driver<C> {
 
     /// At a start: learns who takes part.
     pub(crate) fn meet_members(&mut self) -> Result<(), StopFault> {
-        self.opening(self.generation.number).and_then(|opening| self.meet(&opening))
+        let opening = self.opening(self.generation.number)?;
+        match self.generation.entries {
+            0 => self.room.begin(opening.map, self.place.replicas),
+            _ => self.room.resume(opening.map, self.place.replicas),
+        }
+        self.meet(&opening)
     }
 
     /// Takes those for members whom the seal that began the generation names.
@@ -539,18 +532,6 @@ impl<C: Core> Driver<C> {
     pub(crate) fn end(&mut self) {
         self.ends_at.get_or_insert(Instant::now() + MOST_WAIT_FOR_END);
         self.held.drain(..).for_each(|held| held.reply.send(Told::Ending));
-    }
-}
-
-/// Notes what a replica is to be told of a command that it has handed to this one. What wasn't done may be asked again.
-fn answer(answers: &Mutex<Vec<(u8, Message)>>, to: u8, (client, request): (u32, u32), told: Told) {
-    let (stamp, reply) = match told {
-        Told::Done { stamp, reply } => (stamp, Some(reply)),
-        Told::Alone | Told::Late | Told::Ending | Told::Refused(_) => (0, Some(OwnedAnswer::Lost)),
-        _ => (0, None),
-    };
-    if let Ok(mut answers) = answers.lock() {
-        answers.push((to, Message::Answer { client, request, stamp, reply }));
     }
 }
 

@@ -301,7 +301,7 @@ fn start(options: Options, due: Arc<Due>) -> Result<Driver<AnyCore>, StoreFault>
     say(&format!(
         "replica {replica} of {replicas} in generation {generation}, clients at {listen}, peers at {own}, node process {process}"
     ));
-    Ok(Driver::new(Parts {
+    let driver = Driver::new(Parts {
         node,
         state,
         peers,
@@ -316,7 +316,8 @@ fn start(options: Options, due: Arc<Due>) -> Result<Driver<AnyCore>, StoreFault>
         patience: options.patience,
         sealer,
         metrics,
-    }))
+    });
+    Ok(driver.with_most_map(options.most_map))
 }
 
 fn open_receipts(directory: &Directory, generation: u32) -> Result<Receipts, StoreFault> {

@@ -1,6 +1,6 @@
 //! What hosts tell one another, on the connections of frames: how far each is, what is committed there, and openings, in pieces.
 use crate::commits::Committed;
-use epaxos::{Answer, Command, Fields, OwnedAnswer, OwnedCommand};
+use epaxos::Fields;
 
 /// A frame begins with other bytes.
 const MAGIC: &[u8] = b"ES";
@@ -19,14 +19,14 @@ pub enum Message {
     },
     /// It wants what is behind this place of the opening of this generation, or of the newest one, by 0.
     Want { generation: u32, offset: u64 },
-    /// A client's command, which the receiver is to propose: the sender's own proposals would wait for a replica that is gone.
-    Ask { client: u32, request: u32, seen: u64, command: OwnedCommand },
-    /// What became of such a command: its stamp and its reply. Without a reply nobody knows.
-    Answer { client: u32, request: u32, stamp: u64, reply: Option<OwnedAnswer> },
     /// A piece of an opening, which has so many bytes in all.
     Piece { generation: u32, total: u64, offset: u64, bytes: Vec<u8> },
     /// What is committed at the sender in this generation.
     Committed { generation: u32, committed: Committed },
+    /// It is to be answered at once: so the sender learns how far the receiver is.
+    Ping(u64),
+    /// The answer to the ping of this number.
+    Pong(u64),
 }
 
 impl Message {
@@ -49,21 +49,6 @@ impl Message {
                 out.extend(generation.to_be_bytes());
                 out.extend(offset.to_be_bytes());
             }
-            Message::Ask { client, request, seen, command } => {
-                out.push(4);
-                out.extend(client.to_be_bytes());
-                out.extend(request.to_be_bytes());
-                out.extend(seen.to_be_bytes());
-                command.lent().write(&mut out);
-            }
-            Message::Answer { client, request, stamp, reply } => {
-                out.push(5);
-                out.extend(client.to_be_bytes());
-                out.extend(request.to_be_bytes());
-                out.extend(stamp.to_be_bytes());
-                out.push(u8::from(reply.is_some()));
-                reply.iter().for_each(|reply| reply.lent().write(&mut out));
-            }
             Message::Piece { generation, total, offset, bytes } => {
                 out.push(3);
                 out.extend(generation.to_be_bytes());
@@ -75,6 +60,14 @@ impl Message {
                 out.push(6);
                 out.extend(generation.to_be_bytes());
                 committed.write(&mut out);
+            }
+            Message::Ping(number) => {
+                out.push(7);
+                out.extend(number.to_be_bytes());
+            }
+            Message::Pong(number) => {
+                out.push(8);
+                out.extend(number.to_be_bytes());
             }
         }
         out
@@ -93,19 +86,9 @@ impl Message {
                 let (generation, total, offset) = (fields.u32()?, fields.u64()?, fields.u64()?);
                 Message::Piece { generation, total, offset, bytes: take_rest(&mut fields).to_vec() }
             }
-            4 => Message::Ask {
-                client: fields.u32()?,
-                request: fields.u32()?,
-                seen: fields.u64()?,
-                command: Command::read(take_rest(&mut fields))?.to_owned(),
-            },
-            5 => Message::Answer {
-                client: fields.u32()?,
-                request: fields.u32()?,
-                stamp: fields.u64()?,
-                reply: if flag(fields.u8()?)? { Some(Answer::read(&mut fields)?.to_owned()) } else { None },
-            },
             6 => Message::Committed { generation: fields.u32()?, committed: Committed::read(&mut fields)? },
+            7 => Message::Ping(fields.u64()?),
+            8 => Message::Pong(fields.u64()?),
             _ => return None,
         };
         fields.is_over().then_some(message)
@@ -148,20 +131,18 @@ mod tests {
                 assert_eq!(Message::read(&bytes[..cut]), None);
             }
         }
-        let command = OwnedCommand::Del { key: b"k".to_vec() };
-        let ask = Message::Ask { client: 1, request: 2, seen: 3, command };
-        let spelled_ask = [b'E', b'S', 4, 0, 0, 0, 1, 0, 0, 0, 2, 0, 0, 0, 0, 0, 0, 0, 3, 4, 1, 0, 0, 0, 0, 0, b'k'];
-        let answer = |reply| Message::Answer { client: 1, request: 2, stamp: 3, reply };
-        let told = answer(Some(OwnedAnswer::Present(vec![7])));
-        let spelled_told = [b'E', b'S', 5, 0, 0, 0, 1, 0, 0, 0, 2, 0, 0, 0, 0, 0, 0, 0, 3, 1, 1, 0, 0, 0, 1, 7];
-        assert_eq!((ask.write(), told.write()), (spelled_ask.to_vec(), spelled_told.to_vec()));
-        for message in [ask, told, answer(None)] {
+        let (ping, pong) = (Message::Ping(258), Message::Pong(258));
+        assert_eq!(
+            [&ping, &pong].map(Message::write),
+            [7, 8].map(|kind| vec![b'E', b'S', kind, 0, 0, 0, 0, 0, 0, 1, 2])
+        );
+        for message in [ping, pong] {
             let bytes = message.write();
             assert_eq!(Message::read(&bytes[..bytes.len() - 1]), None);
             assert_eq!(Message::read(&bytes), Some(message));
         }
         assert_eq!(Message::read(&[&spelled[..], &[0]].concat()), None);
-        assert_eq!(Message::read(b"ES\x07"), None);
+        assert!([4, 5, 9].iter().all(|kind| Message::read(&[b'E', b'S', *kind, 0, 0, 0, 0, 0, 0, 0, 0]).is_none()));
         let mut committed = Committed::new(2);
         committed.insert(Instance { replica: 1, number: 1 });
         let committed = Message::Committed { generation: 258, committed };

@@ -154,7 +154,7 @@ impl Core for Node {
         let mut outcome = Outcome::default();
         for (event, spelled) in asked.events.iter().zip(spelled) {
             let of = match event {
-                Event::Propose { call, .. } => Some((call.client, call.request)),
+                Event::Propose { call, .. } | Event::ProposeSparing { call, .. } => Some((call.client, call.request)),
                 _ => None,
             };
             let done = match spelled {

@@ -31,6 +31,8 @@ pub enum NodeFault {
     Core(Fault),
     /// It doesn't close its generation.
     Close(CloseFault),
+    /// No thread makes the next generation ready.
+    Thread(io::Error),
 }
 
 /// The status of a node that refuses its words or its folder.
@@ -84,6 +86,7 @@ impl fmt::Display for NodeFault {
             NodeFault::Log(path, error) => write!(f, "log failed: {}: {error}", path.display()),
             NodeFault::Core(fault) => fault.fmt(f),
             NodeFault::Close(fault) => write!(f, "the generation can't be closed: {fault}"),
+            NodeFault::Thread(error) => write!(f, "a thread can't be started: {error}"),
             NodeFault::NotFurther(generation) => write!(f, "the node doesn't go on from generation {generation}"),
         }
     }

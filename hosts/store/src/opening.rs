@@ -1,5 +1,6 @@
 //! What a file tells that a generation opens with.
 use crate::members::Members;
+use crate::room::OF_A_KEY;
 use epaxos::Instance;
 use std::collections::HashSet;
 use std::fs::File;
@@ -17,8 +18,9 @@ pub struct Opening {
     pub since: u64,
     /// The value of the seal that began the generation. None of generation 1.
     pub seal: Option<Vec<u8>>,
-    /// How many keys have a value.
+    /// How many keys have a value, and how many bytes all of them take here.
     pub keys: u32,
+    pub map: u64,
     /// The instances whose commands the generation before did.
     pub executed: HashSet<Instance>,
 }
@@ -38,6 +40,11 @@ impl Opening {
         Opening::from(BufReader::with_capacity(1 << 16, File::open(path)?))
     }
 
+    /// The same of a file's bytes. None where they are none.
+    pub fn of(bytes: &[u8]) -> Option<Opening> {
+        Opening::from(bytes).ok()
+    }
+
     fn from(mut input: impl Read) -> io::Result<Opening> {
         if array(&mut input)? != MAGIC {
             return Err(bad());
@@ -54,10 +61,12 @@ impl Opening {
             _ => return Err(bad()),
         };
         let keys = u32::from_be_bytes(array(&mut input)?);
+        let mut map = 0;
         for _ in 0..keys {
             let [key] = array(&mut input)?;
-            let value = u32::from_be_bytes(array(&mut input)?);
-            skip(&mut input, u64::from(key) + u64::from(value))?;
+            let length = u64::from(key) + u64::from(u32::from_be_bytes(array(&mut input)?));
+            skip(&mut input, length)?;
+            map += OF_A_KEY + length;
         }
         let count = u32::from_be_bytes(array(&mut input)?);
         let mut executed = HashSet::new();
@@ -66,7 +75,7 @@ impl Opening {
             executed.insert(Instance { replica, number: u16::from_be_bytes([high, low]) });
         }
         array::<32>(&mut input)?;
-        Ok(Opening { replicas, generation, since, seal, keys, executed })
+        Ok(Opening { replicas, generation, since, seal, keys, map, executed })
     }
 }
 
@@ -114,7 +123,8 @@ mod tests {
              00000002  00 0001  02 0007 ba4a4d800fb593e6b4257ad4a8286b173b475a92cf8b8c816f8b2f08e944b31a",
         );
         let executed = [(0, 1), (2, 7)].map(|(replica, number)| Instance { replica, number }).into();
-        let told = Opening { replicas: 3, generation: 2, since: 5, seal: Some(b"x".to_vec()), keys: 1, executed };
+        let told =
+            Opening { replicas: 3, generation: 2, since: 5, seal: Some(b"x".to_vec()), keys: 1, map: 7, executed };
         assert_eq!(Opening::from(&second[..]).unwrap(), told);
         for cut in 0..second.len() {
             assert!(Opening::from(&second[..cut]).is_err());

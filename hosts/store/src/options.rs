@@ -3,6 +3,7 @@ use crate::admin::{self, Admin};
 use crate::generation::Limits;
 use crate::options_fault::OptionsFault;
 use crate::plants::Plant;
+use epaxos::MOST_COMMANDS;
 use std::fmt::Display;
 use std::path::PathBuf;
 use std::str::FromStr;
@@ -29,10 +30,12 @@ store: one replica of a replicated store, for clients of the Redis protocol
     --admin HOST:PORT      the same over TCP; needs --admin-auth; a port alone is one of 127.0.0.1
     --admin-auth FILE      the password for the admin socket, as --auth has one for clients
     --memory BYTES         memory limit for unfinished requests of all clients; default {MEMORY}
+    --most-map BYTES       the map may have so many: key, value and 5 for each key; what might make it longer is refused (OOM), in the last sixteenth
+                           maybe earlier; reads and deletes go on. The same at all replicas. Default: no bound
     --metrics HOST:PORT    where Prometheus reads /metrics; a port alone is one of 127.0.0.1; default: nowhere
     --node PATH            the program `epaxos`, in which the core then runs, with its log; default: the core runs in the store itself, where that
                            was built with the library, else in the `epaxos` on the PATH
-    --patience S           after so many seconds a client is told TRYAGAIN; default 10. Its command may still be done
+    --patience S           after so many seconds a client is told TRYAGAIN; default 10. What was proposed may still be done
     --join                 in the place of --new: for a machine that comes in the place of a lost one; it tells its identity and waits
                            until a generation begins that names it (EPAXOS REPLACE, at another replica's admin socket)
     --seal-numbers N       a generation ends once a replica has proposed so many commands in it: 10 to 1,900; default {NUMBERS}
@@ -50,7 +53,7 @@ and this folder can go on; standard error says why.
 ";
 
 /// When a generation ends, where nothing is told.
-pub const LIMITS: Limits = Limits { numbers: 1_500, dependencies: 600, log: 16 << 20 };
+pub const LIMITS: Limits = Limits { numbers: MOST_COMMANDS / 10 * 9, dependencies: 600, log: 16 << 20 };
 const KEPT: usize = 2;
 const MEMORY: usize = 512 << 20;
 
@@ -90,6 +93,8 @@ pub struct Options {
     pub admin: Admin,
     pub admin_auth: Option<PathBuf>,
     pub memory: usize,
+    /// How many bytes the map may have.
+    pub most_map: Option<u64>,
     pub metrics: Option<String>,
     /// The program in which the core runs, where one is named.
     pub node: Option<PathBuf>,
@@ -117,7 +122,7 @@ pub fn read(words: impl IntoIterator<Item = String>) -> Result<Words, OptionsFau
     let mut patience = Duration::from_secs(10);
     let mut plant = None;
     let (mut is_insecure, mut peer_key) = (false, None);
-    let (mut auth, mut memory, mut metrics) = (None, MEMORY, None);
+    let (mut auth, mut memory, mut metrics, mut most_map) = (None, MEMORY, None, None);
     let (mut admin, mut admin_auth) = (None, None);
     let mut start = Start::Again;
     let (mut limits, mut kept) = (LIMITS, KEPT);
@@ -154,6 +159,7 @@ pub fn read(words: impl IntoIterator<Item = String>) -> Result<Words, OptionsFau
             "--admin" => admin = Some(read_admin(value()?)),
             "--admin-auth" => admin_auth = Some(PathBuf::from(value()?)),
             "--memory" => memory = number(&word, &value()?, 1 << 20, usize::MAX)?,
+            "--most-map" => most_map = Some(number(&word, &value()?, 1 << 10, i64::MAX as u64)?),
             "--metrics" => metrics = Some(with_host(value()?)),
             "--node" => node = Some(PathBuf::from(value()?)),
             "--patience" => patience = Duration::from_secs_f64(number(&word, &value()?, 0.1, 3600.0)?),
@@ -187,6 +193,7 @@ pub fn read(words: impl IntoIterator<Item = String>) -> Result<Words, OptionsFau
         admin,
         admin_auth,
         memory,
+        most_map,
         metrics,
         node,
         patience,
@@ -255,6 +262,8 @@ mod tests {
         let Ok(Words::Run(it)) = words(&format!("{line} --auth a --memory 2000000 --metrics 9000")) else { panic!() };
         assert_eq!((it.auth, it.memory, it.metrics), (Some("a".into()), 2_000_000, Some("127.0.0.1:9000".into())));
         assert_eq!(options.peer_key, Some(PathBuf::from("k")));
+        let Ok(Words::Run(it)) = words(&format!("{line} --most-map 10000000")) else { panic!() };
+        assert_eq!((it.most_map, options.most_map), (Some(10_000_000), None));
         let Ok(Words::Run(options)) = words("--replica 0 --peers a:1,b:2,c:3 --dir d") else { panic!() };
         assert_eq!(options.listen, "127.0.0.1:7000");
         assert_eq!(words("--replica 9 --help"), Ok(Words::Help));
@@ -292,6 +301,7 @@ mod tests {
             (&format!("{all} --seal-numbers 1901"), OptionsFault::out_of_range("--seal-numbers", "1901", 10, 1_900)),
             (&format!("{all} --admin 7200"), OptionsFault::OpenAdmin("127.0.0.1:7200".into())),
             (&format!("{all} --admin 0.0.0.0:7200"), OptionsFault::OpenAdmin("0.0.0.0:7200".into())),
+            (&format!("{all} --most-map 9"), OptionsFault::out_of_range("--most-map", "9", 1 << 10, i64::MAX)),
             (&format!("{all} --keep 0"), OptionsFault::out_of_range("--keep", "0", 1, usize::MAX)),
         ] {
             assert_eq!(words(line), Err(fault), "{line}");

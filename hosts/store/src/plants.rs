@@ -102,7 +102,7 @@ mod tests {
             std::fs::write(&path, bytes).unwrap();
             Opening::read(&path).unwrap()
         };
-        assert_eq!(read(&less), Opening { keys: 1, ..read(&opening) });
+        assert_eq!(read(&less), Opening { keys: 1, map: 7, ..read(&opening) });
         let none = lacking(&less).unwrap();
         assert_eq!((read(&none).keys, lacking(&none)), (0, None));
         assert_eq!(Sha256::digest(&none[..none.len() - 32])[..], none[none.len() - 32..]);

@@ -1,11 +1,7 @@
 //! How long the answers to own proposals take: from when a proposal's frame is handed to the network, after the sync, until the answer is handled.
 use epaxos::Instance;
-use std::collections::{HashMap, VecDeque};
+use std::collections::HashMap;
 use std::time::{Duration, Instant};
-
-/// The shortest of the last ones tells how far a peer is, whatever else the machines do: of so many, once there are so many.
-const KEPT: usize = 32;
-const FEWEST: usize = 8;
 
 /// A proposal of this replica.
 #[derive(Default)]
@@ -13,25 +9,32 @@ struct Proposal {
     /// The members that were asked and haven't answered, and when.
     asked: Vec<(u8, Instant)>,
     answers: u8,
+    /// The replica that it names as the spared one, if it names one.
+    spared: Option<u8>,
     /// Whether something else was begun for it than the first phase.
     is_past_first: bool,
 }
 
-/// The proposals of a generation, and how long the last answers of each replica took.
+/// The proposals of a generation.
+#[derive(Default)]
 pub struct RoundTrips {
     proposals: HashMap<Instance, Proposal>,
-    last: Vec<VecDeque<Duration>>,
 }
 
 impl RoundTrips {
-    /// None yet, of so many replicas.
-    pub fn new(replicas: usize) -> RoundTrips {
-        RoundTrips { proposals: HashMap::new(), last: vec![VecDeque::new(); replicas] }
-    }
-
     /// Another generation begins, and the proposals of the one before are over.
     pub fn begin(&mut self) {
         self.proposals.clear();
+    }
+
+    /// An own proposal spares this replica, if it names one.
+    pub fn propose(&mut self, instance: Instance, spared: Option<u8>) {
+        self.proposals.entry(instance).or_default().spared = spared;
+    }
+
+    /// The replica that a proposal names as the spared one, if it names one.
+    pub fn spared(&self, instance: Instance) -> Option<u8> {
+        self.proposals.get(&instance).and_then(|it| it.spared)
     }
 
     /// A member is asked for its vote on an own proposal.
@@ -45,13 +48,7 @@ impl RoundTrips {
         let place = proposal.asked.iter().position(|(asked, _)| *asked == member)?;
         let (_, asked) = proposal.asked.swap_remove(place);
         proposal.answers += 1;
-        let took = now.saturating_duration_since(asked);
-        let last = self.last.get_mut(usize::from(member))?;
-        if last.len() == KEPT {
-            last.pop_front();
-        }
-        last.push_back(took);
-        Some(took)
+        Some(now.saturating_duration_since(asked))
     }
 
     /// This replica has begun a second phase, or a recovery.
@@ -65,12 +62,6 @@ impl RoundTrips {
     pub fn answers(&self, instance: Instance) -> Option<u8> {
         self.proposals.get(&instance).filter(|it| !it.is_past_first).map(|it| it.answers)
     }
-
-    /// How long an answer of this replica takes at least, by the last ones. None: too few have come.
-    pub fn shortest(&self, replica: u8) -> Option<Duration> {
-        let last = self.last.get(usize::from(replica)).filter(|last| last.len() >= FEWEST)?;
-        last.iter().min().copied()
-    }
 }
 
 #[cfg(test)]
@@ -82,7 +73,9 @@ mod tests {
     #[test]
     fn answers_are_measured_once() {
         let (start, ms) = (Instant::now(), Duration::from_millis);
-        let mut it = RoundTrips::new(5);
+        let mut it = RoundTrips::default();
+        assert_eq!((it.spared(OWN), it.answers(OWN)), (None, None));
+        it.propose(OWN, Some(4));
         [1, 2, 3].into_iter().for_each(|member| it.ask(OWN, member, start));
         assert_eq!(it.answers(OWN), Some(0));
         assert_eq!(it.answer(OWN, 2, start + ms(88)), Some(ms(88)));
@@ -92,27 +85,8 @@ mod tests {
         // One that comes late tells how far its sender is all the same.
         it.pass_first(OWN);
         assert_eq!((it.answer(OWN, 1, start + ms(500)), it.answers(OWN)), (Some(ms(500)), None));
+        assert_eq!(it.spared(OWN), Some(4));
         it.begin();
-        assert_eq!((it.answer(OWN, 3, start), it.answers(OWN)), (None, None));
-    }
-
-    #[test]
-    fn the_shortest_of_the_last_ones() {
-        let (start, ms) = (Instant::now(), Duration::from_millis);
-        let mut it = RoundTrips::new(3);
-        let mut answer = |number, took| {
-            let instance = Instance { number, ..OWN };
-            it.ask(instance, 1, start);
-            it.answer(instance, 1, start + took);
-            it.shortest(1)
-        };
-        // (few may all have met other work)
-        assert_eq!(answer(1, ms(5)), None);
-        for number in 2..=32 {
-            assert_eq!(answer(number, ms(70)), Some(ms(5)).filter(|_| number >= 8));
-        }
-        assert_eq!(answer(33, ms(80)), Some(ms(70)));
-        it.begin();
-        assert_eq!([1, 2, 9].map(|replica| it.shortest(replica)), [Some(ms(70)), None, None]);
+        assert_eq!((it.answer(OWN, 3, start), it.answers(OWN), it.spared(OWN)), (None, None, None));
     }
 }

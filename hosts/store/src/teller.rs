@@ -1,15 +1,28 @@
 //! Where what is told goes.
+use crate::begun::Begun;
 use crate::driver::Told;
+use std::sync::Arc;
 
 /// Tells whoever asked, once. Dropped without a word it tells that the driver has ended.
 pub struct Teller {
     tell: Option<Box<dyn FnOnce(Told) + Send>>,
+    begun: Arc<Begun>,
 }
 
 impl Teller {
     /// Tells by this function, which the driver's thread calls: it must not wait.
     pub fn new(tell: impl FnOnce(Told) + Send + 'static) -> Teller {
-        Teller { tell: Some(Box::new(tell)) }
+        Teller::of(Arc::default(), tell)
+    }
+
+    /// The same, of a command that whoever waits for it may give up.
+    pub fn of(begun: Arc<Begun>, tell: impl FnOnce(Told) + Send + 'static) -> Teller {
+        Teller { tell: Some(Box::new(tell)), begun }
+    }
+
+    /// Whether what is asked is proposed, or was given up.
+    pub fn begun(&self) -> &Begun {
+        &self.begun
     }
 
     pub fn send(mut self, told: Told) {

@@ -54,7 +54,8 @@ mod tests {
     use epaxos::Instance;
 
     fn waiting(bytes: usize) -> Waiting {
-        Waiting { instance: Instance { replica: 0, number: 1 }, reply: Teller::new(|_| ()), bytes }
+        let command = epaxos::OwnedCommand::Get { key: Vec::new() };
+        Waiting { instance: Instance { replica: 0, number: 1 }, reply: Teller::new(|_| ()), bytes, command }
     }
 
     #[test]

@@ -52,7 +52,7 @@ impl Watch {
             place,
             judge: patience.map_or_else(|| Judge::Coarse(Coarse::new(seed)), Judge::Patience),
             start: now,
-            round_trips: RoundTrips::new(place.replicas),
+            round_trips: RoundTrips::default(),
             reached: vec![true; place.replicas],
             open: Vec::new(),
             told: BTreeSet::new(),
@@ -119,17 +119,32 @@ impl Watch {
         self.next_look = now + BETWEEN_LOOKS.max(cost * SHARE_OF_LOOKS);
     }
 
+    /// An own proposal of this instance spares this replica, if it names one.
+    pub fn propose(&mut self, instance: Instance, spared: Option<u8>) {
+        self.round_trips.propose(instance, spared);
+    }
+
     /// A member of the fast quorum is asked for its vote on an own proposal: the frame goes to the network now.
     pub fn ask(&mut self, instance: Instance, member: u8, now: Instant) {
         self.round_trips.ask(instance, member, now);
     }
 
-    /// A member's answer was handled.
-    pub fn answer(&mut self, instance: Instance, member: u8, now: Instant) {
-        let took = self.round_trips.answer(instance, member, now);
-        if let (Some(took), Judge::Patience(patience)) = (took, &mut self.judge) {
+    /// A member's answer was handled: how long it took.
+    pub fn answer(&mut self, instance: Instance, member: u8, now: Instant) -> Option<Duration> {
+        let took = self.round_trips.answer(instance, member, now)?;
+        self.measure(member, took);
+        // (where somebody is lost there may be enough answers now to wait no longer)
+        if self.reached.contains(&false) {
+            self.due = Some(now);
+        }
+        Some(took)
+    }
+
+    /// An answer of a peer took so long.
+    pub fn measure(&mut self, peer: u8, took: Duration) {
+        if let Judge::Patience(patience) = &mut self.judge {
             // (there is such a peer)
-            let _ = patience.measure(member, u32::try_from(took.as_micros()).unwrap_or(u32::MAX));
+            let _ = patience.measure(peer, u32::try_from(took.as_micros()).unwrap_or(u32::MAX));
         }
     }
 
@@ -197,6 +212,7 @@ impl Watch {
         }
         let (time, round_trips, me) = (self.time(now), &self.round_trips, self.place.replica);
         for open in self.open.iter_mut().filter(|open| open.instance.replica == me) {
+            open.spared = round_trips.spared(open.instance);
             // (what has come since the look counts)
             if let Some(answers) = round_trips.answers(open.instance) {
                 open.led = Some(Leading { phase: Phase::Proposing, answers });
@@ -227,11 +243,6 @@ impl Watch {
         self.open.len() + self.told.len() - self.told.iter().filter(is_open).count()
     }
 
-    /// How long an answer of a peer takes at least. None: too few have come.
-    pub fn shortest_round_trip(&self, peer: u8) -> Option<Duration> {
-        self.round_trips.shortest(peer)
-    }
-
     fn time(&self, now: Instant) -> u64 {
         now.saturating_duration_since(self.start).as_micros() as u64
     }
@@ -253,7 +264,7 @@ mod tests {
 
     fn open(instance: Instance) -> OpenInstance {
         let led = (instance.replica == 0).then_some(Leading { phase: Phase::Proposing, answers: 0 });
-        OpenInstance { instance, since: Some(1), led }
+        OpenInstance { instance, since: Some(1), led, spared: None }
     }
 
     fn watch(replicas: usize, now: Instant) -> Watch {
@@ -331,7 +342,7 @@ mod tests {
         let later = start + ms(1_000);
         [1, 2, 3].into_iter().for_each(|member| it.ask(OWN, member, later));
         look(&mut it, &[OWN], later);
-        [1, 2].into_iter().for_each(|member| it.answer(OWN, member, later + ms(80)));
+        [1, 2].into_iter().for_each(|member| _ = it.answer(OWN, member, later + ms(80)));
         assert_eq!(it.take_late(later), []);
         // (a turn each 30 ms, as after looks)
         let turns = |it: &mut Watch, from: u64, to: u64| {
@@ -343,5 +354,30 @@ mod tests {
         };
         assert_eq!(turns(&mut it, 30, 480), []);
         assert_eq!(turns(&mut it, 480, 700), [Event::GiveUp(OWN)]);
+    }
+
+    /// A proposal that spares a replica is given up once the time-out of the slowest one to which it goes is over, however slow the spared one is; and at once
+    /// where one of those is lost.
+    #[test]
+    fn whom_a_proposal_spares_is_not_waited_for() {
+        let (start, ms) = (Instant::now(), Duration::from_millis);
+        for (spared, lost, is_at_once) in [(Some(3), 3, false), (Some(3), 4, true), (None, 4, false), (None, 3, true)] {
+            let mut it = watch(5, start);
+            if !it.is_measured() {
+                eprintln!("not tried: the library isn't there");
+                return;
+            }
+            for _ in 0..10 {
+                [(1, 50), (2, 80), (3, 9_000), (4, 60)].into_iter().for_each(|(peer, took)| it.measure(peer, ms(took)));
+            }
+            it.propose(OWN, spared);
+            [1, 2, 3, 4].into_iter().filter(|it| Some(*it) != spared).for_each(|member| it.ask(OWN, member, start));
+            [1, 2].into_iter().for_each(|member| _ = it.answer(OWN, member, start));
+            look(&mut it, &[OWN], start);
+            assert_eq!(it.take_late(start), []);
+            it.reach(lost, false);
+            let late = it.take_late(start + ms(1));
+            assert_eq!(late, if is_at_once { vec![Event::GiveUp(OWN)] } else { vec![] }, "{spared:?} {lost}");
+        }
     }
 }

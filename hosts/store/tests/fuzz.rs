@@ -1,7 +1,7 @@
 //! Bytes by chance, and true ones that were changed, at what reads clients' commands and at what reads what comes to the peers' port: it never
 //! panics, tells the same however the bytes come, takes no more than it should, and nothing that isn't authentic. `FUZZ_SECONDS` has each go on
 //! for longer than its second.
-use epaxos::{Fields, Instance, OwnedAnswer, OwnedCommand, Receipt, wire};
+use epaxos::{Fields, Instance, Receipt, wire};
 use std::io::{self, Read, Write};
 use std::os::unix::fs::PermissionsExt;
 use std::time::{Duration, Instant};
@@ -121,8 +121,6 @@ impl Write for Written<'_> {
 
 /// What hosts and nodes tell one another.
 fn messages() -> Vec<Vec<u8>> {
-    let command = OwnedCommand::Cas { key: b"k".to_vec(), expected: None, new: Some(b"v".to_vec()) };
-    let reply = Some(OwnedAnswer::Present(b"v".to_vec()));
     // (client 1's request 2 in 1.2, by entry 4 of replica 1 with stamp 5: absent)
     let mut receipt = vec![0, 0, 0, 1, 0, 0, 0, 2, 1, 0, 2, 0, 0, 0, 0, 0, 0, 0, 3, 1, 0, 0, 0, 4];
     receipt.extend([0, 0, 0, 0, 0, 0, 0, 5, 0]);
@@ -134,10 +132,10 @@ fn messages() -> Vec<Vec<u8>> {
     all.extend([
         Message::Hello { generation: 1, is_sealed: true, seen: 2 }.write(),
         Message::Want { generation: 1, offset: 2 }.write(),
-        Message::Ask { client: 1, request: 2, seen: 3, command }.write(),
-        Message::Answer { client: 1, request: 2, stamp: 3, reply }.write(),
         Message::Piece { generation: 1, total: 9, offset: 2, bytes: vec![7, 8] }.write(),
         Message::Committed { generation: 1, committed }.write(),
+        Message::Ping(1).write(),
+        Message::Pong(1).write(),
     ]);
     all
 }

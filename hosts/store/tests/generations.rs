@@ -99,6 +99,14 @@ fn join(places: &Places, words: Command, replica: usize) -> (Store, String) {
     (store, identity)
 }
 
+/// Waits until a store knows that a machine waits.
+fn meets(store: &Store, replica: usize, identity: &str) {
+    let line = format!("{replica} {identity} waits to be let in");
+    let is_met =
+        |told: Reply| matches!(told, Reply::Bulk(Some(text)) if String::from_utf8_lossy(&text).contains(&line));
+    wait("the new machine", || is_met(store.operate("EPAXOS MEMBERS")));
+}
+
 #[test]
 fn three_become_five_and_three_again() {
     let Some(node) = real_node() else { return };
@@ -110,6 +118,8 @@ fn three_become_five_and_three_again() {
     // One of the three is down, and learns of it later.
     let [zero, one, two] = stores;
     drop(two);
+    meets(&zero, 3, &of_three);
+    meets(&zero, 4, &of_four);
     let (at_three, at_four) = (places.peer(3), places.peer(4));
     let line = format!("EPAXOS RESIZE 5 3 {of_three} {at_three} 4 {of_four} {at_four}");
     assert!(matches!(zero.operate(&line), Reply::Bulk(Some(_))));
@@ -130,6 +140,7 @@ fn three_become_five_and_three_again() {
     drop(one);
     wait("its folder", || fs::rename(places.directory(1), places.folder.join("lost")).is_ok());
     let (one, identity) = join(&places, places.command(1, &node), 1);
+    meets(&zero, 1, &identity);
     let replaced = zero.operate(&format!("EPAXOS REPLACE 1 {identity}"));
     assert!(matches!(&replaced, Reply::Bulk(Some(_))), "{replaced:?}");
     wait("the new machine", || one.told().contains("of 5 in generation"));
@@ -168,6 +179,7 @@ fn a_lost_machine_is_replaced() {
     set(&[&zero, &one], 50..100);
     let (two, identity) = join(&places, places.command(2, &node), 2);
     assert!(matches!(ask(&mut two.client(), "SET x 1"), Reply::Error(_)));
+    meets(&one, 2, &identity);
     assert!(matches!(one.operate(&format!("EPAXOS REPLACE 2 {identity}")), Reply::Bulk(Some(_))));
     wait("the new machine", || two.told().contains("node process"));
     has_all(&two, 0..100);
@@ -224,4 +236,40 @@ fn an_older_copy_is_known_by_the_others_logs() {
     assert_eq!(two.status(), Some(3));
     assert!(two.told().contains("the folder is an older copy"), "{}", two.told());
     set(&others.each_ref(), 30..35);
+}
+
+#[test]
+fn the_map_takes_no_more_than_it_may() {
+    let places = Places::new("most-map");
+    let start = |replica: usize| places.start_in_store_with(replica, &["--most-map", "20000"]);
+    let [Some(zero), Some(one), Some(two)] = [0, 1, 2].map(start) else { return };
+    let stores = [&zero, &one, &two];
+    let set = |store: &Store, number: usize| store.ask(&format!("SET key-{number:03} {number:0100}"));
+    let is_full = |reply: &Reply| matches!(reply, Reply::Error(text) if text.starts_with("OOM "));
+    // (a key takes 112 bytes)
+    let (mut told, mut full) = (Vec::new(), [false; 3]);
+    for number in 0..600 {
+        let place = number % 3;
+        match set(stores[place], number) {
+            Reply::Simple(_) => told.push(number),
+            reply => full[place] |= is_full(&reply),
+        }
+        if full == [true; 3] {
+            break;
+        }
+    }
+    assert_eq!(full, [true; 3]);
+    let map = || {
+        assert!(matches!(zero.operate("EPAXOS SEAL"), Reply::Bulk(Some(_))));
+        zero.info("map_bytes").parse::<usize>().unwrap()
+    };
+    let bytes = map();
+    assert!((20_000 * 15 / 16 - 112 * 3..=20_000).contains(&bytes) && bytes == 112 * told.len(), "{bytes}");
+    assert_eq!(one.ask(&format!("GET key-{:03}", told[7])), Reply::Bulk(Some(format!("{:0100}", told[7]).into())));
+    assert!(is_full(&set(&two, 999)));
+    for number in &told[..60] {
+        assert_eq!(one.ask(&format!("DEL key-{number:03}")), Reply::Integer(1));
+    }
+    assert_eq!(map(), bytes - 60 * 112);
+    assert_eq!(set(&two, 999), Reply::Simple("OK".into()));
 }

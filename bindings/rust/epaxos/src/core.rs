@@ -89,6 +89,11 @@ pub(crate) trait Host: Send {
     /// The opening of the next generation, for so many replicas.
     fn close(&mut self, next: Cluster) -> Result<Vec<u8>, CloseFault>;
 
+    /// Whether it goes on when it was closed.
+    fn outlives_close(&self) -> bool {
+        false
+    }
+
     /// What the core told people on its fault output.
     fn said(&self) -> String;
 }

@@ -20,6 +20,15 @@ pub enum Event<'a> {
         /// What it asks for.
         command: Command<'a>,
     },
+    /// The same; the proposal names the replica that it spares, in place of the one just below the proposer.
+    ProposeSparing {
+        /// Whose it is.
+        call: Call,
+        /// What it asks for.
+        command: Command<'a>,
+        /// The other replica that isn't asked at first: the slowest one, or one that can't be reached.
+        spared: u8,
+    },
     /// The bytes of a frame have come from a peer.
     Handle(&'a [u8]),
     /// The replica that proposed waits no longer for its whole fast quorum.

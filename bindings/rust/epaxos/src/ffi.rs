@@ -5,7 +5,7 @@ use crate::{Call, Command, Instance, Waits};
 use std::{ptr, slice};
 
 /// What the header is of.
-pub(crate) const VERSION: u32 = 3;
+pub(crate) const VERSION: u32 = 4;
 
 /// `struct ep_replica`
 #[repr(C)]
@@ -58,6 +58,8 @@ struct Caller {
     seen: u64,
     client: u32,
     request: u32,
+    has_spared: u8,
+    spared: u8,
 }
 
 /// `struct ep_exchange`
@@ -211,9 +213,11 @@ impl Handle {
         unsafe { slice::from_raw_parts(self.lent.at, self.lent.len) }
     }
 
-    pub(crate) fn propose(&mut self, call: &Call, command: &Command) -> u8 {
+    pub(crate) fn propose(&mut self, call: &Call, command: &Command, spared: Option<u8>) -> u8 {
         let held = self.held();
-        let caller = &Caller { seen: call.seen, client: call.client, request: call.request };
+        let Call { client, request, seen } = *call;
+        let has_spared = u8::from(spared.is_some());
+        let caller = &Caller { seen, client, request, has_spared, spared: spared.unwrap_or_default() };
         match *command {
             Command::Get { key } => unsafe { ep_propose_get(held, caller, key.as_ptr(), key.len()) },
             Command::Put { key, value } => unsafe {

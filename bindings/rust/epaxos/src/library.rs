@@ -54,7 +54,8 @@ impl Host for Library {
         self.check_not_lent()?;
         let handle = &mut self.handle;
         match event {
-            Event::Propose { call, command } => done(handle.propose(call, command)),
+            Event::Propose { call, command } => done(handle.propose(call, command, None)),
+            Event::ProposeSparing { call, command, spared } => done(handle.propose(call, command, Some(*spared))),
             Event::Handle(frame) => done(handle.handle(frame)),
             Event::GiveUp(instance) => done(handle.give_up(*instance)),
             Event::Recover(instance) => done(handle.recover(*instance)),
@@ -155,6 +156,10 @@ impl Host for Library {
             status::LAST_GENERATION => Err(CloseFault::LastGeneration),
             status => Err(CloseFault::Ended(unknown(status))),
         }
+    }
+
+    fn outlives_close(&self) -> bool {
+        true
     }
 
     fn said(&self) -> String {

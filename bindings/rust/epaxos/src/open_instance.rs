@@ -19,6 +19,9 @@ pub struct OpenInstance {
     pub since: Option<u32>,
     /// How far it is led here, if it is.
     pub led: Option<Leading>,
+    /// The replica that your proposal of it names as the spared one, if it names one. A core doesn't tell it: set it for [`Patience`](crate::Patience), which then
+    /// waits for just those to which the proposal went.
+    pub spared: Option<u8>,
 }
 
 impl OpenInstance {
@@ -33,6 +36,6 @@ impl OpenInstance {
             _ => return None,
         };
         let led = phase.map(|phase| Leading { phase, answers });
-        Some(OpenInstance { instance, since: (since > 0).then_some(since), led })
+        Some(OpenInstance { instance, since: (since > 0).then_some(since), led, spared: None })
     }
 }

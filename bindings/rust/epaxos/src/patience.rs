@@ -72,6 +72,8 @@ impl Waits {
 #[derive(Debug)]
 pub struct Patience {
     handle: Handle,
+    /// The replica that an own proposal spares which names none.
+    usual: u8,
     /// The bytes that are handed in.
     bytes: Vec<u8>,
 }
@@ -91,7 +93,10 @@ impl Patience {
     /// ```
     pub fn new(cluster: Cluster, me: u8, waits: Waits, seed: u64) -> Result<Patience, OpenFault> {
         match Handle::begin(cluster.replicas(), me, waits, seed) {
-            Ok(handle) => Ok(Patience { handle, bytes: Vec::new() }),
+            Ok(handle) => {
+                let usual = me.checked_sub(1).unwrap_or(cluster.replicas() - 1);
+                Ok(Patience { handle, usual, bytes: Vec::new() })
+            }
             Err(MEMORY) => Err(OpenFault::Memory),
             Err(OUT_OF_RANGE) => Err(OpenFault::OutOfRange),
             Err(_) => Err(OpenFault::NoCore(
@@ -101,7 +106,8 @@ impl Patience {
     }
 
     /// An answer of this peer to an own proposal came so long after the proposal's frame was sent to it, which is after the sync. Not where that frame was sent
-    /// twice: it isn't known then which one is answered (Karn's rule).
+    /// twice: it isn't known then which one is answered (Karn's rule). Of a peer that proposals spare, tell now and then how long a message of yours and its answer
+    /// took: else nothing is known of it.
     ///
     /// # Errors
     ///
@@ -163,12 +169,12 @@ impl Patience {
     ///
     /// # Errors
     ///
-    /// [`Fault::Memory`], [`Fault::OutOfRange`]: there is no such instance. Nothing has changed.
+    /// [`Fault::Memory`], [`Fault::OutOfRange`]: there is no such instance, or no such replica that is spared. Nothing has changed.
     ///
     /// ```
     /// # use epaxos::{Cluster, Event, Instance, OpenInstance, Patience, Waits};
     /// # let Ok(mut patience) = Patience::new(Cluster::Three, 0, Waits::MICROSECONDS, 1) else { return };
-    /// let open = OpenInstance { instance: Instance { replica: 1, number: 1 }, since: None, led: None };
+    /// let open = OpenInstance { instance: Instance { replica: 1, number: 1 }, since: None, led: None, spared: None };
     /// assert_eq!(patience.turn(0, &[open], &[]), Ok(vec![]));
     /// // once to twice the time-out of a peer that was never measured, and the way to the leader
     /// let due = patience.next_due().unwrap();
@@ -176,17 +182,18 @@ impl Patience {
     /// assert_eq!(patience.turn(due, &[open], &[]), Ok(vec![Event::Recover(open.instance)]));
     /// ```
     pub fn turn(&mut self, now: u64, open: &[OpenInstance], told: &[Instance]) -> Result<Vec<Event<'static>>, Fault> {
-        let mut all: Vec<(Instance, u8, u8)> =
-            open.iter().map(|open| (open.instance, phase(open), answers(open))).collect();
-        all.extend(told.iter().map(|instance| (*instance, TOLD, 0)));
+        let spared = |open: &OpenInstance| open.spared.unwrap_or(self.usual);
+        let mut all: Vec<(Instance, u8, u8, u8)> =
+            open.iter().map(|open| (open.instance, phase(open), answers(open), spared(open))).collect();
+        all.extend(told.iter().map(|instance| (*instance, TOLD, 0, 0)));
         // (an open one stands before the same one that a peer tells of)
-        all.sort_by_key(|(instance, phase, _)| (instance.replica, instance.number, *phase));
+        all.sort_by_key(|(instance, phase, ..)| (instance.replica, instance.number, *phase));
         all.dedup_by_key(|(instance, ..)| *instance);
         let mut bytes = std::mem::take(&mut self.bytes);
         bytes.clear();
-        for (instance, phase, answers) in all {
+        for (instance, phase, answers, spared) in all {
             let [high, low] = instance.number.to_be_bytes();
-            bytes.extend([instance.replica, high, low, 0, 0, 0, 0, phase, answers]);
+            bytes.extend([instance.replica, high, low, 0, 0, 0, 0, phase, answers, spared]);
         }
         let status = self.handle.turn(now, &bytes);
         self.bytes = bytes;

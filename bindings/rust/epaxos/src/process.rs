@@ -74,8 +74,8 @@ impl Process {
         let entries = records::entries(records).ok_or_else(|| not_again("its records aren't whole"))?;
         for some in entries.chunks(MOST_EVENTS) {
             for entry in some {
-                let (kind, body) = records::event_of(entry).ok_or_else(|| not_again("an entry has no event"))?;
-                wire::push_again(&mut self.request, kind, body);
+                let (kind, parts) = records::request_of(entry).ok_or_else(|| not_again("an entry has no event"))?;
+                wire::push_again(&mut self.request, kind, parts);
             }
             let done = self.send_for(some.len()).and_then(|done| done.into_iter().collect::<Result<Vec<()>, Fault>>());
             done.map_err(|fault| not_again(&fault.to_string()))?;

@@ -211,6 +211,28 @@ impl Replica {
         self.take(&Event::Propose { call, command })
     }
 
+    /// Proposes a client's command, and spares this other replica: it is not asked at first, and all others have to answer before the command is committed in one round
+    /// trip. So name the slowest one, or one that can't be reached. [`propose`](Replica::propose) spares the one just below this replica (the last one, at replica 0).
+    ///
+    /// # Errors
+    ///
+    /// As [`take`](Replica::take): [`Fault::OutOfRange`] where it is this replica itself, or none of the cluster.
+    ///
+    /// ```
+    /// # let mut log = Vec::new();
+    /// # use epaxos::{Call, Cluster, Command, Fault, Replica};
+    /// let mut replica = Replica::new(Cluster::Three, 0)?;
+    /// replica.ready()?.commit(&mut log)?;             // its log comes first
+    /// let get = Command::Get { key: b"x" };
+    /// replica.propose_sparing(Call::new(1, 1), get, 1)?;
+    /// assert_eq!(replica.ready()?.commit(&mut log)?.frames().next().unwrap().to, 2);
+    /// assert_eq!(replica.propose_sparing(Call::new(1, 2), get, 0), Err(Fault::OutOfRange));
+    /// # Ok::<(), Box<dyn std::error::Error>>(())
+    /// ```
+    pub fn propose_sparing(&mut self, call: Call, command: Command, spared: u8) -> Result<(), Fault> {
+        self.take(&Event::ProposeSparing { call, command, spared })
+    }
+
     /// Handles bytes that came from a peer. They may be anything: what is no frame for this replica is refused.
     ///
     /// # Errors
@@ -541,6 +563,30 @@ impl Replica {
             Ok(opening) => Ok(opening),
             Err(fault) => Err((Box::new(self), fault)),
         }
+    }
+
+    /// The same, where the replica goes on: peers that lag may still need its answers. So the next generation can be made ready meanwhile: write the
+    /// opening beside its place, and begin a replica with it. Before that one's log is on the disk, let this one go: it must not act any more then. None
+    /// where the core is a process, which ends as it closes.
+    ///
+    /// # Errors
+    ///
+    /// [`CloseFault`] says why; the replica is as it was.
+    ///
+    /// ```
+    /// use epaxos::{CloseFault, Cluster, Replica};
+    ///
+    /// # let mut log = Vec::new();
+    /// let mut replica = Replica::new(Cluster::Three, 0)?;
+    /// replica.ready()?.commit(&mut log)?;
+    /// match replica.next_opening(Cluster::Three) {
+    ///     Err(fault) => assert_eq!(fault, CloseFault::NotSealed),
+    ///     Ok(opening) => assert_eq!(opening, None),           // the core is a process
+    /// }
+    /// # Ok::<(), Box<dyn std::error::Error>>(())
+    /// ```
+    pub fn next_opening(&mut self, next: Cluster) -> Result<Option<Vec<u8>>, CloseFault> {
+        if self.host.outlives_close() { self.host.close(next).map(Some) } else { Ok(None) }
     }
 }
 

@@ -48,8 +48,10 @@ fn requests_word_for_word() {
         call: Call { client: 1, request: 2, seen: 3 },
         command: Command::Put { key: b"x", value: b"12" },
     };
+    let Event::Propose { call, command } = put else { unreachable!() };
     for (name, event) in [
         ("propose", put),
+        ("propose-sparing", Event::ProposeSparing { call, command, spared: 1 }),
         ("frame", Event::Handle(&[7, 8])),
         ("give-up", Event::GiveUp(ONE)),
         ("recover", Event::Recover(ONE)),
@@ -164,7 +166,7 @@ fn the_report() {
     assert_eq!(told.receipts().collect::<Vec<_>>(), [receipt(Answer::Absent, &given)]);
     assert_eq!(told.committed().collect::<Vec<_>>(), [Instance { replica: 0, number: 7 }]);
     let leading = Leading { phase: Phase::Accepting, answers: 1 };
-    let open = OpenInstance { instance: Instance { replica: 2, number: 3 }, since: None, led: Some(leading) };
+    let open = OpenInstance { instance: Instance { replica: 2, number: 3 }, since: None, led: Some(leading), spared: None };
     assert_eq!(told.open().collect::<Vec<_>>(), [open]);
     for cut in 0..bytes.len() {
         assert_eq!(Told::read(&bytes[..cut]), None, "cut at {cut}");
@@ -223,7 +225,7 @@ fn what_there_is_to_tell() {
     assert_eq!(frames, [(1, &frame[..])]);
     assert_eq!((told.receipts().count(), told.committed().len()), (0, 0));
     let leading = Leading { phase: Phase::Proposing, answers: 0 };
-    let open = OpenInstance { instance: Instance { replica: 0, number: 1 }, since: Some(1), led: Some(leading) };
+    let open = OpenInstance { instance: Instance { replica: 0, number: 1 }, since: Some(1), led: Some(leading), spared: None };
     assert_eq!(told.open().collect::<Vec<_>>(), [open]);
     for cut in 4..answer.len() {
         assert_eq!(Told::read(&answer[4..cut]), None);

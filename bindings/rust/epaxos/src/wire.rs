@@ -72,9 +72,15 @@ pub fn push_event(out: &mut Vec<u8>, event: &Event) -> Result<(), Fault> {
         Event::Propose { call, command } => {
             command.check()?;
             push(out, 1, |out| {
-                out.extend(call.client.to_be_bytes());
-                out.extend(call.request.to_be_bytes());
-                out.extend(call.seen.to_be_bytes());
+                call.write(out);
+                command.write(out);
+            });
+        }
+        Event::ProposeSparing { call, command, spared } => {
+            command.check()?;
+            push(out, 14, |out| {
+                out.push(*spared);
+                call.write(out);
                 command.write(out);
             });
         }
@@ -87,9 +93,9 @@ pub fn push_event(out: &mut Vec<u8>, event: &Event) -> Result<(), Fault> {
     Ok(())
 }
 
-/// Appends the request that an event of this kind, with this body, was asked by.
-pub(crate) fn push_again(out: &mut Vec<u8>, kind: u8, body: &[u8]) {
-    push(out, kind, |out| out.extend(body));
+/// Appends the request of this kind, whose body is these parts.
+pub(crate) fn push_again(out: &mut Vec<u8>, kind: u8, parts: [&[u8]; 3]) {
+    push(out, kind, |out| parts.into_iter().for_each(|part| out.extend(part)));
 }
 
 /// Appends the request that asks this.

@@ -86,7 +86,9 @@ fn drive(asked: &Receiver<Event>, takes: Duration) {
         thread::sleep(takes);
         for event in events {
             let Event::Ask(Ask { what, reply }) = event else { continue };
+            let is_given_up = matches!(what, What::Propose { .. }) && !reply.begun().begin();
             reply.send(match what {
+                _ if is_given_up => Told::Late,
                 What::Propose { command, .. } => {
                     EXECUTED.fetch_add(1, Ordering::Relaxed);
                     Told::Done { stamp: 1, reply: execute(&mut map, &command) }

@@ -107,11 +107,16 @@ impl Places {
 
     /// Starts a replica of three whose core is in the store itself, and which finds no program. None where there is no library.
     pub fn start_in_store(&self, replica: usize) -> Option<Store> {
+        self.start_in_store_with(replica, &[])
+    }
+
+    /// The same, with more words.
+    pub fn start_in_store_with(&self, replica: usize, words: &[&str]) -> Option<Store> {
         if !epaxos::Core::has_library() {
             eprintln!("not tried: the library isn't there");
             return None;
         }
-        let store = self.launch(self.command_in_store(replica, 3).env("PATH", "/nowhere"), replica);
+        let store = self.launch(self.command_in_store(replica, 3).args(words).env("PATH", "/nowhere"), replica);
         wait("its start", || store.told().contains("node process"));
         Some(store)
     }

@@ -80,6 +80,8 @@ pub struct Plain {
     run: u64,
     /// All proposals and frames that came: a frame's bytes, nothing of a proposal.
     pub asked: Vec<Option<Vec<u8>>>,
+    /// Whom the proposals named as the spared one.
+    pub spared: Vec<Option<u8>>,
     /// Own instances of this number and above are never done.
     pub stuck: u16,
     /// What it reports besides what is open, whatever is asked for.
@@ -88,6 +90,8 @@ pub struct Plain {
     pub reported: Vec<u32>,
     /// The greatest entry of each replica whose frames it has handled.
     pub handled: Vec<u32>,
+    /// Whether the next generation is ready.
+    pub is_ready: bool,
 }
 
 impl Plain {
@@ -102,10 +106,12 @@ impl Plain {
             known: BTreeSet::new(),
             run: 0,
             asked: Vec::new(),
+            spared: Vec::new(),
             stuck: u16::MAX,
             report: Report::default(),
             reported: Vec::new(),
             handled: Vec::new(),
+            is_ready: true,
         };
         it.write_opening(1);
         it
@@ -166,7 +172,15 @@ impl Plain {
         0..self.place.replicas as u8
     }
 
-    fn propose(&mut self, call: Call, command: OwnedCommand, outcome: &mut Outcome) -> Result<(), Fault> {
+    fn propose(
+        &mut self,
+        call: Call,
+        command: OwnedCommand,
+        spared: Option<u8>,
+        outcome: &mut Outcome,
+    ) -> Result<(), Fault> {
+        self.asked.push(None);
+        self.spared.push(spared);
         if !command.is_seal() && self.state.used >= MOST_COMMANDS {
             return Err(Fault::SpaceFull);
         }
@@ -174,8 +188,9 @@ impl Plain {
         let instance = Instance { replica: self.place.replica, number: self.state.used };
         outcome.proposed.push(Proposed { client: call.client, request: call.request, instance });
         self.enter(outcome);
-        let next = (self.place.replica + 1) % self.place.replicas as u8;
-        self.send((PROPOSES, op(&command)), instance, [next], outcome);
+        let after = |it| (it + 1) % self.place.replicas as u8;
+        let next = Some(after(self.place.replica)).filter(|next| Some(*next) != spared);
+        self.send((PROPOSES, op(&command)), instance, [next.unwrap_or(after(after(self.place.replica)))], outcome);
         self.own.insert(instance.number, Own { call, command, is_agreed: self.place.replicas == 1 });
         Ok(())
     }
@@ -253,9 +268,9 @@ impl Core for Plain {
         let mut outcome = Outcome::default();
         for event in &asked.events {
             let done = match event {
-                Event::Propose { call, command } => {
-                    self.asked.push(None);
-                    self.propose(*call, command.to_owned(), &mut outcome)
+                Event::Propose { call, command } => self.propose(*call, command.to_owned(), None, &mut outcome),
+                Event::ProposeSparing { call, command, spared } => {
+                    self.propose(*call, command.to_owned(), Some(*spared), &mut outcome)
                 }
                 Event::Handle(frame) => {
                     self.asked.push(Some(frame.to_vec()));
@@ -290,7 +305,7 @@ impl Core for Plain {
         if after < u32::MAX {
             self.reported.push(after);
         }
-        let open = |instance| OpenInstance { instance, since: None, led: None };
+        let open = |instance| OpenInstance { instance, since: None, led: None, spared: None };
         let open = self.open().take(most.into()).map(open).collect();
         Ok(Report { open, ..self.report.clone() })
     }
@@ -309,6 +324,10 @@ impl Core for Plain {
 
     fn state(&mut self) -> Result<State, NodeFault> {
         Ok(self.state)
+    }
+
+    fn is_prepared(&self) -> bool {
+        self.is_ready
     }
 
     fn start_again(&mut self, begin: &Begin) -> Result<State, NodeFault> {

@@ -6,4 +6,4 @@ use Rattle.ep_rules.specs.Counting.{every}
 use Rattle.ep_phase.proofs.counting.fast_answered.Given as goal
 
 abbrev pub invariant-loop-r : goal.invariant-loop-r
-invariant-loop-r l = l.all ≡ every l.r (λ r. not (is_fast l.size l.leader r) || (eqb l.from r || is_some (answer l.answers r)))
+invariant-loop-r l = l.all ≡ every l.r (λ r. not (is_fast l.leader l.spared r) || (eqb l.from r || is_some (answer l.answers r)))

@@ -128,6 +128,11 @@ impl Cluster {
         all.filter_map(|folder| newest(&folder)).max().unwrap_or(0)
     }
 
+    /// The newest generation that a replica has begun.
+    pub fn begun(&self, replica: usize) -> u32 {
+        newest_with_log(&self.folder(replica)).unwrap_or(0)
+    }
+
     /// The log of a replica in its newest generation.
     pub fn log(&self, replica: usize) -> PathBuf {
         let folder = self.folder(replica);
@@ -176,14 +181,18 @@ impl Cluster {
         for (flag, number) in
             [("--seal-numbers", self.options.numbers), ("--seal-dependencies", self.options.dependencies)]
         {
-            command.args([flag, &number.to_string()]);
+            if number > 0 {
+                command.args([flag, &number.to_string()]);
+            }
         }
         if self.options.starved {
             // (a change of generation takes such a store long, and isn't what is tried)
             command.args(["--seal-log", "1000000000"]);
         }
-        // All that there ever was is audited.
-        command.args(["--keep", "1000000"]);
+        if self.options.growing == 0 || self.options.audit {
+            // All that there ever was is audited.
+            command.args(["--keep", "1000000"]);
+        }
         if self.joined[replica].load(Ordering::SeqCst) {
             command.arg("--join");
         } else if newest_with_log(&self.folder(replica)).is_none() {

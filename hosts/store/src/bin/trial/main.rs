@@ -2,6 +2,7 @@
 //! then it is checked.
 mod cluster;
 mod distance;
+mod growing;
 mod links;
 mod options;
 mod samples;
@@ -66,6 +67,9 @@ fn play(options: &Options, round: usize) -> Result<usize, String> {
     }
     if options.starved {
         return judged(options, &cluster, starved::run(&cluster)?);
+    }
+    if options.growing > 0 {
+        return judged(options, &cluster, growing::run(&cluster, options)?);
     }
     let (Notes { all: notes, mut faults }, count) = work(options, round, &cluster);
     cluster.reach(options.least_changes);

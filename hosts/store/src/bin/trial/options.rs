@@ -6,7 +6,7 @@ use std::time::Duration;
 pub const HELP: &str = "\
 trial: a cluster of stores on this machine, clients, kills and cuts; then what the clients were told is checked
 
-    trial --node PATH [--in-store] [--short | --long | --smoke | --starved] [--replicas N] [--seconds S] [--kills K] [--rounds R] [--audit]
+    trial --node PATH [--in-store] [--short | --long | --smoke | --starved | --growing N] [--replicas N] [--seconds S] [--kills K] [--rounds R] [--audit]
           [--sites A,B,.. [--shares P,..] [--trouble kill|pause|far,..] [--at A] [--most P]]
           [--plant early|emptied|unsynced|unsealed|older|lacking|again|changed] [--store PATH] [--dir DIR] [--seed S]
 
@@ -25,6 +25,11 @@ trial: a cluster of stores on this machine, clients, kills and cuts; then what t
     --most P         with --sites: half of a site's commands may take P parts of 100 of what the round trips allow; default 115
     --at A           with --sites: whose replica that is; default: the second
     --starved        no kills: the stores have a processor for a fifth of the time and get long values; all have to be told, and logs to stay short
+    --growing N      no kills: clients (32 unless --clients says otherwise) set N new keys of 100 bytes; told is how long they wait while a generation
+                     changes, and otherwise. None may be told that its command may still be done, and all keys have to be there. The stores end
+                     generations as they do where nothing is said, unless --seal-numbers or --seal-dependencies says otherwise. With --replaced M
+                     behind it, M machines are replaced in the end
+    --delay MS       with --growing: those machines are so far from the others
     --replicas N     3, the default, or 5 or 7
     --seconds S, --kills K, --replaced M, --rounds R, --clients C, --commands N    other numbers
     --seal-numbers N, --seal-dependencies N    when stores end a generation; default 300 and 200
@@ -69,7 +74,7 @@ pub struct Options {
     pub kills: usize,
     /// How many machines are lost for good, and replaced.
     pub replaced: usize,
-    /// When stores end a generation.
+    /// When stores end a generation; 0: as they do where nothing is said.
     pub numbers: usize,
     pub dependencies: usize,
     /// So many changes of generation there have to be.
@@ -84,6 +89,10 @@ pub struct Options {
     pub resize: bool,
     pub smoke: bool,
     pub starved: bool,
+    /// So many keys are set by clients.
+    pub growing: usize,
+    /// How far machines are that are replaced then.
+    pub delay: Duration,
     /// Over distance: the regions, the shares of one key, what happens, and to which replica. None: on this machine.
     pub sites: Sites,
     pub shares: Vec<u64>,
@@ -134,6 +143,11 @@ pub fn read(words: impl IntoIterator<Item = String>) -> Result<Option<Options>, 
             "--seed" => options.seed = number(&value()?)? as u64,
             "--smoke" => options.smoke = true,
             "--starved" => options.starved = true,
+            "--growing" => {
+                (options.growing, options.clients, options.least_changes) = (number(&value()?)?, 32, 0);
+                (options.numbers, options.dependencies, options.replaced) = (0, 0, 0);
+            }
+            "--delay" => options.delay = Duration::from_millis(number(&value()?)? as u64),
             "--audit" => options.audit = true,
             "--sites" => options.sites = Sites::read(&value()?)?,
             "--shares" => options.shares = list(&value()?, |it| number(it).map(|it| it as u64))?,
@@ -192,6 +206,8 @@ fn defaults() -> Result<Options, String> {
         resize: false,
         smoke: false,
         starved: false,
+        growing: 0,
+        delay: Duration::ZERO,
         sites: Sites::default(),
         shares: vec![0],
         troubles: Vec::new(),

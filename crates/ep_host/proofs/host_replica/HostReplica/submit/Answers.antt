@@ -1,4 +1,4 @@
-use Rattle.std.proofs.Common.{subst}
+use Rattle.std.proofs.Common.{None, subst}
 use Rattle.std.proofs.lemmas.Result.{IfOk-weaker, IfErr-weaker}
 use Rattle.ep_base.specs.declared.version.Version.{Version}
 use Rattle.ep_journal.specs.Openings.{Opening}
@@ -12,7 +12,7 @@ use Rattle.ep_host.proofs.host_replica.HostReplica.submit.Goals as goal
 
 pub returns-clause-ok : goal.returns-clause-ok
 returns-clause-ok g c =
-    let event : Event = Propose c.args.client c.args.request c.args.command c.args.seen in
+    let event : Event = Propose c.args.client c.args.request c.args.command c.args.seen None in
     let old = c.args.self.now.replica in let new = c.submit.new.self in
     IfOk-weaker c.submit.result (λ i. Submits old event i new) (IsSubmitted g.S.Start.start event)
     (λ i h. let told : IsSubmitted (start_of old) event i = record { old = old; new = new; run = c.know.ensures; submits = h } in
@@ -20,7 +20,7 @@ returns-clause-ok g c =
 
 pub returns-clause-declined : goal.returns-clause-declined
 returns-clause-declined g c =
-    let event : Event = Propose c.args.client c.args.request c.args.command c.args.seen in
+    let event : Event = Propose c.args.client c.args.request c.args.command c.args.seen None in
     let old = c.args.self.now.replica in
     IfErr-weaker c.submit.result (λ fault. IsDeclined old event fault) (IsDeclinedThere g.S.Start.start event)
     (λ fault h. let told : IsDeclinedThere (start_of old) event fault = record { kept = old; run = c.know.ensures; declined = h } in

@@ -1,6 +1,6 @@
 use Rattle.std.proofs.Common.{◌∙◌, ap, subst}
 use Rattle.ep_serve.specs.Serving.{dialect_of}
-use Rattle.ep_bundle.specs.declared.dialect.Dialect.{Dialect}
+use Rattle.ep_bundle.specs.declared.journal_dialect.JournalDialect.{JournalDialect}
 use Rattle.ep_hosted.specs.Asking.{IsUnread}
 use Rattle.ep_hosted.specs.Hosting.{Hosting}
 use Rattle.ep_hosted.proofs.Requests.{unasked}
@@ -9,4 +9,4 @@ use Rattle.ep_hosted.proofs.hosted.Hosted.ask.Goals as goal
 pub returns-in-Err-clause-err : goal.returns-in-Err-clause-err
 returns-in-Err-clause-err c =
     unasked c.args.self.now c.args.bytes.now c.in-Err.fault
-    (subst (λ (d : Dialect). IsUnread d c.args.bytes.now c.in-Err.fault) (c.dialect_of.ensures ∙ ap (λ (h : Hosting). dialect_of h.node.replica) c.self.view_is) c.in-Err.ensures.err)
+    (subst (λ (d : JournalDialect). IsUnread d c.args.bytes.now c.in-Err.fault) (c.dialect_of.ensures ∙ ap (λ (h : Hosting). dialect_of h.node.replica) c.self.view_is) c.in-Err.ensures.err)

@@ -18,7 +18,7 @@ take-requires-in-Execute c = (c.args.event, ap (asked c.args.self.now) c.in-Exec
 
 pub returns-in-Propose-clause-refused : goal.returns-in-Propose-clause-refused
 returns-in-Propose-clause-refused c =
-    of_event c.args.self.now c.args.event (c.in-Propose.replica, taken.Propose c.in-Propose.client c.in-Propose.request c.in-Propose.command c.in-Propose.seen) c.take.result c.take.ensures.refused (ap (asked c.args.self.now) c.in-Propose.is)
+    of_event c.args.self.now c.args.event (c.in-Propose.replica, taken.Propose c.in-Propose.client c.in-Propose.request c.in-Propose.command c.in-Propose.seen c.in-Propose.spared) c.take.result c.take.ensures.refused (ap (asked c.args.self.now) c.in-Propose.is)
 
 pub returns-in-GiveUp-clause-refused : goal.returns-in-GiveUp-clause-refused
 returns-in-GiveUp-clause-refused c = of_event c.args.self.now c.args.event (c.in-GiveUp.replica, taken.GiveUp c.in-GiveUp.instance) c.take-in-GiveUp.result c.take-in-GiveUp.ensures.refused (ap (asked c.args.self.now) c.in-GiveUp.is)
