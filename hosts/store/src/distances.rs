@@ -26,6 +26,8 @@ struct Distance {
     due: Instant,
     /// The last round trips, of pings and of proposals.
     last: VecDeque<Duration>,
+    /// The smoothed time that proposals took it.
+    answers: Option<Duration>,
 }
 
 /// The peers, and the one that is spared.
@@ -42,8 +44,14 @@ pub struct Distances {
 impl Distances {
     /// Of so many replicas this one has this number. Nothing is known yet, and the one just below it is spared, as where a proposal names none.
     pub fn new(replicas: usize, me: u8, now: Instant) -> Distances {
-        let peer =
-            Distance { is_reached: false, smoothed: None, pings: VecDeque::new(), due: now, last: VecDeque::new() };
+        let peer = Distance {
+            is_reached: false,
+            smoothed: None,
+            pings: VecDeque::new(),
+            due: now,
+            last: VecDeque::new(),
+            answers: None,
+        };
         Distances { peers: vec![peer; replicas], me, spared: usual(replicas, me), sent: 0, looked: now }
     }
 
@@ -84,8 +92,8 @@ impl Distances {
         self.peers.iter().filter(|peer| peer.is_reached).map(|peer| peer.due).min()
     }
 
-    /// A peer has answered the ping of this number, where it was waited for. Earlier ones are lost. How long that took, of the peer that is spared: what is asked of the
-    /// others tells more of them.
+    /// A peer has answered the ping of this number, where it was waited for. Earlier ones are lost. Of the peer that is spared, how long a proposal
+    /// would take it: as long, and at least as long as others take, whose answers have syncs and queues in them. None until there are such.
     pub fn answer(&mut self, peer: u8, number: u64, now: Instant) -> Option<Duration> {
         if now > self.looked + AWAY {
             return None;
@@ -94,18 +102,17 @@ impl Distances {
         let place = of.pings.iter().position(|(sent, _)| *sent == number)?;
         let (_, sent) = of.pings.drain(..=place).next_back()?;
         let took = now.saturating_duration_since(sent);
-        of.smoothed = Some(of.smoothed.map_or(took, |before| (before * 7 + took) / 8));
-        self.note(peer, took);
-        Some(took).filter(|_| peer == self.spared)
+        of.smoothed = smoothed(of.smoothed, took);
+        of.note(took);
+        let answers = self.peers.iter().filter_map(|peer| peer.answers).max()?;
+        Some(took.max(answers)).filter(|_| peer == self.spared)
     }
 
-    /// A message to a peer and its answer took so long.
+    /// A proposal to a peer and its answer took so long.
     pub fn note(&mut self, peer: u8, took: Duration) {
         let Some(peer) = self.peer(peer) else { return };
-        if peer.last.len() == KEPT {
-            peer.last.pop_front();
-        }
-        peer.last.push_back(took);
+        peer.answers = smoothed(peer.answers, took);
+        peer.note(took);
     }
 
     /// How long an answer of this peer takes at least, by the last ones. None: too few have come.
@@ -141,6 +148,11 @@ impl Distances {
     }
 }
 
+/// A smoothed time (RFC 6298's SRTT) after one measurement more.
+fn smoothed(before: Option<Duration>, took: Duration) -> Option<Duration> {
+    Some(before.map_or(took, |before| (before * 7 + took) / 8))
+}
+
 /// The replica just below, or the last one: the one that a proposal spares which names none.
 fn usual(replicas: usize, me: u8) -> u8 {
     me.checked_sub(1).unwrap_or(replicas.saturating_sub(1) as u8)
@@ -169,6 +181,13 @@ impl Takes {
 }
 
 impl Distance {
+    fn note(&mut self, took: Duration) {
+        if self.last.len() == KEPT {
+            self.last.pop_front();
+        }
+        self.last.push_back(took);
+    }
+
     fn takes(&self, now: Instant) -> Takes {
         let waits = self.pings.front().map_or(Duration::ZERO, |(_, sent)| now.saturating_duration_since(*sent));
         match self.smoothed {
@@ -192,8 +211,7 @@ mod tests {
         *now += BETWEEN_PINGS;
         it.look(*now);
         let number = it.ping(peer, *now).unwrap();
-        let is_spared = peer == it.spared();
-        assert_eq!(it.answer(peer, number, *now + took), Some(took).filter(|_| is_spared));
+        assert_eq!(it.answer(peer, number, *now + took), None);
     }
 
     /// Replica 0 of three, whose peers are reached and take so long.
@@ -221,6 +239,18 @@ mod tests {
         assert_eq!(it.choose(now), 1);
         (0..30).for_each(|_| measure(&mut it, 2, ms(162), &mut now));
         assert_eq!(it.choose(now), 2);
+    }
+
+    #[test]
+    fn pongs_tell_of_the_spared_one_no_less_than_answers_of_others() {
+        let (mut it, mut now) = measured(72, 151);
+        it.note(1, ms(200));
+        for (peer, took, told) in [(2, 151, Some(200)), (2, 201, Some(201)), (1, 300, None)] {
+            now += BETWEEN_PINGS;
+            it.look(now);
+            let number = it.ping(peer, now).unwrap();
+            assert_eq!(it.answer(peer, number, now + ms(took)), told.map(ms));
+        }
     }
 
     #[test]
@@ -252,7 +282,7 @@ mod tests {
         // Another one is sent all the same, and its answer ends the wait for both.
         it.look(sent + BETWEEN_PINGS);
         let next = it.ping(1, sent + BETWEEN_PINGS).unwrap();
-        assert_eq!(it.answer(1, next, sent + BETWEEN_PINGS + ms(72)), Some(ms(72)));
+        it.answer(1, next, sent + BETWEEN_PINGS + ms(72));
         it.look(sent + ms(700));
         assert_eq!((it.answer(1, lost, sent + ms(900)), it.choose(sent + ms(900))), (None, 2));
         for number in 0..100 {
