@@ -4,7 +4,8 @@ over several generations, each with 3 kills and a machine replaced, whose chains
 core in them; and three of some seconds with the core in the stores: of a map that grows, over distance and on a fifth of a processor. Runs alone too:
 python3 .ci/store.py [NODE PROGRAM [FOLDER]], of other builds, with the folder that libepaxos.a and libepaxos.so are in.
 
-It is built without optimisation and without what debuggers need: with its tests that takes half of the processor time of a release build alone.
+It is built with few optimisations and without what debuggers need, which takes less than a release build. (Without any, a store on a fifth of a processor
+is so slow that it gives up most of what it proposes.)
 """
 
 import glob
@@ -34,7 +35,7 @@ DISTANCE = ("--sites", "CA,VA,EU", "--seconds", "9", "--most", "125", "--trouble
 STARVED = ("--starved",)
 # a map that grows over a change of generation, all of which a machine 20 ms away then gets
 GROWING = ("--growing", "6000", "--replaced", "1", "--delay", "20")
-CHEAP = {"CARGO_INCREMENTAL": "0", "CARGO_PROFILE_DEV_DEBUG": "0"}
+CHEAP = {"CARGO_INCREMENTAL": "0", "CARGO_PROFILE_DEV_DEBUG": "0", "CARGO_PROFILE_DEV_OPT_LEVEL": "1"}
 # as ./epaxos goes about it
 EPAXOS = """#!/bin/sh
 case "$1" in node | collect | contents) exec {} "$@" ;; esac
