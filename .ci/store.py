@@ -4,8 +4,9 @@ over several generations, each with 3 kills and a machine replaced, whose chains
 core in them; and three of some seconds with the core in the stores: of a map that grows, over distance and on a fifth of a processor. Runs alone too:
 python3 .ci/store.py [NODE PROGRAM [FOLDER]], of other builds, with the folder that libepaxos.a and libepaxos.so are in.
 
-It is built with few optimisations and without what debuggers need, which takes less than a release build. (Without any, a store on a fifth of a processor
-is so slow that it gives up most of what it proposes.)
+It is built with few optimisations and without what debuggers need, which takes less than a release build. (The trial on a fifth of a
+processor fails without any: logs of 2.7 to 4.1 times the values, where 3 is the bound, with few 2.0 to 2.7. Before stores pinged one another it passed,
+with 2.3. Why isn't known.)
 """
 
 import glob
