@@ -201,6 +201,7 @@ def python(scratch, environment, library):
     import epaxos
 
     yield from (takes_turns(core) for core in cores)
+    yield from (takes_meanwhile(core) for core in cores)
     folders = [f"{scratch}/audited/{me}" for me in range(3)]
     for me, folder in enumerate(folders):
         os.makedirs(f"{folder}/1")
@@ -227,11 +228,16 @@ def refuses_an_older_log(epaxos, cores, path):
     return True
 
 
+def says(core, program, what, wanted):
+    """Whether a program that uses the binding says what it has to."""
+    said = subprocess.run([sys.executable, "-c", program, PYTHON], env=core, stdout=subprocess.PIPE, text=True).stdout
+    print(f"{what}:", said, end="", flush=True)
+    return said == wanted
+
+
 def takes_turns(core):
     """Whether all that threads propose at once, at one replica, is taken, and nothing once it is ended."""
-    said = subprocess.run([sys.executable, "-c", THREADS, PYTHON], env=core, stdout=subprocess.PIPE, text=True).stdout
-    print("threads that propose at once:", said, end="", flush=True)
-    return said == "1912 of 1912 taken, 0 refused; then NoReplica\n"
+    return says(core, THREADS, "threads that propose at once", "1912 of 1912 taken, 0 refused; then NoReplica\n")
 
 
 # Eight threads propose at one replica, which is then ended.
@@ -258,6 +264,31 @@ try:
     replica.propose(1, 240, epaxos.get(b"key"))
 except epaxos.Fault as fault:
     print(f"{taken} of {8 * 239} taken, {len(refused)} refused; then {fault.name}")
+"""
+
+
+def takes_meanwhile(core):
+    """Whether a replica takes while its log is written only where that was begun, and tells then of what was written alone."""
+    return says(core, MEANWHILE, "taken while the log is written", "Unsynced; told of 1 entry, by 1 frame; then of 2, by 1\n")
+
+
+# Proposes while what was proposed before is being written; a proposal has one frame, to the replica that isn't spared.
+MEANWHILE = """
+import sys
+sys.path.insert(0, sys.argv[1])
+import epaxos
+replica = epaxos.Replica.new(3, 0)
+replica.ready().synced()
+replica.propose(1, 1, epaxos.put(b"a", b"1"))
+ready = replica.ready()
+try:
+    replica.propose(1, 2, epaxos.put(b"b", b"2"))
+except epaxos.Fault as fault:
+    print(fault.name, end="; ")
+ready.begin()
+replica.propose(1, 2, epaxos.put(b"b", b"2"))
+first, second = ready.synced(), replica.ready().synced()
+print(f"told of {first.entries} entry, by {len(first.frames)} frame; then of {second.entries}, by {len(second.frames)}")
 """
 
 

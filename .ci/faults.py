@@ -70,6 +70,8 @@ def numbers():
     yield "an instance with two dots", S + b"execute 0 0.1.1\n", told(2, ", word 3: 0.1.1 is no instance: R.I, a replica R, a dot and a number I, 1 to 2000", taken=replay(2))
     yield "an instance of no replica", S + b"giveup 0 3.1\n", told(2, ", word 3: 3.1 is out of range: the replica before its dot, 0 to 2")
     yield "an instance too high", S + b"recover 0 1.2001\n", told(2, ", word 3: 1.2001 is out of range: the number behind its dot, 1 to 2000")
+    yield "an instance too high, of version 3", S + b"generation 1\nrecover 0 1.9001\n", told(3, ", word 3: 1.9001 is out of range: the number behind its dot, 1 to 9000")
+    yield "no instance, of version 3", S + b"generation 1\ngiveup 0 1\n", told(3, ", word 3: 1 is no instance: R.I, a replica R, a dot and a number I, 1 to 9000")
 
 
 def keys():

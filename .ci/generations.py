@@ -308,6 +308,8 @@ def refused_scripts():
         yield S + f"generation 1\n{it}\n", 3
     yield "replicas 7\ngeneration 1\nsparing 6 propose 0 1 get x\nsparing 6 propose 6 1 get x\n", 4
     yield S + "generation 1\npropose 0 0 seal n\n", 3
+    for it in ("giveup 0 0.9001", "recover 0 1.9001", "recover 0 2.65535"):
+        yield S + f"generation 1\n{it}\n", 3
     # (as long as a line may be, and one byte more)
     yield S + f"generation 1\nopening k {'v' * 8182}\n#{'#' * 8192}\n", 4
 
@@ -391,6 +393,8 @@ def replays():
     given_up = report("1 since 0", ["1.1 seq 1 deps - put x 1"], ["1.1 put x 1 -> absent"], receipts=["client 1 request 1 1.1 absent"], held={"x": "1"}, refused=["line 5 E7 too few answers"])
     yield "the slow path with the replica that was spared", f"replicas 5\ngeneration 1\n{slow}", given_up
     yield "numbers of proposals that spare one", *last_numbers("sparing 1 ")
+    yield "all numbers, one execution", *all_numbers()
+    yield "the last number of another replica", S + "generation 1\nrecover 0 2.9000\n", report("1 since 0", refused=())
 
 
 def turns(is_named):
@@ -444,9 +448,24 @@ def lost_behind():
 
 
 def last_numbers(sparing=""):
-    """The numbers above 1,990 are for seals."""
-    gets, seals = f"{sparing}propose 0 7 get x\n" * 1991, f"{sparing}propose 0 7 seal n\n" * 11
-    return S + "generation 1\n" + gets + seals, report("1 since 0", refused=["line 1993 E4 space full", "line 2004 E4 space full"])
+    """The numbers above 8,990 are for seals."""
+    gets, seals = f"{sparing}propose 0 7 get x\n" * 8991, f"{sparing}propose 0 7 seal n\n" * 11
+    return S + "generation 1\n" + gets + seals, report("1 since 0", refused=["line 8993 E4 space full", "line 9004 E4 space full"])
+
+
+def all_numbers():
+    """All 9,000 numbers of a replica, the last ten for seals, and a seal and a get more; one event executes all. A get depends on nothing, and a seal on all before it."""
+    gets, seals = range(1, 8991), range(8991, 9001)
+    script = "propose 0 7 get x\n" * len(gets) + "flush\n" * 3 + ("propose 0 7 seal n\n" + "flush\n" * 3) * len(seals)
+    committed = [f"0.{it} seq 1 deps - get x" for it in gets]
+    committed += [f"0.{it} seq {it - 8989} deps {','.join(f'0.{before}' for before in range(1, it))} seal n" for it in seals]
+    told = {it: "closed" if it > 8991 else "absent" for it in range(1, 9001)}
+    history = [f"0.{it} {'get x' if it in gets else 'seal n'} -> {told[it]}" for it in told]
+    receipts = [f"client 7 request {it} 0.{it} {told[it]}" for it in told]
+    # replica 0 has two stamps for a get, three for a seal (one goes by at replica 1 before it proposes again), and one for the execution
+    closing = f"closed 0.8991 n stamp {2 * len(gets) + 3 * len(seals) + 1}"
+    refused = ["line 9036 E4 space full", "line 9037 E4 space full"]
+    return S + "generation 1\n" + script + "propose 0 7 seal n\npropose 0 7 get x\nexecute 0 0.9000\n", report("1 since 0", committed, history, closing, receipts=receipts, refused=refused)
 
 
 def runs():
@@ -584,7 +603,7 @@ def bad_bundles():
             yield f"an event of kind {byte} in version {name}", changed(bundle, (at, byte)), bad(at)
     yield "a body of 65,537 bytes", changed(PROPOSED, (60, 1)), bad(59)
     yield "a frame of 47 bytes", changed(PROPOSED, (70, 47)), bad(67)
-    yield "a frame of 200,001 bytes", PROPOSED[:67] + number(200_001, 4) + PROPOSED[71:], bad(67)
+    yield "a frame of 400,001 bytes", PROPOSED[:67] + number(400_001, 4) + PROPOSED[71:], bad(67)
     yield "a proposal of another generation", changed(PROPOSED, (9, 2)), NOT_A_RUN
     yield "a frame of another generation", changed(PROPOSED, (114, 2)), NOT_A_RUN
     yield "a frame of version 2", changed(PROPOSED, (73, 2)), NOT_A_RUN
@@ -606,8 +625,27 @@ def bad_bundles():
         yield f"answer {byte} in version 2", changed(early, (len(early) - 1, byte)), bad(len(early) - 1)
 
 
+def told_by_number(version, told):
+    """A bundle of empty journals and a receipt of the instance 0.N of this number, and the place of the number."""
+    receipts = number(1, 4)
+    head = number(1, 4) + number(0, 8) + receipts + number(0, 4) if version == 3 else receipts
+    front = b"EPJB" + bytes([version, 3]) + head + b"".join(bytes([it]) + number(0, 4) for it in range(3)) + number(1, 4) + number(1, 4) + b"\0"
+    return front + number(told, 2) + number(0, 8) + b"\0" + number(1, 4) + number(1, 8) + b"\0", len(front)
+
+
+def by_number():
+    """The greatest number of each version is read, and refused as it was never proposed; the next one is refused where it stands."""
+    for version, most in ((1, 1_000), (2, 2_000), (3, 9_000)):
+        last, _ = told_by_number(version, most)
+        yield dict(name=f"a receipt of number {most} in version {version}", words=["audit"], given=last, wanted=b"verdict refused\nA4 unknown receipt 1\n", status=1)
+        for other in sorted({0, most + 1, 9_001, 65_535}):
+            it, at = told_by_number(version, other)
+            yield dict(name=f"a receipt of number {other} in version {version}", words=["audit"], given=it, told=bad(at), status=2)
+
+
 def bundles():
     """Bundles, written and audited."""
+    yield from by_number()
     for name, it in (("nothing", NONE), ("an opening", OPENED), ("one proposal", PROPOSED), ("one that names the spared replica", SPARED)):
         wanted = report("1 since 0", held={"a": "1", "ab": "%-"} if it is OPENED else {}, receipts=())
         yield dict(name=f"an audit of {name}, in version 3", words=["audit"], given=it, wanted=wanted)
@@ -680,11 +718,10 @@ def upgrades():
     yield dict(name="upgrade --to 3 of a bundle that is cut", words=["upgrade", "--to", "3"], given=NONE[:40], told=bad(37), status=2)
     yield dict(name="upgrade --to 3 of an old one that is cut", words=["upgrade", "--to", "3"], given=EARLY[0][:50], told=bad(48), status=2)
     yield dict(name="upgraded to version 2, then to 3", words=["upgrade", "|", "upgrade", "--to", "3"], given=of_old[0], wanted=of_old[2])
-    # in version 3 the numbers above 1,990 are for seals, so a journal that gave one to another command says nothing there
-    gets = S + "propose 0 7 get x\n" * 1990
+    # version 3 has all numbers of version 2 for any command
+    gets = S + "propose 0 7 get x\n" * 2000
     words = ["replay", "--emit", "bundle", "|", "upgrade", "--to", "3"]
-    yield dict(name="upgrade --to 3 of 1,990 proposals", words=[*words, "|", "audit"], given=gets.encode(), wanted=report("1 since 0", receipts=()))
-    yield dict(name="upgrade --to 3 of 1,991 proposals", words=words, given=(gets + "propose 0 7 get x\n").encode(), told=b"bundle refused E11 at replica 0 entry 1991\n", status=2)
+    yield dict(name="upgrade --to 3 of 2,000 proposals", words=[*words, "|", "audit"], given=gets.encode(), wanted=report("1 since 0", receipts=()))
     for words in (["--to"], ["--to", "1"], ["--to", "4"], ["--to", "02"], ["--to", "three"], ["--to=3", "--to=3"], ["3"], ["--to", "3", "3"]):
         yield dict(name=f"words refused: upgrade {' '.join(words)}", words=["upgrade", *words], given=NONE, told=REFUSED, rest=HELP, status=2)
 

@@ -188,8 +188,8 @@ def fields():
     cas = Looked("cas k %! 1", generation=1).bundle()
     body = 26 + 5 + 9 + 16 + 7 + 1
     yield from refusal("a body of no two parts", changed(cas, body, b"\2"), body, "body", where, TWO_PARTS, "%02%01%00%00%00%011")
-    yield from refusal("a frame too short", changed(cas, body + 7 + 2, number(47, 4)), body + 7 + 2, "length of a frame", where, "48 to 200000", "47")
-    yield from refusal("a frame too long", changed(cas, body + 7 + 2, number(200_001, 4)), body + 7 + 2, "length of a frame", where, "48 to 200000", "200001")
+    yield from refusal("a frame too short", changed(cas, body + 7 + 2, number(47, 4)), body + 7 + 2, "length of a frame", where, "48 to 400000", "47")
+    yield from refusal("a frame too long", changed(cas, body + 7 + 2, number(400_001, 4)), body + 7 + 2, "length of a frame", where, "48 to 400000", "400001")
     # the last byte is that of a receipt's answer
     yield from refusal("an answer", cas[:-1] + b"\5", len(cas) - 1, CODE, "receipt 1", "0 to 4", "5")
     long = cas[:-1] + b"\1" + number(65_536, 4)

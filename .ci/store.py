@@ -4,9 +4,7 @@ over several generations, each with 3 kills and a machine replaced, whose chains
 core in them; and three of some seconds with the core in the stores: of a map that grows, over distance and on a fifth of a processor. Runs alone too:
 python3 .ci/store.py [NODE PROGRAM [FOLDER]], of other builds, with the folder that libepaxos.a and libepaxos.so are in.
 
-It is built with few optimisations and without what debuggers need, which takes less than a release build. (The trial on a fifth of a
-processor fails without any: logs of 2.7 to 4.1 times the values, where 3 is the bound, with few 2.0 to 2.7. Before stores pinged one another it passed,
-with 2.3. Why isn't known.)
+It is built without optimisation and without what debuggers need, which takes less than a release build; and a slow store shows sooner what does work twice.
 """
 
 import glob
@@ -36,7 +34,7 @@ DISTANCE = ("--sites", "CA,VA,EU", "--seconds", "9", "--most", "125", "--trouble
 STARVED = ("--starved",)
 # a map that grows over a change of generation, all of which a machine 20 ms away then gets
 GROWING = ("--growing", "6000", "--replaced", "1", "--delay", "20")
-CHEAP = {"CARGO_INCREMENTAL": "0", "CARGO_PROFILE_DEV_DEBUG": "0", "CARGO_PROFILE_DEV_OPT_LEVEL": "1"}
+CHEAP = {"CARGO_INCREMENTAL": "0", "CARGO_PROFILE_DEV_DEBUG": "0"}
 # as ./epaxos goes about it
 EPAXOS = """#!/bin/sh
 case "$1" in node | collect | contents) exec {} "$@" ;; esac

@@ -282,7 +282,7 @@ def counted(most):
 
 def is_instance(word):
     replica, dot, at = word.partition(".")
-    return bool(dot) and number(0, 6)(replica) and number(1, 2000)(at)
+    return bool(dot) and number(0, 6)(replica) and number(1, 9000)(at)
 
 
 def is_key(word):
@@ -296,7 +296,7 @@ def is_generation(word):
 
 STAMP = (number(0, 10**15, 15), "invalid value {value} for '{shown} <STAMP>': it takes a number of 1 to 15 digits\n")
 PART = (
-    ("instance", is_instance, "invalid value {value} for '{shown} <R.N>': it takes an instance, as 0.1: a replica from 0 to 6, and a number from 1 to 2000\n"),
+    ("instance", is_instance, "invalid value {value} for '{shown} <R.N>': it takes an instance, as 0.1: a replica from 0 to 6, and a number from 1 to 9000\n"),
     ("key", is_key, "invalid value {value} for '{shown} <KEY>': it takes a key of 1 to 255 bytes, as scripts have it\n"),
     ("client", number(1, 2**32 - 1), "invalid value {value} for '{shown} <C>': it takes a number from 1 to 4294967295\n"),
     ("replica", number(0, 6), "invalid value {value} for '{shown} <R>': it takes a number from 0 to 6\n"),

@@ -1,7 +1,8 @@
 /* libepaxos: one replica of a replicated key-value core without a leader, as a C library. README.md begins with an example.
  *
  * The library has no socket, no timer, no thread and no file: you own those. A replica takes what happened (ep_propose_.., ep_handle, ..), lends the bytes
- * that you write to its log (ep_ready), and, once you say that they are on the disk (ep_synced), tells what to send and whom to answer (ep_answers).
+ * that you write to its log (ep_ready), and, once you say that they are on the disk (ep_synced), tells what to send and whom to answer (ep_answers). While the
+ * disk works it may take more: then what there is to tell is made before (ep_prepare), and lent after (ep_told).
  *
  * What holds of all calls:
  *
@@ -10,7 +11,7 @@
  *   - What is wrong with a replica is a status: none was opened (EP_NO_REPLICA), it is opened twice (EP_HAS_REPLICA), it is freed twice (EP_DONE).
  *   - Pointers point to what they say, and none is NULL, but for that of ep_free. That holds where a length is 0 too: NULL may seem to work there, and no
  *     proof covers it; EP_EMPTY has an address. Nothing that is handed in is used after the call.
- *   - Bytes that are lent lie in the replica, and stay until the next call with it.
+ *   - Bytes that are lent lie in the replica, and stay until the next call with it; those of ep_ready stay until ep_synced or ep_free.
  *   - A replica is used by one call at a time. It may go to another thread in between, by a lock or a join. Two calls at once are undefined; EP_NO_REPLICA
  *     of a replica that is there is a sign of it. No call comes from a signal handler.
  *   - In bytes, numbers have the highest byte first; docs/FORMATS.md has them all: section 10 requests and answers, 9 logs, 12 openings, 2 bundles.
@@ -27,7 +28,7 @@ extern "C" {
 #endif
 
 /* What ep_version() answers of the library that this header is of. */
-#define EP_VERSION 4
+#define EP_VERSION 5
 
 /* Begins a struct ep_bytes of no bytes, and a struct ep_replica of no replica. */
 #define EP_EMPTY { (const uint8_t *)"", 0 }
@@ -87,7 +88,7 @@ struct ep_exchange {
 
 /* An instance, which is a place for one command. */
 struct ep_instance {
-    /* Its number among those of its leader, from 1 to 2,000. */
+    /* Its number among those of its leader, from 1 to 9,000, in version 2 to 2,000. */
     uint16_t number;
     /* The replica that leads it, from 0. */
     uint8_t replica;
@@ -192,9 +193,10 @@ enum {
     EP_NO_REPLICA = 32,
     /* There is a replica already. */
     EP_HAS_REPLICA = 33,
-    /* What is lent isn't on the disk yet, so nothing is taken: write it, and say so by ep_synced. */
+    /* The whole log is lent, and isn't on the disk yet, so nothing is taken: write it, and say so by ep_synced. */
     EP_LENT = 34,
-    /* Not all that was taken is on the disk, so nothing is told: ep_ready lends it. */
+    /* Not all that was taken is on the disk, so nothing is told: ep_ready lends it. Or, of ep_prepare, not all of it
+       is lent. */
     EP_UNSYNCED = 35,
     /* Nothing is lent. */
     EP_NOT_LENT = 36,
@@ -216,6 +218,8 @@ enum {
     EP_NO_PATIENCE = 44,
     /* It was begun already. */
     EP_HAS_PATIENCE = 45,
+    /* What ep_prepare made before wasn't told: ep_told lends it. */
+    EP_UNTOLD = 46,
     /* The log has no bytes, and the replica isn't new. */
     EP_NO_LOG = 48,
     /* The log has bytes, and the replica is new. */
@@ -312,6 +316,8 @@ static inline const char *ep_status_name(uint8_t status)
         return "EP_NO_PATIENCE";
     case EP_HAS_PATIENCE:
         return "EP_HAS_PATIENCE";
+    case EP_UNTOLD:
+        return "EP_UNTOLD";
     case EP_NO_LOG:
         return "EP_NO_LOG";
     case EP_LOG_EXISTS:
@@ -438,15 +444,17 @@ uint8_t ep_execute(struct ep_replica *replica, struct ep_instance instance, stru
 
 /* ---- The log, and the answers that wait for it ---- */
 
-/* Lends the bytes that are to be written to the log: the records of all that was taken since the last `ep_synced`,
-   after the log, or, if `is_anew` becomes 1, in place of all that was there, at once (write another file, sync it,
-   rename it). The first call after `ep_open` is such a one. If all is on the disk, there are none. While bytes are
-   lent, nothing is taken (EP_LENT), and a second call lends the same, until `ep_synced` says that they are on the
-   disk. If writing them fails, free the replica and open it from its log. EP_NO_REPLICA, EP_MEMORY. */
+/* Lends the bytes that are to be written to the log: the records of all that was taken and wasn't lent before, after
+   the log, or, if `is_anew` becomes 1, in place of all that was there, at once (write another file, sync it, rename
+   it). The first call after `ep_open` is such a one, and nothing is taken before that is on the disk (EP_LENT). If
+   all is on the disk, there are none. The bytes stay where they are, and a second call lends the same, until
+   `ep_synced` says that they are on the disk; or until `ep_free`. Meanwhile more may be taken, which is lent next,
+   and another thread may read them. If writing them fails, free the replica and open it from its log. EP_NO_REPLICA,
+   EP_MEMORY. */
 uint8_t ep_ready(struct ep_replica *replica, struct ep_bytes *log, uint8_t *is_anew);
 
 /* Says that what `ep_ready` lent is on the disk (fsync has returned): all of it, `count` bytes; 0 if nothing is
-   lent. From now on no crash takes what was taken before. EP_NO_REPLICA, EP_NOT_LENT, EP_NOT_ALL, EP_MEMORY. */
+   lent. From now on no crash takes what was taken before that call. EP_NO_REPLICA, EP_NOT_LENT, EP_NOT_ALL. */
 uint8_t ep_synced(struct ep_replica *replica, size_t count);
 
 /* Lends the answers of all that was asked by `ep_ask` since the last time, in that order, and after them one of kind
@@ -454,6 +462,16 @@ uint8_t ep_synced(struct ep_replica *replica, size_t count);
    `most` open instances. It says how many entries there are: hand that in as `told` the next time; at first 0. All
    that is told is on the disk. EP_NO_REPLICA; EP_UNSYNCED; EP_MEMORY: what was asked still waits for the next call. */
 uint8_t ep_answers(struct ep_replica *replica, uint32_t told, uint8_t most, struct ep_bytes *answers);
+
+/* Makes what `ep_answers` would lend if all that was taken were on the disk, and holds it until `ep_told` asks for
+   it then. So answers are made while the disk works, and more may be taken after it: call it between `ep_ready` and
+   the next event. EP_NO_REPLICA; EP_UNSYNCED: something was taken that isn't lent; EP_UNTOLD; EP_MEMORY: what was
+   asked still waits. */
+uint8_t ep_prepare(struct ep_replica *replica, uint32_t told, uint8_t most);
+
+/* Lends what `ep_prepare` made, once. All that it tells is on the disk. EP_NO_REPLICA; EP_NONE: it made nothing;
+   EP_UNSYNCED: what was lent then isn't on the disk yet. */
+uint8_t ep_told(struct ep_replica *replica, struct ep_bytes *answers);
 
 /* Does what a request asks: the bytes of one, from its length on. What it is answered, also if it is refused or
    malformed, comes by `ep_answers`. EP_NO_REPLICA, EP_LENT; EP_NOT_ONE; EP_MEMORY: nothing was done, but of kinds 6

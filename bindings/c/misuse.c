@@ -51,7 +51,7 @@ static void wait_no_longer(void)
     struct ep_patience patience = EP_CLOSED;
     struct ep_waits waits = { 7, 100, 1000, 1500, 20000, 3, 3 };
     struct ep_bytes late = EP_EMPTY;
-    struct ep_instance nowhere = { 2001, 1 }, other = { 1, 1 };
+    struct ep_instance nowhere = { 9001, 1 }, other = { 1, 1 };
     uint8_t open[] = { 0, 0, 1, 0, 0, 0, 1, 1, 1, 2 };
     uint64_t due = 5;
 
@@ -138,6 +138,8 @@ int main(void)
         WANT(EP_NO_REPLICA, ep_ready(&replica, &log, &is_anew));
         WANT(EP_NO_REPLICA, ep_synced(&replica, 0));
         WANT(EP_NO_REPLICA, ep_answers(&replica, 0, 0, &value));
+        WANT(EP_NO_REPLICA, ep_prepare(&replica, 0, 0));
+        WANT(EP_NO_REPLICA, ep_told(&replica, &value));
         WANT(EP_NO_REPLICA, ep_ask(&replica, key, 1));
         WANT(EP_NO_REPLICA, ep_get(&replica, key, 1, &value));
         WANT(EP_NO_REPLICA, ep_contents(&replica, &value));
@@ -249,7 +251,6 @@ int main(void)
     WANT(EP_DONE, ep_propose_put(&replica, &call, key, 1, key, 1));
     WANT(EP_TOO_FEW_ANSWERS, ep_give_up(&replica, here));
     WANT(EP_DONE, ep_ready(&replica, &log, &is_anew));
-    WANT(EP_LENT, ep_execute_all(&replica));
     WANT(EP_DONE, ep_synced(&replica, log.len));
     WANT(EP_DONE, ep_leads(&replica, here, &leading));
     WANT(10, leading.phase * 10 + leading.answers);
@@ -257,6 +258,33 @@ int main(void)
     WANT(1, instance.number + instance.replica);
     WANT(EP_DONE, ep_answers(&replica, 0, 64, &value));
     read_whole(value);
+
+    /* more is taken while the first is being written: it is lent next, and not told of before */
+    call.request = 2;
+    WANT(EP_DONE, ep_propose_put(&replica, &call, key, 1, key, 1));
+    WANT(EP_NONE, ep_told(&replica, &value));
+    WANT(EP_UNSYNCED, ep_prepare(&replica, 1, 0));
+    WANT(EP_DONE, ep_ready(&replica, &log, &is_anew));
+    WANT(EP_DONE, ep_prepare(&replica, 1, 0));
+    WANT(EP_UNTOLD, ep_prepare(&replica, 1, 0));
+    WANT(EP_UNSYNCED, ep_told(&replica, &value));
+    call.request = 3;
+    WANT(EP_DONE, ep_propose_put(&replica, &call, key, 1, key, 1));
+    WANT(EP_DONE, ep_execute_all(&replica));
+    size_t lent = log.len;
+    WANT(EP_DONE, ep_ready(&replica, &log, &is_anew));
+    WANT((int)lent, (int)log.len);
+    WANT(EP_UNSYNCED, ep_get(&replica, key, 1, &value));
+    WANT(EP_DONE, ep_synced(&replica, log.len));
+    WANT(EP_UNSYNCED, ep_answers(&replica, 1, 0, &value));
+    WANT(EP_UNTOLD, ep_prepare(&replica, 1, 0));
+    WANT(EP_DONE, ep_told(&replica, &value));
+    WANT(2, value.at[8]);
+    WANT(EP_NONE, ep_told(&replica, &value));
+    WANT(EP_DONE, ep_ready(&replica, &log, &is_anew));
+    WANT(EP_DONE, ep_synced(&replica, log.len));
+    WANT(EP_DONE, ep_answers(&replica, 2, 0, &value));
+    WANT(3, value.at[8]);
 
     /* audits */
     char text[64];

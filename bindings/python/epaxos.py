@@ -213,6 +213,11 @@ class Ready:
         """Call it once the bytes are on the disk, and not before."""
         return self._replica._synced(self._most)
 
+    def begin(self):
+        """Lets the replica take more while the bytes are put on the disk; `synced` then tells of them alone. What is taken meanwhile is lent by the next `ready`."""
+        self._replica._begin(self._most)
+        return self
+
 
 def _in_turn(call):
     """The call, which waits until no other thread is in one with the replica."""
@@ -236,12 +241,12 @@ def _packed(form, *numbers):
 class Replica:
     """One replica. `new` begins it, `open` goes on from its log.
 
-    Threads may share it: calls take turns. While what one of them has got by `ready` isn't synced, what others want it to take is refused (Unsynced), so have one thread
-    write the log.
+    Threads may share it: calls take turns. While what one of them has got by `ready` isn't synced, what others want it to take is refused (Unsynced), unless it has called
+    `begin`. So have one thread write the log.
     """
 
     def __init__(self, core, told):
-        self._core, self._told, self._lock = core, told, threading.Lock()
+        self._core, self._told, self._lock, self._begun = core, told, threading.Lock(), False
 
     @classmethod
     def new(cls, replicas, me, opening=None, core=None):
@@ -263,7 +268,7 @@ class Replica:
     @_in_turn
     def propose(self, client, request, command, seen=0, spared=None):
         """Proposes a client's command: `seen` is the greatest stamp of the receipts that it knows of, `spared` the other replica that isn't asked at first, such as the slowest
-        one or one that can't be reached (None: the one just below this). (Nothing is taken while a Ready isn't synced: Unsynced.)"""
+        one or one that can't be reached (None: the one just below this). (Nothing is taken while a Ready isn't synced, nor begun: Unsynced.)"""
         body = _packed(">IIQ", client, request, seen) + command
         if spared is None:
             self._core.act(1, body)
@@ -306,9 +311,16 @@ class Replica:
         return Ready(self, *self._core.lend(), most)
 
     @_in_turn
+    def _begin(self, most):
+        if not self._begun:
+            self._core.prepare(self._told, most)
+            self._begun = True
+
+    @_in_turn
     def _synced(self, most):
         self._core.sync()
-        output = Output(self._core.tell(self._told, most))
+        begun, self._begun = self._begun, False
+        output = Output(self._core.release() if begun else self._core.tell(self._told, most))
         self._told = output.entries
         return output
 
@@ -457,7 +469,8 @@ class _Process:
         # (what is open stays: so a process that is killed leaves nothing behind)
         shutil.rmtree(self.scratch, ignore_errors=True)
         self.lent, self.at = self.log.read(), 0
-        self.is_lent, self.is_anew, self.is_dirty = True, True, True
+        # (is_dirty: something was taken that isn't lent yet; begun: what there is to tell of what is lent, where it was asked)
+        self.is_lent, self.is_anew, self.is_dirty, self.begun = True, True, False, None
 
     def start(self, more):
         try:
@@ -496,9 +509,9 @@ class _Process:
         return answers
 
     def act(self, kind, body):
-        if self.is_lent:
+        if self.is_lent and (self.is_anew or self.begun is None):
             raise Fault("Unsynced")
-        if len(body) > 200_000:
+        if len(body) > 400_000:
             raise Fault("BadFrame")
         answer = self.answers([(kind, body), (10, b"")])[0]
         _check(answer)
@@ -506,16 +519,23 @@ class _Process:
 
     def lend(self):
         if self.is_dirty and not self.is_lent:
-            self.lent, self.is_lent = _sealed(self.log.read(), self.at), True
+            self.lent, self.is_lent, self.is_dirty = _sealed(self.log.read(), self.at), True, False
         return (self.lent, self.is_anew) if self.is_lent else (b"", False)
 
     def sync(self):
         if self.is_lent:
             self.at += len(self.lent)
-            self.lent, self.is_lent, self.is_anew, self.is_dirty = b"", False, False, False
+            self.lent, self.is_lent, self.is_anew = b"", False, False
+
+    def prepare(self, told, most):
+        self.begun = self.answers([(13, struct.pack(">IB", told, most))])[0]
+
+    def release(self):
+        begun, self.begun = self.begun, None
+        return begun
 
     def ask(self, kind, body):
-        if self.is_dirty:
+        if self.is_dirty or self.is_lent:
             raise Fault("Unsynced")
         return self.answers([(kind, body)])[0]
 
@@ -547,7 +567,7 @@ class _Process:
 
 # Those parts of bindings/c/epaxos.h that are used here, word for word.
 _DECLARED = """
-#define EP_VERSION 4
+#define EP_VERSION 5
 EP_MEMORY = 1
 EP_OUT_OF_RANGE = 3
 EP_NOT_COMMITTED = 10
@@ -601,6 +621,8 @@ uint8_t ep_advance(struct ep_replica *replica);
 uint8_t ep_execute_all(struct ep_replica *replica);
 uint8_t ep_ready(struct ep_replica *replica, struct ep_bytes *log, uint8_t *is_anew);
 uint8_t ep_synced(struct ep_replica *replica, size_t count);
+uint8_t ep_prepare(struct ep_replica *replica, uint32_t told, uint8_t most);
+uint8_t ep_told(struct ep_replica *replica, struct ep_bytes *answers);
 uint8_t ep_answers(struct ep_replica *replica, uint32_t told, uint8_t most, struct ep_bytes *answers);
 uint8_t ep_get(struct ep_replica *replica, const uint8_t *key, size_t key_len, struct ep_bytes *value);
 uint8_t ep_contents(struct ep_replica *replica, struct ep_bytes *contents);
@@ -681,7 +703,7 @@ class _Library:
     """The core in this process. What it lends is copied, and freed by itself."""
 
     def __init__(self, replicas, me, opening, log):
-        self.calls, self.lent, self.replicas = _loaded(_library()), 0, replicas
+        self.calls, self.lent, self.begun, self.replicas = _loaded(_library()), 0, True, replicas
         opening = self.first_opening(replicas) if opening is None else opening
         # (no bytes are no opening; to the library they would be another version)
         if not opening or not 0 <= me < 256:
@@ -717,6 +739,8 @@ class _Library:
             raise Fault(_REFUSED.get(status) or FAULTS.get(status, f"Ended: the library answers status {status}"))
 
     def act(self, kind, body):
+        if self.lent and not self.begun:
+            raise Fault("Unsynced")
         if kind == 1:
             self.propose(_Fields(body))
         elif kind == 14:
@@ -765,12 +789,22 @@ class _Library:
     def lend(self):
         lent, is_anew = _STRUCTS["ep_bytes"](), ctypes.c_uint8()
         self.call("ep_ready", lent, is_anew)
+        self.begun &= lent.len == self.lent
         self.lent = lent.len
         return _copied(lent), bool(lent.len and is_anew.value)
 
     def sync(self):
         self.call("ep_synced", self.lent)
         self.lent = 0
+
+    def prepare(self, told, most):
+        self.call("ep_prepare", told, most)
+        self.begun = True
+
+    def release(self):
+        self.begun = False
+        # (the answer's length stands before it)
+        return self.lent_by("ep_told")[4:]
 
     def tell(self, told, most):
         answers = _STRUCTS["ep_bytes"]()

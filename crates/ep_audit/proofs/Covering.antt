@@ -3,10 +3,12 @@ use Rattle.std.proofs.Common.{◌≡◌, ℕ, zero, suc, ◌+◌, ◌<◌, ◌�
 use Rattle.std.proofs.lemmas.Bool.{cases_eq, cases_lt}
 use Rattle.std.proofs.lemmas.Option.{same_Some}
 use Rattle.ep_base.specs.Deps.{IsRising}
-use Rattle.ep_base.specs.Instances.{instance_of, number_of}
+use Rattle.ep_base.specs.Instances.{instance_of, number_of, highest_number}
 use Rattle.ep_base.specs.Quorums.{size}
 use Rattle.ep_base.specs.declared.decree.Decree.{Decree}
 use Rattle.ep_rules.specs.Journals.{Journals, left}
+use Rattle.ep_rules.specs.Cells.{committed_decree, record_or_fresh}
+use Rattle.ep_rules.specs.Maps.{get}
 use Rattle.ep_rules.specs.States.{fresh_state, committed_in}
 use Rattle.ep_rules.specs.Verdicts.{or_else, instances_of, committed_by, agreed_below, agreed, IsTable}
 use Rattle.ep_rules.specs.Worlds.{In}
@@ -105,13 +107,40 @@ covers_none agreed named = record {
 }
 
 -- from one replica's instances to those of the next
-pub covers_leader : (f leader : ℕ) (agreed : ℕ → Option Decree) (table : List (ℕ × Decree)) → ((i : ℕ) (x : Decree) → agreed i ≡ Some x → IsNamed f i) →
-    Covers agreed (instance_of leader 2001) table → Covers agreed (instance_of (leader + 1) 1) table
-covers_leader f leader agreed table named h =
-    covers_gap agreed (instance_of leader 2001) table h (instance_of (leader + 1) 1) (omega arith) (λ i x ge lt e. let n = named i x e in not_between leader i ge lt n.1 n.2)
+pub covers_leader : (f leader top : ℕ) (agreed : ℕ → Option Decree) (table : List (ℕ × Decree)) → top ≤ highest_number → ((i : ℕ) (x : Decree) → agreed i ≡ Some x → IsNamed f i × (number_of i ≤ top)) →
+    Covers agreed (instance_of leader (top + 1)) table → Covers agreed (instance_of (leader + 1) 1) table
+covers_leader f leader top agreed table small named h =
+    covers_gap agreed (instance_of leader (top + 1)) table h (instance_of (leader + 1) 1) (omega (arith, small)) (λ i x ge lt e. let n = named i x e in not_between leader i ge lt n.0.1 n.1)
   where
-    not_between : (leader i : ℕ) → instance_of leader 2001 ≤ i → i < instance_of (leader + 1) 1 → 1 ≤ number_of i → number_of i ≤ 2000 → ⊥
-    not_between leader i ge lt low high = omega arith
+    not_between : (leader i : ℕ) → instance_of leader (top + 1) ≤ i → i < instance_of (leader + 1) 1 → 1 ≤ number_of i → number_of i ≤ top → ⊥
+    not_between leader i ge lt low high = omega (arith, small, ge, lt, low, high)
+
+-- no journal of a replica below n commits in i where none before it does, and it has no record there
+pub none_here : (c : Collected) (n r : ℕ) (l : Log) (i : ℕ) → (r < size c.faults) × (l.version ≡ c.version) × (l.faults ≡ c.faults) × (l.me ≡ r) × (l.opening ≡ c.opening) × (l.entries ≡ entries_at c r) → r ≡ n → agreed_below (opens c.opening) n c.faults (journals_of c) i ≡ None
+    → get (standing l).state.records i ≡ None → agreed_below (opens c.opening) (n + 1) c.faults (journals_of c) i ≡ None
+none_here c n r l i is at none e = subst (λ m. agreed_below (opens c.opening) m c.faults (journals_of c) i ≡ None) next with_it
+  where
+    next : suc n ≡ n + 1
+    next = omega arith
+
+    here : committed_in (standing l).state.records i ≡ committed_by (opens c.opening) c.faults (journals_of c) r i
+    here = λ t. committed_in (left (is.2 t) (is.3 t) (fresh_state (opens (is.4 t))) (entries_of (is.5 t))).records i
+
+    with_it : agreed_below (opens c.opening) (suc n) c.faults (journals_of c) i ≡ None
+    with_it =
+        ap (λ z. or_else z (committed_by (opens c.opening) c.faults (journals_of c) n i)) none
+        ∙ sym (subst (λ m. None ≡ committed_by (opens c.opening) c.faults (journals_of c) m i) at (sym (ap (λ o. committed_decree (record_or_fresh i o).vote) e) ∙ here))
+
+-- what the journals commit in has a number up to this one, where nothing is committed above it
+pub named_below : (f top : ℕ) (agreed : ℕ → Option Decree) → ((i : ℕ) (x : Decree) → agreed i ≡ Some x → IsNamed f i) → ((i : ℕ) → top < number_of i → agreed i ≡ None)
+    → (i : ℕ) (x : Decree) → agreed i ≡ Some x → IsNamed f i × (number_of i ≤ top)
+named_below f top agreed named none i x e = (
+  named i x e,
+  elim (cases_lt top (number_of i)) [
+    | inl past ↦ absurd (let z : None ≡ Some x = sym (none i past) ∙ e in cc)
+    | inr le ↦ le
+  ],
+)
 
 pub covers_all : (base : Store) (f : ℕ) (journal : Journals) (table : List (ℕ × Decree)) → ((i : ℕ) (x : Decree) → agreed base f journal i ≡ Some x → IsNamed f i) → Covers (agreed base f journal) (instance_of (size f) 1) table → IsTable base f journal table
 covers_all base f journal table named h = record {

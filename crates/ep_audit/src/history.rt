@@ -90,7 +90,7 @@ fn add_executions(
 fn see(seen: &mut Executed, instance: InstanceId) -> Result<(), AllocError>
     ensures { OnOk result ((i : ℕ) → Has seen.new.list i ↔ (Has seen.old.list i ⊎ (i ≡ instance))) }
 {
-    seen.reserve(1)?;
+    seen.reserve_one(instance)?;
     seen.add(instance);
     Ok(())
 }

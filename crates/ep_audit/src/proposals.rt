@@ -1,12 +1,12 @@
 //! Where instances are proposed.
 
-ghost use Rattle.std.specs.Prelude.{◌≡◌, ◌≤◌, ◌<◌, [], IfOk, length, option_copied, slice_get, slice_index_or as get_or};
+ghost use Rattle.std.specs.Prelude.{◌≡◌, ◌≤◌, ◌<◌, ◌^◌, ℕ, [], cond, eqb, IfOk, OnOk, length, option_copied, slice_get, slice_index_or as get_or};
 ghost use Rattle.ep_base.specs.Instances.{leader_of, number_of, highest_number};
 ghost use Rattle.ep_base.specs.Quorums.{size};
 ghost use Rattle.ep_journal.specs.Entries.{AreJournals, entries_at};
 ghost use Rattle.ep_audit.specs.Claims.{proposal_of};
 ghost use Rattle.ep_audit.specs.Lookups.{proposed};
-ghost use Rattle.ep_audit.specs.Proposing.{AreRows, IsRow, marked};
+ghost use Rattle.ep_audit.specs.Proposing.{AreRows, IsRow, IsMarked};
 
 use crate::lookups::{entries_of, entry_in, proposed};
 use ep_base::{InstanceId, ReplicaId};
@@ -14,7 +14,8 @@ use ep_journal::{Entry, Journals};
 use std::alloc::{AllocError, Global};
 use std::marker::Model;
 
-/// For each number, the place of the entry that proposes this instance of a replica, or how many entries there are.
+/// For each number, the place of the entry that proposes this instance of a replica, or how many entries there are; of numbers behind these, there
+/// is none.
 #[derive(Drop)]
 struct Row {
     places: Vec<usize>,
@@ -51,32 +52,54 @@ impl Model for Proposals {
     ghost view = { λ p. p.rows.items };
 }
 
-/// Notes the place of an entry, if it proposes an instance of the replica.
-fn mark(places: &mut Vec<usize>, replica: ReplicaId, entry: &Entry, place: usize)
-    requires long { highest_number < length places.old.items }
-    ensures { places.new.items ≡ marked replica (proposed entry.now.event entry.now.frames) place places.old.items }
+/// Makes the list long enough for this number, by `none`.
+fn widen(places: &mut Vec<usize>, number: usize, none: usize) -> Result<(), AllocError>
+    requires { number < 2 ^ 16 }
+    ensures number { OnOk result (number < length places.new.items) }
+    ensures same { (n : ℕ) → get_or places.new.items n none ≡ get_or places.old.items n none }
+{
+    if number < places.len() {
+        return Ok(());
+    }
+    places.resize(number + 1, none)
+}
+
+/// Writes the place at this number.
+fn put(places: &mut Vec<usize>, number: usize, place: usize, none: usize) -> Result<(), AllocError>
+    requires { number < 2 ^ 16 }
+    ensures { OnOk result ((n : ℕ) → get_or places.new.items n none ≡ cond (eqb n number) place (get_or places.old.items n none)) }
+{
+    widen(places, number, none)?;
+    places[number] = place;
+    Ok(())
+}
+
+/// Notes the place of an entry, if it proposes an instance of the replica; `none` stands at numbers of which nothing is noted.
+fn mark(
+    places: &mut Vec<usize>,
+    replica: ReplicaId,
+    entry: &Entry,
+    place: usize,
+    none: usize,
+) -> Result<(), AllocError>
+    ensures { OnOk result (IsMarked replica (proposed entry.now.event entry.now.frames) place none places.old.items places.new.items) }
 {
     let Some(instance) = proposed(entry) else {
-        return;
+        return Ok(());
     };
-    if instance.replica() == replica {
-        places[instance.number() as usize] = place;
+    if instance.replica() != replica {
+        return Ok(());
     }
+    put(places, instance.number() as usize, place, none)
 }
 
 /// Where the replica's instances are proposed, among its entries.
-fn row_of(
-    alloc: Global,
-    replica: ReplicaId,
-    entries: &[Entry],
-    slots: usize,
-) -> Result<Row, AllocError>
-    requires long { highest_number < slots }
+fn row_of(alloc: Global, replica: ReplicaId, entries: &[Entry]) -> Result<Row, AllocError>
     ensures { IfOk result (λ row. IsRow replica entries.now row) }
 {
-    let mut places = vec![in alloc; entries.len(); slots]?;
+    let mut places = Vec::new(alloc);
     for place in (0..entries.len()).rev() {
-        mark(&mut places, replica, &entries[place], place);
+        mark(&mut places, replica, &entries[place], place, entries.len())?;
     }
     Ok(Row { places })
 }
@@ -88,7 +111,7 @@ fn row_at(alloc: Global, journals: &Journals, replica: u8) -> Result<Row, AllocE
     ensures { IfOk result (λ row. IsRow replica (entries_at journals.now replica) row) }
 {
     match ReplicaId::new(replica) {
-        Ok(replica) => row_of(alloc, replica, entries_of(journals, replica), 2001),
+        Ok(replica) => row_of(alloc, replica, entries_of(journals, replica)),
         Err(_) => unreachable!(),
     }
 }

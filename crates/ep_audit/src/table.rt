@@ -1,7 +1,7 @@
 //! The table of what is committed.
 
-ghost use Rattle.std.specs.Prelude.{◌≡◌, OnOk, IfOk, option_copied};
-ghost use Rattle.ep_base.specs.Instances.{instance_of};
+ghost use Rattle.std.specs.Prelude.{◌≡◌, ◌≤◌, ◌<◌, ◌+◌, ℕ, None, OnOk, IfOk, option_copied};
+ghost use Rattle.ep_base.specs.Instances.{instance_of, number_of, highest_number};
 ghost use Rattle.ep_rules.specs.Verdicts.{IsTable};
 ghost use Rattle.ep_journal.specs.Entries.{journals_of};
 ghost use Rattle.ep_audit.specs.Tables.{agreed_in, and_row, Covers};
@@ -24,6 +24,28 @@ pub(crate) fn agreed(journals: &Journals, instance: InstanceId) -> Option<&Decre
     None
 }
 
+/// The greater of two numbers.
+fn greater(first: u16, second: u16) -> u16
+    ensures first { first ≤ result }
+    ensures second { second ≤ result }
+    ensures most { (most : ℕ) → first ≤ most → second ≤ most → result ≤ most }
+{
+    if first < second { second } else { first }
+}
+
+/// A number above which the journals commit nothing in any instance.
+fn top_of(journals: &Journals) -> u16
+    ensures bounded { result ≤ highest_number }
+    ensures none { (i : ℕ) → result < number_of i → agreed_in journals.now i ≡ None }
+{
+    let mut top = 0;
+    for replica in 0..journals.size().count() {
+        let id = ReplicaId::new(replica).unwrap();
+        top = greater(top, journals.get(id).unwrap().highest());
+    }
+    top
+}
+
 /// Adds what is agreed on in the instance, if something is.
 fn add_agreed(
     alloc: Global,
@@ -40,16 +62,18 @@ fn add_agreed(
     Ok(())
 }
 
-/// Adds what is agreed on in the instances that the replica leads.
+/// Adds what is agreed on in the instances up to this number that the replica leads.
 fn add_led(
     alloc: Global,
     journals: &Journals,
     leader: ReplicaId,
+    top: u16,
     table: &mut Vec<(InstanceId, Decree)>,
 ) -> Result<(), AllocError>
-    ensures { OnOk result (Covers (agreed_in journals.now) (instance_of leader 1) table.old.items → Covers (agreed_in journals.now) (instance_of leader 2001) table.new.items) }
+    requires { top ≤ highest_number }
+    ensures { OnOk result (Covers (agreed_in journals.now) (instance_of leader 1) table.old.items → Covers (agreed_in journals.now) (instance_of leader (top + 1)) table.new.items) }
 {
-    for place in 0..InstanceId::HIGHEST_NUMBER {
+    for place in 0..top {
         let instance = InstanceId::new(leader, place + 1).unwrap();
         add_agreed(alloc, journals, instance, table)?;
     }
@@ -64,10 +88,11 @@ pub(crate) fn table_of(
     ensures { IfOk result (λ v. IsTable (opens journals.now.opening) journals.now.faults (journals_of journals.now) v.items) }
 {
     journals.commit_in_range();
+    let top = top_of(journals);
     let mut table = Vec::new(alloc);
     for leader in 0..journals.size().count() {
         let leader = ReplicaId::new(leader).unwrap();
-        add_led(alloc, journals, leader, &mut table)?;
+        add_led(alloc, journals, leader, top, &mut table)?;
     }
     Ok(table)
 }

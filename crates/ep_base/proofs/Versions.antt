@@ -2,7 +2,7 @@
 use Rattle.std.proofs.Common.{◌≡◌, ℕ, ◌+◌, ◌*◌, ◌<◌, ◌≤◌, Bool, true, false, List, [], ◌∷◌, Option, Some, None, length, refl, sym, true≢false, not, arith}
 use Rattle.std.specs.Prelude.{◌||◌}
 use Rattle.ep_base.specs.Deps.{IsRising, AreInstances, most_deps}
-use Rattle.ep_base.specs.Instances.{leader_of, number_of, IsInstance}
+use Rattle.ep_base.specs.Instances.{leader_of, number_of, highest_number, IsInstance}
 use Rattle.ep_base.specs.Interference.{is_swap, is_late, is_long}
 use Rattle.ep_base.specs.Versions.{version_number, generation_of, version_of, highest_in, most_deps_in, knows, IsInstanceIn, AreDepsIn, IsDecreeIn, IsVoteIn, CanSay}
 use Rattle.ep_base.specs.Commands.{Command}
@@ -69,9 +69,9 @@ said_later v w (PrepareOk i b o) e h = (instance_later v w i e h.0, vote_later v
 said_later v w (Nack i b p) e h = instance_later v w i e h
 
 -- and all instances
-pub deps_in_last : (is : List ℕ) → AreInstances is → AreDepsIn V2 is
-deps_in_last [] h = tt
-deps_in_last (i ∷ is) h = (h.0.2, deps_in_last is h.1)
+pub deps_in_last : (g : ℕ) (is : List ℕ) → AreInstances is → AreDepsIn (V3 g) is
+deps_in_last g [] h = tt
+deps_in_last g (i ∷ is) h = (h.0.2, deps_in_last g is h.1)
 
 -- of two instances of version 1 the lower one has fewer below it
 first_rises : (i j : ℕ) → IsInstance i → IsInstance j → IsInstanceIn V1 i → IsInstanceIn V1 j → i < j → leader_of i * 1000 + number_of i < leader_of j * 1000 + number_of j
@@ -86,10 +86,23 @@ length_in_first : (is : List ℕ) → IsRising is → AreInstances is → AreDep
 length_in_first [] h k e = omega arith
 length_in_first (i ∷ is) h k e = let rest = few_from_first i is h k e in let in_i = k.0 in omega arith
 
+-- and likewise of version 2
+second_rises : (i j : ℕ) → IsInstance i → IsInstance j → IsInstanceIn V2 i → IsInstanceIn V2 j → i < j → leader_of i * 2000 + number_of i < leader_of j * 2000 + number_of j
+second_rises i j h k e f low = omega (arith, h, k, e, f)
+
+few_from_second : (i : ℕ) (is : List ℕ) → IsRising (i ∷ is) → AreInstances (i ∷ is) → AreDepsIn V2 (i ∷ is) → length is + (leader_of i * 2000 + number_of i) ≤ most_deps_in V2
+few_from_second i [] h k e = let in_i = k.0 in let first = e.0 in omega arith
+few_from_second i (j ∷ js) h k e = let rest = few_from_second j js h.1 k.1 e.1 in let rises = second_rises i j k.0 k.1.0 e.0 e.1.0 h.0 in omega arith
+
+-- version 2 has at most 14,000 dependencies
+length_in_second : (is : List ℕ) → IsRising is → AreInstances is → AreDepsIn V2 is → length is ≤ most_deps_in V2
+length_in_second [] h k e = omega arith
+length_in_second (i ∷ is) h k e = let rest = few_from_second i is h k e in let in_i = k.0 in omega arith
+
 -- as many dependencies as the version has instances
 pub length_in : (v : Version) (is : List ℕ) → IsRising is → AreInstances is → length is ≤ most_deps → AreDepsIn v is → length is ≤ most_deps_in v
 length_in V1 is h k few e = length_in_first is h k e
-length_in V2 is h k few e = few
+length_in V2 is h k few e = length_in_second is h k e
 length_in (V3 g) is h k few e = few
 
 pub version_low : (v : Version) → version_number v ≤ 3
@@ -97,7 +110,7 @@ version_low V1 = omega arith
 version_low V2 = omega arith
 version_low (V3 g) = omega arith
 
-pub highest_low : (v : Version) → highest_in v ≤ 2000
+pub highest_low : (v : Version) → highest_in v ≤ highest_number
 highest_low V1 = omega arith
 highest_low V2 = omega arith
 highest_low (V3 g) = omega arith

@@ -26,7 +26,7 @@ pub record IsDeps (is : List ℕ) : Type 0 where
 
 -- as many as there are instances
 abbrev pub most_deps : ℕ
-most_deps = 14000
+most_deps = 63000
 
 -- ks has what is and js have, and nothing else
 abbrev pub IsUnion : List ℕ → List ℕ → List ℕ → Type 0

@@ -11,9 +11,9 @@ leader_of i = i / 65536
 abbrev pub number_of : ℕ → ℕ
 number_of i = i % 65536
 
--- the numbers of a replica's own instances are 1 to 2,000
+-- the numbers of a replica's own instances are 1 to 9,000; versions 1 and 2 have fewer
 abbrev pub highest_number : ℕ
-highest_number = 2000
+highest_number = 9000
 
 abbrev pub IsInstance : ℕ → Type 0
 IsInstance i = (leader_of i ≤ 6) × (1 ≤ number_of i) × (number_of i ≤ highest_number)

@@ -10,7 +10,7 @@ use Rattle.ep_base.specs.declared.version_kind.VersionKind.TheVariants.{V1, V2, 
 use Rattle.ep_base.specs.declared.vote.Vote.{Vote}
 use Rattle.ep_base.specs.Deps.{most_deps}
 use Rattle.ep_base.specs.Instances.{number_of, highest_number}
-use Rattle.ep_base.specs.Interference.{is_swap, is_late, is_long}
+use Rattle.ep_base.specs.Interference.{is_swap, is_seal, is_late, is_long}
 
 abbrev pub version_number : Version → ℕ
 version_number V1 = 1
@@ -30,14 +30,26 @@ version_of n g = if n == 1 then V1 else (if n == 3 then V3 g else V2)
 -- the numbers of a replica's own instances are 1 to this one
 abbrev pub highest_in : Version → ℕ
 highest_in V1 = 1000
-highest_in V2 = highest_number
+highest_in V2 = 2000
 highest_in (V3 g) = highest_number
+
+-- the highest number of an instance in which the command is proposed: a generation's last ten are for seals, so that it can always be ended
+abbrev pub highest_for : Version → Command → ℕ
+highest_for V1 c = highest_in V1
+highest_for V2 c = highest_in V2
+highest_for (V3 g) c = if is_seal c then highest_in (V3 g) else 8990
 
 -- as many as there are instances
 abbrev pub most_deps_in : Version → ℕ
 most_deps_in V1 = 7000
-most_deps_in V2 = most_deps
+most_deps_in V2 = 14000
 most_deps_in (V3 g) = most_deps
+
+-- how many bytes a frame has at most, in bundles, logs and requests
+abbrev pub most_frame : Version → ℕ
+most_frame V1 = 65535
+most_frame V2 = 65535
+most_frame (V3 g) = 400000
 
 -- version 1 has no swap, and neither it nor version 2 has what version 3 is for
 abbrev pub knows : Version → Command → Bool

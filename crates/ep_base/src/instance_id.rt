@@ -1,13 +1,13 @@
 //! Instances.
 
-ghost use Rattle.std.specs.Prelude.{◌≡◌, ◌≤◌, ◌↔◌, IsOk, IfOk};
+ghost use Rattle.std.specs.Prelude.{ℕ, ◌≡◌, ◌≤◌, ◌↔◌, IsOk, IfOk};
 ghost use Rattle.ep_base.specs.Instances.{instance_of, leader_of, number_of, highest_number, IsInstance};
 
 use crate::out_of_range::OutOfRange;
 use crate::replica_id::ReplicaId;
 use std::marker::Model;
 
-/// An instance: the replica that leads it and a number from 1 to 2,000. Instances are ordered by replica, then by number.
+/// An instance: the replica that leads it and a number from 1 to 9,000. Instances are ordered by replica, then by number.
 #[derive(Clone, Copy, Debug, PartialEq, Eq, PartialOrd, Ord, Hash)]
 pub struct InstanceId {
     place: u32,
@@ -39,9 +39,9 @@ impl Default for InstanceId {
 
 impl InstanceId {
     /// The highest number of an instance in any version.
-    pub const HIGHEST_NUMBER: u16 = 2000;
+    pub const HIGHEST_NUMBER: u16 = 9000;
 
-    /// The instance of this number; `OutOfRange` unless it is 1 to 2,000.
+    /// The instance of this number; `OutOfRange` unless it is 1 to 9,000.
     pub fn new(replica: ReplicaId, number: u16) -> Result<InstanceId, OutOfRange>
         ensures in_range { IsOk result ↔ ((1 ≤ number) × (number ≤ highest_number)) }
         ensures value { IfOk result (λ i. i ≡ instance_of replica number) }
@@ -89,11 +89,22 @@ impl InstanceId {
         ReplicaId::known((self.place / 65536) as u8)
     }
 
-    /// The instance's number among those that its replica leads, from 1 to 2,000.
+    /// The instance's number among those that its replica leads, from 1 to 9,000.
     pub fn number(self) -> u16
         ensures value { result ≡ number_of self }
         ensures in_range { IsInstance self }
     {
         (self.place % 65536) as u16
+    }
+
+    /// The instance's number, or this one if that is greater.
+    pub fn number_at_least(self, least: u16) -> u16
+        ensures own { number_of self ≤ result }
+        ensures least { least ≤ result }
+        ensures most { (most : ℕ) → highest_number ≤ most → least ≤ most → result ≤ most }
+        ensures in_range { IsInstance self }
+    {
+        let number = self.number();
+        if number < least { least } else { number }
     }
 }

@@ -2,7 +2,7 @@
 
 ghost use Rattle.std.specs.Prelude.{◌≡◌, ◌≤◌, ◌↔◌, ◌⊎◌, IfSome, IsSome};
 ghost use Rattle.ep_base.specs.Generations.{HasItsGeneration};
-ghost use Rattle.ep_base.specs.Versions.{version_number, generation_of, version_of, highest_in, most_deps_in, knows, names};
+ghost use Rattle.ep_base.specs.Versions.{version_number, generation_of, version_of, highest_in, highest_for, most_deps_in, most_frame, knows, names};
 
 use crate::command::Command;
 use crate::generation::Generation;
@@ -110,7 +110,24 @@ impl Version {
     {
         match self.kind {
             VersionKind::V1 => 1000,
-            VersionKind::V2 | VersionKind::V3(_) => InstanceId::HIGHEST_NUMBER,
+            VersionKind::V2 => 2000,
+            VersionKind::V3(_) => InstanceId::HIGHEST_NUMBER,
+        }
+    }
+
+    /// The highest number of an instance in which the command is proposed: in version 3 the last ten are for seals.
+    pub fn highest_for(self, command: &Command) -> u16
+        ensures { result ≡ highest_for self command.now }
+    {
+        match self.kind {
+            VersionKind::V1 | VersionKind::V2 => self.highest_number(),
+            VersionKind::V3(_) => {
+                if command.is_seal() {
+                    self.highest_number()
+                } else {
+                    8990
+                }
+            }
         }
     }
 
@@ -120,7 +137,18 @@ impl Version {
     {
         match self.kind {
             VersionKind::V1 => 7000,
-            VersionKind::V2 | VersionKind::V3(_) => 14000,
+            VersionKind::V2 => 14_000,
+            VersionKind::V3(_) => 63_000,
+        }
+    }
+
+    /// How many bytes a frame has at most, in bundles, logs and requests.
+    pub fn most_frame(self) -> u32
+        ensures { result ≡ most_frame self }
+    {
+        match self.kind {
+            VersionKind::V1 | VersionKind::V2 => 65_535,
+            VersionKind::V3(_) => 400_000,
         }
     }
 

@@ -7,6 +7,7 @@ pub enum VersionKind {
     V1,
     /// There are swaps too, and a replica leads 2,000 instances.
     V2,
-    /// There are comparisons, seals and commands of machines outside too, and values of up to 65,535 bytes. The generation's number.
+    /// There are comparisons, seals and commands of machines outside too, values of up to 65,535 bytes, and a replica leads 9,000 instances.
+    /// The generation's number.
     V3(u32),
 }

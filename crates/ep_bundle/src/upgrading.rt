@@ -40,7 +40,7 @@ fn check(alloc: Global, bytes: &[u8]) -> Result<(), BundleFault>
 }
 
 /// The bytes of the bundle of these journals in version 3, of generation 1, which opens with nothing, and of these receipts. `NotARun` tells
-/// the first entry that is no step in version 3: one that takes a number above 1,990.
+/// the first entry that is no step in version 3.
 pub fn in_third(
     alloc: Global,
     journals: &Journals,

@@ -4,7 +4,7 @@ use Rattle.std.proofs.lemmas.Cmp.{nat_list_cmp_total}
 use Rattle.std.proofs.lemmas.Map.Lookups.{exact_bytes}
 use Rattle.std.proofs.lemmas.Map.Views.{tells_apart}
 use Rattle.std.specs.Cmp.Lexicographic.{texts_ties, nat_list_eq_equiv}
-use Rattle.std.specs.FinMap.{same_map, get-empty}
+use Rattle.std.specs.FinMap.{same_map}
 use Rattle.std.specs.Option.{option_copied, option_flatten}
 use Rattle.std.specs.Borrow.{Bor}
 use Rattle.std.specs.Prelude.{Vec, is_some}
@@ -13,7 +13,7 @@ use Rattle.std.specs.Map.{lookup, KeepsOthers}
 use Rattle.ep_base.specs.Attributes.{same_list}
 use Rattle.ep_rules.specs.OneMap.{Contents, value_at, with_key}
 use Rattle.ep_rules.proofs.Commuting.{is_key, value_with}
-use Rattle.ep_exec.specs.Table.{Entry, HavePlaces, contents_of, has_place, restored}
+use Rattle.ep_exec.specs.Table.{Entry, HavePlaces, over, has_place, restored}
 use Rattle.ep_space.specs.Index.{is_at}
 
 -- two maps with one value at each key are one
@@ -41,15 +41,20 @@ with_key_own m k = same_contents _ _ (λ q. value_with m k (value_at m k) q ∙ 
 pub with_key_back : (m : Contents) (k : List ℕ) (o : Option (List ℕ)) → with_key (with_key m k o) k (value_at m k) ≡ m
 with_key_back m k o = with_key_again m k o (value_at m k) ∙ with_key_own m k
 
-pub value_of : (es : List Entry) (q : List ℕ) → value_at (contents_of es) q ≡ option_flatten (lookup (is_at q) es)
-value_of [] q = get-empty _ q
-value_of (e ∷ es) q =
-    value_with (contents_of es) e.0.items e.1 q
-    ∙ ap (cond (is_key q e.0.items) e.1) (value_of es q)
-    ∙ ap (λ b. cond b e.1 (option_flatten (lookup (is_at q) es))) (sym (texts_ties q e.0.items))
+-- what is said of a key, or else what it has
+abbrev pub said_or : Option (Option (List ℕ)) → Option (List ℕ) → Option (List ℕ)
+said_or None v = v
+said_or (Some o) v = o
+
+pub value_of : (m : Contents) (es : List Entry) (q : List ℕ) → value_at (over m es) q ≡ said_or (lookup (is_at q) es) (value_at m q)
+value_of m [] q = refl
+value_of m (e ∷ es) q =
+    value_with (over m es) e.0.items e.1 q
+    ∙ ap (cond (is_key q e.0.items) e.1) (value_of m es q)
+    ∙ ap (λ b. cond b e.1 (said_or (lookup (is_at q) es) (value_at m q))) (sym (texts_ties q e.0.items))
     ∙ pulled (is_at q e.0) e.1 (lookup (is_at q) es)
   where
-    pulled : (b : Bool) (o : Option (List ℕ)) (l : Option (Option (List ℕ))) → cond b o (option_flatten l) ≡ option_flatten (cond b (Some o) l)
+    pulled : (b : Bool) (o : Option (List ℕ)) (l : Option (Option (List ℕ))) → cond b o (said_or l (value_at m q)) ≡ said_or (cond b (Some o) l) (value_at m q)
     pulled true o l = refl
     pulled false o l = refl
 
@@ -63,13 +68,17 @@ other_kept old new k q keeps e = keeps (is_at q) (λ x y h. nat_list_eq_equiv.co
     (λ l h. nat_list_eq_equiv.symm q l.items ∙ sym (nat_list_eq_equiv.congr k l.items q h) ∙ nat_list_eq_equiv.symm k q ∙ texts_ties q k ∙ e)
 
 -- where a look-up is changed at one key alone, so is the map
-pub changed_at : (old new : List Entry) (k : List ℕ) (w : Option (Option (List ℕ))) → lookup (is_at k) new ≡ w → KeepsOthers same (is_at k) old new
-    → contents_of new ≡ with_key (contents_of old) k (option_flatten w)
-changed_at old new k w here keeps = same_contents _ _ (λ q. value_of new q ∙ go q (is_key q k) refl ∙ sym (value_with (contents_of old) k (option_flatten w) q))
+pub changed_at : (m : Contents) (old new : List Entry) (k : List ℕ) (w : Option (List ℕ)) → said_or (lookup (is_at k) new) (value_at m k) ≡ w → KeepsOthers same (is_at k) old new
+    → over m new ≡ with_key (over m old) k w
+changed_at m old new k w here keeps = same_contents _ _ (λ q. value_of m new q ∙ go q (is_key q k) refl ∙ sym (value_with (over m old) k w q))
   where
-    go : (q : List ℕ) (b : Bool) → is_key q k ≡ b → option_flatten (lookup (is_at q) new) ≡ cond b (option_flatten w) (value_at (contents_of old) q)
-    go q true e = ap option_flatten (ap (λ z. lookup (is_at z) new) (tells_apart exact_bytes q k e) ∙ here)
-    go q false e = ap option_flatten (other_kept old new k q keeps e) ∙ sym (value_of old q)
+    go : (q : List ℕ) (b : Bool) → is_key q k ≡ b → said_or (lookup (is_at q) new) (value_at m q) ≡ cond b w (value_at (over m old) q)
+    go q true e = ap (λ z. said_or (lookup (is_at z) new) (value_at m z)) (tells_apart exact_bytes q k e) ∙ here
+    go q false e = ap (λ l. said_or l (value_at m q)) (other_kept old new k q keeps e) ∙ sym (value_of m old q)
+
+-- it is set there
+pub set_at : (m : Contents) (old new : List Entry) (k : List ℕ) (o : Option (List ℕ)) → lookup (is_at k) new ≡ Some o → KeepsOthers same (is_at k) old new → over m new ≡ with_key (over m old) k o
+set_at m old new k o here keeps = changed_at m old new k o (ap (λ l. said_or l (value_at m k)) here) keeps
 
 -- and the other places stay
 pub place_kept : (old new : List Entry) (k q : List ℕ) (o : Option (List ℕ)) → lookup (is_at k) new ≡ Some o → KeepsOthers same (is_at k) old new → has_place old q ≡ true → has_place new q ≡ true
@@ -87,10 +96,21 @@ restored-push (v ∷ us) u m = ap (λ n. with_key n v.0.items v.1) (restored-pus
 pub with_key_none : (m : Contents) (k : List ℕ) → value_at m k ≡ None → with_key m k None ≡ m
 with_key_none m k e = ap (with_key m k) (sym e) ∙ with_key_own m k
 
-pub value_without_place : (es : List Entry) (k : List ℕ) → has_place es k ≡ false → value_at (contents_of es) k ≡ None
-value_without_place es k h = value_of es k ∙ go (lookup (is_at k) es) h
+-- where something is said of a key, that counts
+pub said_there : (l : Option (Option (List ℕ))) (v : Option (List ℕ)) → is_some l ≡ true → option_flatten l ≡ said_or l v
+said_there None v e = absurd (true≢false (sym e))
+said_there (Some o) v e = refl
+
+-- and nothing else, where it had none
+pub said_alone : (l : Option (Option (List ℕ))) → option_flatten l ≡ said_or l None
+said_alone None = refl
+said_alone (Some o) = refl
+
+-- nothing is said of a key that has no place
+pub unsaid : (es : List Entry) (k : List ℕ) → has_place es k ≡ false → lookup (is_at k) es ≡ None
+unsaid es k h = go (lookup (is_at k) es) h
   where
-    go : (l : Option (Option (List ℕ))) → is_some l ≡ false → option_flatten l ≡ None
+    go : (l : Option (Option (List ℕ))) → is_some l ≡ false → l ≡ None
     go None e = refl
     go (Some o) e = absurd (true≢false e)
 

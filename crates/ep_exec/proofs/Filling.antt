@@ -2,12 +2,13 @@
 use Rattle.std.proofs.Common.{◌≡◌, ℕ, suc, ◌+◌, ◌<◌, take, drop, take-append-drop, get_or, length, T, true, cond, List, [], ◌∷◌, ◌++◌, Some, None, refl, sym, ap, subst, ◌∙◌, arith, Ordering, Greater, is_eq}
 use Rattle.std.proofs.Math.Seq.{drop-cons, take-suc}
 use Rattle.std.proofs.lemmas.Map.Lookups.{exact_bytes}
-use Rattle.std.specs.FinMap.{find, from_entries, from_entries_push, is_sorted}
+use Rattle.std.specs.FinMap.{entries, find, from_entries, from_entries_push, from_sorted, is_sorted}
 use Rattle.std.specs.FinMap.Entries.{below_all}
 use Rattle.std.specs.Cmp.Lexicographic.{nat_list_cmp_total}
 use Rattle.std.specs.Ordering.{ordering_reverse}
 use Rattle.ep_rules.specs.OneMap.{Contents, with_key}
 use Rattle.ep_exec.specs.Table.{key_cmp}
+use Rattle.ep_exec.proofs.Rising.{list_is, opened_is}
 use Rattle.ep_exec.proofs.Sorting.{Pair, first_of, second_of, less_of}
 
 -- a key is above those before it in a rising list
@@ -31,3 +32,7 @@ filled_more items m k x sorted lt at is =
     let next : k + 1 ≡ suc k = omega arith in
     let more : take (k + 1) items ≡ front ++ x ∷ [] = ap (λ (n : ℕ). take n items) next ∙ take-suc items k x lt ∙ (λ t. front ++ sym at t ∷ []) in
     ap (λ (n : Contents). with_key n x.0 (Some x.1)) is ∙ sym (from_entries_push nat_list_cmp_total exact_bytes front x.0 x.1 none) ∙ ap (λ (ys : List Pair). from_entries ys) (sym more)
+
+-- all of a rising list
+pub all_filled : (es : List Pair) → is_sorted key_cmp es ≡ true → entries (from_entries {R = key_cmp} es) ≡ es
+all_filled es h = ap entries (opened_is (from_sorted es) (from_entries es) (ap from_entries (sym (list_is es h)))) ∙ list_is es h

@@ -16,4 +16,5 @@ pub mod Sealed
 pub mod Rising
 pub mod Sorting
 pub mod Filling
+pub mod Placed
 pub mod Nexts

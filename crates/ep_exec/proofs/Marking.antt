@@ -1,6 +1,7 @@
 -- What a mark more makes of marks.
-use Rattle.std.proofs.Common.{◌≡◌, ℕ, ◌<◌, Bool, true, false, List, [], ◌∷◌, ◌++◌, length, inl, inr, sym, subst, ◌∙◌, arith}
+use Rattle.std.proofs.Common.{◌≡◌, ℕ, ◌<◌, ◌≤◌, Bool, true, false, List, [], ◌∷◌, ◌++◌, length, inl, inr, sym, subst, ◌∙◌, arith}
 use Rattle.std.specs.Prelude.{slice_index_or, slice_set}
+use Rattle.std.specs.List.{AllByRecursion}
 use Rattle.std.proofs.lemmas.Bool.{cases_eq, false≢true}
 use Rattle.std.proofs.lemmas.List.{get_or-set_same, get_or-set_other}
 use Rattle.ep_base.specs.Instances.{IsInstance}
@@ -29,3 +30,8 @@ marks_more is ms j s own within i known = elim (cases_eq i j) [
 
 pub marks_none : AreMarks [] []
 marks_none i known = (λ has. absurd (omega arith), λ h. absurd (false≢true h))
+
+-- slots up to one that is there are there
+pub all_within : (t n : ℕ) (is : List ℕ) → t < n → AllByRecursion (λ i. slot i ≤ t) is → AllByRecursion (λ i. slot i < n) is
+all_within t n [] less h = tt
+all_within t n (i ∷ is) less h = (let at : slot i ≤ t = h.0 in omega (arith, at, less), all_within t n is less h.1)

@@ -1,4 +1,6 @@
 pub mod Table
+pub mod Shared
+pub mod Held
 pub mod Tries
 pub mod Kept
 pub mod Marks

@@ -7,7 +7,7 @@ use Rattle.std.specs.Map.{lookup}
 use Rattle.std.specs.Ordering.{nat_cmp}
 use Rattle.std.specs.Cmp.Lexicographic.{slice_cmp}
 use Rattle.std.specs.declared.cmp.Ordering.{Ordering}
-use Rattle.ep_rules.specs.OneMap.{Contents, empty, with_key, Store}
+use Rattle.ep_rules.specs.OneMap.{Contents, with_key, Store}
 use Rattle.ep_space.specs.Index.{is_at}
 
 -- keys by their bytes, a key before the longer ones that begin with it
@@ -29,10 +29,10 @@ first_of (Some v) since = Some v
 abbrev pub Entry : Type 0
 Entry = Vec ℕ Global × Option (List ℕ)
 
--- what the keys have
-abbrev pub contents_of : List Entry → Contents
-contents_of [] = empty
-contents_of (e ∷ es) = with_key (contents_of es) e.0.items e.1
+-- what keys have: what these entries say, and of other keys what m says
+abbrev pub over : Contents → List Entry → Contents
+over m [] = m
+over m (e ∷ es) = with_key (over m es) e.0.items e.1
 
 -- the key has an entry, with a value or with none
 abbrev pub has_place : List Entry → List ℕ → Bool

@@ -1,28 +1,37 @@
 //! What the keys of a map have, in rising order of keys.
 
 ghost use Rattle.std.specs.Prelude.{◌≡◌, ◌↔◌, ◌++◌, ◌∷◌, [], ℕ, List, IsTrue, true, OnOk, OnErr, IfOk, IfErr};
+ghost use Rattle.std.specs.Arc.{arc_value};
+ghost use Rattle.std.specs.Option.{option_copied};
 ghost use Rattle.std.specs.Ordering.{is_lt};
-ghost use Rattle.std.specs.FinMap.{entries as entries_in, from_sorted, is_sorted};
+ghost use Rattle.std.specs.FinMap.{entries as entries_in, find, from_sorted, is_sorted};
 ghost use Rattle.ep_exec.specs.Taking.{IsNotTaken};
+ghost use Rattle.ep_exec.specs.Shared.{items_of};
 ghost use Rattle.ep_exec.specs.Table.{key_cmp};
-ghost use Rattle.ep_rules.specs.OneMap.{empty};
+ghost use Rattle.ep_rules.specs.OneMap.{empty, value_at};
 
 use crate::contents_fault::ContentsFault;
 use ep_base::{Key, Value};
 use std::alloc::{AllocError, Global};
+use std::cmp::Ordering;
 use std::marker::Model;
+use std::sync::Arc;
 
 /// What the keys of an open map have: each key that has a value once, in strictly rising order of keys. Keys are ordered by their bytes from
 /// the first one on, and a key comes before the longer ones that begin with it.
+///
+/// Copies share their entries: a copy takes the same time and memory however many there are.
 pub struct Contents {
-    items: Vec<(Key, Value)>,
+    alloc: Global,
+    // (no key has a value where there is none)
+    shared: Option<Arc<Vec<(Key, Value)>>>,
 }
 
 // (by hand, so that no crate above proves again how the parts are dropped)
 impl Drop for Contents {
     fn drop(self) {
-        let Contents { items } = self;
-        drop(items);
+        let Contents { alloc: _, shared } = self;
+        drop(shared);
     }
 }
 
@@ -30,15 +39,16 @@ impl Model for Contents {
     ghost use Rattle.std.specs.Prelude.{◌≡◌, true};
     ghost use Rattle.std.specs.FinMap.{from_sorted, is_sorted};
     ghost use Rattle.ep_rules.specs.OneMap as one_map;
+    ghost use Rattle.ep_exec.specs.Shared.{items_of};
     ghost use Rattle.ep_exec.specs.Table.{contents_code, key_cmp};
 
     ghost Value = { one_map.Contents };
 
     ghost coded = { contents_code };
 
-    ghost view = { λ c. from_sorted c.items.items };
+    ghost view = { λ c. from_sorted (items_of c.shared) };
 
-    ghost invariant = { λ c. is_sorted key_cmp c.items.items ≡ true };
+    ghost invariant = { λ c. is_sorted key_cmp (items_of c.shared) ≡ true };
 }
 
 impl Contents {
@@ -48,16 +58,18 @@ impl Contents {
         ensures { result ≡ empty }
     {
         Contents {
-            items: Vec::new(alloc),
+            alloc,
+            shared: None,
         }
     }
 
     /// These entries, whose keys rise strictly.
-    pub(crate) fn of_sorted(items: Vec<(Key, Value)>) -> Contents
+    pub(crate) fn of_sorted(alloc: Global, items: Vec<(Key, Value)>) -> Result<Contents, AllocError>
         requires { is_sorted key_cmp items.items ≡ true }
-        ensures { result ≡ from_sorted items.items }
+        ensures { IfOk result (λ c. c ≡ from_sorted items.items) }
     {
-        Contents { items }
+        let shared = Some(Arc::new(alloc, items)?);
+        Ok(Contents { alloc, shared })
     }
 
     /// Whether the key is above all that are there, so that it may be the next one.
@@ -65,7 +77,7 @@ impl Contents {
     pub fn is_below(&self, key: &Key) -> bool
         ensures { (value : List ℕ) → result ≡ is_sorted key_cmp (entries_in self.now ++ (key.now, value) ∷ []) }
     {
-        is_above(&self.items, key)
+        is_above(listed(&self.shared), key)
     }
 
     /// Takes one more key, with what it has; `NotAbove` unless the key is above all that are there. As it was at an `Err`.
@@ -76,11 +88,10 @@ impl Contents {
         ensures refused { IfErr result (λ fault. IsNotTaken self.old key value fault) }
         ensures err { OnErr result (self.new ≡ self.old) }
     {
-        if !is_above(&self.items, &key) {
+        if !is_above(listed(&self.shared), &key) {
             return Err(ContentsFault::NotAbove);
         }
-        self.items.reserve(1)?;
-        self.items.push_reserved((key, value));
+        add(self.alloc, &mut self.shared, (key, value))?;
         Ok(())
     }
 
@@ -89,15 +100,25 @@ impl Contents {
     pub fn entries(&self) -> &[(Key, Value)]
         ensures { result.now ≡ entries_in self.now }
     {
-        self.items.as_slice()
+        listed(&self.shared)
     }
 
-    /// The same again.
+    /// What the key has.
+    pub fn get(&self, key: &[u8]) -> Option<&Value>
+        ensures { option_copied result ≡ value_at self.now key.now }
+    {
+        found(listed(&self.shared), key)
+    }
+
+    /// The same again, with the same entries in memory.
     pub fn copy(&self, alloc: Global) -> Result<Contents, AllocError>
         ensures { IfOk result (λ c. c ≡ self.now) }
     {
-        let items = copied(alloc, &self.items)?;
-        Ok(Contents { items })
+        let shared = match &self.shared {
+            None => None,
+            Some(items) => Some(Arc::try_clone(items)?),
+        };
+        Ok(Contents { alloc, shared })
     }
 
     /// Whether both say that each key has the same.
@@ -106,6 +127,56 @@ impl Contents {
     {
         are_same(self.entries(), other.entries())
     }
+}
+
+/// The entries.
+fn listed(shared: &Option<Arc<Vec<(Key, Value)>>>) -> &[(Key, Value)]
+    ensures { result.now ≡ items_of shared.now }
+{
+    match shared {
+        None => <&[(Key, Value)]>::default(),
+        Some(items) => items.as_slice(),
+    }
+}
+
+/// One entry more, in a list of its own where the list is shared. As it was at an `Err`.
+fn add(
+    alloc: Global,
+    shared: &mut Option<Arc<Vec<(Key, Value)>>>,
+    entry: (Key, Value),
+) -> Result<(), AllocError>
+    ensures ok { OnOk result (items_of shared.new ≡ items_of shared.old ++ entry ∷ []) }
+    ensures err { OnErr result (items_of shared.new ≡ items_of shared.old) }
+{
+    if let Some(items) = shared {
+        if let Some(own) = Arc::get_mut(items) {
+            own.reserve(1)?;
+            own.push_reserved(entry);
+            return Ok(());
+        }
+    }
+    let mut items = copied(alloc, listed(shared))?;
+    items.push(entry)?;
+    *shared = Some(Arc::new(alloc, items)?);
+    Ok(())
+}
+
+/// What the key has among entries whose keys rise strictly.
+fn found<'a>(items: &'a [(Key, Value)], key: &[u8]) -> Option<&'a Value>
+    requires { is_sorted key_cmp items.now ≡ true }
+    ensures { option_copied result ≡ find key_cmp key.now items.now }
+{
+    match items.binary_search_by(|entry| compared(entry, key)) {
+        Ok(index) => Some(&items[index].1),
+        Err(_) => None,
+    }
+}
+
+/// How the entry's key stands to the other one.
+fn compared(entry: &(Key, Value), key: &[u8]) -> Ordering
+    ensures { result ≡ key_cmp entry.now.0 key.now }
+{
+    entry.0.as_slice().cmp(key)
 }
 
 /// Whether the key is above the last one, and so above all.

@@ -3,10 +3,12 @@
 ghost use Rattle.std.specs.Prelude.{◌≡◌, ◌<◌, ◌≤◌, ◌+◌, ◌↔◌, [], ◌∷◌, ◌++◌, IsTrue, IfOk, OnOk, length};
 ghost use Rattle.std.specs.Vec.{vec_len, vec_capacity};
 ghost use Rattle.ep_base.specs.Places.{Has};
+ghost use Rattle.ep_exec.specs.Kept.{HasRoom};
 ghost use Rattle.ep_exec.specs.Marks.{AreMarks};
 ghost use Rattle.ep_exec.specs.Ready.{are_in};
+ghost use Rattle.ep_space.specs.Entries.{slot};
 
-use crate::marks::{is_marked, slot_of, widen};
+use crate::marks::{is_marked, slot_of, widen, widen_for};
 use ep_base::InstanceId;
 use std::alloc::{AllocError, Global};
 use std::marker::Model;
@@ -27,16 +29,16 @@ impl Drop for Executed {
 }
 
 impl Model for Executed {
-    ghost use Rattle.std.specs.Prelude.{length};
+    ghost use Rattle.std.specs.Prelude.{◌-◌, length};
     ghost use Rattle.std.specs.Vec.{vec_len, vec_capacity};
     ghost use Rattle.ep_exec.specs.Kept.{Kept, kept_code};
-    ghost use Rattle.ep_exec.specs.Marks.{AreMarks, room_of};
+    ghost use Rattle.ep_exec.specs.Marks.{AreMarks};
 
     ghost Value = { Kept };
 
     ghost coded = { kept_code };
 
-    ghost view = { λ e. record { list = e.list.items; room = room_of (length e.marks.items) (vec_capacity e.list) (vec_len e.list) } };
+    ghost view = { λ e. record { list = e.list.items; room = vec_capacity e.list - vec_len e.list; marks = length e.marks.items } };
 
     ghost invariant = { λ e. AreMarks e.list.items e.marks.items };
 }
@@ -87,22 +89,33 @@ impl Executed {
         self.list.as_slice()
     }
 
-    /// Makes room for `more` instances.
-    pub fn reserve(&mut self, more: usize) -> Result<(), AllocError>
+    /// Makes room for these instances.
+    pub fn reserve(&mut self, order: &[InstanceId]) -> Result<(), AllocError>
         ensures list { self.new.list ≡ self.old.list }
-        ensures room { OnOk result (more ≤ self.new.room) }
+        ensures room { OnOk result (HasRoom self.new order.now) }
         ensures kept { self.old.room ≤ self.new.room }
     {
-        widen(&mut self.marks, 16007)?;
-        self.list.reserve(more)
+        widen_for(&mut self.marks, order)?;
+        self.list.reserve(order.len())
+    }
+
+    /// Makes room for this instance.
+    pub fn reserve_one(&mut self, instance: InstanceId) -> Result<(), AllocError>
+        ensures list { self.new.list ≡ self.old.list }
+        ensures room { OnOk result ((0 < self.new.room) × (slot instance < self.new.marks)) }
+    {
+        widen(&mut self.marks, slot_of(instance))?;
+        self.list.reserve(1)
     }
 
     /// Adds an instance, where there is room; one that is in the set stays where it is.
     pub fn add(&mut self, instance: InstanceId)
-        requires { 0 < self.old.room }
+        requires room { 0 < self.old.room }
+        requires slot { slot instance < self.old.marks }
         ensures new { (¬ Has self.old.list instance) → self.new.list ≡ self.old.list ++ instance ∷ [] }
         ensures old { Has self.old.list instance → self.new.list ≡ self.old.list }
         ensures room { self.old.room ≤ self.new.room + 1 }
+        ensures marks { self.new.marks ≡ self.old.marks }
     {
         add(&mut self.list, &mut self.marks, instance);
     }
@@ -110,7 +123,7 @@ impl Executed {
 
 /// Adds an instance to both, unless it is there.
 fn add(list: &mut Vec<InstanceId>, marks: &mut Vec<bool>, instance: InstanceId)
-    requires all { 16008 ≤ length marks.old.items }
+    requires slot { slot instance < length marks.old.items }
     requires room { vec_len list.old < vec_capacity list.old }
     requires marks { AreMarks list.old.items marks.old.items }
     ensures new { (¬ Has list.old.items instance) → list.new.items ≡ list.old.items ++ instance ∷ [] }

@@ -6,15 +6,14 @@ ghost use Rattle.std.specs.Option.{option_copied};
 ghost use Rattle.ep_base.specs.Sameness.{is_noop};
 ghost use Rattle.ep_rules.specs.OneMap.{empty, opened, value_at, after, reply};
 ghost use Rattle.ep_exec.specs.Sorting.{IsBad};
-ghost use Rattle.ep_exec.specs.Table.{contents_of};
+ghost use Rattle.ep_exec.specs.Held.{held};
 
 use crate::contents::Contents;
 use crate::contents_fault::ContentsFault;
 use crate::sorted::sorted;
-use crate::table::{self, ValueTable, apply_open, sealed, value_of};
+use crate::table::{self, Table, apply_open, sealed, unchanged, value_of};
 use crate::trial::Trial;
 use ep_base::{Command, Key, Reply, Value};
-use indexmap::IndexMap;
 use std::alloc::{AllocError, Global};
 use std::marker::Model;
 
@@ -22,19 +21,20 @@ use std::marker::Model;
 #[derive(Drop)]
 pub struct Store {
     alloc: Global,
-    table: ValueTable,
+    table: Table,
     seal: Option<Value>,
 }
 
 impl Model for Store {
     ghost use Rattle.ep_rules.specs.OneMap as one_map;
-    ghost use Rattle.ep_exec.specs.Table.{contents_of, store_code};
+    ghost use Rattle.ep_exec.specs.Held.{held};
+    ghost use Rattle.ep_exec.specs.Table.{store_code};
 
     ghost Value = { one_map.Store };
 
     ghost coded = { store_code };
 
-    ghost view = { λ s. record { contents = contents_of s.table.entries; seal = s.seal } };
+    ghost view = { λ s. record { contents = held s.table; seal = s.seal } };
 }
 
 impl Store {
@@ -44,20 +44,19 @@ impl Store {
     {
         Store {
             alloc,
-            table: IndexMap::new(alloc),
+            table: unchanged(alloc, Contents::new(alloc)),
             seal: None,
         }
     }
 
-    /// The open map with these contents.
-    #[tactic(auto, using(crate::proofs::Sorting::sorted_entries))]
+    /// The open map with these contents, which it shares: it takes the same time and memory however many keys there are.
     pub fn opened(alloc: Global, contents: &Contents) -> Result<Store, AllocError>
         ensures { IfOk result (λ s. s ≡ opened contents.now) }
     {
-        let table = table::filled(alloc, contents.entries())?;
+        let base = contents.copy(alloc)?;
         Ok(Store {
             alloc,
-            table,
+            table: unchanged(alloc, base),
             seal: None,
         })
     }
@@ -99,7 +98,8 @@ impl Store {
         ensures refused { IfErr result (λ fault. IsBad (entries self.now.contents) fault) }
     {
         let items = sorted(self.alloc, &self.table)?;
-        Ok(Contents::of_sorted(items))
+        let contents = Contents::of_sorted(self.alloc, items)?;
+        Ok(contents)
     }
 
     /// The same map again.
@@ -123,8 +123,8 @@ impl Store {
     }
 
     /// The map of a table, closed by this seal, if one is given.
-    pub(crate) fn with(alloc: Global, table: ValueTable, seal: Option<Value>) -> Store
-        ensures { result ≡ record { contents = contents_of table.entries; seal = seal } }
+    pub(crate) fn with(alloc: Global, table: Table, seal: Option<Value>) -> Store
+        ensures { result ≡ record { contents = held table; seal = seal } }
     {
         Store { alloc, table, seal }
     }

@@ -1,66 +1,102 @@
-//! The table behind a map: keys, each with a value or with none.
+//! The table behind a map: keys that were written, each with a value or with none, over contents that stay as they are.
 
 ghost use Rattle.std.specs.Prelude.{◌≡◌, ℕ, List, None, true, false, IfOk, OnOk, OnErr};
-ghost use Rattle.std.specs.FinMap.{from_entries, is_sorted};
+ghost use Rattle.std.specs.Map.{lookup};
 ghost use Rattle.std.specs.Option.{option_copied, option_flatten};
 ghost use Rattle.ep_base.specs.Commands.{Swap, Cas};
 ghost use Rattle.ep_base.specs.Parts.{IsShort};
 ghost use Rattle.ep_rules.specs.OneMap.{Contents, value_at, with_key, written, read, told, sealed_by};
+ghost use Rattle.ep_space.specs.Index.{is_at};
 ghost use Rattle.ep_base.specs.Sameness.{same_option};
-ghost use Rattle.ep_exec.specs.Table.{HavePlaces, contents_of, has_place, key_cmp, restored};
+ghost use Rattle.ep_exec.specs.Held.{held};
+ghost use Rattle.ep_exec.specs.Table.{HavePlaces, has_place, over, restored};
 
+use crate::contents::Contents;
 use ep_base::{Command, CommandView, Key, Reply, Value};
 use indexmap::IndexMap;
 use std::alloc::{AllocError, Global};
 
-/// Keys, each with its value, or with none where it has only a place.
-pub type ValueTable = IndexMap<Vec<u8>, Option<Value>>;
+/// Keys that were written, each with its value, or with none.
+pub type Changes = IndexMap<Vec<u8>, Option<Value>>;
+
+/// What keys have: what the changes say, and of other keys what the contents say with which the map began. These are shared, and stay as they are.
+#[derive(Drop)]
+pub struct Table {
+    pub base: Contents,
+    pub changes: Changes,
+}
 
 /// Lets a value go.
 fn done<T: Drop>(_value: T) {}
 
-/// The value, if there is one.
-fn flat(found: Option<&Option<Value>>) -> Option<&Value>
-    ensures { option_copied result ≡ option_flatten (option_copied found.entry) }
+/// What the key has.
+pub fn value_of<'a>(table: &'a Table, key: &[u8]) -> Option<&'a Value>
+    ensures { option_copied result ≡ value_at (held table.now) key.now }
 {
-    match found {
+    match table.changes.get(key) {
         Some(value) => value.as_ref(),
-        None => None,
+        None => table.base.get(key),
     }
 }
 
-/// What the key has.
-pub fn value_of<'a>(table: &'a ValueTable, key: &[u8]) -> Option<&'a Value>
-    ensures { option_copied result ≡ value_at (contents_of table.now.entries) key.now }
+/// What the contents say of a key that has no place among the changes, as a copy; none of one that has. A key that has a place needs no memory.
+fn below(alloc: Global, table: &Table, key: &[u8]) -> Result<Option<Value>, AllocError>
+    ensures none { IfOk result (λ was. lookup (is_at key.now) table.now.changes.entries ≡ None → was ≡ value_at table.now.base key.now) }
+    ensures absent { OnErr result (has_place table.now.changes.entries key.now ≡ false) }
 {
-    flat(table.get(key))
+    if table.changes.contains_key(key) {
+        return Ok(None);
+    }
+    copied(alloc, table.base.get(key))
 }
 
 /// Sets what the key has, and gives what it had. A key that has a place needs no memory.
 pub fn set(
-    table: &mut ValueTable,
+    alloc: Global,
+    table: &mut Table,
     key: Vec<u8>,
     value: Option<Value>,
 ) -> Result<Option<Value>, AllocError>
-    ensures was { IfOk result (λ was. was ≡ value_at (contents_of table.old.entries) key.items) }
-    ensures ok { OnOk result (contents_of table.new.entries ≡ with_key (contents_of table.old.entries) key.items value) }
-    ensures err { OnErr result (table.new.entries ≡ table.old.entries) }
-    ensures place { OnOk result (has_place table.new.entries key.items ≡ true) }
-    ensures places { (q : List ℕ) → has_place table.old.entries q ≡ true → has_place table.new.entries q ≡ true }
-    ensures absent { OnErr result (has_place table.old.entries key.items ≡ false) }
+    ensures was { IfOk result (λ was. was ≡ value_at (held table.old) key.items) }
+    ensures ok { OnOk result (held table.new ≡ with_key (held table.old) key.items value) }
+    ensures base { table.new.base ≡ table.old.base }
+    ensures err { OnErr result (table.new.changes.entries ≡ table.old.changes.entries) }
+    ensures place { OnOk result (has_place table.new.changes.entries key.items ≡ true) }
+    ensures places { (q : List ℕ) → has_place table.old.changes.entries q ≡ true → has_place table.new.changes.entries q ≡ true }
+    ensures absent { OnErr result (has_place table.old.changes.entries key.items ≡ false) }
 {
-    match table.insert(key, value) {
-        Ok(was) => Ok(was.flatten()),
+    let shared = below(alloc, table, key.as_slice())?;
+    match table.changes.insert(key, value) {
+        Ok(Some(was)) => {
+            done(shared);
+            Ok(was)
+        }
+        Ok(None) => Ok(shared),
         Err(_) => Err(AllocError),
     }
 }
 
-/// Takes the key out, and gives what it had.
-pub fn remove(table: &mut ValueTable, key: &[u8]) -> Option<Value>
-    ensures was { result ≡ value_at (contents_of table.old.entries) key.now }
-    ensures removed { contents_of table.new.entries ≡ with_key (contents_of table.old.entries) key.now None }
+/// Takes a key's place away of which the contents say nothing, and gives what it had.
+fn remove(table: &mut Table, key: &[u8]) -> Option<Value>
+    requires { value_at table.old.base key.now ≡ None }
+    ensures was { result ≡ value_at (held table.old) key.now }
+    ensures removed { held table.new ≡ with_key (held table.old) key.now None }
+    ensures base { table.new.base ≡ table.old.base }
 {
-    table.swap_remove(key).flatten()
+    table.changes.swap_remove(key).flatten()
+}
+
+/// Takes the key's value away, and gives it.
+fn clear(alloc: Global, table: &mut Table, key: &[u8]) -> Result<Option<Value>, AllocError>
+    ensures was { IfOk result (λ was. was ≡ value_at (held table.old) key.now) }
+    ensures ok { OnOk result (held table.new ≡ with_key (held table.old) key.now None) }
+    ensures err { OnErr result (held table.new ≡ held table.old) }
+{
+    if table.base.get(key).is_none() {
+        return Ok(remove(table, key));
+    }
+    let name = Vec::from_slice(alloc, key)?;
+    set(alloc, table, name, None)
 }
 
 /// A value again.
@@ -86,60 +122,82 @@ pub fn told(value: Option<Value>) -> Reply
 /// Gives the key this value again, or none.
 fn add(
     alloc: Global,
-    table: &mut ValueTable,
+    changes: &mut Changes,
     key: &[u8],
     value: Option<&Value>,
 ) -> Result<(), AllocError>
-    ensures { OnOk result (contents_of table.new.entries ≡ with_key (contents_of table.old.entries) key.now (option_copied value.entry)) }
+    ensures { OnOk result ((m : Contents) → over m changes.new.entries ≡ with_key (over m changes.old.entries) key.now (option_copied value.entry)) }
 {
     let name = Vec::from_slice(alloc, key)?;
     let value = copied(alloc, value)?;
-    done(set(table, name, value)?);
-    Ok(())
+    match changes.insert(name, value) {
+        Ok(was) => {
+            done(was);
+            Ok(())
+        }
+        Err(_) => Err(AllocError),
+    }
 }
 
-/// The same table again.
-pub fn copy(alloc: Global, table: &ValueTable) -> Result<ValueTable, AllocError>
-    ensures { IfOk result (λ t. contents_of t.entries ≡ contents_of table.now.entries) }
+/// The same changes again.
+fn copy_changes(alloc: Global, changes: &Changes) -> Result<Changes, AllocError>
+    ensures { IfOk result (λ c. (m : Contents) → over m c.entries ≡ over m changes.now.entries) }
 {
     let mut copy = IndexMap::new(alloc);
-    for index in (0..table.len()).rev() {
-        let (key, value) = table.get_index(index).unwrap();
+    for index in (0..changes.len()).rev() {
+        let (key, value) = changes.get_index(index).unwrap();
         add(alloc, &mut copy, key.as_slice(), value.as_ref())?;
     }
     Ok(copy)
 }
 
-/// The table of these keys, each with its value. `sorted` goes over a table from its end, and a tree takes a key that is below all of it fastest: so the
-/// least key stands first.
-pub fn filled(alloc: Global, items: &[(Key, Value)]) -> Result<ValueTable, AllocError>
-    requires { is_sorted key_cmp items.now ≡ true }
-    ensures { IfOk result (λ t. contents_of t.entries ≡ from_entries items.now) }
+/// The same table again, over the same contents in memory.
+pub fn copy(alloc: Global, table: &Table) -> Result<Table, AllocError>
+    ensures { IfOk result (λ t. held t ≡ held table.now) }
 {
-    let mut table = IndexMap::with_capacity(alloc, items.len())?;
-    for (key, value) in items {
-        add(alloc, &mut table, key.as_slice(), Some(value))?;
+    let base = table.base.copy(alloc)?;
+    let changes = copy_changes(alloc, &table.changes)?;
+    Ok(Table { base, changes })
+}
+
+/// No change yet of these contents.
+pub fn unchanged(alloc: Global, base: Contents) -> Table
+    ensures { held result ≡ base }
+{
+    Table {
+        base,
+        changes: IndexMap::new(alloc),
     }
-    Ok(table)
 }
 
 /// Makes a place for the key.
-pub fn make_place(alloc: Global, table: &mut ValueTable, key: &[u8]) -> Result<(), AllocError>
-    ensures contents { contents_of table.new.entries ≡ contents_of table.old.entries }
-    ensures place { OnOk result (has_place table.new.entries key.now ≡ true) }
-    ensures places { (q : List ℕ) → has_place table.old.entries q ≡ true → has_place table.new.entries q ≡ true }
+pub fn make_place(alloc: Global, table: &mut Table, key: &[u8]) -> Result<(), AllocError>
+    ensures contents { held table.new ≡ held table.old }
+    ensures place { OnOk result (has_place table.new.changes.entries key.now ≡ true) }
+    ensures places { (q : List ℕ) → has_place table.old.changes.entries q ≡ true → has_place table.new.changes.entries q ≡ true }
 {
-    if table.contains_key(key) {
+    if table.changes.contains_key(key) {
         return Ok(());
     }
     let name = Vec::from_slice(alloc, key)?;
-    done(set(table, name, None)?);
+    let value = copied(alloc, value_of(table, key))?;
+    done(set(alloc, table, name, value)?);
     Ok(())
 }
 
-/// Takes the key's place away, if it has no value.
-pub fn sweep(table: &mut ValueTable, key: &[u8])
-    ensures { contents_of table.new.entries ≡ contents_of table.old.entries }
+/// Takes the key's place away, if it has no value, and the contents say nothing of it.
+pub fn sweep(table: &mut Table, key: &[u8])
+    ensures { held table.new ≡ held table.old }
+{
+    if table.base.get(key).is_none() {
+        sweep_own(table, key);
+    }
+}
+
+/// Takes the place away of a key of which the contents say nothing, if it has no value.
+fn sweep_own(table: &mut Table, key: &[u8])
+    requires { value_at table.old.base key.now ≡ None }
+    ensures { held table.new ≡ held table.old }
 {
     if value_of(table, key).is_none() {
         done(remove(table, key));
@@ -147,14 +205,14 @@ pub fn sweep(table: &mut ValueTable, key: &[u8])
 }
 
 /// Sets what a key has that has a place.
-pub fn put_back(table: &mut ValueTable, key: Vec<u8>, value: Option<Value>) -> Option<Value>
-    requires { has_place table.old.entries key.items ≡ true }
-    ensures was { result ≡ value_at (contents_of table.old.entries) key.items }
-    ensures contents { contents_of table.new.entries ≡ with_key (contents_of table.old.entries) key.items value }
-    ensures places { (q : List ℕ) → has_place table.old.entries q ≡ true → has_place table.new.entries q ≡ true }
+pub fn put_back(table: &mut Table, key: Vec<u8>, value: Option<Value>) -> Option<Value>
+    requires { has_place table.old.changes.entries key.items ≡ true }
+    ensures was { result ≡ value_at (held table.old) key.items }
+    ensures contents { held table.new ≡ with_key (held table.old) key.items value }
+    ensures places { (q : List ℕ) → has_place table.old.changes.entries q ≡ true → has_place table.new.changes.entries q ≡ true }
 {
-    match set(table, key, value) {
-        Ok(was) => was,
+    match table.changes.insert(key, value) {
+        Ok(was) => was.flatten(),
         Err(_) => unreachable!(),
     }
 }
@@ -162,13 +220,13 @@ pub fn put_back(table: &mut ValueTable, key: Vec<u8>, value: Option<Value>) -> O
 /// Makes a place for both keys.
 fn make_places(
     alloc: Global,
-    table: &mut ValueTable,
+    table: &mut Table,
     first: &[u8],
     second: &[u8],
 ) -> Result<(), AllocError>
-    ensures contents { contents_of table.new.entries ≡ contents_of table.old.entries }
-    ensures first { OnOk result (has_place table.new.entries first.now ≡ true) }
-    ensures second { OnOk result (has_place table.new.entries second.now ≡ true) }
+    ensures contents { held table.new ≡ held table.old }
+    ensures first { OnOk result (has_place table.new.changes.entries first.now ≡ true) }
+    ensures second { OnOk result (has_place table.new.changes.entries second.now ≡ true) }
 {
     make_place(alloc, table, first)?;
     make_place(alloc, table, second)
@@ -176,17 +234,17 @@ fn make_places(
 
 /// Sets what two keys have that have places, and gives what the first one had.
 fn put_both(
-    table: &mut ValueTable,
+    table: &mut Table,
     first: Vec<u8>,
     value: Option<Value>,
     second: Vec<u8>,
     other: Option<Value>,
 ) -> Option<Value>
-    requires first { has_place table.old.entries first.items ≡ true }
-    requires second { has_place table.old.entries second.items ≡ true }
-    ensures was { result ≡ value_at (contents_of table.old.entries) first.items }
-    ensures contents { contents_of table.new.entries ≡ with_key (with_key (contents_of table.old.entries) first.items value) second.items other }
-    ensures places { (q : List ℕ) → has_place table.old.entries q ≡ true → has_place table.new.entries q ≡ true }
+    requires first { has_place table.old.changes.entries first.items ≡ true }
+    requires second { has_place table.old.changes.entries second.items ≡ true }
+    ensures was { result ≡ value_at (held table.old) first.items }
+    ensures contents { held table.new ≡ with_key (with_key (held table.old) first.items value) second.items other }
+    ensures places { (q : List ℕ) → has_place table.old.changes.entries q ≡ true → has_place table.new.changes.entries q ≡ true }
 {
     let was = put_back(table, first, value);
     done(put_back(table, second, other));
@@ -197,13 +255,13 @@ fn put_both(
 /// written.
 pub fn swap(
     alloc: Global,
-    table: &mut ValueTable,
+    table: &mut Table,
     first: &[u8],
     second: &[u8],
 ) -> Result<Option<Value>, AllocError>
-    ensures was { IfOk result (λ was. was ≡ value_at (contents_of table.old.entries) first.now) }
-    ensures ok { OnOk result (contents_of table.new.entries ≡ written (contents_of table.old.entries) (Swap (record { first = first.now; second = second.now }))) }
-    ensures err { OnErr result (contents_of table.new.entries ≡ contents_of table.old.entries) }
+    ensures was { IfOk result (λ was. was ≡ value_at (held table.old) first.now) }
+    ensures ok { OnOk result (held table.new ≡ written (held table.old) (Swap (record { first = first.now; second = second.now }))) }
+    ensures err { OnErr result (held table.new ≡ held table.old) }
 {
     let own = copied(alloc, value_of(table, first))?;
     let other = copied(alloc, value_of(table, second))?;
@@ -217,8 +275,8 @@ pub fn swap(
 }
 
 /// Whether the key has this value, or none.
-pub fn has_value(table: &ValueTable, key: &[u8], expected: Option<&[u8]>) -> bool
-    ensures { result ≡ same_option (value_at (contents_of table.now.entries) key.now) (option_copied expected.entry) }
+pub fn has_value(table: &Table, key: &[u8], expected: Option<&[u8]>) -> bool
+    ensures { result ≡ same_option (value_at (held table.now) key.now) (option_copied expected.entry) }
 {
     match (value_of(table, key), expected) {
         (None, None) => true,
@@ -241,38 +299,34 @@ fn made(alloc: Global, bytes: Option<&[u8]>) -> Result<Option<Value>, AllocError
 /// Gives the key what is new where it has what is expected, and gives what it had.
 pub fn compare(
     alloc: Global,
-    table: &mut ValueTable,
+    table: &mut Table,
     key: &[u8],
     expected: Option<&[u8]>,
     new: Option<&[u8]>,
 ) -> Result<Option<Value>, AllocError>
     requires { IsShort (option_copied new) }
-    ensures was { IfOk result (λ was. was ≡ value_at (contents_of table.old.entries) key.now) }
-    ensures ok { OnOk result (contents_of table.new.entries ≡ written (contents_of table.old.entries) (Cas key.now (option_copied expected.entry) (option_copied new.entry))) }
-    ensures err { OnErr result (contents_of table.new.entries ≡ contents_of table.old.entries) }
+    ensures was { IfOk result (λ was. was ≡ value_at (held table.old) key.now) }
+    ensures ok { OnOk result (held table.new ≡ written (held table.old) (Cas key.now (option_copied expected.entry) (option_copied new.entry))) }
+    ensures err { OnErr result (held table.new ≡ held table.old) }
 {
     if !has_value(table, key, expected) {
         return copied(alloc, value_of(table, key));
     }
     match new {
-        None => Ok(remove(table, key)),
+        None => clear(alloc, table, key),
         Some(bytes) => {
             let name = Vec::from_slice(alloc, key)?;
             let value = Value::known(alloc, bytes)?;
-            set(table, name, Some(value))
+            set(alloc, table, name, Some(value))
         }
     }
 }
 
 /// Does a command on an open map, but for closing it: a no-op and a seal change nothing.
-pub fn apply_open(
-    alloc: Global,
-    table: &mut ValueTable,
-    command: &Command,
-) -> Result<Reply, AllocError>
-    ensures reply { IfOk result (λ r. r ≡ read (contents_of table.old.entries) command.now) }
-    ensures ok { OnOk result (contents_of table.new.entries ≡ written (contents_of table.old.entries) command.now) }
-    ensures err { OnErr result (contents_of table.new.entries ≡ contents_of table.old.entries) }
+pub fn apply_open(alloc: Global, table: &mut Table, command: &Command) -> Result<Reply, AllocError>
+    ensures reply { IfOk result (λ r. r ≡ read (held table.old) command.now) }
+    ensures ok { OnOk result (held table.new ≡ written (held table.old) command.now) }
+    ensures err { OnErr result (held table.new ≡ held table.old) }
 {
     match command.view() {
         CommandView::Noop | CommandView::Seal(_) => Ok(Reply::Absent),
@@ -281,9 +335,9 @@ pub fn apply_open(
         CommandView::Put(key, bytes) => {
             let name = Vec::from_slice(alloc, key)?;
             let value = Value::known(alloc, bytes)?;
-            Ok(told(set(table, name, Some(value))?))
+            Ok(told(set(alloc, table, name, Some(value))?))
         }
-        CommandView::Del(key) => Ok(told(remove(table, key))),
+        CommandView::Del(key) => Ok(told(clear(alloc, table, key)?)),
         CommandView::Swap(first, second) => Ok(told(swap(alloc, table, first, second)?)),
         CommandView::Cas(key, expected, new) => {
             Ok(told(compare(alloc, table, key, expected, new)?))
@@ -310,17 +364,17 @@ pub fn sealed(alloc: Global, command: &Command) -> Result<Option<Value>, AllocEr
 /// Makes a place for the key, and notes what it has to be put back: the key again, with which `put_back` writes.
 pub fn note(
     alloc: Global,
-    table: &mut ValueTable,
+    table: &mut Table,
     undo: &mut Vec<(Vec<u8>, Option<Value>)>,
     key: &[u8],
 ) -> Result<Vec<u8>, AllocError>
     ensures name { IfOk result (λ name. name.items ≡ key.now) }
-    ensures place { OnOk result (has_place table.new.entries key.now ≡ true) }
-    ensures contents { contents_of table.new.entries ≡ contents_of table.old.entries }
-    ensures kept { (q : List ℕ) → has_place table.old.entries q ≡ true → has_place table.new.entries q ≡ true }
-    ensures undo { OnOk result ((m : Contents) → restored undo.new.items m ≡ restored undo.old.items (with_key m key.now (value_at (contents_of table.old.entries) key.now))) }
+    ensures place { OnOk result (has_place table.new.changes.entries key.now ≡ true) }
+    ensures contents { held table.new ≡ held table.old }
+    ensures kept { (q : List ℕ) → has_place table.old.changes.entries q ≡ true → has_place table.new.changes.entries q ≡ true }
+    ensures undo { OnOk result ((m : Contents) → restored undo.new.items m ≡ restored undo.old.items (with_key m key.now (value_at (held table.old) key.now))) }
     ensures err { OnErr result (undo.new.items ≡ undo.old.items) }
-    ensures places { HavePlaces table.old.entries undo.old.items → HavePlaces table.new.entries undo.new.items }
+    ensures places { HavePlaces table.old.changes.entries undo.old.items → HavePlaces table.new.changes.entries undo.new.items }
 {
     make_place(alloc, table, key)?;
     let was = copied(alloc, value_of(table, key))?;
@@ -333,16 +387,16 @@ pub fn note(
 /// Sets what the key has, gives what it had, and notes it to be put back.
 pub fn write(
     alloc: Global,
-    table: &mut ValueTable,
+    table: &mut Table,
     undo: &mut Vec<(Vec<u8>, Option<Value>)>,
     key: &[u8],
     value: Option<Value>,
 ) -> Result<Option<Value>, AllocError>
-    ensures was { IfOk result (λ was. was ≡ value_at (contents_of table.old.entries) key.now) }
-    ensures ok { OnOk result (contents_of table.new.entries ≡ with_key (contents_of table.old.entries) key.now value) }
-    ensures err { OnErr result (contents_of table.new.entries ≡ contents_of table.old.entries) }
-    ensures undo { restored undo.new.items (contents_of table.new.entries) ≡ restored undo.old.items (contents_of table.old.entries) }
-    ensures places { HavePlaces table.old.entries undo.old.items → HavePlaces table.new.entries undo.new.items }
+    ensures was { IfOk result (λ was. was ≡ value_at (held table.old) key.now) }
+    ensures ok { OnOk result (held table.new ≡ with_key (held table.old) key.now value) }
+    ensures err { OnErr result (held table.new ≡ held table.old) }
+    ensures undo { restored undo.new.items (held table.new) ≡ restored undo.old.items (held table.old) }
+    ensures places { HavePlaces table.old.changes.entries undo.old.items → HavePlaces table.new.changes.entries undo.new.items }
 {
     let name = note(alloc, table, undo, key)?;
     Ok(put_back(table, name, value))
@@ -352,16 +406,16 @@ pub fn write(
 /// taken, before either key is written.
 pub fn exchange(
     alloc: Global,
-    table: &mut ValueTable,
+    table: &mut Table,
     undo: &mut Vec<(Vec<u8>, Option<Value>)>,
     first: &[u8],
     second: &[u8],
 ) -> Result<Option<Value>, AllocError>
-    ensures was { IfOk result (λ was. was ≡ value_at (contents_of table.old.entries) first.now) }
-    ensures ok { OnOk result (contents_of table.new.entries ≡ written (contents_of table.old.entries) (Swap (record { first = first.now; second = second.now }))) }
-    ensures err { OnErr result (contents_of table.new.entries ≡ contents_of table.old.entries) }
-    ensures undo { restored undo.new.items (contents_of table.new.entries) ≡ restored undo.old.items (contents_of table.old.entries) }
-    ensures places { HavePlaces table.old.entries undo.old.items → HavePlaces table.new.entries undo.new.items }
+    ensures was { IfOk result (λ was. was ≡ value_at (held table.old) first.now) }
+    ensures ok { OnOk result (held table.new ≡ written (held table.old) (Swap (record { first = first.now; second = second.now }))) }
+    ensures err { OnErr result (held table.new ≡ held table.old) }
+    ensures undo { restored undo.new.items (held table.new) ≡ restored undo.old.items (held table.old) }
+    ensures places { HavePlaces table.old.changes.entries undo.old.items → HavePlaces table.new.changes.entries undo.new.items }
 {
     let own = copied(alloc, value_of(table, first))?;
     let other = copied(alloc, value_of(table, second))?;
@@ -380,17 +434,17 @@ pub struct Change<'a> {
 /// The same as `compare`, and notes what is changed to be put back.
 pub fn compare_noted(
     alloc: Global,
-    table: &mut ValueTable,
+    table: &mut Table,
     undo: &mut Vec<(Vec<u8>, Option<Value>)>,
     key: &[u8],
     change: Change<'_>,
 ) -> Result<Option<Value>, AllocError>
     requires { IsShort (option_copied change.new) }
-    ensures was { IfOk result (λ was. was ≡ value_at (contents_of table.old.entries) key.now) }
-    ensures ok { OnOk result (contents_of table.new.entries ≡ written (contents_of table.old.entries) (Cas key.now (option_copied change.entry.expected) (option_copied change.entry.new))) }
-    ensures err { OnErr result (contents_of table.new.entries ≡ contents_of table.old.entries) }
-    ensures undo { restored undo.new.items (contents_of table.new.entries) ≡ restored undo.old.items (contents_of table.old.entries) }
-    ensures places { HavePlaces table.old.entries undo.old.items → HavePlaces table.new.entries undo.new.items }
+    ensures was { IfOk result (λ was. was ≡ value_at (held table.old) key.now) }
+    ensures ok { OnOk result (held table.new ≡ written (held table.old) (Cas key.now (option_copied change.entry.expected) (option_copied change.entry.new))) }
+    ensures err { OnErr result (held table.new ≡ held table.old) }
+    ensures undo { restored undo.new.items (held table.new) ≡ restored undo.old.items (held table.old) }
+    ensures places { HavePlaces table.old.changes.entries undo.old.items → HavePlaces table.new.changes.entries undo.new.items }
 {
     if !has_value(table, key, change.expected) {
         return copied(alloc, value_of(table, key));
@@ -400,9 +454,9 @@ pub fn compare_noted(
 }
 
 /// Takes all that is noted back, the last change first.
-pub fn take_back(table: &mut ValueTable, undo: Vec<(Vec<u8>, Option<Value>)>)
-    requires { HavePlaces table.old.entries undo.items }
-    ensures { contents_of table.new.entries ≡ restored undo.items (contents_of table.old.entries) }
+pub fn take_back(table: &mut Table, undo: Vec<(Vec<u8>, Option<Value>)>)
+    requires { HavePlaces table.old.changes.entries undo.items }
+    ensures { held table.new ≡ restored undo.items (held table.old) }
 {
     let mut undo = undo;
     while let Some((key, was)) = undo.pop() {
@@ -411,8 +465,8 @@ pub fn take_back(table: &mut ValueTable, undo: Vec<(Vec<u8>, Option<Value>)>)
 }
 
 /// Takes the places away that were made for these keys and have no value.
-pub fn sweep_all(table: &mut ValueTable, undo: &[(Vec<u8>, Option<Value>)])
-    ensures { contents_of table.new.entries ≡ contents_of table.old.entries }
+pub fn sweep_all(table: &mut Table, undo: &[(Vec<u8>, Option<Value>)])
+    ensures { held table.new ≡ held table.old }
 {
     for (key, _) in undo {
         sweep(table, key.as_slice());

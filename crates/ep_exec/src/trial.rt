@@ -5,13 +5,14 @@ ghost use Rattle.ep_base.specs.Sameness.{is_noop};
 ghost use Rattle.ep_base.specs.declared.reply.Reply.TheVariants.{Closed};
 ghost use Rattle.ep_base.specs.declared.reply.Answer.TheVariants.{Lost, Told};
 ghost use Rattle.ep_rules.specs.OneMap.{answer, read, written};
-ghost use Rattle.ep_exec.specs.Table.{HavePlaces, contents_of, first_of, restored};
+ghost use Rattle.ep_exec.specs.Held.{held};
+ghost use Rattle.ep_exec.specs.Table.{HavePlaces, first_of, restored};
 ghost use Rattle.ep_exec.specs.Tries.{tried};
 
 use crate::store::Store;
 use crate::table::{
-    Change, ValueTable, compare_noted, copied, exchange, sealed, sweep_all, take_back, told,
-    value_of, write,
+    Change, Table, compare_noted, copied, exchange, sealed, sweep_all, take_back, told, value_of,
+    write,
 };
 use ep_base::{Answer, Command, CommandView, Reply, Value};
 use std::alloc::{AllocError, Global};
@@ -23,7 +24,7 @@ use std::marker::Model;
 #[derive(Drop)]
 pub struct Trial {
     alloc: Global,
-    table: ValueTable,
+    table: Table,
     undo: Vec<(Vec<u8>, Option<Value>)>,
     // the seal at the start, and that of a command since
     before: Option<Value>,
@@ -31,23 +32,24 @@ pub struct Trial {
 }
 
 impl Model for Trial {
-    ghost use Rattle.ep_exec.specs.Table.{HavePlaces, contents_of, first_of, restored};
+    ghost use Rattle.ep_exec.specs.Held.{held};
+    ghost use Rattle.ep_exec.specs.Table.{HavePlaces, first_of, restored};
     ghost use Rattle.ep_exec.specs.Tries.{Tried, tried_code};
 
     ghost Value = { Tried };
 
     ghost coded = { tried_code };
 
-    ghost view = { λ t. record { start = record { contents = restored t.undo.items (contents_of t.table.entries); seal = t.before }; current = record { contents = contents_of t.table.entries; seal = first_of t.before t.since } } };
+    ghost view = { λ t. record { start = record { contents = restored t.undo.items (held t.table); seal = t.before }; current = record { contents = held t.table; seal = first_of t.before t.since } } };
 
-    ghost invariant = { λ t. HavePlaces t.table.entries t.undo.items };
+    ghost invariant = { λ t. HavePlaces t.table.changes.entries t.undo.items };
 }
 
 impl Trial {
     /// No command is tried yet.
     #[tactic(auto, using(crate::proofs::Sealed::first_alone))]
-    pub(crate) fn new(alloc: Global, table: ValueTable, seal: Option<Value>) -> Trial
-        ensures { result ≡ record { start = record { contents = contents_of table.entries; seal = seal }; current = record { contents = contents_of table.entries; seal = seal } } }
+    pub(crate) fn new(alloc: Global, table: Table, seal: Option<Value>) -> Trial
+        ensures { result ≡ record { start = record { contents = held table; seal = seal }; current = record { contents = held table; seal = seal } } }
     {
         Trial {
             alloc,
@@ -137,15 +139,15 @@ fn closed_answer(command: &Command) -> Answer
 // Does a command on an open map, but for closing it, and notes what it changes.
 fn try_open(
     alloc: Global,
-    table: &mut ValueTable,
+    table: &mut Table,
     undo: &mut Vec<(Vec<u8>, Option<Value>)>,
     command: &Command,
 ) -> Result<Answer, AllocError>
-    ensures answer { IfOk result (λ a. a ≡ (if is_noop command.now then Lost else Told (read (contents_of table.old.entries) command.now))) }
-    ensures ok { OnOk result (contents_of table.new.entries ≡ written (contents_of table.old.entries) command.now) }
-    ensures err { OnErr result (contents_of table.new.entries ≡ contents_of table.old.entries) }
-    ensures undo { restored undo.new.items (contents_of table.new.entries) ≡ restored undo.old.items (contents_of table.old.entries) }
-    ensures places { HavePlaces table.old.entries undo.old.items → HavePlaces table.new.entries undo.new.items }
+    ensures answer { IfOk result (λ a. a ≡ (if is_noop command.now then Lost else Told (read (held table.old) command.now))) }
+    ensures ok { OnOk result (held table.new ≡ written (held table.old) command.now) }
+    ensures err { OnErr result (held table.new ≡ held table.old) }
+    ensures undo { restored undo.new.items (held table.new) ≡ restored undo.old.items (held table.old) }
+    ensures places { HavePlaces table.old.changes.entries undo.old.items → HavePlaces table.new.changes.entries undo.new.items }
 {
     match command.view() {
         CommandView::Noop => Ok(Answer::Lost),

@@ -5,6 +5,7 @@ use crate::guess::{is_text, is_utf16};
 use crate::reasons::Reasons;
 use crate::spot::Spot;
 use crate::walk::Walk;
+use ep_base::Version;
 
 /// How texts begin that aren't bundles, and what they are.
 const SORTS: [(&[u8], &[u8]); 5] = [
@@ -35,6 +36,15 @@ impl Terms {
     /// Whether the bundle is of version 3.
     fn is_late(&self) -> bool {
         self.version == 3
+    }
+
+    /// A version with the limits of the bundle's.
+    fn limits(&self) -> Version {
+        match self.version {
+            1 => Version::V1,
+            3 => Version::known(3, 1),
+            _ => Version::V2,
+        }
     }
 }
 
@@ -261,11 +271,8 @@ fn pass_command(walk: &mut Walk<'_>) {
 }
 
 fn pass_frame(walk: &mut Walk<'_>, terms: &Terms) {
-    let allowed = if terms.is_late() {
-        Allowed::range(48, 200_000)
-    } else {
-        Allowed::range(40, 65_535)
-    };
+    let least = if terms.is_late() { 48 } else { 40 };
+    let allowed = Allowed::range(least, terms.limits().most_frame() as u64);
     let len = walk.number(b"length of a frame", 4, allowed);
     walk.run(b"frame", len as usize, Allowed::ANY);
 }
@@ -276,7 +283,7 @@ fn replicas_of(terms: &Terms) -> Allowed {
 }
 
 fn pass_instance(walk: &mut Walk<'_>, terms: &Terms) {
-    let highest = if terms.version == 1 { 1000 } else { 2000 };
+    let highest = terms.limits().highest_number() as u64;
     walk.number(b"instance's replica", 1, replicas_of(terms));
     walk.number(b"instance's number", 2, Allowed::range(1, highest));
 }

@@ -3,8 +3,8 @@
 ghost use Rattle.std.specs.Prelude.{◌≡◌, ◌↔◌, ℕ, true, false, IfSome, IsTrue};
 ghost use Rattle.ep_explain.specs.Magic.{MayBegin};
 
-use crate::lines::{Lines, first_word};
 use crate::subcommand::Subcommand;
+use ep_script::{Lines, next_word};
 
 /// How many bytes have to be text.
 const SEEN: usize = 64;
@@ -116,7 +116,7 @@ pub(crate) fn without_mark(bytes: &[u8]) -> &[u8] {
 }
 
 fn hint_in(line: &[u8]) -> Hint {
-    match first_word(line) {
+    match next_word(line) {
         None => Hint::Skipped,
         Some((word, _)) => hint_of(word),
     }
@@ -168,7 +168,7 @@ fn starts_script(bytes: &[u8]) -> bool {
 
 /// Whether the line begins nearly with `replicas`.
 fn begins_nearly(line: &[u8]) -> bool {
-    match first_word(line) {
+    match next_word(line) {
         None => false,
         Some((word, _)) => is_nearly_replicas(word),
     }

@@ -8,8 +8,7 @@
 //!
 //! Start with `explaining.rt` and specs/Explained.antt. `handled.rt` and `claims.rt` tell of what an audit refuses,
 //! `stepping.rt` and `step.rt` of an entry that isn't its replica's next step, `grammar.rt` of a field that isn't allowed. `scripts.rt` and
-//! specs/Advice.antt are of scripts: `script_grammar.rt` and `operands.rt` have the grammar of docs/FORMATS.md, section 4, once more, for the
-//! names of its words.
+//! specs/Advice.antt are of scripts: `refusals.rt` puts into words what `Refusal` of `ep_script` finds.
 //!
 //! Reasons are words for people. What is promised of them is where they stand, that each is one indented line, and of a script that the first
 //! one names the line that the reader refuses.
@@ -17,7 +16,6 @@
 
 mod advice;
 mod allowed;
-mod bounds;
 mod claims;
 mod explain_fault;
 mod explained;
@@ -30,11 +28,8 @@ mod grammar;
 mod guess;
 mod handled;
 mod kept;
-mod lines;
-mod operand;
-mod operands;
 mod reasons;
-mod script_grammar;
+mod refusals;
 mod scripts;
 mod side;
 mod spot;
@@ -42,7 +37,6 @@ mod step;
 mod stepping;
 mod subcommand;
 mod walk;
-mod weathers;
 mod wording;
 
 pub use explain_fault::ExplainFault;

@@ -11,15 +11,13 @@ use crate::advice::Advice;
 use crate::explain_fault::ExplainFault;
 use crate::guess::deciding_line;
 use crate::kept::Kept;
-use crate::lines::{Lines, first_word};
 use crate::reasons::{Reasons, push_led};
-use crate::script_grammar::{add_size, line_fault};
+use crate::refusals::{add_size, tell_refusal};
 use crate::subcommand::Subcommand;
-use crate::weathers::Before;
 use crate::wording::Wording;
 use ep_base::Source;
 use ep_report::push_number;
-use ep_script::{ScriptFault, read_run, read_script};
+use ep_script::{Lines, Refusal, ScriptFault, Standing, next_word, read_run, read_script};
 use std::alloc::{AllocError, Global};
 
 /// What the reader of this subcommand's scripts says of what is left of the source, and why.
@@ -187,7 +185,7 @@ fn word_at(bytes: &[u8], line: u64) -> &[u8] {
     for _ in 1..line {
         let _line = lines.next_line();
     }
-    match first_word(lines.next_line().unwrap_or(&[])) {
+    match next_word(lines.next_line().unwrap_or(&[])) {
         Some((word, _)) => word,
         None => &[],
     }
@@ -254,13 +252,15 @@ fn first_reason(
 ) -> Result<Vec<u8>, AllocError>
     ensures { IfOk result (λ text. (words : List ℕ) × (text.items ≡ at_line line words)) }
 {
-    let number = u64::from(line);
-    let mut lines = Lines::new(bytes);
-    let before = Before::read(alloc, &mut lines, number.saturating_sub(1))?;
-    add_size(&before, reasons);
-    let fault = line_fault(alloc, subcommand, &before, lines.next_line(), number);
-    drop(before);
-    led(alloc, line, &fault?)
+    let of = match subcommand {
+        Subcommand::Replay => Standing::Replay,
+        Subcommand::Run => Standing::Run,
+    };
+    let refusal = Refusal::find(bytes, of, line);
+    add_size(&refusal, reasons);
+    let mut fault = Wording::new(alloc);
+    tell_refusal(&mut fault, &refusal);
+    led(alloc, line, &fault)
 }
 
 fn led(alloc: Global, line: u32, fault: &Wording) -> Result<Vec<u8>, AllocError>

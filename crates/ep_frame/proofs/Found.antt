@@ -8,7 +8,7 @@ use Rattle.ep_base.proofs.Versions.{highest_low}
 use Rattle.std.specs.List.{AllByRecursion}
 use Rattle.std.proofs.lemmas.Bool.{eqb-true, leb-true, ltb-true, eq-eqb, and_parts}
 use Rattle.std.proofs.lemmas.List.{nil_from_length}
-use Rattle.ep_base.specs.Instances.{leader_of, number_of, IsInstance}
+use Rattle.ep_base.specs.Instances.{leader_of, number_of, highest_number, IsInstance}
 use Rattle.ep_base.specs.Ballots.{counter_of, owner_of, ballot_of}
 use Rattle.ep_base.specs.Deps.{IsRising, IsBelowFirst}
 use Rattle.ep_base.specs.Generations.{HasItsGeneration}
@@ -115,7 +115,7 @@ front p k n l m out entry fits small_generation =
     let stamp = within-is 1 281474976710655 p.header.stamp n.1.1.1.1.1.1.0 in
     let small : p.header.leader ≤ 6 = leb-true _ _ l in
     let number = within-is 1 (highest_in (version_in p)) p.header.number m in
-    let high : p.header.number ≤ 2000 = let most = highest_low (version_in p) in omega (arith, number.1, most) in
+    let high : p.header.number ≤ highest_number = let most = highest_low (version_in p) in omega (arith, number.1, most) in
     let own = version_is p.header.version p.header.generation n.1.0 fits small_generation in
     let is_leader = leader_again p.header.leader p.header.number (omega (arith, high)) in
     let is_number = number_again p.header.leader p.header.number (omega (arith, high)) in
@@ -237,8 +237,8 @@ rising_found [] e = (tt, tt)
 rising_found (i ∷ is) e =
     let p = and_parts (is_instance i && precedes_first i is) (are_deps is) e in
     let q = and_parts (is_instance i) (precedes_first i is) p.0 in
-    let r = and_parts (leb (leader_of i) 6) (within 1 2000 (number_of i)) q.0 in
-    let n = within-is 1 2000 (number_of i) r.1 in
+    let r = and_parts (leb (leader_of i) 6) (within 1 highest_number (number_of i)) q.0 in
+    let n = within-is 1 highest_number (number_of i) r.1 in
     let rest = rising_found is p.1 in
     ((below is q.1, rest.0), ((leb-true _ _ r.0, n.0, n.1), rest.1))
   where

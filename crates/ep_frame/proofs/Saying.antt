@@ -2,15 +2,16 @@
 use Rattle.std.proofs.Common.{◌≡◌, ℕ, zero, suc, ◌^◌, ◌≤◌, ◌<◌, Bool, true, false, cond, eqb, ltb, leb, List, [], ◌∷◌, length, refl, sym, ap, ◌∙◌, true≢false, arith}
 use Rattle.std.specs.Prelude.{not, ◌||◌}
 use Rattle.std.proofs.lemmas.Bool.{eqb-true, leb-true, le-leb, le-ltb, ltb-false, and_parts, and_from}
-use Rattle.ep_base.specs.Deps.{AreInstances}
+use Rattle.std.specs.List.{AllByRecursion}
+use Rattle.ep_base.specs.Deps.{AreInstances, most_deps}
 use Rattle.ep_base.specs.Generations.{HasItsGeneration}
 use Rattle.ep_base.specs.Instances.{number_of}
-use Rattle.ep_base.specs.Versions.{version_number, generation_of, version_of, most_deps_in, knows, AreDepsIn}
+use Rattle.ep_base.specs.Versions.{version_number, generation_of, version_of, highest_in, most_deps_in, knows, AreDepsIn}
 use Rattle.ep_base.specs.Commands.{Command}
 use Rattle.ep_base.specs.Commands.{Noop, Get, Put, Del, Swap, Cas, Seal, Opaque}
 use Rattle.ep_base.specs.declared.version.Version.{Version}
 use Rattle.ep_base.specs.declared.version_kind.VersionKind.TheVariants.{V1, V2, V3}
-use Rattle.ep_base.proofs.Versions.{deps_in_last, deps_later}
+use Rattle.ep_base.proofs.Versions.{deps_in_last}
 use Rattle.ep_base.specs.Ops.{op_number, second_fits, body_fits, first_fits, is_key_len}
 use Rattle.ep_base.specs.Parts.{parts_of}
 use Rattle.ep_base.specs.declared.op.Op.{Op}
@@ -25,7 +26,7 @@ op_low V1 = omega arith
 op_low V2 = omega arith
 op_low (V3 g) = omega arith
 
-pub count_low : (v : Version) → most_deps_in v ≤ 14000
+pub count_low : (v : Version) → most_deps_in v ≤ most_deps
 count_low V1 = omega arith
 count_low V2 = omega arith
 count_low (V3 g) = omega arith
@@ -250,13 +251,13 @@ short_within V2 (Seal x) e = absurd (true≢false (sym e))
 short_within V2 (Opaque p b) e = absurd (true≢false (sym e))
 short_within (V3 g) c e = tt
 
-early_again : (is : List ℕ) → AreDepsIn V1 is → are_early is ≡ true
-early_again [] h = refl
-early_again (i ∷ is) h = and_from (leb (number_of i) 1000) (are_early is) (le-leb _ _ h.0) (early_again is h.1)
+early_again : (most : ℕ) (is : List ℕ) → AllByRecursion (λ i. number_of i ≤ most) is → are_early most is ≡ true
+early_again most [] h = refl
+early_again most (i ∷ is) h = and_from (leb (number_of i) most) (are_early most is) (le-leb _ _ h.0) (early_again most is h.1)
 
 pub deps_within : (v : Version) (is : List ℕ) → AreDepsIn v is → are_in v is ≡ true
-deps_within V1 is h = early_again is h
-deps_within V2 is h = refl
+deps_within V1 is h = early_again (highest_in V1) is h
+deps_within V2 is h = early_again (highest_in V2) is h
 deps_within (V3 g) is h = refl
 
 -- and the version has what keeps to them
@@ -287,11 +288,11 @@ op_known V2 (Seal x) h s = absurd (omega (arith, h))
 op_known V2 (Opaque p b) h s = absurd (not_either p.reads 5 (omega arith) h)
 op_known (V3 g) c h s = refl
 
-early_found : (is : List ℕ) → are_early is ≡ true → AreDepsIn V1 is
-early_found [] e = tt
-early_found (i ∷ is) e = let p = and_parts (leb (number_of i) 1000) (are_early is) e in (leb-true _ _ p.0, early_found is p.1)
+early_found : (most : ℕ) (is : List ℕ) → are_early most is ≡ true → AllByRecursion (λ i. number_of i ≤ most) is
+early_found most [] e = tt
+early_found most (i ∷ is) e = let p = and_parts (leb (number_of i) most) (are_early most is) e in (leb-true _ _ p.0, early_found most is p.1)
 
 pub deps_found : (v : Version) (is : List ℕ) → AreInstances is → are_in v is ≡ true → AreDepsIn v is
-deps_found V1 is h e = early_found is e
-deps_found V2 is h e = deps_in_last is h
-deps_found (V3 g) is h e = deps_later V2 (V3 g) is (omega arith) (deps_in_last is h)
+deps_found V1 is h e = early_found (highest_in V1) is e
+deps_found V2 is h e = early_found (highest_in V2) is e
+deps_found (V3 g) is h e = deps_in_last g is h

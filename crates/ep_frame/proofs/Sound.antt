@@ -4,9 +4,9 @@ use Rattle.std.specs.Prelude.{◌&&◌, not, Some, None}
 use Rattle.std.specs.List.{AllByRecursion}
 use Rattle.std.proofs.lemmas.Bool.{eqb-true, eq-eqb, le-leb, lt-ltb, and_from, le-ltb, not-true}
 use Rattle.std.proofs.lemmas.Option.{cond_some}
-use Rattle.ep_base.specs.Instances.{leader_of, number_of, IsInstance}
+use Rattle.ep_base.specs.Instances.{leader_of, number_of, highest_number, IsInstance}
 use Rattle.ep_base.specs.Ballots.{counter_of, owner_of}
-use Rattle.ep_base.specs.Deps.{IsRising, IsBelowFirst}
+use Rattle.ep_base.specs.Deps.{IsRising, IsBelowFirst, most_deps}
 use Rattle.ep_base.specs.Generations.{HasItsGeneration}
 use Rattle.ep_base.specs.Ops.{op_number, first_fits}
 use Rattle.ep_base.specs.Parts.{parts_of as command_parts, command_in, are_parts, is_twice, body_said, IsInRange}
@@ -94,7 +94,7 @@ record BodyPart (v : Version) (rows : List (FrameFault × Bool)) (seq op : ℕ) 
   op_high : op ≤ highest_op v
   fits : Fits (op_of op) key second body
   short : IsShortIn v (length body)
-  deps_small : length deps ≤ 14000
+  deps_small : length deps ≤ most_deps
   rising : deps_allowed v deps ≡ true
   instances : AllByRecursion IsInstance deps
 
@@ -222,7 +222,7 @@ some_vote i s b h =
 rising_again : (ds : List ℕ) → IsRising ds → AllByRecursion IsInstance ds → are_deps ds ≡ true
 rising_again [] r h = refl
 rising_again (i ∷ is) r h =
-    let one : is_instance i ≡ true = and_from (leb (leader_of i) 6) (within 1 2000 (number_of i)) (le-leb _ _ h.0.0) (within-from 1 2000 (number_of i) h.0.1 h.0.2) in
+    let one : is_instance i ≡ true = and_from (leb (leader_of i) 6) (within 1 highest_number (number_of i)) (le-leb _ _ h.0.0) (within-from 1 highest_number (number_of i) h.0.1 h.0.2) in
     and_from (is_instance i && precedes_first i is) (are_deps is) (and_from (is_instance i) (precedes_first i is) one (first is r.0)) (rising_again is r.1 h.1)
   where
     first : (is : List ℕ) → IsBelowFirst i is → precedes_first i is ≡ true

@@ -181,14 +181,15 @@ abbrev pub are_deps : List ℕ → Bool
 are_deps [] = true
 are_deps (i ∷ is) = is_instance i && precedes_first i is && are_deps is
 
-abbrev pub are_early : List ℕ → Bool
-are_early [] = true
-are_early (i ∷ is) = nat_le (number_of i) (highest_in V1) && are_early is
+-- all are numbered up to this
+abbrev pub are_early : ℕ → List ℕ → Bool
+are_early most [] = true
+are_early most (i ∷ is) = nat_le (number_of i) most && are_early most is
 
--- the version has these instances: versions 2 and 3 have all
+-- the version has these instances: version 3 has all
 abbrev pub are_in : Version → List ℕ → Bool
-are_in V1 is = are_early is
-are_in V2 is = true
+are_in V1 is = are_early (highest_in V1) is
+are_in V2 is = are_early (highest_in V2) is
 are_in (V3 g) is = true
 
 -- there are two keys, and they are the same

@@ -112,7 +112,7 @@ impl<'a> DepsView<'a> {
         DepsView { bytes }
     }
 
-    /// How many there are, at most 7,000.
+    /// How many there are, at most 63,000.
     pub fn len(&self) -> usize
         ensures value { result ≡ length self.now }
         ensures bound { result ≤ most_deps }

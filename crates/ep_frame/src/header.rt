@@ -31,7 +31,7 @@ pub struct Header {
     pub stamp: u64,
     /// The instance's leader, 0 to 6.
     pub leader: u8,
-    /// The instance's number, 1 to 2,000; in version 1 to 1,000.
+    /// The instance's number, 1 to 1,000 in version 1, to 2,000 in version 2, to 9,000 in version 3.
     pub number: u16,
     /// The counter of the ballot that is led, answered or refused, 0 to 60,000; 0 in a commit.
     pub counter: u16,
@@ -52,7 +52,7 @@ pub struct Header {
     pub key_len: u8,
     /// How many bytes the second key has: a swap's 1 to 255, of an ask or act 0 to 255; else 0.
     pub second_len: u16,
-    /// How many dependencies there are, 0 to 14,000; in version 1 to 7,000.
+    /// How many dependencies there are, 0 to 7,000 in version 1, to 14,000 in version 2, to 63,000 in version 3.
     pub count: u16,
     /// The generation, 1 or more; 0 in versions 1 and 2, which have none.
     pub generation: u32,

@@ -69,13 +69,13 @@ fn deps_rise(bytes: &[u8]) -> bool
     true
 }
 
-// Whether all of these dependencies are numbered to 1,000.
-fn are_early(bytes: &[u8]) -> bool
-    ensures { result ≡ are_early (deps_in bytes.now) }
+// Whether all of these dependencies are numbered up to this.
+fn are_early(bytes: &[u8], most: u16) -> bool
+    ensures { result ≡ are_early most (deps_in bytes.now) }
 {
     let mut rest = bytes;
     while let [_, high, low, after @ ..] = rest {
-        if u16::from_be_bytes([*high, *low]) > 1000 {
+        if u16::from_be_bytes([*high, *low]) > most {
             return false;
         }
         rest = after;
@@ -88,8 +88,8 @@ fn are_in(version: Version, bytes: &[u8]) -> bool
     ensures { result ≡ are_in version (deps_in bytes.now) }
 {
     match version.kind() {
-        VersionKind::V1 => are_early(bytes),
-        VersionKind::V2 | VersionKind::V3(_) => true,
+        VersionKind::V1 | VersionKind::V2 => are_early(bytes, version.highest_number()),
+        VersionKind::V3(_) => true,
     }
 }
 

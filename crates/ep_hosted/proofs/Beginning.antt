@@ -1,5 +1,5 @@
 -- What a node begins as, by what its parts tell.
-use Rattle.std.proofs.Common.{◌≡◌, ℕ, List, [], Option, Some, refl, sym, ap, ◌∙◌, subst, take, true}
+use Rattle.std.proofs.Common.{◌≡◌, ℕ, List, [], Option, Some, None, refl, sym, ap, ◌∙◌, subst, arith, take, true}
 use Rattle.ep_base.specs.Quorums.{size}
 use Rattle.ep_device.specs.Memory.{memory_bytes}
 use Rattle.ep_device.specs.declared.host_device.HostDevice.{HostDevice}
@@ -64,6 +64,7 @@ pub record IsHanded (n : Logged MemoryDevice) (h : Hosting) : Type 0 where
   pub all : bytes.items ≡ memory_bytes n.device
   pub anew : h.is_anew ≡ true
   pub asked : h.dues ≡ []
+  pub held : h.held ≡ None
   pub told : h.answers.items ≡ []
 
 pub begun : (seat : Seat) (opening log : Option (List ℕ)) (o : Origin) (n : Logged MemoryDevice) (h : Hosting) → IsHanded n h → IsOriginOf seat.cluster opening o → origin_of n ≡ o → n.replica.faults ≡ seat.cluster → n.replica.me ≡ seat.me
@@ -85,16 +86,18 @@ begun seat opening log o n h handed origin of_it cluster me opened bytes seen wr
       anew = handed.anew;
       written = subst (λ (x : Origin). IsWrittenAnew (begin_of log) x seat.cluster seat.me (log_of log) handed.bytes.items) (sym same) (subst (λ (l : List ℕ). IsWrittenAnew (begin_of log) o seat.cluster seat.me (log_of log) l) all written);
       asked = handed.asked;
+      held = handed.held;
       told = handed.told;
     }
 
 -- its log, in memory, is what is lent
 pub lends_whole : (n : Logged MemoryDevice) (n' : Logged HostDevice) (d : HostDevice) (bytes : Buffer) → n' ≡ record { replica = n.replica; digest = n.digest; device = d; synced = n.synced; on_disk = n.on_disk; cut = n.cut; closed = n.closed } → IsQuiet n
-    → ((b : List ℕ) → Some (memory_bytes n.device) ≡ Some b → IsLogOf (origin_of n) n.replica.faults n.replica.me (take n.synced n.replica.entries) n.on_disk b) → bytes.items ≡ memory_bytes n.device → IsHosted n' true (Some bytes)
+    → ((b : List ℕ) → Some (memory_bytes n.device) ≡ Some b → IsLogOf (origin_of n) n.replica.faults n.replica.me (take n.synced n.replica.entries) n.on_disk b) → bytes.items ≡ memory_bytes n.device → IsHosted n' true 0 (Some bytes)
 lends_whole n n' d bytes same quiet log all =
     let x : Logged HostDevice = record { replica = n.replica; digest = n.digest; device = d; synced = n.synced; on_disk = n.on_disk; cut = n.cut; closed = n.closed } in
-    subst (λ (y : Logged HostDevice). IsHosted y true (Some bytes)) (sym same) (record {
+    subst (λ (y : Logged HostDevice). IsHosted y true 0 (Some bytes)) (sym same) (record {
       works = quiet.works;
+      within = let all = quiet.synced in omega (arith, all);
       lends = (record { works = quiet.works; synced = quiet.synced }, subst (λ (l : List ℕ). IsLogOf (origin_of n) n.replica.faults n.replica.me (take n.synced n.replica.entries) n.on_disk l) (sym all) (log (memory_bytes n.device) refl));
     })
 

@@ -4,3 +4,4 @@ mod Requests
 mod Still
 mod Writing
 mod Puts
+mod Longer

@@ -1,5 +1,5 @@
 -- What a node does by a request in bytes.
-use Rattle.std.specs.Prelude.{◌≡◌, ◌⊎◌, ℕ, List, [], ◌∷◌, ◌++◌, Some, None, Ok}
+use Rattle.std.specs.Prelude.{◌≡◌, ◌⊎◌, ℕ, List, [], ◌∷◌, ◌++◌, false, Some, None, Ok}
 use Rattle.ep_bundle.specs.Reading.{Left}
 use Rattle.ep_serve.specs.Acting.{Acts, IsCutShort}
 use Rattle.ep_serve.specs.Serving.{dialect_of}
@@ -26,7 +26,7 @@ IsUnread how bytes NotOne = (r : Request) → ¬ IsRequest how bytes r
 
 -- the bytes are a request, which acts, and its answer waits
 pub record HasAsked (h : Hosting) (bytes : List ℕ) (h' : Hosting) : Type 0 where
-  pub none : h.lent ≡ None
+  pub begun : h.is_anew ≡ false
   pub request : Request
   pub read : IsRequest (dialect_of h.node.replica) bytes request
   pub due : Due

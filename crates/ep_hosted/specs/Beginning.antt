@@ -53,6 +53,7 @@ pub record IsBegun (seat : Seat) (opening log : Option (List ℕ)) (h : Hosting)
   pub anew : h.is_anew ≡ true
   pub written : IsWrittenAnew (begin_of log) (origin_of h.node) seat.cluster seat.me (log_of log) bytes.items
   pub asked : h.dues ≡ []
+  pub held : h.held ≡ None
   pub told : h.answers.items ≡ []
 
 -- why it can't be said what a replica begins with: want of memory; the bytes are no file; or the file is that of a cluster of another size

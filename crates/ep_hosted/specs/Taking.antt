@@ -1,5 +1,5 @@
 -- What a node takes, and why it takes nothing.
-use Rattle.std.specs.Prelude.{◌≡◌, ◌≢◌, ℕ, Bool, true, false, List, length, Option, Some, None, Ok}
+use Rattle.std.specs.Prelude.{◌≡◌, ℕ, Bool, true, false, List, length, Option, Some, None, Ok}
 use Rattle.ep_frame.specs.Spelling.{IsFrame}
 use Rattle.ep_journal.specs.declared.event.Event.{Event as Happening}
 use Rattle.ep_journal.specs.declared.event.Event.TheVariants.{Handle}
@@ -14,14 +14,14 @@ use Rattle.ep_hosted.specs.Hosting.{Hosting, with_replica}
 use Rattle.ep_hosted.specs.declared.taking_fault.TakingFault.{TakingFault}
 use Rattle.ep_hosted.specs.declared.taking_fault.TakingFault.TheVariants.{Lent, Refused}
 
--- nothing is lent, and only the replica changes
+-- the log has begun, and only the replica changes: what is lent stays so
 pub record Moves (h h' : Hosting) : Type 0 where
-  pub none : h.lent ≡ None
+  pub begun : h.is_anew ≡ false
   pub rest : h' ≡ with_replica h h'.node.replica
 
--- bytes are lent, and nothing changes
+-- the whole log is lent anew, and nothing changes
 pub record IsBusy (h h' : Hosting) : Type 0 where
-  pub lent : h.lent ≢ None
+  pub anew : h.is_anew ≡ true
   pub same : h' ≡ h
 
 -- why an event was refused, where that is the answer
@@ -44,12 +44,12 @@ HasTaken h event h' = Moves h h' × TakesNear h.node.replica event (due.Taken (l
 -- why it wasn't, and nothing changed
 abbrev pub IsNotTaken : Hosting → Happening → TakingFault → Hosting → Type 0
 IsNotTaken h event Lent h' = IsBusy h h'
-IsNotTaken h event (Refused refusal) h' = (h.lent ≡ None) × TakesNear h.node.replica event (due.Refused refusal) h.node.replica × (h' ≡ h)
+IsNotTaken h event (Refused refusal) h' = (h.is_anew ≡ false) × TakesNear h.node.replica event (due.Refused refusal) h.node.replica × (h' ≡ h)
 
 -- why the bytes weren't handled: they are no frame, or why the frame wasn't taken
 abbrev pub IsUnheard : Hosting → List ℕ → TakingFault → Hosting → Type 0
 IsUnheard h bytes Lent h' = IsBusy h h'
-IsUnheard h bytes (Refused BadFrame) h' = (h.lent ≡ None) × (¬ IsFrame bytes) × (h' ≡ h)
+IsUnheard h bytes (Refused BadFrame) h' = (h.is_anew ≡ false) × (¬ IsFrame bytes) × (h' ≡ h)
 IsUnheard h bytes (Refused (Step fault)) h' = IsNotTaken h (Handle bytes) (Refused (Step fault)) h'
 
 -- Executing own instances.
@@ -62,7 +62,7 @@ HasExecuted h executed h' = Moves h h' × TriesNext h.node.replica (Ok executed)
 abbrev pub IsNotExecuted : Hosting → TakingFault → Hosting → Type 0
 IsNotExecuted h Lent h' = IsBusy h h'
 IsNotExecuted h (Refused BadFrame) h' = ⊥
-IsNotExecuted h (Refused (Step fault)) h' = (h.lent ≡ None) × IsHeldUp h.node.replica fault × (h' ≡ h)
+IsNotExecuted h (Refused (Step fault)) h' = (h.is_anew ≡ false) × IsHeldUp h.node.replica fault × (h' ≡ h)
 
 -- all that were ready were executed, and then none is
 abbrev pub HasAdvanced : Hosting → Hosting → Type 0

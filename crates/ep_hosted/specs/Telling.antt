@@ -1,8 +1,8 @@
 -- What a node lends and tells.
-use Rattle.std.specs.Prelude.{◌≡◌, ◌≢◌, ◌⊎◌, ℕ, ◌+◌, ◌<◌, ◌^◌, ◌++◌, Bool, true, false, List, [], length, take, Some, None}
+use Rattle.std.specs.Prelude.{◌≡◌, ◌≢◌, ◌⊎◌, ℕ, ◌+◌, ◌<◌, ◌≤◌, ◌^◌, ◌++◌, Bool, true, false, List, [], length, take, Some, None}
 use Rattle.ep_exec.specs.Bytes.{contents_bytes}
 use Rattle.ep_node.specs.Closing as node
-use Rattle.ep_node.specs.Nodes.{IsLogOf, origin_of, unwritten}
+use Rattle.ep_node.specs.Nodes.{IsLogOf, IsQuiet, origin_of, unwritten}
 use Rattle.ep_node.specs.declared.close_fault.CloseFault.{CloseFault}
 use Rattle.ep_node.specs.declared.close_fault.CloseFault.TheVariants as close
 use Rattle.ep_opening.specs.Bytes.{opening_bytes}
@@ -12,28 +12,33 @@ use Rattle.ep_replica.specs.Pending.{state_of}
 use Rattle.ep_rules.specs.OneMap.{value_at}
 use Rattle.ep_serve.specs.Answering.{AllAnswered}
 use Rattle.ep_hosted.specs.Hosting.{Buffer, Hosting, IsOnDisk}
+use Rattle.ep_hosted.specs.declared.prepare_fault.PrepareFault.{PrepareFault}
+use Rattle.ep_hosted.specs.declared.prepare_fault.PrepareFault.TheVariants as prepare
 use Rattle.ep_hosted.specs.declared.sync_fault.SyncFault.{SyncFault}
 use Rattle.ep_hosted.specs.declared.sync_fault.SyncFault.TheVariants as sync
 use Rattle.ep_hosted.specs.declared.tell_fault.TellFault.{TellFault}
 use Rattle.ep_hosted.specs.declared.tell_fault.TellFault.TheVariants.{Memory, Unsynced}
 
+-- the records of all that wasn't written are lent, and count as written
+pub record LendsNow (h h' : Hosting) : Type 0 where
+  pub bytes : Buffer
+  pub are : bytes.items ≡ unwritten h.node
+  pub is :
+      h' ≡ record h {
+        node = record h.node { device = h'.node.device; synced = length h.node.replica.entries; on_disk = h.node.on_disk + length bytes.items };
+        lent = Some bytes;
+      }
+
 -- What is lent: what was lent before; nothing, where all is on the disk; or else the records of the entries that aren't.
 abbrev pub HasLent : Hosting → Hosting → Type 0
-HasLent h h' =
-    ((h.lent ≢ None) × (h' ≡ h)) ⊎ (IsOnDisk h × (h' ≡ h)) ⊎ ((h.lent ≡ None) × (¬ IsOnDisk h) × ((bytes : Buffer) × (bytes.items ≡ unwritten h.node) × (h' ≡ record h { lent = Some bytes })))
+HasLent h h' = ((h.lent ≢ None) × (h' ≡ h)) ⊎ (IsOnDisk h × (h' ≡ h)) ⊎ ((h.lent ≡ None) × (¬ IsOnDisk h) × LendsNow h h')
 
--- how long the log is once what is lent is written
-abbrev pub end_of : Bool → ℕ → ℕ → ℕ
-end_of true on_disk count = on_disk
-end_of false on_disk count = on_disk + count
-
--- what was lent, so many bytes, is on the disk, and with it all that the node took
+-- what was lent, so many bytes, is on the disk; what was taken since isn't
 pub record IsNoted (h : Hosting) (count : ℕ) (h' : Hosting) : Type 0 where
   pub bytes : Buffer
   pub lent : h.lent ≡ Some bytes
   pub long : length bytes.items ≡ count
-  pub end : h'.node.on_disk ≡ end_of h.is_anew h.node.on_disk count
-  pub is : h' ≡ record h { node = record h.node { device = h'.node.device; synced = length h.node.replica.entries; on_disk = h'.node.on_disk }; lent = None; is_anew = false }
+  pub is : h' ≡ record h { durable = h.node.synced; lent = None; is_anew = false }
 
 -- the same; or nothing was lent, and no bytes are said to be there
 abbrev pub HasNoted : Hosting → ℕ → Hosting → Type 0
@@ -44,18 +49,21 @@ abbrev pub log_after : Bool → List ℕ → List ℕ → List ℕ
 log_after true log bytes = bytes
 log_after false log bytes = log ++ bytes
 
--- Where the bytes that were lent stand behind the log of the entries that were on the disk, or anew, they are the log of all entries.
+-- the log of the node's first entries, so many, of so many bytes
+abbrev pub IsLogTo : Hosting → ℕ → ℕ → List ℕ → Type 0
+IsLogTo h count len bytes = IsLogOf (origin_of h.node) h.node.replica.faults h.node.replica.me (take count h.node.replica.entries) len bytes
+
+-- Where the bytes that were lent stand behind the log of the entries that were on the disk, or anew, they are the log of those that now are.
 abbrev pub IsWritten : Hosting → Hosting → Type 0
 IsWritten h h' =
     (log : List ℕ) → (bytes : Buffer) → h.lent ≡ Some bytes → length log < 2 ^ 64
-    → (h.is_anew ≡ false → IsLogOf (origin_of h.node) h.node.replica.faults h.node.replica.me (take h.node.synced h.node.replica.entries) h.node.on_disk log)
-    → IsLogOf (origin_of h'.node) h'.node.replica.faults h'.node.replica.me h'.node.replica.entries h'.node.on_disk (log_after h.is_anew log bytes.items)
+    → (h.is_anew ≡ false → IsLogTo h h.durable (length log) log × (h.node.on_disk ≡ length log + length bytes.items))
+    → IsLogTo h' h'.durable h'.node.on_disk (log_after h.is_anew log bytes.items)
 
 -- why it isn't
 abbrev pub IsUnnoted : Hosting → ℕ → SyncFault → Type 0
 IsUnnoted h count sync.NotLent = (h.lent ≡ None) × (count ≢ 0)
 IsUnnoted h count sync.NotAll = (bytes : Buffer) × (h.lent ≡ Some bytes) × (length bytes.items ≢ count)
-IsUnnoted h count sync.Memory = (bytes : Buffer) × (h.lent ≡ Some bytes) × (length bytes.items ≡ count)
 
 -- all was on the disk, and what waited was told, and what there is to tell
 pub record HasAnswered (h : Hosting) (after most : ℕ) (h' : Hosting) : Type 0 where
@@ -67,6 +75,36 @@ pub record HasAnswered (h : Hosting) (after most : ℕ) (h' : Hosting) : Type 0 
 abbrev pub IsUntold : Hosting → TellFault → Type 0
 IsUntold h Memory = IsOnDisk h
 IsUntold h Unsynced = ¬ IsOnDisk h
+
+-- Answers that are made while what they tell of is lent.
+
+-- all that the node took is lent, or on the disk, and what waited and what there is to tell are answers that are held
+pub record HasPrepared (h : Hosting) (after most : ℕ) (h' : Hosting) : Type 0 where
+  pub lent : IsQuiet h.node
+  pub none : h.held ≡ None
+  pub bytes : Buffer
+  pub tells : AllAnswered h.node.replica h.dues after most bytes.items
+  pub is : h' ≡ record h { dues = []; held = Some bytes; until = length h.node.replica.entries }
+
+-- why none are
+abbrev pub IsUnprepared : Hosting → PrepareFault → Type 0
+IsUnprepared h prepare.Memory = (h.held ≡ None) × IsQuiet h.node
+IsUnprepared h prepare.Unlent = (h.held ≡ None) × (¬ IsQuiet h.node)
+IsUnprepared h prepare.Untold = h.held ≢ None
+
+-- the log has begun, and the entries that the held answers tell of are on the disk
+pub record MayTell (h : Hosting) : Type 0 where
+  pub begun : h.is_anew ≡ false
+  pub durable : h.until ≤ h.durable
+
+-- they are told; or there are none
+abbrev pub HasTold : Hosting → Bool → Hosting → Type 0
+HasTold h true h' = (bytes : Buffer) × (h.held ≡ Some bytes) × MayTell h × (h' ≡ record h { held = None; answers = bytes })
+HasTold h false h' = (h.held ≡ None) × (h' ≡ h)
+
+-- why not
+abbrev pub IsWithheld : Hosting → TellFault → Type 0
+IsWithheld h fault = (fault ≡ Unsynced) × (h.held ≢ None) × (¬ MayTell h)
 
 -- all was on the disk, and the value that the map has at the key was told; or it has none
 abbrev pub HasLooked : Hosting → List ℕ → Bool → Hosting → Type 0

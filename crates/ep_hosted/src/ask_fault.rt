@@ -9,8 +9,8 @@ use thiserror::Error;
 /// Why a request was not done.
 #[derive(Clone, Copy, Debug, PartialEq, Eq, Error)]
 pub enum AskFault {
-    /// Bytes are lent that aren't on the disk yet: nothing is done before `synced` says that they are.
-    #[error("bytes are lent that aren't on the disk")]
+    /// The whole log is lent anew, and isn't on the disk yet: nothing is done before `synced` says that it is.
+    #[error("the log that is lent isn't on the disk")]
     Lent,
     /// Memory was refused. Nothing was done, but of a request of kind 12, which executes all that is ready: some of that may have been executed.
     #[error("E1 memory")]

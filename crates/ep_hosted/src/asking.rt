@@ -4,6 +4,7 @@ ghost use Rattle.std.specs.Prelude.{◌≡◌, ◌≢◌, ◌⊎◌, ◌++◌, �
 ghost use Rattle.ep_serve.specs.Acting.{Acts, IsCutShort};
 ghost use Rattle.ep_serve.specs.declared.due.Due.{Due as Answer};
 ghost use Rattle.ep_hosted.specs.Asking.{IsRequest, IsUnread};
+ghost use Rattle.ep_hosted.specs.Hosting.{Grows};
 ghost use Rattle.ep_hosted.specs.declared.ask_fault.AskFault.TheVariants.{NotOne};
 
 use crate::ask_fault::AskFault;
@@ -55,11 +56,12 @@ fn read_one(alloc: Global, bytes: &[u8], dialect: &JournalDialect) -> Result<Req
 }
 
 /// The node does what is asked, and the answer waits behind the others.
-#[tactic(auto, using(ep_serve::proofs::Stopping::cut_short))]
+#[tactic(auto, using(ep_serve::proofs::Stopping::cut_short, crate::proofs::Longer::acts_grow, crate::proofs::Longer::undone_grows, crate::proofs::Longer::grows_none))]
 fn add(node: &mut Node<HostDevice>, dues: &mut Vec<Due>, request: Request) -> Result<(), AllocError>
     requires { node.old.closed ≡ false }
     ensures ok { OnOk result ((due : Answer) × Acts node.old.replica request due node.new.replica × (dues.new.items ≡ dues.old.items ++ due ∷ [])) }
     ensures same { node.new ≡ record node.old { replica = node.new.replica } }
+    ensures grows { Grows node.old.replica node.new.replica }
     ensures err { OnErr result ((dues.new.items ≡ dues.old.items) × ((node.new ≡ node.old) ⊎ IsCutShort node.old.replica request node.new.replica)) }
 {
     if dues.reserve(1).is_err() {
@@ -88,7 +90,7 @@ impl Hosted {
         ensures ok { OnOk result (HasAsked self.old bytes.now self.new) }
         ensures err { IfErr result (λ fault. IsUnasked self.old bytes.now fault self.new) }
     {
-        if self.is_lending() {
+        if self.is_anew() {
             return Err(AskFault::Lent);
         }
         let request = match read_one(alloc, bytes, &dialect_of(&self.node)) {

@@ -1,10 +1,10 @@
 //! A node whose log is in its caller's hands.
 //!
-//! A `Hosted` takes what happens, lends the bytes that its caller is to write, and tells nothing before the caller says that these are on the disk. What it
-//! takes and tells is what `ep_serve` says of a node's requests and answers.
+//! A `Hosted` takes what happens, lends the bytes that its caller is to write, and tells nothing before the caller says that these are on the disk. Meanwhile it
+//! takes what happens then. What it takes and tells is what `ep_serve` says of a node's requests and answers.
 //!
-//! Start with `hosted.rt` and specs/Hosting.antt; then `opening.rt` (how one begins), `taking.rt` (what it takes), `asking.rt` (requests in bytes) and
-//! `telling.rt` and `listing.rt` (what it lends and tells), with specs/Beginning.antt and specs/Taking.antt.
+//! Start with `hosted.rt` and specs/Hosting.antt; then `opening.rt` (how one begins), `taking.rt` (what it takes), `asking.rt` (requests in bytes),
+//! `telling.rt`, `preparing.rt` and `listing.rt` (what it lends and tells), with specs/Beginning.antt and specs/Taking.antt.
 #![tactic(auto)]
 
 mod ask_fault;
@@ -14,6 +14,8 @@ mod call;
 mod hosted;
 mod listing;
 mod opening;
+mod prepare_fault;
+mod preparing;
 mod seat;
 mod start_fault;
 mod sync_fault;
@@ -25,6 +27,7 @@ mod telling;
 pub use ask_fault::AskFault;
 pub use call::Call;
 pub use hosted::Hosted;
+pub use prepare_fault::PrepareFault;
 pub use seat::Seat;
 pub use start_fault::StartFault;
 pub use sync_fault::SyncFault;

@@ -1,6 +1,6 @@
 //! Beginning a node.
 
-ghost use Rattle.std.specs.Prelude.{◌≡◌, ◌≢◌, [], Some, true, false, IfOk, IfErr};
+ghost use Rattle.std.specs.Prelude.{◌≡◌, ◌≢◌, [], None, Some, true, false, IfOk, IfErr};
 ghost use Rattle.std.specs.Option.{option_map};
 ghost use Rattle.ep_device.specs.Memory.{memory_bytes};
 ghost use Rattle.ep_node.specs.Nodes.{IsQuiet};
@@ -95,14 +95,17 @@ fn hosted_by(alloc: Global, node: Node<MemoryDevice>) -> Hosted
     ensures quiet { IsQuiet result.node }
     ensures lent { (bytes : Buffer) × (result.lent ≡ Some bytes) × (bytes.items ≡ memory_bytes node.device) }
     ensures anew { result.is_anew ≡ true }
-    ensures none { (result.dues ≡ []) × (result.answers.items ≡ []) }
+    ensures none { (result.dues ≡ []) × (result.held ≡ None) × (result.answers.items ≡ []) }
 {
     let (node, device) = node.onto(HostDevice);
     Hosted {
         node,
         lent: Some(device.into_bytes()),
         is_anew: true,
+        durable: 0,
         dues: Vec::new(alloc),
+        held: None,
+        until: 0,
         answers: Vec::new(alloc),
         blocks: Blocks::new(alloc),
     }

@@ -11,7 +11,4 @@ pub enum SyncFault {
     /// So many bytes aren't all that are lent.
     #[error("these aren't all the bytes that are lent")]
     NotAll,
-    /// The log would have more than 2^64 - 1 bytes.
-    #[error("E1 memory")]
-    Memory,
 }

@@ -4,6 +4,7 @@ ghost use Rattle.std.specs.Prelude.{◌≡◌, false, length, None, Some, IfErr,
 ghost use Rattle.ep_serve.specs.Acting.{ExecutesAll, StopsShort, TakesNear};
 ghost use Rattle.ep_serve.specs.declared.due.Due.{Due as Answer};
 ghost use Rattle.ep_serve.specs.declared.due.Due.TheVariants.{Refused, Taken};
+ghost use Rattle.ep_hosted.specs.Hosting.{Grows};
 ghost use Rattle.ep_hosted.specs.Taking.{refusal_of};
 
 use crate::call::Call;
@@ -50,11 +51,12 @@ fn came_of(due: Due) -> Result<(), TakeFault>
 }
 
 /// The node takes an event, or refuses it.
-#[tactic(auto, using(crate::proofs::Refusals::taken_if, crate::proofs::Refusals::refused_if))]
+#[tactic(auto, using(crate::proofs::Refusals::taken_if, crate::proofs::Refusals::refused_if, crate::proofs::Longer::takes_grow))]
 fn take_at(node: &mut Node<HostDevice>, event: Event) -> Result<(), TakeFault>
     requires { node.old.closed ≡ false }
     ensures ok { OnOk result (TakesNear node.old.replica event (Taken (length node.old.replica.entries) 1) node.new.replica) }
     ensures same { node.new ≡ record node.old { replica = node.new.replica } }
+    ensures grows { Grows node.old.replica node.new.replica }
     ensures err { IfErr result (λ refusal. TakesNear node.old.replica event (Refused refusal) node.old.replica × (node.new ≡ node.old)) }
 {
     let Ok(due) = act(node, Request::Event(event)) else {
@@ -65,11 +67,12 @@ fn take_at(node: &mut Node<HostDevice>, event: Event) -> Result<(), TakeFault>
 }
 
 /// The node executes all instances that are ready.
-#[tactic(auto, using(crate::proofs::Requests::swept))]
+#[tactic(auto, using(crate::proofs::Requests::swept, crate::proofs::Longer::acts_grow, crate::proofs::Longer::undone_grows))]
 fn sweep_at(node: &mut Node<HostDevice>) -> Result<(), AllocError>
     requires { node.old.closed ≡ false }
     ensures ok { OnOk result ((told : Answer) × ExecutesAll node.old.replica told node.new.replica) }
     ensures same { node.new ≡ record node.old { replica = node.new.replica } }
+    ensures grows { Grows node.old.replica node.new.replica }
     ensures err { OnErr result (StopsShort node.old.replica node.new.replica) }
 {
     let _told = act(node, Request::ExecuteAll)?;
@@ -83,12 +86,12 @@ impl Hosted {
     ghost use Rattle.ep_journal.specs.declared.event.Event.TheVariants.{Propose, Handle, GiveUp, Recover, Execute};
     ghost use Rattle.ep_hosted.specs.Taking.{HasAdvanced, HasExecuted, HasLeftOff, HasStopped, HasSwept, HasTaken, IsNotExecuted, IsNotTaken, IsUnheard};
 
-    /// Takes an event, which isn't on the disk before it was lent and `synced`. What is refused has changed nothing.
+    /// Takes an event, which isn't on the disk before it was lent and `synced`; also while others are lent. What is refused has changed nothing.
     pub fn take(&mut self, event: Event) -> Result<(), TakingFault>
         ensures ok { OnOk result (HasTaken self.old event self.new) }
         ensures err { IfErr result (λ fault. IsNotTaken self.old event fault self.new) }
     {
-        if self.is_lending() {
+        if self.is_anew() {
             drop(event);
             return Err(TakingFault::Lent);
         }
@@ -131,7 +134,7 @@ impl Hosted {
         ensures ok { OnOk result (HasTaken self.old (Handle bytes.now) self.new) }
         ensures err { IfErr result (λ fault. IsUnheard self.old bytes.now fault self.new) }
     {
-        if self.is_lending() {
+        if self.is_anew() {
             return Err(TakingFault::Lent);
         }
         let Ok(bytes) = self.blocks.copy(alloc, bytes) else {
@@ -172,7 +175,7 @@ impl Hosted {
         ensures ok { IfOk result (λ executed. HasExecuted self.old executed self.new) }
         ensures err { IfErr result (λ fault. IsNotExecuted self.old fault self.new) }
     {
-        if self.is_lending() {
+        if self.is_anew() {
             return Err(TakingFault::Lent);
         }
         let executed = match execute_own(&mut self.node) {
@@ -188,7 +191,7 @@ impl Hosted {
         ensures ok { OnOk result (HasAdvanced self.old self.new) }
         ensures err { IfErr result (λ fault. HasStopped self.old fault self.new) }
     {
-        if self.is_lending() {
+        if self.is_anew() {
             return Err(TakingFault::Lent);
         }
         advance_own(&mut self.node)?;
@@ -201,7 +204,7 @@ impl Hosted {
         ensures ok { OnOk result (HasSwept self.old self.new) }
         ensures err { IfErr result (λ fault. HasLeftOff self.old fault self.new) }
     {
-        if self.is_lending() {
+        if self.is_anew() {
             return Err(TakingFault::Lent);
         }
         match sweep_at(&mut self.node) {

@@ -11,8 +11,8 @@ use thiserror::Error;
 /// Why a node took nothing.
 #[derive(Clone, Copy, Debug, PartialEq, Eq, Error)]
 pub enum TakingFault {
-    /// Bytes are lent that aren't on the disk yet: nothing is taken before `synced` says that they are.
-    #[error("bytes are lent that aren't on the disk")]
+    /// The whole log is lent anew, and isn't on the disk yet: nothing is taken before `synced` says that it is.
+    #[error("the log that is lent isn't on the disk")]
     Lent,
     /// The replica refused it, or the bytes are no frame.
     #[error("{0:?}")]

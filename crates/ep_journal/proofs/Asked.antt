@@ -3,11 +3,10 @@ use Rattle.std.proofs.Common.{◌≡◌, ℕ, ◌+◌, ◌<◌, ◌≤◌, Bool,
 use Rattle.ep_base.specs.Instances.{instance_of}
 use Rattle.std.proofs.lemmas.Bool.{and_from}
 use Rattle.ep_base.specs.Quorums.{spared, may_spare}
-use Rattle.ep_base.specs.Versions.{highest_in}
+use Rattle.ep_base.specs.Versions.{highest_in, highest_for}
 use Rattle.ep_base.specs.declared.version.Version.{Version}
 use Rattle.ep_journal.proofs.Holding.{below}
 use Rattle.ep_base.specs.Messages.{instance_of_message}
-use Rattle.ep_journal.specs.Holding.{highest_for}
 use Rattle.ep_base.specs.Commands.{Command}
 use Rattle.ep_base.specs.declared.message.Message.{Message}
 use Rattle.ep_base.specs.declared.message.Message.TheVariants.{PreAccept, PreAcceptOk, Accept, AcceptOk, Commit, Prepare, PrepareOk, Nack}

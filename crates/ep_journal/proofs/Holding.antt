@@ -7,11 +7,11 @@ use Rattle.ep_base.proofs.Members.{all_union}
 use Rattle.ep_base.proofs.Versions.{instance_later, deps_later, vote_later, highest_low}
 use Rattle.ep_base.specs.Attributes.{join}
 use Rattle.ep_base.specs.Ballots.{ballot_of, highest_counter}
-use Rattle.ep_base.specs.Instances.{instance_of, leader_of}
+use Rattle.ep_base.specs.Instances.{instance_of, leader_of, highest_number}
 use Rattle.ep_base.specs.Messages.{instance_of_message}
 use Rattle.ep_base.specs.Quorums.{size, spared, is_fast}
 use Rattle.ep_base.specs.Interference.{is_seal}
-use Rattle.ep_base.specs.Versions.{version_number, highest_in, knows, names, IsInstanceIn, AreDepsIn, IsDecreeIn, IsVoteIn, CanSay}
+use Rattle.ep_base.specs.Versions.{version_number, highest_in, knows, names, IsInstanceIn, AreDepsIn, IsDecreeIn, IsVoteIn, CanSay, highest_for}
 use Rattle.ep_base.specs.declared.attrs.Attrs.{Attrs}
 use Rattle.ep_base.specs.Commands.{Command, Noop}
 use Rattle.ep_base.specs.declared.decree.Decree.{Decree}
@@ -38,7 +38,7 @@ use Rattle.ep_rules.specs.declared.record.Record.{Record}
 use Rattle.ep_space.proofs.Holders.{sorted_true, those-found}
 use Rattle.ep_space.proofs.Rising.{all_from}
 use Rattle.ep_journal.proofs.Answering.{knows_noop, known_vote, stays_in}
-use Rattle.ep_journal.specs.Holding.{IsLedIn, Holds, IsStoreIn, HasEvent, HasRoom, highest_for, AllSayable}
+use Rattle.ep_journal.specs.Holding.{IsLedIn, Holds, IsStoreIn, HasEvent, HasRoom, AllSayable}
 use Rattle.ep_rules.specs.OneMap.{Store}
 
 -- Maps.
@@ -66,7 +66,7 @@ module _ {X : Type 0} (P : ℕ → X → Type 0) (m : Map X) (i : ℕ) (all : (j
       go false e = all j y (sym (remove_other m i j (λ is. absurd (let t : eqb j i ≡ true = eq-eqb j i is in cc))) ∙ h)
 
 -- the numbers for a command are the version's
-for_seal : (b : Bool) (n : ℕ) → n < cond b 2000 1990 → n < 2000
+for_seal : (b : Bool) (n : ℕ) → n < cond b highest_number 8990 → n < highest_number
 for_seal true n h = h
 for_seal false n h = omega (arith, h)
 
@@ -80,7 +80,7 @@ below V1 c = omega arith
 below V2 c = omega arith
 below (V3 g) c = for_any (is_seal c)
   where
-    for_any : (b : Bool) → cond b 2000 1990 ≤ 2000
+    for_any : (b : Bool) → cond b highest_number 8990 ≤ highest_number
     for_any true = omega arith
     for_any false = omega arith
 

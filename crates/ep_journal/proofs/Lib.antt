@@ -15,6 +15,7 @@ pub mod Collected
 pub mod Collecting
 pub mod Still
 pub mod Named
+pub mod Highest
 pub mod Growing
 pub mod Pairs
 pub mod Upgrading

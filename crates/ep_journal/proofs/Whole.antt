@@ -4,7 +4,7 @@ use Rattle.std.proofs.lemmas.Bool.{leb-true}
 use Rattle.std.specs.Prelude.{IsErrAnd}
 use Rattle.std.specs.List.{AllByRecursion}
 use Rattle.ep_base.specs.Instances.{number_of}
-use Rattle.ep_base.specs.Versions.{highest_in, knows, names, CanSay}
+use Rattle.ep_base.specs.Versions.{highest_in, knows, names, CanSay, highest_for}
 use Rattle.ep_base.specs.declared.version.Version.{Version}
 use Rattle.ep_base.specs.declared.version_kind.VersionKind.TheVariants.{V1, V2, V3}
 use Rattle.ep_base.specs.Commands.{Command}
@@ -30,7 +30,7 @@ use Rattle.ep_frame.specs.Spelling.{IsMessage, IsVote}
 use Rattle.ep_rules.specs.Fitting.{EventFits}
 use Rattle.ep_rules.proofs.Closed.{leaves_closed}
 use Rattle.ep_rules.proofs.Fitting.{leaves_fit}
-use Rattle.ep_journal.specs.Holding.{highest_for, Holds, HasEvent}
+use Rattle.ep_journal.specs.Holding.{Holds, HasEvent}
 use Rattle.ep_journal.specs.Entries.{entry_of, frames_at, AreFrames, AreFramesIn, AreNumbersIn, IsAnswerIn, AreAnswersIn}
 use Rattle.ep_journal.specs.Events.{frame_at, event_of, IsReadable, AreSpelled, lacking, numbered_in, spelled_in}
 use Rattle.ep_journal.specs.Executing.{IsExecuted, IsUnexecuted}

@@ -1,6 +1,7 @@
 //! Executing an instance, and all that it waits for.
 
-ghost use Rattle.std.specs.Prelude.{◌≡◌, ◌≤◌, ◌++◌, ◌∷◌, [], IfOk, IfErr, OnErr, OnOk, length};
+ghost use Rattle.std.specs.Prelude.{◌≡◌, ◌++◌, ◌∷◌, [], IfOk, IfErr, OnErr, OnOk};
+ghost use Rattle.ep_exec.specs.Kept.{HasRoom};
 ghost use Rattle.ep_exec.specs.Tries.{tried};
 ghost use Rattle.ep_rules.specs.OneMap.{answer, after, after_all};
 ghost use Rattle.ep_rules.specs.Order.{IsClosed};
@@ -122,7 +123,7 @@ fn do_all(
 
 /// Adds the instances to what is executed.
 fn add_all(executed: &mut Executed, order: &[InstanceId])
-    requires room { length order.now ≤ executed.old.room }
+    requires room { HasRoom executed.old order.now }
     requires fresh { AreFresh executed.old.list order.now }
     ensures { executed.new.list ≡ executed.old.list ++ order.now }
 {
@@ -147,7 +148,7 @@ pub(crate) fn execute(
     ensures err { OnErr result ((executed.new.list ≡ executed.old.list) × (store.new ≡ store.old)) }
 {
     let order = plan_left(alloc, space, executed, root)?;
-    executed.reserve(order.len())?;
+    executed.reserve(&order)?;
     let done = do_all(alloc, space, store, &order)?;
     add_all(executed, &order);
     Ok(done)

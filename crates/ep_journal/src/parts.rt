@@ -3,9 +3,9 @@
 ghost use Rattle.std.specs.Prelude.{◌≡◌, ◌<◌, ◌≤◌, ◌+◌, ℕ, None, Some, Ok, IfOk, IfErr, IfSome, IsErr, OnErr};
 ghost use Rattle.ep_phase.specs.Changes.{change_of, sends};
 ghost use Rattle.ep_base.specs.Instances.{instance_of};
+ghost use Rattle.ep_base.specs.Versions.{highest_for};
 ghost use Rattle.ep_phase.specs.Known.{known_of};
 ghost use Rattle.ep_rules.specs.States.{free_number};
-ghost use Rattle.ep_journal.specs.Holding.{highest_for};
 ghost use Rattle.ep_rules.specs.Steps.{sent_from};
 ghost use Rattle.ep_journal.specs.Events.{lacking, AreSpelled};
 ghost use Rattle.ep_journal.specs.Inputs.{outcome_at, IsWritable};
@@ -25,7 +25,7 @@ use crate::screen::{screen_frame, screen_instance, screen_request, screen_spared
 use crate::step_fault::StepFault;
 use crate::taken::Taken;
 use crate::versioned::check_version;
-use ep_base::{Command, InstanceId, ReplicaId, Version, VersionKind, spared_by};
+use ep_base::{Command, InstanceId, ReplicaId, Version, spared_by};
 use ep_exec::{Executed, Store};
 use ep_frame::Frame;
 use ep_phase::{Cell, Lead, next_instance};
@@ -49,28 +49,10 @@ fn instance_for(space: &Space, me: ReplicaId, command: &Command) -> Result<Insta
     ensures full { IsErr result → (n : ℕ) → free_number space.now.records me ≡ Some n → highest_for space.now.version command.now ≤ n }
 {
     let id = next_instance(space, me)?;
-    if id.number() > highest_for(space.version(), command) {
+    if id.number() > space.version().highest_for(command) {
         return Err(SpaceFull);
     }
     Ok(id)
-}
-
-/// The highest number of an instance in which the command is proposed.
-#[inline(always)]
-fn highest_for(version: Version, command: &Command) -> u16
-    ensures { result ≡ highest_for version command.now }
-{
-    match version.kind() {
-        VersionKind::V1 => 1000,
-        VersionKind::V2 => InstanceId::HIGHEST_NUMBER,
-        VersionKind::V3(_) => {
-            if command.is_seal() {
-                InstanceId::HIGHEST_NUMBER
-            } else {
-                1990
-            }
-        }
-    }
 }
 
 impl Parts {

@@ -33,7 +33,7 @@ pub enum StepFault {
     #[error("E15 stamp full")]
     StampFull,
     /// The replica has a record of each instance that it leads and that is for the command: 1,000 in version 1, 2,000 in version 2, and in
-    /// version 3 2,000 for a seal and 1,990 for any other command.
+    /// version 3 9,000 for a seal and 8,990 for any other command.
     #[error("E4 space full")]
     SpaceFull,
     /// The sequence number would pass 1,000,000.

@@ -6,6 +6,8 @@ use Rattle.ep_bundle.specs.declared.bundle_fault.BundleFault.{BundleFault}
 use Rattle.ep_bundle.specs.declared.bundle_fault.BundleFault.TheVariants as bundle
 use Rattle.ep_hosted.specs.declared.ask_fault.AskFault.{AskFault}
 use Rattle.ep_hosted.specs.declared.ask_fault.AskFault.TheVariants as ask
+use Rattle.ep_hosted.specs.declared.prepare_fault.PrepareFault.{PrepareFault}
+use Rattle.ep_hosted.specs.declared.prepare_fault.PrepareFault.TheVariants as prepare
 use Rattle.ep_hosted.specs.declared.start_fault.StartFault.{StartFault}
 use Rattle.ep_hosted.specs.declared.start_fault.StartFault.TheVariants as start
 use Rattle.ep_hosted.specs.declared.sync_fault.SyncFault.{SyncFault}
@@ -77,7 +79,12 @@ taking_status (taking.Refused refusal) = code_of refusal
 abbrev pub sync_status : SyncFault → ℕ
 sync_status sync.NotLent = 36
 sync_status sync.NotAll = 37
-sync_status sync.Memory = memory
+
+-- why no answers are made
+abbrev pub prepare_status : PrepareFault → ℕ
+prepare_status prepare.Memory = memory
+prepare_status prepare.Unlent = unsynced
+prepare_status prepare.Untold = 46
 
 -- why nothing is told
 abbrev pub tell_status : TellFault → ℕ

@@ -3,11 +3,12 @@ use Rattle.std.specs.Prelude.{◌≡◌, ◌⊎◌, ℕ, Bool, true, false, List
 use Rattle.std.specs.Vec.{vec_ptr}
 use Rattle.ep_hosted.specs.Asking.{HasAsked, IsUnasked}
 use Rattle.ep_hosted.specs.Hosting.{Buffer, Hosting}
-use Rattle.ep_hosted.specs.Telling.{HasAnswered, HasLent, HasNoted, IsUnnoted, IsUntold}
+use Rattle.ep_hosted.specs.Telling.{HasAnswered, HasLent, HasNoted, HasPrepared, HasTold, IsUnnoted, IsUnprepared, IsUntold, IsWithheld}
 use Rattle.ep_hosted.specs.declared.ask_fault.AskFault.{AskFault}
+use Rattle.ep_hosted.specs.declared.prepare_fault.PrepareFault.{PrepareFault}
 use Rattle.ep_hosted.specs.declared.sync_fault.SyncFault.{SyncFault}
 use Rattle.ep_hosted.specs.declared.tell_fault.TellFault.{TellFault}
-use Rattle.ep_library.specs.Statuses.{done, memory, ask_status, sync_status, tell_status}
+use Rattle.ep_library.specs.Statuses.{done, memory, none, ask_status, prepare_status, sync_status, tell_status}
 use Rattle.ep_library.specs.declared.lent.Lent.{Lent}
 
 abbrev pub flag : Bool → ℕ
@@ -34,6 +35,12 @@ HasSynced h count k = HasNoted h count k
 unfoldable pub IsUnsynced : Hosting → ℕ → SyncFault → Hosting → Type 0
 IsUnsynced h count fault k = IsUnnoted h count fault × (k ≡ h)
 
+unfoldable pub HasReleased : Hosting → Bool → Hosting → Type 0
+HasReleased h there k = HasTold h there k
+
+unfoldable pub IsUnreleased : Hosting → TellFault → Hosting → Type 0
+IsUnreleased h fault k = IsWithheld h fault × (k ≡ h)
+
 -- what is to be written is lent, and told; or there was no memory
 abbrev pub Lends : ℕ → Hosting → Hosting → Lent → ℕ → Type 0
 Lends status h k run anew = ((status ≡ done) × HasMadeReady h k × IsRunOf k.lent run × (anew ≡ flag k.is_anew)) ⊎ ((status ≡ memory) × (k ≡ h))
@@ -45,6 +52,16 @@ Syncs status h count k = ((status ≡ done) × HasSynced h count k) ⊎ ((fault 
 -- what waits was told, and all that there is to tell; or nothing was, as the status says
 abbrev pub Answers : ℕ → Hosting → ℕ → ℕ → Hosting → Lent → Type 0
 Answers status h told most k run = ((status ≡ done) × HasAnswered h told most k × IsRun k.answers run) ⊎ ((fault : TellFault) × (status ≡ tell_status fault) × IsUntold h fault × (k ≡ h))
+
+-- answers were made of what is lent, and are held; or none were, as the status says
+abbrev pub Prepares : ℕ → Hosting → ℕ → ℕ → Hosting → Type 0
+Prepares status h told most k = ((status ≡ done) × HasPrepared h told most k) ⊎ ((fault : PrepareFault) × (status ≡ prepare_status fault) × IsUnprepared h fault × (k ≡ h))
+
+-- they are told; or there are none; or they aren't yet, as the status says
+abbrev pub Releases : ℕ → Hosting → Hosting → Lent → Type 0
+Releases status h k run =
+    ((status ≡ done) × HasReleased h true k × IsRun k.answers run)
+    ⊎ (((status ≡ none) × HasReleased h false k) ⊎ ((fault : TellFault) × (status ≡ tell_status fault) × IsUnreleased h fault k))
 
 -- a request was done; or it wasn't, as the status says
 abbrev pub Asks : ℕ → Hosting → List ℕ → Hosting → Type 0

@@ -1,17 +1,17 @@
 //! Faults by their statuses.
 
 ghost use Rattle.std.specs.Prelude.{◌≡◌, ◌≢◌};
-ghost use Rattle.ep_library.specs.Statuses.{ask_status, bundle_status, close_status, command_status, log_status, open_status, opening_status, start_status, sync_status, taking_status, tell_status};
+ghost use Rattle.ep_library.specs.Statuses.{ask_status, bundle_status, close_status, command_status, log_status, open_status, opening_status, prepare_status, start_status, sync_status, taking_status, tell_status};
 
 use crate::status::{
     BAD_BUNDLE, BAD_CHECKSUM, BAD_ENTRY, BAD_FRAME, BAD_LENGTH, LAST_GENERATION, LENT, LOG_EXISTS,
     MEMORY, NO_HEADER, NO_LOG, NOT_A_RUN, NOT_ALL, NOT_CLOCKED, NOT_LENT, NOT_NEXT, NOT_ONE,
     NOT_SEALED, OPENING_DAMAGED, OPENING_SHORT, OPENING_WRONG, OTHER_GENERATION, OTHER_LOG,
-    OTHER_OPENING, OTHER_VERSION, OUT_OF_RANGE, TURNED, UNSYNCED,
+    OTHER_OPENING, OTHER_VERSION, OUT_OF_RANGE, TURNED, UNSYNCED, UNTOLD,
 };
 use ep_base::CommandFault;
 use ep_bundle::BundleFault;
-use ep_hosted::{AskFault, StartFault, SyncFault, TakingFault, TellFault};
+use ep_hosted::{AskFault, PrepareFault, StartFault, SyncFault, TakingFault, TellFault};
 use ep_log::LogFault;
 use ep_node::{CloseFault, OpenFault};
 use ep_opening::OpeningFault;
@@ -48,7 +48,18 @@ pub(crate) fn sync_status(fault: SyncFault) -> u8
     match fault {
         SyncFault::NotLent => NOT_LENT,
         SyncFault::NotAll => NOT_ALL,
-        SyncFault::Memory => MEMORY,
+    }
+}
+
+/// Why no answers are made.
+pub(crate) fn prepare_status(fault: PrepareFault) -> u8
+    ensures value { result ≡ prepare_status fault }
+    ensures fault { result ≢ 0 }
+{
+    match fault {
+        PrepareFault::Memory => MEMORY,
+        PrepareFault::Unlent => UNSYNCED,
+        PrepareFault::Untold => UNTOLD,
     }
 }
 

@@ -34,9 +34,9 @@ pub(crate) const STAMP_FULL: u8 = 15;
 pub(crate) const NO_REPLICA: u8 = 32;
 /// There is a replica already.
 pub(crate) const HAS_REPLICA: u8 = 33;
-/// What is lent isn't on the disk yet, so nothing is taken: write it, and say so by ep_synced.
+/// The whole log is lent, and isn't on the disk yet, so nothing is taken: write it, and say so by ep_synced.
 pub(crate) const LENT: u8 = 34;
-/// Not all that was taken is on the disk, so nothing is told: ep_ready lends it.
+/// Not all that was taken is on the disk, so nothing is told: ep_ready lends it. Or, of ep_prepare, not all of it is lent.
 pub(crate) const UNSYNCED: u8 = 35;
 /// Nothing is lent.
 pub(crate) const NOT_LENT: u8 = 36;
@@ -58,6 +58,8 @@ pub(crate) const LAST_GENERATION: u8 = 43;
 pub(crate) const NO_PATIENCE: u8 = 44;
 /// It was begun already.
 pub(crate) const HAS_PATIENCE: u8 = 45;
+/// What ep_prepare made before wasn't told: ep_told lends it.
+pub(crate) const UNTOLD: u8 = 46;
 /// The log has no bytes, and the replica isn't new.
 pub(crate) const NO_LOG: u8 = 48;
 /// The log has bytes, and the replica is new.

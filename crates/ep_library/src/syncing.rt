@@ -2,11 +2,11 @@
 
 ghost use Rattle.std.specs.Prelude.{◌≡◌, ◌≢◌, option_copied};
 ghost use Rattle.ep_library.specs.Calls.{Unless};
-ghost use Rattle.ep_library.specs.Syncing.{flag, Answers, Asks, IsRun, IsRunOf, Lends, Syncs};
+ghost use Rattle.ep_library.specs.Syncing.{flag, Answers, Asks, IsRun, IsRunOf, Lends, Prepares, Releases, Syncs};
 
-use crate::codes::{ask_status, sync_status, tell_status};
+use crate::codes::{ask_status, prepare_status, sync_status, tell_status};
 use crate::lent::Lent;
-use crate::status::{DONE, MEMORY, NO_REPLICA};
+use crate::status::{DONE, MEMORY, NO_REPLICA, NONE};
 use ep_handle::Handle;
 use ep_hosted::Hosted;
 use std::alloc::Global;
@@ -53,10 +53,10 @@ fn lends(alloc: Global, hosted: &mut Hosted, log: &mut Lent, is_anew: &mut u8) -
     }
 }
 
-/// Lends the bytes that are to be written to the log: the records of all that was taken since the last `ep_synced`, after the log, or, if `is_anew` becomes 1, in place of all that
-/// was there, at once (write another file, sync it, rename it). The first call after `ep_open` is such a one. If all is on the disk, there are none. While bytes are lent, nothing is
-/// taken (EP_LENT), and a second call lends the same, until `ep_synced` says that they are on the disk. If writing them fails, free the replica and open it from its log.
-/// EP_NO_REPLICA, EP_MEMORY.
+/// Lends the bytes that are to be written to the log: the records of all that was taken and wasn't lent before, after the log, or, if `is_anew` becomes 1, in place of all that was
+/// there, at once (write another file, sync it, rename it). The first call after `ep_open` is such a one, and nothing is taken before that is on the disk (EP_LENT). If all is on the
+/// disk, there are none. The bytes stay where they are, and a second call lends the same, until `ep_synced` says that they are on the disk; or until `ep_free`. Meanwhile more may be
+/// taken, which is lent next, and another thread may read them. If writing them fails, free the replica and open it from its log. EP_NO_REPLICA, EP_MEMORY.
 #[unsafe(no_mangle)]
 pub extern "C" fn ep_ready(
     alloc: Global,
@@ -89,8 +89,8 @@ fn syncs(hosted: &mut Hosted, count: usize) -> u8
     }
 }
 
-/// Says that what `ep_ready` lent is on the disk (fsync has returned): all of it, `count` bytes; 0 if nothing is lent. From now on no crash takes what was taken before.
-/// EP_NO_REPLICA, EP_NOT_LENT, EP_NOT_ALL, EP_MEMORY.
+/// Says that what `ep_ready` lent is on the disk (fsync has returned): all of it, `count` bytes; 0 if nothing is lent. From now on no crash takes what was taken before that call.
+/// EP_NO_REPLICA, EP_NOT_LENT, EP_NOT_ALL.
 #[unsafe(no_mangle)]
 pub extern "C" fn ep_synced(alloc: Global, handle: &mut Handle, count: usize) -> u8
     ensures { Unless result handle.old.value handle.new.value (λ h k. Syncs result h count k) }
@@ -139,6 +139,66 @@ pub extern "C" fn ep_answers(
         None => NO_REPLICA,
         Some(mut hosted) => {
             let status = tells(alloc, &mut hosted, told, most, answers);
+            *handle = Handle::of(hosted);
+            status
+        }
+    }
+}
+
+/// The replica makes answers, and holds them.
+fn prepares(alloc: Global, hosted: &mut Hosted, told: u32, most: u8) -> u8
+    ensures { Prepares result hosted.old told most hosted.new }
+{
+    match hosted.prepare(alloc, told, most) {
+        Ok(()) => DONE,
+        Err(fault) => prepare_status(fault),
+    }
+}
+
+/// Makes what `ep_answers` would lend if all that was taken were on the disk, and holds it until `ep_told` asks for it then. So answers are made while the disk works, and more may
+/// be taken after it: call it between `ep_ready` and the next event. EP_NO_REPLICA; EP_UNSYNCED: something was taken that isn't lent; EP_UNTOLD; EP_MEMORY: what was asked still waits.
+#[unsafe(no_mangle)]
+pub extern "C" fn ep_prepare(alloc: Global, handle: &mut Handle, told: u32, most: u8) -> u8
+    ensures { Unless result handle.old.value handle.new.value (λ h k. Prepares result h told most k) }
+{
+    let held = mem::replace(handle, Handle::empty());
+    match held.into_box(alloc) {
+        None => NO_REPLICA,
+        Some(mut hosted) => {
+            let status = prepares(alloc, &mut hosted, told, most);
+            *handle = Handle::of(hosted);
+            status
+        }
+    }
+}
+
+/// The replica tells what it holds.
+#[tactic(auto, unfolding(crate::specs::Syncing::HasReleased, crate::specs::Syncing::IsUnreleased))]
+fn releases(hosted: &mut Hosted, bytes: &mut Lent) -> u8
+    ensures told { Releases result hosted.old hosted.new bytes.new }
+    ensures untold { result ≢ 0 → bytes.new ≡ bytes.old }
+{
+    match hosted.told() {
+        Ok(true) => {
+            point(hosted.answers(), bytes);
+            DONE
+        }
+        Ok(false) => NONE,
+        Err(fault) => tell_status(fault),
+    }
+}
+
+/// Lends what `ep_prepare` made, once. All that it tells is on the disk. EP_NO_REPLICA; EP_NONE: it made nothing; EP_UNSYNCED: what was lent then isn't on the disk yet.
+#[unsafe(no_mangle)]
+pub extern "C" fn ep_told(alloc: Global, handle: &mut Handle, answers: &mut Lent) -> u8
+    ensures told { Unless result handle.old.value handle.new.value (λ h k. Releases result h k answers.new) }
+    ensures untold { result ≢ 0 → answers.new ≡ answers.old }
+{
+    let held = mem::replace(handle, Handle::empty());
+    match held.into_box(alloc) {
+        None => NO_REPLICA,
+        Some(mut hosted) => {
+            let status = releases(&mut hosted, answers);
             *handle = Handle::of(hosted);
             status
         }

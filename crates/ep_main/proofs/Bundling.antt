@@ -15,5 +15,5 @@ pub bundled :
 bundled played bytes zs out same replay accepted wrote = record { played = played; replay = replay; accepted = accepted; wrote = subst (Wrote out) same wrote }
 
 -- the count of its receipts fits its field
-pub countable : (slice receipts : List Receipt) → slice ≡ receipts → length receipts ≤ 14000 → length slice < 2 ^ 32
+pub countable : (slice receipts : List Receipt) → slice ≡ receipts → length receipts ≤ 63000 → length slice < 2 ^ 32
 countable slice receipts same few = let e : length slice ≡ length receipts = ap length same in omega arith

@@ -109,7 +109,7 @@ fn execute(replica: &mut Replica, instance: InstanceId) -> Result<(), AllocError
 fn execute_led(replica: &mut Replica, leader: ReplicaId) -> Result<(), AllocError>
     ensures { OnOk result (GoesOn replica.old replica.new) }
 {
-    for number in 1..2001 {
+    for number in 1..replica.journal().highest() + 1 {
         execute(replica, instance_at(leader, number))?;
     }
     Ok(())

@@ -58,26 +58,26 @@ module _ (start : Start) (f n : ℕ) (c : Cluster) (k : Kept) (h : IsNode start 
     node = subst (λ (z : Kept). IsNode start f (moved c (Take k.me (entry_of e))) z n) (sym a.appended) (grown e);
   }
 
-  syncs_lem : IsNode start f c k (length k.entries)
-  syncs_lem = record {
+  syncs_lem : (m : ℕ) → n ≤ m → m ≤ length k.entries → IsNode start f c k m
+  syncs_lem m more within = record {
     opening = h.opening;
     faults = h.faults;
     member = h.member;
     journal = h.journal;
-    out = let out = h.out in let within = h.synced in omega (arith, out, within);
-    synced = omega arith;
+    out = let out = h.out in omega (arith, out, more);
+    synced = within;
   }
 
-  lends_lem : n ≡ length k.entries → Makes start f c (HandOut k.me (length k.entries)) k (length k.entries)
-  lends_lem all = record {
-    move = (h.member, record { least = (let out = h.out in omega (arith, out, all)); most = omega (arith, count) });
+  lends_lem : Makes start f c (HandOut k.me n) k n
+  lends_lem = record {
+    move = (h.member, record { least = h.out; most = let within = h.synced in omega (arith, count, within) });
     node = record {
       opening = h.opening;
       faults = h.faults;
       member = h.member;
       journal = h.journal;
-      out = let now = at_same k.me (length k.entries) c.out in omega (arith, now);
-      synced = omega arith;
+      out = let now = at_same k.me n c.out in omega (arith, now);
+      synced = h.synced;
     };
   }
 
@@ -137,8 +137,8 @@ calls_are_moves_lem = record {
   begins = λ f me member. record { opening = record { map = refl; since = refl }; faults = refl; member = member; journal = refl; out = omega arith; synced = omega arith };
   opens = λ start k opening member none. record { opening = opening; faults = refl; member = member; journal = sym (ap entries_of none); out = omega arith; synced = omega arith };
   takes = λ start f n c k k' event e h among a. takes_lem start f n c k h k' event e among a;
-  syncs = λ start f n c k h. syncs_lem start f n c k h;
-  lends = λ start f c k h. lends_lem start f (length k.entries) c k h refl;
+  syncs = λ start f n m c k h more within. syncs_lem start f n c k h m more within;
+  lends = λ start f n c k h. lends_lem start f n c k h;
   comes_back = λ start f n c k es h a. comes_back_lem start f n c k h es a;
   others = λ start f n c k m h other. others_lem start f n c k h m other;
 }

@@ -33,6 +33,7 @@ use Rattle.ep_node.proofs.CrashLives.{same_on, Same, crashing_lives_are_lineariz
 use Rattle.ep_node.proofs.CrashMoves.{at_same}
 use Rattle.ep_node.proofs.LifeChains.{crashing_lives_are_chains_lem}
 use Rattle.ep_node.proofs.LifeFrames.{among_lem, frame_out, framed_in, in_entries_of, stays_out_lem}
+use Rattle.ep_node.proofs.Opened.{entries_of-take}
 use Rattle.ep_node.proofs.LifeStays.{IsUntouched, AreUntouched, untouched_after, untouched_first, AllNumbered, numbered_after, store_stays, sealed_stays, at_opened, has_now}
 use Rattle.ep_node.proofs.Sealed.{Seals, sealing}
 
@@ -90,8 +91,27 @@ module _ (first : ℕ) (f : ℕ → ℕ) (l : Generations) (g n : ℕ) (k : Kept
       subst (λ (z : Kept). MakesIn first f l (Within g (Take k.me (entry_of e))) g z n) (sym a.appended)
       (within first f l g n (Take k.me (entry_of e)) grown h.version h.has_opened refl makes)
 
-  syncs_lem : IsNodeIn first f l g k (length k.entries)
-  syncs_lem = record { version = h.version; has_opened = h.has_opened; node = calls_are_moves_lem.syncs (start_of l g k.me) (f g) n (l.cluster g) k h.node }
+  syncs_lem : (m : ℕ) → n ≤ m → m ≤ length k.entries → IsNodeIn first f l g k m
+  syncs_lem m more within = record { version = h.version; has_opened = h.has_opened; node = calls_are_moves_lem.syncs (start_of l g k.me) (f g) n m (l.cluster g) k h.node more within }
+
+  abbrev lent_to : LifeMove
+  lent_to = Within g (HandOut k.me n)
+
+  lends_lem : MakesIn first f l lent_to g k n
+  lends_lem = within first f l g n (HandOut k.me n) k h.version h.has_opened refl (calls_are_moves_lem.lends (start_of l g k.me) (f g) n (l.cluster g) k h.node)
+
+  first_out : handed_out ((after_move f l lent_to).cluster g) k.me ≡ entries_of (take n k.entries)
+  first_out =
+      ap (λ (c : Cluster). handed_out c k.me) (at_same g (moved (l.cluster g) (HandOut k.me n)) l.cluster)
+      ∙ ap (λ (m : ℕ). take m ((l.cluster g).journal k.me)) (at_same k.me n (l.cluster g).out)
+      ∙ ap (λ (es : List rules.Entry). take n es) h.node.journal
+      ∙ sym (entries_of-take n k.entries)
+
+  sends_lem : (start : Start) (e : Entry) (b : List ℕ) → HasLived start f l → In e (take n k.entries) → IsEntryIn k.version e → In b e.frames → WasHandedOut first (after_move f l lent_to) (Handle b)
+  sends_lem start e b lived stands is out =
+      frame_out start first f (after_move f l lent_to) g k.me e b (lives_on_lem start f l lent_to lived lends_lem.move)
+      (subst (λ (es : List rules.Entry). In (entry_of e) es) (sym first_out) (in_entries_of e (take n k.entries) stands))
+      (framed_in k.version b e.frames is.frames out ∙ h.version) out
 
   comes_back_lem : (es : List Entry) → AreFirst n k.entries es → MakesIn first f l (Within g (ComeBack k.me (length es))) g (record k { entries = es }) (length es)
   comes_back_lem es a =
@@ -133,23 +153,12 @@ module _ (first : ℕ) (f : ℕ → ℕ) (l : Generations) (g : ℕ) (k : Kept) 
   abbrev lent : LifeMove
   lent = Within g (HandOut k.me (length k.entries))
 
-  lends_lem : MakesIn first f l lent g k (length k.entries)
-  lends_lem =
-      within first f l g (length k.entries) (HandOut k.me (length k.entries)) k h.version h.has_opened refl
-      (calls_are_moves_lem.lends (start_of l g k.me) (f g) (l.cluster g) k h.node)
-
   all_out : handed_out ((after_move f l lent).cluster g) k.me ≡ entries_of k.entries
   all_out =
       ap (λ (c : Cluster). handed_out c k.me) (at_same g (moved (l.cluster g) (HandOut k.me (length k.entries))) l.cluster)
       ∙ ap (λ (n : ℕ). take n ((l.cluster g).journal k.me)) (at_same k.me (length k.entries) (l.cluster g).out)
       ∙ ap (λ (es : List rules.Entry). take (length k.entries) es) h.node.journal
       ∙ take_all (length k.entries) (entries_of k.entries) (let same = count_entries k.entries in omega arith)
-
-  sends_lem : (start : Start) (e : Entry) (b : List ℕ) → HasLived start f l → In e k.entries → IsEntryIn k.version e → In b e.frames → WasHandedOut first (after_move f l lent) (Handle b)
-  sends_lem start e b lived stands is out =
-      frame_out start first f (after_move f l lent) g k.me e b (lives_on_lem start f l lent lived lends_lem.move)
-      (subst (λ (es : List rules.Entry). In (entry_of e) es) (sym all_out) (in_entries_of e k.entries stands))
-      (framed_in k.version b e.frames is.frames out ∙ h.version) out
 
   store_is : store_out f (after_move f l lent) g k.me ≡ store_of k
   store_is =
@@ -252,12 +261,12 @@ life_calls_are_moves_lem = record {
       subst (λ (x : Generations). (n : ℕ) → AreOpen x n → AreChained start f x (standing stand_on [] h.moves) n) h.leave (crashing_lives_are_chains_lem start f sizes h.moves h.are);
   begins = begins_lem;
   takes = λ first f l g n k k' event e h out a. takes_lem first f l g n k h k' event e out a;
-  syncs = λ first f l g n k h. syncs_lem first f l g n k h;
-  lends = λ first f l g k h. lends_lem first f l g k h;
-  sends = λ start first f l g k e b lived h stands is out. sends_lem first f l g k h start e b lived stands is out;
+  syncs = λ first f l g n m k h more within. syncs_lem first f l g n k h m more within;
+  lends = λ first f l g n k h. lends_lem first f l g n k h;
+  sends = λ start first f l g n k e b lived h stands is out. sends_lem first f l g n k h start e b lived stands is out;
   stays_out = stays_out_lem;
   comes_back = λ first f l g n k es h a. comes_back_lem first f l g n k h es a;
-  closes = λ start first f l g k file lived h c. (lends_lem first f l g k h, closes_lem first f l g k h start file lived c);
+  closes = λ start first f l g k file lived h c. (lends_lem first f l g (length k.entries) k h, closes_lem first f l g k h start file lived c);
   stays = λ first f l g q file m h move. stays_lem first f l g q file h m move;
   opens = opens_lem;
   others = λ first f l g n k m h move other. others_lem first f l g n k h m move other;

@@ -1,7 +1,7 @@
 -- What a node has noted of its first entries, as they grow and as more of them are noted.
 use Rattle.std.proofs.Common.{◌≡◌, ◌≢◌, inl, inr, cond, ◌*◌, ◌/◌, ◌%◌, get_or, ℕ, ◌+◌, ◌-◌, ◌≤◌, ◌<◌, length, take, drop, List, [], ◌∷◌, ◌++◌, refl, sym, ap, subst, ◌∙◌, arith, append_assoc, length-append}
 use Rattle.std.specs.Prelude.{Option, Some, None}
-use Rattle.std.proofs.lemmas.List.{drop_more, take-append-le}
+use Rattle.std.proofs.lemmas.List.{drop_more, take_more, take-append-le}
 use Rattle.std.proofs.lemmas.Bool.{cases_eq, eq-eqb, ne_eqb}
 use Rattle.ep_base.specs.Instances.{IsInstance}
 use Rattle.ep_journal.specs.declared.entry.Entry.{Entry}
@@ -71,6 +71,26 @@ pub none_known : (es : List Entry) (seen : ℕ) (about commits : List (Option �
 none_known es seen about commits none =
     subst (λ (n : ℕ). Knows es n about commits) (sym none.0) (subst (λ (l : List (Option ℕ)). Knows es 0 l commits) (sym none.1) (subst (λ (l : List (Option ℕ)). Knows es 0 [] l) (sym none.2)
     (record { within = omega arith; first_about = λ i is. refl; first_learnt = λ i is. refl })))
+
+-- the same is noted under other places
+pub knows_same : (es : List Entry) (seen : ℕ) (about about' commits commits' : List (Option ℕ)) → ((i : ℕ) → noted about' i ≡ noted about i) → ((i : ℕ) → noted commits' i ≡ noted commits i) → Knows es seen about commits → Knows es seen about' commits'
+knows_same es seen about about' commits commits' same same' k = record {
+  within = k.within;
+  first_about = λ i is. same i ∙ k.first_about i is;
+  first_learnt = λ i is. same' i ∙ k.first_learnt i is;
+}
+
+-- the next entry is noted too
+pub knows_next : (es : List Entry) (seen : ℕ) (e : Entry) (about about' commits commits' : List (Option ℕ)) → seen < length es → e ≡ get_or es seen e
+    → (AreFirst about_by (take seen es) about → AreFirst about_by (take seen es ++ (e ∷ [])) about') → (AreFirst learnt_by (take seen es) commits → AreFirst learnt_by (take seen es ++ (e ∷ [])) commits')
+    → Knows es seen about commits → Knows es (seen + 1) about' commits'
+knows_next es seen e about about' commits commits' lt is more more' k =
+    let next : take (seen + 1) es ≡ take seen es ++ (e ∷ []) = take_more es seen e lt ∙ ap (λ (x : Entry). take seen es ++ (x ∷ [])) (sym is) in
+    record {
+      within = omega (arith, lt);
+      first_about = subst (λ (l : List Entry). AreFirst about_by l about') (sym next) (more k.first_about);
+      first_learnt = subst (λ (l : List Entry). AreFirst learnt_by l commits') (sym next) (more' k.first_learnt);
+    }
 
 -- Places.
 

@@ -41,10 +41,10 @@ pub record CallsAreMoves : Type 0 where
   pub takes :
       (start : Start) (f n : ℕ) (c : Cluster) (k k' : Kept) (event : Happening) (e : Entry) → IsNode start f c k n → IsAmong c.given (event_of event) → Applied k event e k' →
       Makes start f c (Take k.me (entry_of e)) k' n
-  -- after a sync, which is no move, all entries are on the disk
-  pub syncs : (start : Start) (f n : ℕ) (c : Cluster) (k : Kept) → IsNode start f c k n → IsNode start f c k (length k.entries)
-  -- to lend the replica, all of whose entries are on the disk, is a `HandOut` of all of them
-  pub lends : (start : Start) (f : ℕ) (c : Cluster) (k : Kept) → IsNode start f c k (length k.entries) → Makes start f c (HandOut k.me (length k.entries)) k (length k.entries)
+  -- after a sync, which is no move, more of its entries are on the disk, or all
+  pub syncs : (start : Start) (f n m : ℕ) (c : Cluster) (k : Kept) → IsNode start f c k n → n ≤ m → m ≤ length k.entries → IsNode start f c k m
+  -- to lend a replica of just the entries that are on the disk, or to tell of it, is a `HandOut` of these, whatever was taken since
+  pub lends : (start : Start) (f n : ℕ) (c : Cluster) (k : Kept) → IsNode start f c k n → Makes start f c (HandOut k.me n) k n
   -- a crash is a `ComeBack` with the entries that the node is opened with: the first ones, with all that were on the disk
   pub comes_back :
       (start : Start) (f n : ℕ) (c : Cluster) (k : Kept) (es : List Entry) → IsNode start f c k n → AreFirst n k.entries es →

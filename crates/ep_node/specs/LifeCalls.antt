@@ -1,7 +1,7 @@
 -- What the calls of nodes do through generations, as moves of a life.
 --
 -- A life counts its generations from 0. In versions and files the first one has the number `first`.
-use Rattle.std.specs.Prelude.{◌≡◌, ◌≢◌, ℕ, suc, ◌+◌, ◌<◌, ◌≤◌, true, false, List, [], length}
+use Rattle.std.specs.Prelude.{◌≡◌, ◌≢◌, ℕ, suc, ◌+◌, ◌<◌, ◌≤◌, true, false, List, [], length, take}
 use Rattle.ep_base.specs.Quorums.{size}
 use Rattle.ep_base.specs.declared.version_kind.VersionKind.TheVariants.{V3}
 use Rattle.ep_frame.specs.Meaning.{version_at}
@@ -93,16 +93,14 @@ pub record LifeCallsAreMoves : Type 0 where
   pub takes :
       (first : ℕ) (f : ℕ → ℕ) (l : Generations) (g n : ℕ) (k k' : Kept) (event : Happening) (e : Entry) → IsNodeIn first f l g k n → WasHandedOut first l event →
       Applied k event e k' → MakesIn first f l (Within g (Take k.me (entry_of e))) g k' n
-  -- after a sync, which is no move, all entries are on the disk
-  pub syncs : (first : ℕ) (f : ℕ → ℕ) (l : Generations) (g n : ℕ) (k : Kept) → IsNodeIn first f l g k n → IsNodeIn first f l g k (length k.entries)
-  -- to lend the replica, all of whose entries are on the disk, is a `HandOut` of all of them
-  pub lends :
-      (first : ℕ) (f : ℕ → ℕ) (l : Generations) (g : ℕ) (k : Kept) → IsNodeIn first f l g k (length k.entries) →
-      MakesIn first f l (Within g (HandOut k.me (length k.entries))) g k (length k.entries)
-  -- each frame of each entry that it then has was handed out, and stays so, whatever comes
+  -- after a sync, which is no move, more of its entries are on the disk, or all
+  pub syncs : (first : ℕ) (f : ℕ → ℕ) (l : Generations) (g n m : ℕ) (k : Kept) → IsNodeIn first f l g k n → n ≤ m → m ≤ length k.entries → IsNodeIn first f l g k m
+  -- to lend a replica of just the entries that are on the disk, or to tell of it, is a `HandOut` of these, whatever was taken since
+  pub lends : (first : ℕ) (f : ℕ → ℕ) (l : Generations) (g n : ℕ) (k : Kept) → IsNodeIn first f l g k n → MakesIn first f l (Within g (HandOut k.me n)) g k n
+  -- each frame of each of these was handed out, and stays so, whatever comes
   pub sends :
-      (start : Start) (first : ℕ) (f : ℕ → ℕ) (l : Generations) (g : ℕ) (k : Kept) (e : Entry) (b : List ℕ) → HasLived start f l → IsNodeIn first f l g k (length k.entries) →
-      In e k.entries → IsEntryIn k.version e → In b e.frames → WasHandedOut first (after_move f l (Within g (HandOut k.me (length k.entries)))) (Handle b)
+      (start : Start) (first : ℕ) (f : ℕ → ℕ) (l : Generations) (g n : ℕ) (k : Kept) (e : Entry) (b : List ℕ) → HasLived start f l → IsNodeIn first f l g k n →
+      In e (take n k.entries) → IsEntryIn k.version e → In b e.frames → WasHandedOut first (after_move f l (Within g (HandOut k.me n))) (Handle b)
   pub stays_out : (first : ℕ) (f : ℕ → ℕ) (l : Generations) (m : LifeMove) (event : Happening) → WasHandedOut first l event → IsLifeMove f l m → WasHandedOut first (after_move f l m) event
   -- a crash is a `ComeBack` with the entries that the node is opened with: the first ones, with all that were on the disk
   pub comes_back :

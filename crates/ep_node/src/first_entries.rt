@@ -12,7 +12,7 @@ use std::marker::Model;
 /// Where the instance has its place.
 fn slot_of(instance: InstanceId) -> usize
     ensures value { result ≡ slot instance }
-    ensures small { result < 16008 }
+    ensures small { result < 72008 }
     ensures named { IsInstance instance }
 {
     usize::from(instance.number()) * 8 + usize::from(instance.replica().index())
@@ -40,7 +40,7 @@ fn put_first(items: &mut Vec<Option<u32>>, place: usize, number: u32)
     items[place] = Some(first);
 }
 
-/// A table by instances of numbers of entries. It has places for all of them or for none.
+/// A table by instances of numbers of entries. It gets places as they are needed.
 #[derive(Drop)]
 pub(crate) struct FirstEntries {
     items: Vec<Option<u32>>,
@@ -55,7 +55,8 @@ impl Model for FirstEntries {
 }
 
 impl FirstEntries {
-    ghost use Rattle.std.specs.Prelude.{◌≡◌, ◌≤◌, ℕ, [], Some, length, OnOk};
+    ghost use Rattle.std.specs.Prelude.{◌≡◌, ◌<◌, ℕ, [], Some, length, IfSome, OnOk};
+    ghost use Rattle.ep_space.specs.Entries.{slot};
     ghost use Rattle.ep_base.specs.Instances.{IsInstance};
     ghost use Rattle.ep_node.specs.Telling.{noted, number_for, or_other};
 
@@ -68,12 +69,15 @@ impl FirstEntries {
         }
     }
 
-    /// Makes a place for each instance.
-    pub(crate) fn reserve(&mut self) -> Result<(), AllocError>
-        ensures room { OnOk result (16008 ≤ length self.new) }
+    /// Makes a place for the instance, if there is one.
+    pub(crate) fn reserve(&mut self, instance: &Option<InstanceId>) -> Result<(), AllocError>
+        ensures room { OnOk result (IfSome instance.now (λ i. slot i < length self.new)) }
         ensures same { (i : ℕ) → noted self.new i ≡ noted self.old i }
     {
-        widen(&mut self.items, 16_008)
+        match instance {
+            Some(instance) => widen(&mut self.items, slot_of(*instance) + 1),
+            None => Ok(()),
+        }
     }
 
     /// The number that the instance has.
@@ -85,7 +89,7 @@ impl FirstEntries {
 
     /// Gives the instance this number, if it has none.
     fn note_one(&mut self, instance: InstanceId, number: u32)
-        requires { 16008 ≤ length self.old }
+        requires { slot instance < length self.old }
         ensures noted { (i : ℕ) → IsInstance i → noted self.new i ≡ or_other (noted self.old i) (number_for (Some instance) number i) }
         ensures room { length self.new ≡ length self.old }
     {
@@ -94,7 +98,7 @@ impl FirstEntries {
 
     /// Gives the instance, if there is one, this number, if it has none.
     pub(crate) fn note(&mut self, instance: &Option<InstanceId>, number: u32)
-        requires { 16008 ≤ length self.old }
+        requires { IfSome instance.now (λ i. slot i < length self.old) }
         ensures noted { (i : ℕ) → IsInstance i → noted self.new i ≡ or_other (noted self.old i) (number_for instance.now number i) }
         ensures room { length self.new ≡ length self.old }
     {

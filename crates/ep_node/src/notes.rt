@@ -17,9 +17,8 @@ pub(crate) struct Notes {
 }
 
 impl Notes {
-    ghost use Rattle.std.specs.Prelude.{◌≡◌, ◌≤◌, ◌++◌, ◌∷◌, [], ℕ, List, length, OnOk};
-    ghost use Rattle.ep_journal.specs.declared.entry.Entry.{Entry};
-    ghost use Rattle.ep_node.specs.Telling.{about_by, learnt_by, AreFirst, Knows};
+    ghost use Rattle.std.specs.Prelude.{◌≡◌, ◌<◌, ◌+◌, [], length, OnOk};
+    ghost use Rattle.ep_node.specs.Telling.{Knows};
 
     /// Of no entries.
     pub(crate) fn new(alloc: Global) -> Notes
@@ -32,26 +31,22 @@ impl Notes {
         }
     }
 
-    /// Notes the entry that comes after these.
-    fn note(&mut self, entry: &Entry)
-        requires room { (16008 ≤ length self.old.about) × (16008 ≤ length self.old.commits) }
-        ensures about { (es : List Entry) → AreFirst about_by es self.old.about → AreFirst about_by (es ++ entry.now ∷ []) self.new.about }
-        ensures commits { (es : List Entry) → AreFirst learnt_by es self.old.commits → AreFirst learnt_by (es ++ entry.now ∷ []) self.new.commits }
-        ensures room { (length self.new.about ≡ length self.old.about) × (length self.new.commits ≡ length self.old.commits) }
-        ensures seen { self.new.seen ≡ self.old.seen }
+    /// Notes the next of these entries, of which it has noted the first; at an `Err` it has noted no more.
+    fn note(&mut self, entries: &[Entry]) -> Result<(), AllocError>
+        requires next { self.old.seen < length entries.now }
+        requires known { Knows entries.now self.old.seen self.old.about self.old.commits }
+        ensures known { Knows entries.now self.new.seen self.new.about self.new.commits }
+        ensures more { OnOk result (self.new.seen ≡ self.old.seen + 1) }
     {
-        self.about.note(&about_by(entry), entry.number);
-        self.commits.note(&learnt_by(entry), entry.number);
-    }
-
-    /// Makes places for what is noted.
-    fn reserve(&mut self) -> Result<(), AllocError>
-        ensures room { OnOk result ((16008 ≤ length self.new.about) × (16008 ≤ length self.new.commits)) }
-        ensures kept { (es : List Entry) → Knows es self.old.seen self.old.about self.old.commits → Knows es self.new.seen self.new.about self.new.commits }
-        ensures seen { self.new.seen ≡ self.old.seen }
-    {
-        self.about.reserve()?;
-        self.commits.reserve()
+        let entry = &entries[self.seen];
+        let about = about_by(entry);
+        let learnt = learnt_by(entry);
+        self.about.reserve(&about)?;
+        self.commits.reserve(&learnt)?;
+        self.about.note(&about, entry.number);
+        self.commits.note(&learnt, entry.number);
+        self.seen += 1;
+        Ok(())
     }
 
     /// Notes all of these entries, of which it has noted the first.
@@ -60,11 +55,9 @@ impl Notes {
         ensures kept { Knows entries.now self.new.seen self.new.about self.new.commits }
         ensures all { OnOk result (self.new.seen ≡ length entries.now) }
     {
-        self.reserve()?;
-        for place in self.seen..entries.len() {
-            self.note(&entries[place]);
+        while self.seen < entries.len() {
+            self.note(entries)?;
         }
-        self.seen = entries.len();
         Ok(())
     }
 }

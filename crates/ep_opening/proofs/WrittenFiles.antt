@@ -6,7 +6,7 @@ use Rattle.std.proofs.lemmas.Bool.{eqb-true, ne_eqb, lt-ltb, le-ltb}
 use Rattle.std.proofs.lemmas.List.Concat.{flat_map-cons}
 use lib.Seq.{take-append-le}
 use Rattle.ep_base.specs.Attributes.{same_list}
-use Rattle.ep_base.specs.Deps.{AreInstances, IsDeps, IsRising}
+use Rattle.ep_base.specs.Deps.{AreInstances, IsDeps, IsRising, most_deps}
 use Rattle.ep_base.specs.Instances.{IsInstance, leader_of}
 use Rattle.ep_base.specs.Quorums.{size}
 use Rattle.ep_base.specs.Values.{most_value}
@@ -106,13 +106,13 @@ rising_given g before (i ∷ items) r a =
 few_enough : (g : ℕ) (is : List ℕ) → IsDeps is → HasItsPast g is → length is ≤ most_of g
 few_enough g is d past = go (eqb g 1) refl
   where
-    go : (b : Bool) → eqb g 1 ≡ b → length is ≤ cond b 0 14000
+    go : (b : Bool) → eqb g 1 ≡ b → length is ≤ cond b 0 most_deps
     go true e = let z : length is ≡ 0 = ap length (past (eqb-true g 1 e)) in omega arith
     go false e = length-instances is d.rising d.instances
 
 executed_given : (g : ℕ) (is : List ℕ) → IsDeps is → HasItsPast g is → Gives (executed g) (executed_bytes is) is
 executed_given g is d past =
-    let bound : length is ≤ 14000 = length-instances is d.rising d.instances in
+    let bound : length is ≤ most_deps = length-instances is d.rising d.instances in
     then_gives (field 4 0 (most_of g)) (λ n l. rising g n [] l) (number_bytes 4 (length is)) (flat_map dep_bytes is) (length is) is (fielded 4 0 (most_of g) (length is) (omega arith) (omega arith) (few_enough g is d past))
     (rising_given g [] is d.rising d.instances)
 

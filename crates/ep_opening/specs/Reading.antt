@@ -1,5 +1,6 @@
 -- Reading an opening file: whether it is one, its digest, and then its fields, in their order.
 use Rattle.std.specs.Prelude.{◌≡◌, ◌≢◌, ℕ, zero, suc, ◌-◌, Bool, cond, eqb, ltb, List, [], ◌∷◌, ◌++◌, length, take, drop, Option, Some, None, Result, Ok, Err}
+use Rattle.ep_base.specs.Deps.{most_deps}
 use Rattle.ep_base.specs.Attributes.{same_list}
 use Rattle.ep_base.specs.Values.{most_value}
 use Rattle.ep_base.specs.declared.version_kind.VersionKind.TheVariants.{V3}
@@ -63,7 +64,7 @@ rising g (suc n) is l = and_then (above g is l) (λ i l. rising g n (is ++ i ∷
 
 -- how many there may be
 abbrev pub most_of : ℕ → ℕ
-most_of g = cond (eqb g 1) 0 14000
+most_of g = cond (eqb g 1) 0 most_deps
 
 abbrev pub executed : ℕ → Left → Reading (List ℕ)
 executed g l = and_then (field 4 0 (most_of g) l) (λ n l. rising g n [] l)

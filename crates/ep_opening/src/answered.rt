@@ -40,7 +40,7 @@ fn add(set: &mut Executed, instance: InstanceId) -> Result<(), AllocError>
     ensures { OnOk result (Gains (λ i. i ≡ instance) set.old.list set.new.list) }
 {
     let _place = instance.place();
-    set.reserve(1)?;
+    set.reserve_one(instance)?;
     set.add(instance);
     Ok(())
 }
@@ -98,9 +98,9 @@ fn push_if(list: &mut RisingList, set: &Executed, instance: InstanceId) -> Resul
 /// Adds the instances of the set that this replica leads.
 fn push_led(list: &mut RisingList, set: &Executed, leader: ReplicaId) -> Result<(), AllocError>
     requires { AreBelow set.now.list (instance_of leader 1) list.old }
-    ensures { OnOk result (AreBelow set.now.list (instance_of leader 2001) list.new) }
+    ensures { OnOk result (AreBelow set.now.list (instance_of leader 9001) list.new) }
 {
-    for number in 1..2001 {
+    for number in 1..9001 {
         push_if(list, set, instance_at(leader, number))?;
     }
     Ok(())

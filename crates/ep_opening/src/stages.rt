@@ -205,7 +205,7 @@ fn read_rising<S: Source>(
 fn most_of(generation: Generation) -> u32
     ensures { result ≡ most_of generation }
 {
-    if is_first(generation) { 0 } else { 14_000 }
+    if is_first(generation) { 0 } else { 63_000 }
 }
 
 /// How many instances there are.

@@ -468,14 +468,14 @@ pub fn play(alloc: Global, script: &Script) -> Result<Ended, AllocError>
 
 /// Plays the script as `play` does, and keeps the journals, the receipts, and the events that were refused, each with its line.
 ///
-/// There is one receipt at most for each instance, so there are at most 14,000 in all. The audit accepts what a replay leaves.
+/// There is one receipt at most for each instance, so there are at most 63,000 in all. The audit accepts what a replay leaves.
 pub fn replay(alloc: Global, script: &Script) -> Result<Replayed, AllocError>
     ensures value { IfOk result (λ d. IsReplay script.now d) }
     ensures version { IfOk result (λ d. d.journals.version ≡ script.now.head.version) }
     ensures opening { IfOk result (λ d. d.journals.opening ≡ opening_of script.now.head.opening) }
     ensures accepted { IfOk result (λ d. IsAccepted (opens d.journals.opening) d.journals.faults (journals_of d.journals) d.receipts.items) }
     ensures once { IfOk result (λ d. AreOnce (instances_of d.receipts.items)) }
-    ensures few { IfOk result (λ d. length d.receipts.items ≤ 14000) }
+    ensures few { IfOk result (λ d. length d.receipts.items ≤ 63000) }
 {
     let player = played(alloc, script, false)?;
     let left = player.into_replayed(alloc)?;

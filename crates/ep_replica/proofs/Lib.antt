@@ -1,5 +1,6 @@
 pub mod Growing
 pub mod Noted
+pub mod Placed
 pub mod Own
 pub mod Outcomes
 pub mod Settled

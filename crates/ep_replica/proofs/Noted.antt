@@ -1,6 +1,7 @@
 -- The table of proposals with one entry more.
 use Rattle.std.proofs.Common.{◌≡◌, ◌≢◌, ℕ, ◌<◌, ◌≤◌, length, cond, Bool, true, false, eqb, Option, Some, None, List, [], ◌∷◌, ◌++◌, refl, sym, ap, subst, ◌∙◌, arith, set, slice_get}
-use Rattle.std.proofs.lemmas.Bool.{eqb-true, eqb-false, ne_eqb}
+use Rattle.std.proofs.lemmas.Bool.{eqb-true, eqb-false, eq-eqb, ne_eqb}
+use Rattle.std.proofs.lemmas.Option.{none-some}
 use Rattle.std.proofs.lemmas.List.{get_or-set_same, get_or-set_other}
 use Rattle.ep_base.specs.Instances.{instance_of, leader_of, number_of, highest_number}
 use Rattle.ep_base.specs.Messages.{instance_of_message}
@@ -13,7 +14,7 @@ use Rattle.ep_journal.specs.declared.entry.Entry.{Entry}
 use Rattle.ep_journal.specs.declared.event.Event.{Event as Happening}
 use Rattle.ep_journal.specs.declared.event.Event.TheVariants.{Propose}
 use Rattle.ep_replica.specs.Receipts.{proposed_by, proposal_of, or_else}
-use Rattle.ep_replica.specs.Slots.{found, named, Tells}
+use Rattle.ep_replica.specs.Slots.{found, named, HasPlace, Tells}
 use Rattle.ep_replica.specs.declared.proposal.Proposal.{Proposal}
 use Rattle.ep_journal.proofs.Growing.{entries_grow}
 
@@ -38,8 +39,27 @@ pub still_tells : (me : ℕ) (es : List Entry) (e : Entry) (slots : List (Option
 still_tells me es e slots nothing tells number low =
     tells number low ∙ sym (grows es e (instance_of me number) ∙ ap (λ p. or_else p (proposal_of (entries_of es) (instance_of me number))) (nothing number low))
 
+-- there is a place for an own proposal
+pub own_place : (me : ℕ) (e : Entry) (slots : List (Option Proposal)) (j n : ℕ) (p : Proposal) → HasPlace me e slots → leader_of j ≡ me → n ≡ number_of j → number_of j ≤ highest_number
+    → ((i : ℕ) → proposed_by (event_of e.event) (frames_at e.frames) i ≡ named (Some (j, p)) i) → n < length slots
+own_place me e slots j n p place own at low is =
+    let here : instance_of me n ≡ j = omega arith in
+    let some : named (Some (j, p)) j ≡ Some p = ap (λ b. cond b (Some p) None) (eq-eqb j j refl) in
+    place n (omega (arith, at, low)) (λ none. (let e : None ≡ Some p = sym none ∙ ap (λ i. proposed_by (event_of e.event) (frames_at e.frames) i) here ∙ is j ∙ some in absurd (none-some p e)))
+
+-- places up to a number are enough for the entry that proposes that instance
+pub place_for : (me : ℕ) (e : Entry) (slots : List (Option Proposal)) (j n : ℕ) (p : Proposal) → n ≡ number_of j → n < length slots → ((i : ℕ) → proposed_by (event_of e.event) (frames_at e.frames) i ≡ named (Some (j, p)) i) → HasPlace me e slots
+place_for me e slots j n p at room is number limit some = go (eqb j (instance_of me number)) refl
+  where
+    go : (b : Bool) → eqb j (instance_of me number) ≡ b → number < length slots
+    go true test = (let this : j ≡ instance_of me number = eqb-true j (instance_of me number) test in omega (arith, this, at, room, limit))
+    go false test = absurd (some (is (instance_of me number) ∙ ap (λ b. cond b (Some p) None) test))
+
+pub place_for_none : (me : ℕ) (e : Entry) (slots : List (Option Proposal)) → ((i : ℕ) → proposed_by (event_of e.event) (frames_at e.frames) i ≡ named None i) → HasPlace me e slots
+place_for_none me e slots is number limit some = absurd (some (is (instance_of me number)))
+
 -- an own proposal is put at its number
-pub tells_more : (me : ℕ) (es : List Entry) (e : Entry) (slots : List (Option Proposal)) (j n : ℕ) (p : Proposal) → highest_number < length slots → leader_of j ≡ me → n ≡ number_of j → number_of j ≤ highest_number
+pub tells_more : (me : ℕ) (es : List Entry) (e : Entry) (slots : List (Option Proposal)) (j n : ℕ) (p : Proposal) → n < length slots → leader_of j ≡ me → n ≡ number_of j → number_of j ≤ highest_number
     → ((i : ℕ) → proposed_by (event_of e.event) (frames_at e.frames) i ≡ named (Some (j, p)) i)
     → Tells me es slots → Tells me (es ++ e ∷ []) (set slots n (Some p))
 tells_more me es e slots j n p room own n_is low is tells number limit = go (eqb j (instance_of me number)) refl

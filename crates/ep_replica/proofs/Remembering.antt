@@ -1,5 +1,5 @@
 -- What a replica remembers stays true as its journal grows.
-use Rattle.std.proofs.Common.{◌≡◌, ◌≢◌, ◌⊎◌, inl, inr, ℕ, ◌+◌, ◌≤◌, Bool, true, Option, Some, None, Ok, Err, List, [], IfSome, IsSome, refl, sym, ap, subst, ◌∙◌, arith}
+use Rattle.std.proofs.Common.{◌≡◌, ◌≢◌, ◌⊎◌, inl, inr, ℕ, ◌+◌, ◌≤◌, Bool, true, Option, Some, None, Ok, Err, List, [], length, IfSome, IsSome, refl, sym, ap, subst, ◌∙◌, arith}
 use Rattle.std.proofs.lemmas.Bool.{cases_eq}
 use Rattle.ep_base.specs.Instances.{instance_of, leader_of, number_of, highest_number}
 use Rattle.ep_base.specs.Messages.{instance_of_message}
@@ -258,6 +258,20 @@ same_tables k due due' blockers blockers' same_due same_blockers h = record {
 }
 
 -- A new replica remembers nothing.
+
+pub nothing_fits : (due : List Bool) (blockers : List (Option ℕ)) → blockers ≡ [] → length blockers ≤ length due
+nothing_fits due blockers none = subst (λ (bs : List (Option ℕ)). length bs ≤ length due) (sym none) (omega arith)
+
+-- all own instances up to a number above which nothing is recorded are due
+pub all_due : (k : Kept) (due : List Bool) (blockers : List (Option ℕ)) (top : ℕ) → blockers ≡ [] → ((n : ℕ) → 1 ≤ n → n ≤ top → is_due due n ≡ true) → ((i : ℕ) (r : Record) → get (state_of k).records i ≡ Some r → number_of i ≤ top) → Remembers k due blockers
+all_due k due blockers top none due_there all = record {
+  blocked = λ n le. subst (λ bs. IfSome (blocker_of bs n) (IsBlockedBy k (instance_of k.me n))) (sym none) tt;
+  found = λ n some le p. inl (due_there n some (let low = recorded n le p (get (state_of k).records (instance_of k.me n)) refl in low));
+}
+  where
+    recorded : (n : ℕ) → n ≤ highest_number → IsPending k (instance_of k.me n) → (o : Option Record) → get (state_of k).records (instance_of k.me n) ≡ o → n ≤ top
+    recorded n le p None e = absurd (let nothing : committed_in (state_of k).records (instance_of k.me n) ≡ None = ap (λ z. committed_decree (record_or_fresh (instance_of k.me n) z).vote) e in let z : None ≡ Some p.decree = sym nothing ∙ p.committed in cc)
+    recorded n le p (Some r) e = (let low = all (instance_of k.me n) r e in omega (arith, low, le))
 
 pub nothing_yet : (k : Kept) (due : List Bool) (blockers : List (Option ℕ)) → k.entries ≡ [] → due ≡ [] → blockers ≡ [] → Remembers k due blockers
 nothing_yet k due blockers new no_due no_blockers = record {

@@ -1,5 +1,5 @@
 -- What a try to execute an own instance comes to.
-use Rattle.std.proofs.Common.{◌≡◌, ℕ, ◌+◌, ◌<◌, ◌≤◌, ◌⊎◌, inl, inr, List, Bool, true, false, Ok, Err, Option, Some, None, sym, ap, subst, ◌∙◌, arith, length, get_or, IfSome}
+use Rattle.std.proofs.Common.{◌≡◌, ℕ, ◌+◌, ◌<◌, ◌≤◌, ◌⊎◌, inl, inr, List, Bool, true, false, Ok, Err, Option, Some, None, refl, sym, ap, subst, ◌∙◌, arith, length, get_or, IfSome}
 use Rattle.std.proofs.lemmas.Bool.{cases_lt}
 use Rattle.ep_base.specs.Instances.{instance_of, leader_of, number_of, highest_number}
 use Rattle.ep_journal.specs.declared.entry.Entry.{Entry}
@@ -11,7 +11,10 @@ use Rattle.ep_replica.specs.Kept.{Kept}
 use Rattle.ep_base.specs.Places.{Has}
 use Rattle.ep_exec.proofs.Counts.{place_at}
 use Rattle.ep_base.specs.declared.attrs.Attrs.{Attrs}
-use Rattle.ep_rules.specs.States.{graph_in}
+use Rattle.ep_rules.specs.Cells.{committed_decree, record_or_fresh}
+use Rattle.ep_rules.specs.Maps.{get}
+use Rattle.ep_rules.specs.States.{committed_in, graph_in}
+use Rattle.ep_rules.specs.declared.record.Record.{Record}
 use Rattle.ep_replica.specs.Blockers.{IsBlockedBy}
 use Rattle.ep_rules.proofs.Reaching.{reach_trans}
 use Rattle.ep_rules.specs.Graph.Reaches.{itself, onward}
@@ -32,8 +35,12 @@ pending_again k j p = subst (λ z. IsPending k z) (sym (own_again k.me j p.own))
 abbrev pub NoneBelow : Kept → Option ℕ → ℕ → Type 0
 NoneBelow k after n = (m : ℕ) → 1 ≤ m → m < n → IsAbove after (instance_of k.me m) → ¬ IsPending k (instance_of k.me m)
 
-pub next_none : (k : Kept) (after : Option ℕ) (n : ℕ) → highest_number < n → NoneBelow k after n → IsNext k after None
-next_none k after n past h j p above = h (number_of j) p.named.1 (let le = p.named.2 in omega arith) (subst (λ z. IsAbove after z) (sym (own_again k.me j p.own)) above) (pending_again k j p)
+pub next_none : (k : Kept) (after : Option ℕ) (n : ℕ) → ((i : ℕ) (r : Record) → get (state_of k).records i ≡ Some r → number_of i < n) → NoneBelow k after n → IsNext k after None
+next_none k after n all h j p above = h (number_of j) p.named.1 (recorded (get (state_of k).records j) refl) (subst (λ z. IsAbove after z) (sym (own_again k.me j p.own)) above) (pending_again k j p)
+  where
+    recorded : (o : Option Record) → get (state_of k).records j ≡ o → number_of j < n
+    recorded None e = absurd (let nothing : committed_in (state_of k).records j ≡ None = ap (λ z. committed_decree (record_or_fresh j z).vote) e in let z : None ≡ Some p.decree = sym nothing ∙ p.committed in cc)
+    recorded (Some r) e = all j r e
 
 -- The least one that doesn't wait.
 

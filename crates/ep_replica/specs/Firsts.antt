@@ -1,6 +1,7 @@
 -- Where a replica's own instances were first executed.
-use Rattle.std.specs.Prelude.{◌≡◌, ℕ, suc, ◌≤◌, eqb, cond, drop, List, [], ◌∷◌, Option, Some, None, slice_get, slice_index_or as get_or}
-use Rattle.ep_base.specs.Instances.{instance_of, highest_number}
+use Rattle.std.specs.Prelude.{◌≡◌, ℕ, suc, ◌<◌, ◌≤◌, eqb, cond, drop, List, [], ◌∷◌, Option, Some, None, slice_get, slice_index_or as get_or}
+use Rattle.std.specs.List.{AllByRecursion}
+use Rattle.ep_base.specs.Instances.{instance_of, leader_of, number_of, highest_number}
 use Rattle.ep_base.specs.declared.reply.Answer.{Answer}
 use Rattle.ep_rules.specs.declared.receipt.Receipt.{Receipt}
 use Rattle.ep_journal.specs.Entries.{entry_of}
@@ -26,6 +27,10 @@ first_done n (e ∷ es) i = or_spot (first_among n 0 e.done i) (first_done (suc 
 -- the table: each own instance's at its number
 abbrev pub spot_at : List (Option Spot) → ℕ → Option Spot
 spot_at spots number = get_or spots number None
+
+-- there is a place for each of these that replica me leads
+abbrev pub HavePlaces : ℕ → ℕ → List (ℕ × Answer) → Type 0
+HavePlaces me places ds = AllByRecursion (λ d. leader_of d.0 ≡ me → number_of d.0 < places) ds
 
 -- it says where each own instance of replica me was first executed by these entries
 abbrev pub AreFirsts : ℕ → List Entry → List (Option Spot) → Type 0

@@ -1,6 +1,6 @@
 //! What blocks own instances.
 
-ghost use Rattle.std.specs.Prelude.{◌≡◌, ◌≢◌, ◌≤◌, ◌<◌, ℕ, [], None, true, false, length, slice_index_or, OnOk, IfSome, IsTrue, IsFalse};
+ghost use Rattle.std.specs.Prelude.{◌≡◌, ◌≢◌, ◌⊎◌, ◌≤◌, ◌<◌, ◌+◌, ℕ, [], None, true, false, length, slice_index_or, OnOk, IfSome, IsTrue, IsFalse};
 ghost use Rattle.ep_base.specs.Instances.{highest_number};
 ghost use Rattle.ep_replica.specs.Blockers.{is_due, blocker_of, is_flagged, Wakes};
 ghost use Rattle.ep_space.specs.Entries.{slot};
@@ -16,7 +16,7 @@ use std::marker::Model;
 /// Where the instance's flag is.
 fn slot_of(instance: InstanceId) -> usize
     ensures value { result ≡ slot instance }
-    ensures small { result < 16008 }
+    ensures small { result < 72008 }
 {
     usize::from(instance.number()) * 8 + usize::from(instance.replica().index())
 }
@@ -28,14 +28,25 @@ fn is_awaited(awaited: &[bool], instance: InstanceId) -> bool
     awaited.get(slot_of(instance)).copied().unwrap_or(false)
 }
 
-/// The instance, if there is one, is a blocker.
-fn await_it(awaited: &mut Vec<bool>, blocker: &Option<InstanceId>)
-    requires { 16008 ≤ length awaited.old.items }
-    ensures here { IfSome blocker.now (λ i. is_flagged awaited.new.items i ≡ true) }
+/// The instance is a blocker.
+fn await_one(awaited: &mut Vec<bool>, instance: InstanceId) -> Result<(), AllocError>
+    ensures here { OnOk result (is_flagged awaited.new.items instance ≡ true) }
     ensures more { (i : ℕ) → is_flagged awaited.old.items i ≡ true → is_flagged awaited.new.items i ≡ true }
 {
-    if let Some(instance) = blocker {
-        awaited[slot_of(*instance)] = true;
+    let slot = slot_of(instance);
+    widen(awaited, slot + 1)?;
+    awaited[slot] = true;
+    Ok(())
+}
+
+/// The instance, if there is one, is a blocker.
+fn await_it(awaited: &mut Vec<bool>, blocker: &Option<InstanceId>) -> Result<(), AllocError>
+    ensures here { OnOk result (IfSome blocker.now (λ i. is_flagged awaited.new.items i ≡ true)) }
+    ensures more { (i : ℕ) → is_flagged awaited.old.items i ≡ true → is_flagged awaited.new.items i ≡ true }
+{
+    match blocker {
+        Some(instance) => await_one(awaited, *instance),
+        None => Ok(()),
     }
 }
 
@@ -46,7 +57,7 @@ fn wake_one(
     instance: InstanceId,
     due: &mut DueNumbers,
 ) -> bool
-    requires room { (highest_number < length items.old.items) × (highest_number < length due.old) }
+    requires room { length items.old.items ≤ length due.old }
     requires low { number ≤ highest_number }
     ensures here { Wakes instance (blocker_of items.old.items number) (blocker_of items.new.items number) (is_due due.new number) }
     ensures others { (n : ℕ) → n ≢ number → blocker_of items.new.items n ≡ blocker_of items.old.items n }
@@ -54,6 +65,9 @@ fn wake_one(
     ensures more { (n : ℕ) → is_due due.old n ≡ true → is_due due.new n ≡ true }
     ensures room { (length items.new.items ≡ length items.old.items) × (length due.new ≡ length due.old) }
 {
+    if number as usize >= items.len() {
+        return false;
+    }
     let Some(blocker) = items[number as usize] else {
         return false;
     };
@@ -72,14 +86,14 @@ fn wake_within(
     instance: InstanceId,
     due: &mut DueNumbers,
 ) -> Span
-    requires room { (highest_number < length items.old.items) × (highest_number < length due.old) }
+    requires room { length items.old.items ≤ length due.old }
     ensures each { (n : ℕ) → IsWithin span n → n ≤ highest_number → Wakes instance (blocker_of items.old.items n) (blocker_of items.new.items n) (is_due due.new n) × (blocker_of items.new.items n ≢ None → IsWithin result n) }
     ensures others { (n : ℕ) → ¬ (IsWithin span n × (n ≤ highest_number)) → blocker_of items.new.items n ≡ blocker_of items.old.items n }
     ensures more { (n : ℕ) → is_due due.old n ≡ true → is_due due.new n ≡ true }
-    ensures room { length due.new ≡ length due.old }
+    ensures room { (length items.new.items ≡ length items.old.items) × (length due.new ≡ length due.old) }
 {
     let mut left = Span::new();
-    for number in span.first..span.end.min(2001) {
+    for number in span.first..span.end.min(9001) {
         if wake_one(items, number, instance, due) {
             left = left.with(number);
         }
@@ -87,7 +101,7 @@ fn wake_within(
     left
 }
 
-/// For each number of an own instance, one that it waits for, if that is known. It has places for all numbers or for none.
+/// For each number of an own instance, one that it waits for, if that is known. It gets places as they are needed.
 #[derive(Drop)]
 pub(crate) struct Blockers {
     items: Vec<Option<InstanceId>>,
@@ -122,15 +136,15 @@ impl Blockers {
         }
     }
 
-    /// Makes a place for each number.
-    pub(crate) fn reserve(&mut self) -> Result<(), AllocError>
-        ensures room { OnOk result (highest_number < length self.new) }
+    /// Makes a place for each number up to this one.
+    pub(crate) fn reserve(&mut self, top: u16) -> Result<(), AllocError>
+        ensures room { (length self.new ≤ length self.old) ⊎ (length self.new ≤ top + 1) }
         ensures same { (n : ℕ) → blocker_of self.new n ≡ blocker_of self.old n }
     {
-        for _ in self.items.len()..2001 {
+        for _ in self.items.len()..usize::from(top) + 1 {
             self.items.push(None)?;
         }
-        widen(&mut self.awaited, 16008)
+        Ok(())
     }
 
     /// What blocks the own instance of this number, if that is known.
@@ -140,17 +154,20 @@ impl Blockers {
         *self.items.get(number as usize)?
     }
 
-    /// Sets what blocks the own instance of this number, if it has a place, and returns whether it has one.
+    /// Sets what blocks the own instance of this number, if it has a place and memory doesn't run out, and returns whether it did.
     pub(crate) fn set(&mut self, number: u16, blocker: Option<InstanceId>) -> bool
         requires { number ≤ highest_number }
         ensures here { IsTrue result → blocker_of self.new number ≡ blocker }
         ensures others { (n : ℕ) → n ≢ number → blocker_of self.new n ≡ blocker_of self.old n }
         ensures unset { IsFalse result → self.new ≡ self.old }
+        ensures room { length self.new ≡ length self.old }
     {
-        if number as usize >= self.items.len() || self.awaited.len() < 16008 {
+        if number as usize >= self.items.len() {
             return false;
         }
-        await_it(&mut self.awaited, &blocker);
+        let Ok(()) = await_it(&mut self.awaited, &blocker) else {
+            return false;
+        };
         self.items[number as usize] = blocker;
         self.span = self.span.with(number);
         true
@@ -158,10 +175,10 @@ impl Blockers {
 
     /// What this instance blocked is due.
     pub(crate) fn wake(&mut self, instance: InstanceId, due: &mut DueNumbers)
-        requires room { (highest_number < length self.old) × (highest_number < length due.old) }
+        requires room { length self.old ≤ length due.old }
         ensures each { (n : ℕ) → Wakes instance (blocker_of self.old n) (blocker_of self.new n) (is_due due.new n) }
         ensures more { (n : ℕ) → is_due due.old n ≡ true → is_due due.new n ≡ true }
-        ensures room { length due.new ≡ length due.old }
+        ensures room { (length self.new ≡ length self.old) × (length due.new ≡ length due.old) }
     {
         if !is_awaited(self.awaited.as_slice(), instance) {
             return;

@@ -1,9 +1,9 @@
 //! The index of first executions.
 
 ghost use Rattle.std.specs.Prelude.{◌≡◌, ◌<◌, ◌≤◌, ◌++◌, ◌∷◌, [], ℕ, List, Some, None, cond, eqb, length, IfOk, OnOk};
-ghost use Rattle.ep_base.specs.Instances.{highest_number, instance_of};
+ghost use Rattle.ep_base.specs.Instances.{leader_of, number_of, highest_number, instance_of};
 ghost use Rattle.ep_journal.specs.declared.entry.Entry.{Entry};
-ghost use Rattle.ep_replica.specs.Firsts.{or_spot, first_among, spot_at, AreFirsts};
+ghost use Rattle.ep_replica.specs.Firsts.{or_spot, first_among, spot_at, AreFirsts, HavePlaces};
 
 use crate::spot::Spot;
 use ep_base::{Answer, InstanceId, ReplicaId};
@@ -13,7 +13,7 @@ use std::marker::Model;
 
 /// Notes where the instance was executed, if it is the replica's own and nothing is noted of it yet.
 fn note_one(items: &mut Vec<Option<Spot>>, me: ReplicaId, instance: InstanceId, spot: Spot)
-    requires room { highest_number < length items.old.items }
+    requires room { leader_of instance ≡ me → number_of instance < length items.old.items }
     ensures noted { (number : ℕ) → number ≤ highest_number → spot_at items.new.items number ≡ or_spot (spot_at items.old.items number) (cond (eqb instance (instance_of me number)) (Some spot) None) }
     ensures room { length items.new.items ≡ length items.old.items }
 {
@@ -32,7 +32,7 @@ fn note_all(
     entry: usize,
     done: &[(InstanceId, Answer)],
 )
-    requires room { highest_number < length items.old.items }
+    requires room { HavePlaces me (length items.old.items) done.now }
     ensures noted { (number : ℕ) → number ≤ highest_number → spot_at items.new.items number ≡ or_spot (spot_at items.old.items number) (first_among entry 0 done.now (instance_of me number)) }
     ensures room { length items.new.items ≡ length items.old.items }
 {
@@ -41,7 +41,18 @@ fn note_all(
     }
 }
 
-/// Where a replica's own instances were first executed in its journal, each at its number. It has places for all of them or for none.
+/// The greatest number of these instances; 0 where there are none.
+fn top_of(done: &[(InstanceId, Answer)]) -> u16
+    ensures { (me places : ℕ) → result < places → HavePlaces me places done.now }
+{
+    let mut top = 0;
+    for (instance, _) in done {
+        top = instance.number_at_least(top);
+    }
+    top
+}
+
+/// Where a replica's own instances were first executed in its journal, each at its number. It gets places as they are needed.
 #[derive(Drop)]
 pub(crate) struct Firsts {
     items: Vec<Option<Spot>>,
@@ -66,12 +77,13 @@ impl Firsts {
         }
     }
 
-    /// Makes a place for each instance that the replica leads.
-    pub(crate) fn make_room(&mut self) -> Result<(), AllocError>
-        ensures room { OnOk result (highest_number < length self.new) }
+    /// Makes a place for each own instance up to this number.
+    pub(crate) fn make_room(&mut self, top: u16) -> Result<(), AllocError>
+        ensures room { OnOk result (top < length self.new) }
         ensures same { (number : ℕ) → spot_at self.new number ≡ spot_at self.old number }
+        ensures firsts { (me : ℕ) (es : List Entry) → AreFirsts me es self.old → AreFirsts me es self.new }
     {
-        for _ in self.items.len()..2001 {
+        for _ in self.items.len()..usize::from(top) + 1 {
             self.items.push(None)?;
         }
         Ok(())
@@ -89,8 +101,8 @@ impl Firsts {
         ensures { IfOk result (λ f. AreFirsts me entries.now f) }
     {
         let mut firsts = Firsts::new(alloc);
-        firsts.make_room()?;
         for (place, entry) in entries.iter().enumerate() {
+            firsts.make_room(top_of(entry.done.as_slice()))?;
             firsts.mark(me, place, entry);
         }
         Ok(firsts)
@@ -98,7 +110,7 @@ impl Firsts {
 
     /// Keeps what the entry of this replica executed first, which this many entries come before. It takes no memory.
     pub(crate) fn mark(&mut self, me: ReplicaId, before: usize, entry: &Entry)
-        requires room { highest_number < length self.old }
+        requires room { HavePlaces me (length self.old) entry.now.done }
         ensures told { (es : List Entry) → length es ≡ before → AreFirsts me es self.old → AreFirsts me (es ++ entry.now ∷ []) self.new }
         ensures room { length self.new ≡ length self.old }
     {

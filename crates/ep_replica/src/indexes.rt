@@ -1,11 +1,10 @@
 //! What a replica keeps beside its journal.
 
-ghost use Rattle.std.specs.Prelude.{◌<◌, IfOk, IfErr, OnOk};
+ghost use Rattle.std.specs.Prelude.{◌<◌, ◌≤◌, length, IfOk, IfErr, OnOk};
 ghost use Rattle.ep_rules.specs.Journals.{AreClocked};
 ghost use Rattle.ep_journal.specs.Entries.{entries_of};
 ghost use Rattle.ep_replica.specs.Blockers.{Remembers};
 ghost use Rattle.ep_replica.specs.Firsts.{AreFirsts};
-ghost use Rattle.ep_replica.specs.Kept.{Kept};
 ghost use Rattle.ep_replica.specs.Resuming.{IsNoReplica};
 ghost use Rattle.ep_replica.specs.Slots.{Tells};
 
@@ -30,7 +29,8 @@ pub(crate) fn indexes_of(alloc: Global, journal: &Journal) -> Result<Indexes, Re
     ensures clocked { OnOk result (AreClocked journal.now.opening.since (entries_of journal.now.entries)) }
     ensures slots { IfOk result (λ i. Tells journal.now.me journal.now.entries i.slots) }
     ensures some { OnOk result (0 < journal.now.faults) }
-    ensures remembered { IfOk result (λ i. (k : Kept) → Remembers k i.remembered.due i.remembered.blockers) }
+    ensures remembered { IfOk result (λ i. Remembers journal.now i.remembered.due i.remembered.blockers) }
+    ensures fits { IfOk result (λ i. length i.remembered.blockers ≤ length i.remembered.due) }
     ensures firsts { IfOk result (λ i. AreFirsts journal.now.me journal.now.entries i.firsts) }
     ensures refused { IfErr result (λ fault. IsNoReplica journal.now fault) }
 {
@@ -41,7 +41,7 @@ pub(crate) fn indexes_of(alloc: Global, journal: &Journal) -> Result<Indexes, Re
     let _faults = journal.size().faults();
     let slots = Slots::of(alloc, journal.me(), journal.entries())?;
     let firsts = Firsts::of(alloc, journal.me(), journal.entries())?;
-    let remembered = Remembered::all_due(alloc)?;
+    let remembered = Remembered::all_due(alloc, journal.highest())?;
     Ok(Indexes {
         slots,
         firsts,

@@ -67,7 +67,7 @@ impl Replica {
     pub fn next_ready(&self, after: Option<InstanceId>) -> Option<InstanceId>
         ensures { IsNext self.now after result }
     {
-        for number in 1..2001 {
+        for number in 1..self.journal().highest() + 1 {
             let instance = instance_at(self.me(), number);
             if is_above(&after, instance) && self.is_pending(instance) {
                 return Some(instance);

@@ -1,12 +1,15 @@
 //! What a replica remembers of its own instances that it hasn't executed yet.
 
-ghost use Rattle.std.specs.Prelude.{◌≡◌, ◌≤◌, ◌<◌, ℕ, [], Some, None, length, IfOk, OnOk};
-ghost use Rattle.ep_base.specs.Instances.{highest_number, instance_of};
+ghost use Rattle.std.specs.Prelude.{◌≡◌, ◌≤◌, ◌<◌, ℕ, [], Some, None, length, IfOk, IfSome, OnOk};
+ghost use Rattle.ep_base.specs.Instances.{number_of, highest_number, instance_of};
 ghost use Rattle.ep_journal.specs.Events.{event_of};
 ghost use Rattle.ep_journal.specs.Leaving.{standing};
+ghost use Rattle.ep_rules.specs.Maps.{get};
 ghost use Rattle.ep_rules.specs.States.{committed_in};
+ghost use Rattle.ep_rules.specs.declared.record.Record.{Record};
 ghost use Rattle.ep_replica.specs.Blockers.{is_due, blocker_of, about, Grows, Remembers, MayBeSetAside};
 ghost use Rattle.ep_replica.specs.Kept.{Kept};
+ghost use Rattle.ep_replica.specs.Pending.{state_of};
 
 use crate::blockers::Blockers;
 use crate::due_numbers::DueNumbers;
@@ -55,30 +58,35 @@ impl Remembered {
         }
     }
 
-    /// All own instances are due, and nothing is known to block one.
-    pub(crate) fn all_due(alloc: Global) -> Result<Remembered, AllocError>
-        ensures { IfOk result (λ r. (k : Kept) → Remembers k r.due r.blockers) }
+    /// All own instances up to this number are due, and nothing is known to block one: none above it is committed.
+    pub(crate) fn all_due(alloc: Global, top: u16) -> Result<Remembered, AllocError>
+        requires { top ≤ highest_number }
+        ensures all { IfOk result (λ r. (k : Kept) → ((i : ℕ) (r : Record) → get (state_of k).records i ≡ Some r → number_of i ≤ top) → Remembers k r.due r.blockers) }
+        ensures fits { IfOk result (λ r. length r.blockers ≤ length r.due) }
     {
         Ok(Remembered {
-            due: DueNumbers::all(alloc)?,
+            due: DueNumbers::all(alloc, top)?,
             blockers: Blockers::new(alloc),
         })
     }
 
-    /// Makes a place for each own instance.
-    pub(crate) fn reserve(&mut self) -> Result<(), AllocError>
-        ensures room { OnOk result ((highest_number < length self.new.due) × (highest_number < length self.new.blockers)) }
+    /// Makes a place for each own instance up to this number.
+    pub(crate) fn reserve(&mut self, top: u16) -> Result<(), AllocError>
+        ensures room { OnOk result (top < length self.new.due) }
+        ensures fits { length self.old.blockers ≤ length self.old.due → length self.new.blockers ≤ length self.new.due }
         ensures due { (n : ℕ) → is_due self.new.due n ≡ is_due self.old.due n }
         ensures blockers { (n : ℕ) → blocker_of self.new.blockers n ≡ blocker_of self.old.blockers n }
     {
-        self.due.reserve()?;
-        self.blockers.reserve()
+        self.due.reserve(top)?;
+        self.blockers.reserve(top)
     }
 
     /// Notes that the instance was committed, if it was: it is due if it is the replica's own, and so is what it blocked.
     pub(crate) fn note(&mut self, journal: &Journal, subject: Option<InstanceId>)
-        requires room { (highest_number < length self.old.due) × (highest_number < length self.old.blockers) }
-        ensures { (k : Kept) → Grows k journal.now subject → Remembers k self.old.due self.old.blockers → Remembers journal.now self.new.due self.new.blockers }
+        requires room { IfSome subject (λ i. number_of i < length self.old.due) }
+        requires fits { length self.old.blockers ≤ length self.old.due }
+        ensures fits { length self.new.blockers ≤ length self.new.due }
+        ensures remembers { (k : Kept) → Grows k journal.now subject → Remembers k self.old.due self.old.blockers → Remembers journal.now self.new.due self.new.blockers }
     {
         let Some(instance) = subject else {
             return;
@@ -95,7 +103,8 @@ impl Remembered {
     /// The own instance of this number isn't tried again until what blocks it is committed; never, if nothing is given.
     pub(crate) fn set_aside(&mut self, number: u16, blocker: Option<InstanceId>)
         requires { number ≤ highest_number }
-        ensures { (k : Kept) → MayBeSetAside k (instance_of k.me number) blocker → Remembers k self.old.due self.old.blockers → Remembers k self.new.due self.new.blockers }
+        ensures fits { length self.old.blockers ≤ length self.old.due → length self.new.blockers ≤ length self.new.due }
+        ensures remembers { (k : Kept) → MayBeSetAside k (instance_of k.me number) blocker → Remembers k self.old.due self.old.blockers → Remembers k self.new.due self.new.blockers }
     {
         if self.blockers.set(number, blocker) {
             self.due.remove(number);

@@ -25,7 +25,8 @@ pub enum ReplicaFault {
     /// The entry's stamp or number would pass its limit; or, in a generation, the event tells of a stamp more than 2^40 above the last one.
     #[error("E15 stamp full")]
     StampFull,
-    /// The replica has a record of each of its 2,000 instances.
+    /// The replica has a record of each of its instances that is for the command: 2,000 in version 2, and in version 3 9,000 for a seal and 8,990 for
+    /// any other command.
     #[error("E4 space full")]
     SpaceFull,
     /// The sequence number would pass 1,000,000.

@@ -1,12 +1,12 @@
 //! The index of what a replica proposed.
 
 ghost use Rattle.std.specs.Prelude.{◌≡◌, ◌<◌, ◌≤◌, ◌++◌, ◌∷◌, [], ℕ, List, Option, Some, length, IfOk, OnOk};
-ghost use Rattle.ep_base.specs.Instances.{highest_number, number_of};
 ghost use Rattle.ep_journal.specs.Entries.{frames_at};
 ghost use Rattle.ep_journal.specs.Events.{event_of};
 ghost use Rattle.ep_journal.specs.declared.entry.Entry.{Entry};
 ghost use Rattle.ep_replica.specs.Receipts.{proposed_by};
-ghost use Rattle.ep_replica.specs.Slots.{found, named, Tells};
+ghost use Rattle.ep_replica.specs.declared.proposal.Proposal.{Proposal};
+ghost use Rattle.ep_replica.specs.Slots.{found, named, HasPlace, Tells};
 
 use crate::proposal::Proposal;
 use ep_base::{InstanceId, ReplicaId};
@@ -39,7 +39,17 @@ fn proposal_in(entry: &Entry) -> Option<(InstanceId, Proposal)>
     Some((frame.instance(), proposal))
 }
 
-/// A replica's proposals, each at the number of its instance. It has places for all of them or for none.
+/// The number of the instance that the entry proposes; 0 where it proposes none.
+fn proposed_in(entry: &Entry) -> u16
+    ensures { (me : ℕ) (slots : List (Option Proposal)) → result < length slots → HasPlace me entry.now slots }
+{
+    match proposal_in(entry) {
+        Some((instance, _)) => instance.number(),
+        None => 0,
+    }
+}
+
+/// A replica's proposals, each at the number of its instance. It gets places as they are needed.
 #[derive(Drop)]
 pub(crate) struct Slots {
     items: Vec<Option<Proposal>>,
@@ -64,12 +74,13 @@ impl Slots {
         }
     }
 
-    /// Makes a place for each instance that the replica may propose.
-    pub(crate) fn reserve(&mut self) -> Result<(), AllocError>
-        ensures room { OnOk result (highest_number < length self.new) }
+    /// Makes a place for each own instance up to this number.
+    pub(crate) fn reserve(&mut self, top: u16) -> Result<(), AllocError>
+        ensures room { OnOk result (top < length self.new) }
         ensures same { (number : ℕ) → found self.new number ≡ found self.old number }
+        ensures tells { (me : ℕ) (es : List Entry) → Tells me es self.old → Tells me es self.new }
     {
-        for _ in self.items.len()..2001 {
+        for _ in self.items.len()..usize::from(top) + 1 {
             self.items.push(None)?;
         }
         Ok(())
@@ -87,8 +98,8 @@ impl Slots {
         ensures { IfOk result (λ s. Tells me entries.now s) }
     {
         let mut slots = Slots::new(alloc);
-        slots.reserve()?;
         for entry in entries {
+            slots.reserve(proposed_in(entry))?;
             slots.note(me, entry);
         }
         Ok(slots)
@@ -96,7 +107,7 @@ impl Slots {
 
     /// Keeps what the entry of this replica proposes. It takes no memory.
     pub(crate) fn note(&mut self, me: ReplicaId, entry: &Entry)
-        requires room { highest_number < length self.old }
+        requires room { HasPlace me entry.now self.old }
         ensures told { (es : List Entry) → Tells me es self.old → Tells me (es ++ entry.now ∷ []) self.new }
         ensures room { length self.new ≡ length self.old }
     {

@@ -19,7 +19,7 @@ impl Span {
         ensures { (n : ℕ) → ¬ IsWithin result n }
     {
         Span {
-            first: 2001,
+            first: 9001,
             end: 0,
         }
     }

@@ -99,3 +99,13 @@ count_more (suc n) r p q lt lacks there h = more_step n r p q (p n) (q n) refl r
 pub count_all : (n : ℕ) → count n (λ k. true) ≡ n
 count_all zero = refl
 count_all (suc n) = let ih = count_all n in omega arith
+
+-- none below the least one passes
+least_before_step : (n : ℕ) (p : ℕ → Bool) (k r : ℕ) → r < k → (o : Option ℕ) (b : Bool) → least n p ≡ o → p n ≡ b → or_this n b o ≡ Some k → (least n p ≡ Some k → p r ≡ false) → p r ≡ false
+least_before_step n p k r low (Some j) b eo eb e rec = rec (eo ∙ e)
+least_before_step n p k r low None true eo eb e rec = let is : n ≡ k = cc in least_none n p eo r (omega arith)
+least_before_step n p k r low None false eo eb e rec = absurd (cc)
+
+pub least_before : (n : ℕ) (p : ℕ → Bool) (k : ℕ) → least n p ≡ Some k → (r : ℕ) → r < k → p r ≡ false
+least_before zero p k e r low = absurd (cc)
+least_before (suc n) p k e r low = least_before_step n p k r low (least n p) (p n) refl refl e (λ e. least_before n p k e r low)

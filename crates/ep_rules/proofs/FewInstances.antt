@@ -1,9 +1,9 @@
--- There are at most 14,000 instances: numbers that stand once each, and have different places below a bound, are no more than it.
+-- There are at most 63,000 instances: numbers that stand once each, and have different places below a bound, are no more than it.
 use Rattle.std.proofs.Common.{◌≡◌, ℕ, zero, suc, ◌+◌, ◌*◌, ◌-◌, ◌<◌, ◌≤◌, inl, inr, Bool, true, false, cond, not, eqb, List, [], ◌∷◌, length, refl, sym, ap, subst, ◌∙◌, arith}
 use Rattle.std.proofs.lemmas.Bool.{cases_order, eqb-true, ne_eqb, not_from_false, false≢true}
 use Rattle.std.specs.List.{filter}
 use Rattle.ep_base.specs.Deps.{most_deps}
-use Rattle.ep_base.specs.Instances.{leader_of, number_of, IsInstance}
+use Rattle.ep_base.specs.Instances.{leader_of, number_of, highest_number, IsInstance}
 use Rattle.ep_base.specs.Places.{Has}
 use Rattle.ep_base.proofs.Places.{Has-first}
 use Rattle.ep_rules.specs.Counts.{InstancesAreFew}
@@ -49,12 +49,12 @@ module _ (index : ℕ → ℕ) where
 
 -- instances in order, without gaps, from 0
 abbrev index_of : ℕ → ℕ
-index_of i = leader_of i * 2000 + (number_of i - 1)
+index_of i = leader_of i * highest_number + (number_of i - 1)
 
 rises : (i j : ℕ) → IsInstance i → IsInstance j → i < j → index_of i < index_of j
 rises i j h k low = omega (arith, h, k)
 
-index_below : (i : ℕ) → IsInstance i → index_of i < 14000
+index_below : (i : ℕ) → IsInstance i → index_of i < most_deps
 index_below i h = omega (arith, h)
 
 apart : (i j : ℕ) → IsInstance i → IsInstance j → index_of i ≡ index_of j → i ≡ j
@@ -65,7 +65,26 @@ apart i j h k e = elim (cases_order i j) [
 ]
 
 pub few_instances : (is : List ℕ) → Once is → ((i : ℕ) → Has is i → IsInstance i) → length is ≤ most_deps
-few_instances is o all = few_below index_of 14000 is o (λ i j h k e. apart i j (all i h) (all j k) e) (λ i h. index_below i (all i h))
+few_instances is o all = few_below index_of most_deps is o (λ i j h k e. apart i j (all i h) (all j k) e) (λ i h. index_below i (all i h))
+
+-- of those that are numbered up to 2,000 there are fewer
+abbrev early_index : ℕ → ℕ
+early_index i = leader_of i * 2000 + (number_of i - 1)
+
+early_rises : (i j : ℕ) → IsInstance i → IsInstance j → number_of i ≤ 2000 → number_of j ≤ 2000 → i < j → early_index i < early_index j
+early_rises i j h k a b low = omega (arith, h, k, a, b, low)
+
+early_apart : (i j : ℕ) → IsInstance i → IsInstance j → number_of i ≤ 2000 → number_of j ≤ 2000 → early_index i ≡ early_index j → i ≡ j
+early_apart i j h k a b e = elim (cases_order i j) [
+  | inl is ↦ is
+  | inr (inl l) ↦ absurd (omega (arith, e, early_rises i j h k a b l))
+  | inr (inr l) ↦ absurd (omega (arith, e, early_rises j i k h b a l))
+]
+
+pub few_early : (is : List ℕ) → Once is → ((i : ℕ) → Has is i → IsInstance i × (number_of i ≤ 2000)) → length is ≤ 14000
+few_early is o all =
+    few_below early_index 14000 is o (λ i j h k e. early_apart i j (all i h).0 (all j k).0 (all i h).1 (all j k).1 e)
+    (λ i h. let is_one = (all i h).0 in let low = (all i h).1 in omega (arith, is_one, low))
 
 pub instances_are_few_lem : InstancesAreFew
 instances_are_few_lem is once all = few_instances is (from_once is once) all

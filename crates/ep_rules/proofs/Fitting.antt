@@ -283,10 +283,10 @@ handled_fits f me from s (PrepareOk i b v) few other fits ballots w =
     prepare_ok_fits f i me from b v (interference s.records i) (record_in s i) (get s.leads i) small ballot (found_fits i (get s.records i) small (fits i))
 handled_fits f me from s (Nack i b p) few other fits ballots w = record { entry = tt; out = tt }
 
-proposed_fits : (f me q : ℕ) (s : State) (c : Command) (n : Option ℕ) → me < 256 → ((k : ℕ) → n ≡ Some k → k < 2000) → PlacedFits me (proposed f me q s c n)
+proposed_fits : (f me q : ℕ) (s : State) (c : Command) (n : Option ℕ) → me < 256 → ((k : ℕ) → n ≡ Some k → k < highest_number) → PlacedFits me (proposed f me q s c n)
 proposed_fits f me q s c None small low = tt
 proposed_fits f me q s c (Some n) small low =
-    let less : n < 2000 = low n refl in
+    let less : n < highest_number = low n refl in
     let i : ℕ = instance_of me (n + 1) in
     let is : leader_of i ≡ me = div-mul-add me 65536 (n + 1) (omega arith) in
     placed_fits i me (propose f i q c (interference s.records i c))

@@ -22,6 +22,6 @@ SendsFew = (f me : ℕ) (s : State) (e : Event) → length (sends f me s e) ≤ 
 abbrev pub ExecutedOnce : Type 0
 ExecutedOnce = (base : Store) → (f me : ℕ) (es : List Entry) → IsLocalRun base f me es → AreOnce (left f me (fresh_state base) es).executed
 
--- There are at most 14,000 instances.
+-- There are at most 63,000 instances.
 abbrev pub InstancesAreFew : Type 0
 InstancesAreFew = (is : List ℕ) → AreOnce is → ((i : ℕ) → Has is i → IsInstance i) → length is ≤ most_deps

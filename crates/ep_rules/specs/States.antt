@@ -65,7 +65,7 @@ changed s i ch = record {
 abbrev pub is_free : Map Record → ℕ → ℕ → Bool
 is_free records r n = is_none (get records (instance_of r (n + 1)))
 
--- the least n for which it is (a proof opens it by `unfolding`: a bound of 2,000 computes long)
+-- the least n for which it is (a proof opens it by `unfolding`: a bound of 9,000 computes long)
 unfoldable pub free_number : Map Record → ℕ → Option ℕ
 free_number records r = least highest_number (is_free records r)
 

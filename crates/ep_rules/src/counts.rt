@@ -12,7 +12,7 @@ pub fn executed_once()
     ensures { ExecutedOnce }
 {}
 
-/// There are at most 14,000 instances.
+/// There are at most 63,000 instances.
 pub fn instances_are_few()
     ensures { InstancesAreFew }
 {}

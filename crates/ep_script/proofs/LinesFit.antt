@@ -8,6 +8,8 @@ use Rattle.std.specs.Cmp.{IsEquivalence}
 use Rattle.std.proofs.lemmas.Bool.Decides.{nat_tests}
 use Rattle.std.proofs.lemmas.List.Elements.{All-nil, All-push}
 use Rattle.std.proofs.lemmas.Map.Keys.{IsDistinct-push}
+use Rattle.ep_base.specs.Versions.{highest_in}
+use Rattle.ep_base.proofs.Versions.{highest_low}
 use Rattle.ep_base.specs.Instances.{instance_of, leader_of, highest_number}
 use Rattle.ep_base.specs.declared.version.Version.{Version}
 use Rattle.ep_base.specs.declared.version_kind.VersionKind.TheVariants.{V1, V2, V3}
@@ -65,23 +67,24 @@ count_fits w = if_less (count_of w) (number_fits 4294967295 w)
     if_less (Some x) h = h.0
 
 leader_again : (r i n : ℕ) → r < n → (1 ≤ i) × (i ≤ highest_number) → leader_of (instance_of r i) < n
-leader_again r i n h k = let a : i ≤ 2000 = k.1 in let e : (r * 65536 + i) / 65536 ≡ r = omega arith in subst (λ (x : ℕ). x < n) (sym e) h
+leader_again r i n h k = let a : i ≤ highest_number = k.1 in let e : (r * 65536 + i) / 65536 ≡ r = omega arith in subst (λ (x : ℕ). x < n) (sym e) h
 
-instance_fits : (n : ℕ) (ps : List (List ℕ)) → IfSome (instance_parts n ps) (λ i. leader_of i < n)
-instance_fits n [] = tt
-instance_fits n (r ∷ []) = tt
-instance_fits n (r ∷ i ∷ []) =
-    if_then (λ leader. option_map (instance_of leader) (number_in 1 highest_number i)) (λ leader. leader < n) (λ x. leader_of x < n) (replica_of n r) (replica_fits n r)
-    (λ leader h. if_mapped (instance_of leader) (λ y. (1 ≤ y) × (y ≤ highest_number)) (λ x. leader_of x < n) (number_in 1 highest_number i) (number_fits highest_number i) (λ y k. leader_again leader y n h k))
-instance_fits n (r ∷ i ∷ w ∷ more) = tt
+instance_fits : (n : ℕ) (v : Version) (ps : List (List ℕ)) → IfSome (instance_parts n v ps) (λ i. leader_of i < n)
+instance_fits n v [] = tt
+instance_fits n v (r ∷ []) = tt
+instance_fits n v (r ∷ i ∷ []) =
+    if_then (λ leader. option_map (instance_of leader) (number_in 1 (highest_in v) i)) (λ leader. leader < n) (λ x. leader_of x < n) (replica_of n r) (replica_fits n r)
+    (λ leader h. if_mapped (instance_of leader) (λ y. (1 ≤ y) × (y ≤ highest_in v)) (λ x. leader_of x < n) (number_in 1 (highest_in v) i) (number_fits (highest_in v) i)
+    (λ y k. leader_again leader y n h (k.0, (let most = highest_low v in let le = k.1 in omega (arith, most, le)))))
+instance_fits n v (r ∷ i ∷ w ∷ more) = tt
 
-place_fits : (n : ℕ) (ws : List (List ℕ)) → IfSome (place_of n ws) (λ p. (p.0 < n) × (leader_of p.1 < n))
-place_fits n [] = tt
-place_fits n (r ∷ []) = tt
-place_fits n (r ∷ i ∷ []) =
-    if_then (λ replica. option_map (λ instance. (replica, instance)) (instance_parts n (parts_of i))) (λ replica. replica < n) (λ p. (p.0 < n) × (leader_of p.1 < n)) (replica_of n r) (replica_fits n r)
-    (λ replica h. if_mapped (λ instance. (replica, instance)) (λ x. leader_of x < n) (λ p. (p.0 < n) × (leader_of p.1 < n)) (instance_parts n (parts_of i)) (instance_fits n (parts_of i)) (λ x k. (h, k)))
-place_fits n (r ∷ i ∷ w ∷ more) = tt
+place_fits : (n : ℕ) (v : Version) (ws : List (List ℕ)) → IfSome (place_of n v ws) (λ p. (p.0 < n) × (leader_of p.1 < n))
+place_fits n v [] = tt
+place_fits n v (r ∷ []) = tt
+place_fits n v (r ∷ i ∷ []) =
+    if_then (λ replica. option_map (λ instance. (replica, instance)) (instance_parts n v (parts_of i))) (λ replica. replica < n) (λ p. (p.0 < n) × (leader_of p.1 < n)) (replica_of n r) (replica_fits n r)
+    (λ replica h. if_mapped (λ instance. (replica, instance)) (λ x. leader_of x < n) (λ p. (p.0 < n) × (leader_of p.1 < n)) (instance_parts n v (parts_of i)) (instance_fits n v (parts_of i)) (λ x k. (h, k)))
+place_fits n v (r ∷ i ∷ w ∷ more) = tt
 
 -- a replica that proposes isn't the one to be spared
 proposer_fits : (n : ℕ) (spared : Option ℕ) (w : List ℕ) → IfSome spared (λ s. s < n) → IfSome (option_and_then (proposer spared) (replica_of n w)) (λ r. (r < n) × IfSome spared (λ s. (s < n) × (s ≢ r)))
@@ -125,9 +128,9 @@ agenda_fits n v (w ∷ ws) =
     if_either (FitsCluster n) (bytes_eq w (codes "propose")) _ _ (propose_fits n v None ws tt)
     (if_either (FitsCluster n) (bytes_eq w (codes "sparing")) _ _ (sparing_fits n v ws)
     (if_either (FitsCluster n) (bytes_eq w (codes "giveup")) _ _
-    (if_mapped (λ p. GiveUp p.0 p.1) (λ p. (p.0 < n) × (leader_of p.1 < n)) (FitsCluster n) (place_of n ws) (place_fits n ws) (λ p h. h))
+    (if_mapped (λ p. GiveUp p.0 p.1) (λ p. (p.0 < n) × (leader_of p.1 < n)) (FitsCluster n) (place_of n v ws) (place_fits n v ws) (λ p h. h))
     (if_either (FitsCluster n) (bytes_eq w (codes "recover")) _ None
-    (if_mapped (λ p. Recover p.0 p.1) (λ p. (p.0 < n) × (leader_of p.1 < n)) (FitsCluster n) (place_of n ws) (place_fits n ws) (λ p h. h)) tt)))
+    (if_mapped (λ p. Recover p.0 p.1) (λ p. (p.0 < n) × (leader_of p.1 < n)) (FitsCluster n) (place_of n v ws) (place_fits n v ws) (λ p h. h)) tt)))
 
 between_fits : (n : ℕ) (kind : WeatherWord) (a b j : ℕ) → a < n → b < n → 1 ≤ j → IfSome (weather_between kind a b j) (FitsWeather n)
 between_fits n kind a b j below-a below-b counted = go (a == b) refl

@@ -8,6 +8,7 @@ use Rattle.std.proofs.lemmas.List.{length-drop, drop-drop, take_rest}
 use Rattle.std.proofs.lemmas.List.Sums.{position_or_len_is}
 use Rattle.std.proofs.Math.Seq.{take-length, drop-length}
 use Rattle.memchr.specs.Find.{NoneBefore, Nowhere, Passes}
+use Rattle.ep_base.specs.declared.version.Version.{Version}
 use Rattle.ep_script.specs.Grammar.{parts_of, instance_parts}
 use Rattle.ep_script.specs.Parts.{is_blank, words_of}
 use Rattle.ep_script.specs.Places.{BeginsWithout}
@@ -96,8 +97,8 @@ undotted w n k h = parts_at (λ b. b == 46) w ∙ rw (sym k ∙ h) (whole w)
     whole w = rw (take-length w, drop-length w) refl
 
 -- a third part, whatever it is
-pub too_many : (n : ℕ) (w r : List ℕ) (m : ℕ) → m ≡ position_or_len (λ b. b == 46) w → m < length w → instance_parts n (r ∷ parts_of w) ≡ None
-too_many n w r m k h = ap (λ (ps : List (List ℕ)). instance_parts n (r ∷ ps)) (dotted w m k h ∙ ap (λ (ps : List (List ℕ)). take m w ∷ ps) (parts_at (λ b. b == 46) (drop 1 (drop m w))))
+pub too_many : (n : ℕ) (v : Version) (w r : List ℕ) (m : ℕ) → m ≡ position_or_len (λ b. b == 46) w → m < length w → instance_parts n v (r ∷ parts_of w) ≡ None
+too_many n v w r m k h = ap (λ (ps : List (List ℕ)). instance_parts n v (r ∷ ps)) (dotted w m k h ∙ ap (λ (ps : List (List ℕ)). take m w ∷ ps) (parts_at (λ b. b == 46) (drop 1 (drop m w))))
 
 pub after_dot : (w : List ℕ) (n : ℕ) → n ≡ position_or_len (λ b. b == 46) w → n < length w → parts_of w ≡ take n w ∷ parts_of (take (length w - (n + 1)) (drop (n + 1) w))
 after_dot w n k h = dotted w n k h ∙ ap (λ (x : List ℕ). take n w ∷ parts_of x) (sym (take_rest w (n + 1) ∙ next n w))
@@ -107,11 +108,11 @@ after_dot w n k h = dotted w n k h ∙ ap (λ (x : List ℕ). take n w ∷ parts
 
 -- whether there is a dot
 pub has_more : (w : List ℕ) (m : ℕ) → m ≡ position_or_len (λ b. b == 46) w → m ≤ length w
-    → MatchBool (nat_lt m (length w)) ((n : ℕ) (first : List ℕ) → instance_parts n (first ∷ parts_of w) ≡ None) (parts_of w ≡ w ∷ [])
+    → MatchBool (nat_lt m (length w)) ((n : ℕ) (v : Version) (first : List ℕ) → instance_parts n v (first ∷ parts_of w) ≡ None) (parts_of w ≡ w ∷ [])
 has_more w m k h = go (nat_lt m (length w)) refl
   where
-    go : (b : Bool) → nat_lt m (length w) ≡ b → MatchBool b ((n : ℕ) (first : List ℕ) → instance_parts n (first ∷ parts_of w) ≡ None) (parts_of w ≡ w ∷ [])
-    go true e = let less : m < length w = grind (arith, nat_tests) in λ n first. too_many n w first m k less
+    go : (b : Bool) → nat_lt m (length w) ≡ b → MatchBool b ((n : ℕ) (v : Version) (first : List ℕ) → instance_parts n v (first ∷ parts_of w) ≡ None) (parts_of w ≡ w ∷ [])
+    go true e = let less : m < length w = grind (arith, nat_tests) in λ n v first. too_many n v w first m k less
     go false e = let same : m ≡ length w = grind (arith, nat_tests) in undotted w m k same
 
 -- The first place at which a search stops.

@@ -4,10 +4,10 @@ use Rattle.std.specs.Str.{bytes_eq}
 use Rattle.std.specs.List.{slice_split}
 use Rattle.std.specs.Option.{option_map_or}
 use Rattle.ep_base.specs.Attributes.{same_list}
-use Rattle.ep_base.specs.Instances.{instance_of, highest_number}
+use Rattle.ep_base.specs.Instances.{instance_of}
 use Rattle.ep_base.specs.Commands.{Command, Get, Put, Del, Swap, Cas, Seal, Opaque}
 use Rattle.ep_base.specs.Values.{most_value}
-use Rattle.ep_base.specs.Versions.{knows}
+use Rattle.ep_base.specs.Versions.{highest_in, knows}
 use Rattle.ep_base.specs.declared.version.Version.{Version}
 use Rattle.ep_base.specs.declared.version_kind.VersionKind.TheVariants.{V1, V2, V3}
 use Rattle.ep_script.specs.Word.{bytes_of}
@@ -59,11 +59,11 @@ count_of w = number_in 1 4294967295 w
 abbrev pub replica_of : ℕ → List ℕ → Option ℕ
 replica_of n w = option_and_then (λ r. if nat_lt r n then Some r else None) (number_of w)
 
-abbrev pub instance_parts : ℕ → List (List ℕ) → Option ℕ
-instance_parts n [] = None
-instance_parts n (r ∷ []) = None
-instance_parts n (r ∷ i ∷ []) = option_and_then (λ leader. option_map (instance_of leader) (number_in 1 highest_number i)) (replica_of n r)
-instance_parts n (r ∷ i ∷ w ∷ more) = None
+abbrev pub instance_parts : ℕ → Version → List (List ℕ) → Option ℕ
+instance_parts n v [] = None
+instance_parts n v (r ∷ []) = None
+instance_parts n v (r ∷ i ∷ []) = option_and_then (λ leader. option_map (instance_of leader) (number_in 1 (highest_in v) i)) (replica_of n r)
+instance_parts n v (r ∷ i ∷ w ∷ more) = None
 
 -- `R.I`
 abbrev pub parts_of : List ℕ → List (List ℕ)
@@ -198,11 +198,11 @@ sparing_of n V2 ws = None
 sparing_of n (V3 g) ws = spared_of n (V3 g) ws
 
 -- a replica and an instance
-abbrev pub place_of : ℕ → List (List ℕ) → Option (ℕ × ℕ)
-place_of n [] = None
-place_of n (r ∷ []) = None
-place_of n (r ∷ i ∷ []) = option_and_then (λ replica. option_map (λ instance. (replica, instance)) (instance_parts n (parts_of i))) (replica_of n r)
-place_of n (r ∷ i ∷ w ∷ more) = None
+abbrev pub place_of : ℕ → Version → List (List ℕ) → Option (ℕ × ℕ)
+place_of n v [] = None
+place_of n v (r ∷ []) = None
+place_of n v (r ∷ i ∷ []) = option_and_then (λ replica. option_map (λ instance. (replica, instance)) (instance_parts n v (parts_of i))) (replica_of n r)
+place_of n v (r ∷ i ∷ w ∷ more) = None
 
 -- what a replica is to do: `propose`, `sparing`, `giveup` and `recover`
 abbrev pub agenda_line : ℕ → Version → List (List ℕ) → Option AgendaLine
@@ -210,8 +210,8 @@ agenda_line n v [] = None
 agenda_line n v (w ∷ ws) =
     if bytes_eq w (codes "propose") then propose_of n v None ws
     else if bytes_eq w (codes "sparing") then sparing_of n v ws
-    else if bytes_eq w (codes "giveup") then option_map (λ p. agenda.GiveUp p.0 p.1) (place_of n ws)
-    else if bytes_eq w (codes "recover") then option_map (λ p. agenda.Recover p.0 p.1) (place_of n ws)
+    else if bytes_eq w (codes "giveup") then option_map (λ p. agenda.GiveUp p.0 p.1) (place_of n v ws)
+    else if bytes_eq w (codes "recover") then option_map (λ p. agenda.Recover p.0 p.1) (place_of n v ws)
     else None
 
 -- numbers of messages, after those that were read before
@@ -232,7 +232,7 @@ flush_of (w ∷ ws) = None
 abbrev pub replay_line : ℕ → Version → List (List ℕ) → Option Line
 replay_line n v [] = None
 replay_line n v (w ∷ ws) =
-    if bytes_eq w (codes "execute") then option_map (λ p. Execute p.0 p.1) (place_of n ws)
+    if bytes_eq w (codes "execute") then option_map (λ p. Execute p.0 p.1) (place_of n v ws)
     else if bytes_eq w (codes "deliver") then deliver_of ws
     else if bytes_eq w (codes "flush") then flush_of ws
     else option_map (λ a. asked.Agenda a) (agenda_line n v (w ∷ ws))

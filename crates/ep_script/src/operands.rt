@@ -6,6 +6,7 @@ ghost use Rattle.ep_base.specs.Commands.{Cas};
 ghost use Rattle.ep_base.specs.Parts.{IsShort};
 ghost use Rattle.ep_base.specs.Quorums.{size as size_with};
 ghost use Rattle.ep_base.specs.Instances.{instance_of, highest_number};
+ghost use Rattle.ep_base.specs.Versions.{highest_in};
 ghost use Rattle.ep_script.specs.Parts.{words_of};
 ghost use Rattle.ep_script.specs.Word.{bytes_of as read_bytes};
 ghost use Rattle.ep_script.specs.Grammar.{number_in as number_between, count_of, replica_of, instance_parts, parts_of, key_of, value_of, key_word, value_word, key_only, get_of, put_of, del_of, swap_with, swap_of, option_word, cas_of, opaque_of, opaque_with_two, seal_of, late_command_of, any_command_of, command_of, place_of};
@@ -15,9 +16,6 @@ use crate::word::{read_word, spells_itself};
 use crate::words::{has_dot, is_word, next_word, split_dot};
 use ep_base::{Command, CommandFault, InstanceId, Key, ReplicaId, Size, Touching, Value, Version};
 use std::alloc::{AllocError, Global};
-
-/// The highest number of an instance.
-const HIGHEST_NUMBER: u64 = InstanceId::HIGHEST_NUMBER as u64;
 
 /// A number from 1 to 4,294,967,295: a client, a message or a place.
 pub(crate) fn count(word: &[u8]) -> Option<u32>
@@ -50,11 +48,13 @@ fn made_replica(index: u8) -> ReplicaId
     }
 }
 
-fn instance_number(word: &[u8]) -> Option<u16>
-    ensures value { result ≡ number_between 1 highest_number word.now }
+/// A number that an instance has in this version.
+#[tactic(auto, using(ep_base::proofs::Versions::highest_low))]
+fn instance_number(version: Version, word: &[u8]) -> Option<u16>
+    ensures value { result ≡ number_between 1 (highest_in version) word.now }
     ensures in_range { IfSome result (λ i. (1 ≤ i) × (i ≤ highest_number)) }
 {
-    let number = number_in(word, 1, HIGHEST_NUMBER)?;
+    let number = number_in(word, 1, version.highest_number() as u64)?;
     Some(number as u16)
 }
 
@@ -69,21 +69,21 @@ fn made_instance(leader: ReplicaId, number: u16) -> InstanceId
     }
 }
 
-fn instance(size: Size, word: &[u8]) -> Option<InstanceId>
-    ensures { result ≡ instance_parts (size_with size) (parts_of word.now) }
+fn instance(size: Size, version: Version, word: &[u8]) -> Option<InstanceId>
+    ensures { result ≡ instance_parts (size_with size) version (parts_of word.now) }
 {
     let (leader, number) = split_dot(word)?;
     if has_dot(number) {
         return None;
     }
     let leader = replica(size, leader)?;
-    let number = instance_number(number)?;
+    let number = instance_number(version, number)?;
     Some(made_instance(leader, number))
 }
 
-/// A replica of a cluster of this size, and an instance of one of its replicas.
-pub(crate) fn place(size: Size, words: &[u8]) -> Option<(ReplicaId, InstanceId)>
-    ensures { result ≡ place_of (size_with size) (words_of words.now) }
+/// A replica of a cluster of this size, and an instance of one of its replicas that this version has.
+pub(crate) fn place(size: Size, version: Version, words: &[u8]) -> Option<(ReplicaId, InstanceId)>
+    ensures { result ≡ place_of (size_with size) version (words_of words.now) }
 {
     let (first, after) = next_word(words)?;
     let (second, rest) = next_word(after)?;
@@ -91,7 +91,7 @@ pub(crate) fn place(size: Size, words: &[u8]) -> Option<(ReplicaId, InstanceId)>
         return None;
     }
     let replica = replica(size, first)?;
-    let instance = instance(size, second)?;
+    let instance = instance(size, version, second)?;
     Some((replica, instance))
 }
 

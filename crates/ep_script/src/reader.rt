@@ -18,7 +18,7 @@ use ep_base::Source;
 use std::alloc::Global;
 
 /// The most lines that a script can have.
-const LINES: u32 = 100_000;
+pub(crate) const LINES: u32 = 100_000;
 
 /// Reads a script for a replay to the end of the source. `Refused` tells the first line at fault, `ReadFailed` that the
 /// source failed in this call, `Memory` that memory was refused. Past that line, or past 100,000 lines, nothing is read: so a source

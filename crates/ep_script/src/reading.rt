@@ -140,17 +140,17 @@ fn sparing(
     }
 }
 
-fn give_up(size: Size, words: &[u8]) -> Option<AgendaLine>
-    ensures { result ≡ option_map (λ p. GiveUp p.0 p.1) (place_of (size_with size) (words_of words.now)) }
+fn give_up(size: Size, version: Version, words: &[u8]) -> Option<AgendaLine>
+    ensures { result ≡ option_map (λ p. GiveUp p.0 p.1) (place_of (size_with size) version (words_of words.now)) }
 {
-    let (replica, instance) = place(size, words)?;
+    let (replica, instance) = place(size, version, words)?;
     Some(AgendaLine::GiveUp(replica, instance))
 }
 
-fn recover(size: Size, words: &[u8]) -> Option<AgendaLine>
-    ensures { result ≡ option_map (λ p. Recover p.0 p.1) (place_of (size_with size) (words_of words.now)) }
+fn recover(size: Size, version: Version, words: &[u8]) -> Option<AgendaLine>
+    ensures { result ≡ option_map (λ p. Recover p.0 p.1) (place_of (size_with size) version (words_of words.now)) }
 {
-    let (replica, instance) = place(size, words)?;
+    let (replica, instance) = place(size, version, words)?;
     Some(AgendaLine::Recover(replica, instance))
 }
 
@@ -171,10 +171,10 @@ pub(crate) fn read_agenda_line(
         return sparing(alloc, size, version, rest);
     }
     if is_word(first, b"giveup") {
-        return Ok(give_up(size, rest));
+        return Ok(give_up(size, version, rest));
     }
     if is_word(first, b"recover") {
-        return Ok(recover(size, rest));
+        return Ok(recover(size, version, rest));
     }
     Ok(None)
 }

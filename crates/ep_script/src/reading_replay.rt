@@ -27,7 +27,7 @@ pub(crate) fn read_line(
         return Ok(None);
     };
     if is_word(first, b"execute") {
-        return Ok(execute(size, rest));
+        return Ok(execute(size, version, rest));
     }
     if is_word(first, b"deliver") {
         return deliver(alloc, rest);
@@ -53,10 +53,10 @@ fn shared(
     Ok(Some(Line::Agenda(asked)))
 }
 
-fn execute(size: Size, words: &[u8]) -> Option<Line>
-    ensures { result ≡ option_map (λ p. Execute p.0 p.1) (place_of (size_with size) (words_of words.now)) }
+fn execute(size: Size, version: Version, words: &[u8]) -> Option<Line>
+    ensures { result ≡ option_map (λ p. Execute p.0 p.1) (place_of (size_with size) version (words_of words.now)) }
 {
-    let (replica, instance) = place(size, words)?;
+    let (replica, instance) = place(size, version, words)?;
     Some(Line::Execute(replica, instance))
 }
 

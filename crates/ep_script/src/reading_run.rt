@@ -34,7 +34,7 @@ pub(crate) fn read_run_line(
 }
 
 // What becomes of a frame, by the first word of a line.
-fn kind(word: &[u8]) -> Option<WeatherWord>
+pub(crate) fn kind(word: &[u8]) -> Option<WeatherWord>
     ensures { result ≡ kind_of word.now }
 {
     if is_word(word, b"drop") {
@@ -56,7 +56,7 @@ fn weather(size: Size, kind: WeatherWord, words: &[u8]) -> Option<RunLine>
     Some(RunLine::Weather(line))
 }
 
-fn weather_line(size: Size, kind: WeatherWord, words: &[u8]) -> Option<WeatherLine>
+pub(crate) fn weather_line(size: Size, kind: WeatherWord, words: &[u8]) -> Option<WeatherLine>
     ensures { result ≡ weather_of (size_with size) kind (words_of words.now) }
 {
     let (first, after) = next_word(words)?;

@@ -22,7 +22,7 @@ use ep_base::Size;
 use std::alloc::{AllocError, Global};
 
 /// The most bytes that a line can have, without its line feed and one carriage return.
-const BYTES: usize = 8192;
+pub(crate) const BYTES: usize = 8192;
 
 /// What the first lines of a script say.
 #[derive(Drop)]
@@ -196,7 +196,7 @@ fn take_opening(alloc: Global, head: &mut OpenHead, words: &[u8]) -> Result<bool
     }
 }
 
-fn without_return(line: &[u8]) -> &[u8]
+pub(crate) fn without_return(line: &[u8]) -> &[u8]
     ensures { result.now ≡ strip_carriage_return line.now }
 {
     match line {

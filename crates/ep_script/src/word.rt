@@ -45,7 +45,7 @@ fn push_byte(text: &mut Vec<u8>, byte: u8) -> Result<(), AllocError>
     Ok(())
 }
 
-fn is_plain_byte(byte: u8) -> bool
+pub(crate) fn is_plain_byte(byte: u8) -> bool
     ensures { result ≡ is_plain byte }
 {
     (byte >= 0x21) & (byte <= 0x7e) & (byte != b'%')
@@ -110,7 +110,7 @@ pub fn read_word(alloc: Global, word: &[u8]) -> Result<Option<Vec<u8>>, AllocErr
     unescape(alloc, word)
 }
 
-fn escaped(word: &[u8]) -> Option<(u8, &[u8])>
+pub(crate) fn escaped(word: &[u8]) -> Option<(u8, &[u8])>
     ensures byte { Escapes word.now result }
     ensures shorter { IfSome result (λ x. length x.1.now < length word.now) }
 {

@@ -3,6 +3,7 @@
 ghost use Rattle.std.specs.Prelude.{◌≡◌, ◌==◌, ◌<◌, ◌≤◌, ℕ, List, [], ◌∷◌, None, length, IfSome, MatchBool, MatchOption};
 ghost use Rattle.std.specs.List.{position_or_len};
 ghost use Rattle.std.specs.Str.{bytes_eq};
+ghost use Rattle.ep_base.specs.declared.version.Version.{Version};
 ghost use Rattle.ep_script.specs.Parts.{words_of, is_blank};
 ghost use Rattle.ep_script.specs.Places.{BeginsWithout};
 ghost use Rattle.ep_script.specs.Grammar.{parts_of, instance_parts, is_silent};
@@ -16,7 +17,7 @@ fn is_blank_byte(byte: u8) -> bool
 }
 
 /// The first word of a line, and what follows it; none where no word is left. Spaces and tabs separate words.
-pub(crate) fn next_word(line: &[u8]) -> Option<(&[u8], &[u8])>
+pub fn next_word(line: &[u8]) -> Option<(&[u8], &[u8])>
     ensures words { MatchOption result (words_of line.now ≡ []) (λ x. words_of line.now ≡ x.0.now ∷ words_of x.1.now) }
     ensures shorter { IfSome result (λ x. length x.1.now < length line.now) }
 {
@@ -67,7 +68,7 @@ pub(crate) fn split_dot(word: &[u8]) -> Option<(&[u8], &[u8])>
 
 /// Whether the word has a dot, so that it is more than one part.
 pub(crate) fn has_dot(word: &[u8]) -> bool
-    ensures { MatchBool result ((n : ℕ) (first : List ℕ) → instance_parts n (first ∷ parts_of word.now) ≡ None) (parts_of word.now ≡ word.now ∷ []) }
+    ensures { MatchBool result ((n : ℕ) (v : Version) (first : List ℕ) → instance_parts n v (first ∷ parts_of word.now) ≡ None) (parts_of word.now ≡ word.now ∷ []) }
 {
     dot_place(word) < word.len()
 }

@@ -1,9 +1,9 @@
 -- An execution commits nothing: what waits for an instance that isn't committed waits still, and one try of each instance leaves none that is ready.
-use Rattle.std.proofs.Common.{◌≡◌, ℕ, ◌+◌, ◌≤◌, ◌<◌, Bool, true, false, length, List, [], ◌∷◌, ◌++◌, append_assoc, Some, None, inl, inr, refl, sym, ap, ◌∙◌, subst, arith}
+use Rattle.std.proofs.Common.{◌≡◌, ℕ, ◌+◌, ◌≤◌, ◌<◌, Bool, true, false, length, List, [], ◌∷◌, ◌++◌, append_assoc, Option, Some, None, inl, inr, refl, sym, ap, ◌∙◌, subst, arith}
 use Rattle.std.specs.List.{flat_map}
 use Rattle.std.specs.Prelude.{OnErr, Result, Ok, Err}
 use Rattle.std.proofs.lemmas.Bool.{cases_lt}
-use Rattle.ep_base.specs.Instances.{instance_of, leader_of, number_of, highest_number}
+use Rattle.ep_base.specs.Instances.{instance_of, leader_of, number_of}
 use Rattle.ep_base.specs.Places.{Has}
 use Rattle.ep_journal.proofs.Growing.{state_grows}
 use Rattle.ep_journal.specs.Events.{event_of}
@@ -18,11 +18,15 @@ use Rattle.ep_replica.specs.Blockers.{Grows}
 use Rattle.ep_replica.specs.Kept.{Kept}
 use Rattle.ep_replica.specs.Pending.{IsWaiting, state_of}
 use Rattle.ep_rules.proofs.Places.{has_left}
+use Rattle.ep_rules.specs.Cells.{committed_decree, record_or_fresh}
 use Rattle.ep_rules.specs.Graph.{Graph, Reaches}
 use Rattle.ep_rules.specs.Graph.Reaches.{itself, onward}
+use Rattle.ep_rules.specs.Maps.{get}
 use Rattle.ep_rules.specs.Order.{InBlocks, IsPlan}
 use Rattle.ep_rules.specs.States.{State, attrs_of, committed_in, graph_in}
 use Rattle.ep_rules.specs.Steps.{Executes as Executed, leaves, order_of}
+use Rattle.ep_rules.specs.declared.record.Record.{Record}
+use Rattle.ep_base.specs.declared.decree.Decree.{Decree}
 use Rattle.ep_serve.specs.Acting.{made_since, stopped_since, AreSwept, ExecutesAll, ExecutesEach, IsStampless, IsSwept, LedWantsMemory, NoneIsReady, StopsShort, TriesOne}
 use Rattle.ep_serve.specs.declared.due.Due.{Due}
 
@@ -152,9 +156,26 @@ pub led_stops : (start k k' : Kept) (r i : ℕ) (tried : Bool) → tried ≡ fal
 led_stops start k k' r i true told s h = absurd (let e : true ≡ false = told in cc)
 led_stops start k k' r i false told s h = subst (λ (x : Kept). (roots : List ℕ) × ExecutesEach start roots x × IsStampless x) (sym h.1) (s.0, s.1, (i, h.0.0, h.0.1))
 
--- all numbers of a leader were tried
-pub led_all : (start k : Kept) (r n : ℕ) → highest_number < n → ExecutesSome start k → LedWait r n k → (roots : List ℕ) × ExecutesEach start roots k × IsSwept r true k
-led_all start k r n past s w = (s.0, s.1, λ i led p. w i led (let le = p.named.2 in omega arith) p)
+each_committed : (k k' : Kept) (is : List ℕ) → ExecutesEach k is k' → (i : ℕ) → committed_in (state_of k').records i ≡ committed_in (state_of k).records i
+each_committed k k' [] h i = ap (λ (x : Kept). committed_in (state_of x).records i) h
+each_committed k k' (j ∷ js) h i = each_committed h.0 k' js h.3 i ∙ same_committed k h.0 (grows k h.0 j h.2) i
+
+-- all numbers of a leader were tried up to one above which nothing is recorded
+pub led_all : (start k : Kept) (r n : ℕ) → ((i : ℕ) (r : Record) → get (state_of start).records i ≡ Some r → number_of i < n) → ExecutesSome start k → LedWait r n k → (roots : List ℕ) × ExecutesEach start roots k × IsSwept r true k
+led_all start k r n all s w = (
+  s.0,
+  s.1,
+  λ i led p. elim (cases_lt (number_of i) n) [
+    | inl lt ↦ w i led lt p
+    | inr le ↦ absurd (
+        let was : committed_in (state_of start).records i ≡ Some p.decree = sym (each_committed start k s.0 s.1 i) ∙ p.committed in
+        recorded i p.decree (get (state_of start).records i) refl was le)
+  ],
+)
+  where
+    recorded : (i : ℕ) (x : Decree) (o : Option Record) → get (state_of start).records i ≡ o → committed_in (state_of start).records i ≡ Some x → n ≤ number_of i → ⊥
+    recorded i x None e was le = (let nothing : committed_in (state_of start).records i ≡ None = ap (λ o. committed_decree (record_or_fresh i o).vote) e in let z : None ≡ Some x = sym nothing ∙ was in cc)
+    recorded i x (Some q) e was le = (let lt = all i q e in omega (arith, lt, le))
 
 -- memory was wanted for one
 pub led_short : (start k k' : Kept) (r n i : ℕ) → i ≡ instance_of r n → ExecutesSome start k → LedWait r n k → IsOutstanding k i × (k' ≡ k) → n < 65536 → (roots : List ℕ) × ExecutesEach start roots k' × LedWantsMemory r k'

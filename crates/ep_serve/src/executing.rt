@@ -54,7 +54,8 @@ fn execute_led<D: Device>(node: &mut Node<D>, leader: ReplicaId) -> Result<bool,
     ensures same { node.new ≡ record node.old { replica = node.new.replica } }
     ensures err { OnErr result ((roots : List ℕ) × ExecutesEach node.old.replica roots node.new.replica × LedWantsMemory leader node.new.replica) }
 {
-    for number in 1..2001 {
+    let top = node.highest();
+    for number in 1..top + 1 {
         let tried = try_one(node, instance_at(leader, number))?;
         if !tried {
             return Ok(false);

@@ -4,7 +4,7 @@ use Rattle.std.proofs.lemmas.Bool.{cases_eq}
 use Rattle.std.specs.FinSet as set
 use Rattle.std.specs.declared.alloc.AllocError.{AllocError}
 use Rattle.std.specs.List.{AllByRecursion}
-use Rattle.ep_base.specs.Instances.{instance_of}
+use Rattle.ep_base.specs.Instances.{instance_of, highest_number}
 use Rattle.ep_rules.specs.Maps.{Map, get}
 use Rattle.ep_rules.specs.States.{with_held}
 use Rattle.ep_rules.specs.declared.record.Record.{Record}
@@ -37,7 +37,7 @@ zeros (n ∷ ns) h (suc r) = zeros ns h.1 r
 -- of none, nothing is said
 pub taken-none : (m : Map Record) (ns : List ℕ) → AllByRecursion (λ n. n ≡ 0) ns → AreTaken m ns
 taken-none m ns h = record {
-  bounded = λ r. subst (λ k. k ≤ 2000) (sym (zeros ns h r)) (omega arith);
+  bounded = λ r. subst (λ k. k ≤ highest_number) (sym (zeros ns h r)) (omega arith);
   full = λ r n low. let none = zeros ns h r in absurd (omega (arith, low, none));
 }
 

@@ -20,7 +20,7 @@ least_first p k (suc n) e t h =
       | inr is ↦ subst (λ m. least (suc m) p ≡ Some k) is (ap (or_this k (p k)) e ∙ ap (λ b. or_this k b None) t)
     ]
 
-pub free_first : (m : Map Record) (r k n : ℕ) → least k (is_free m r) ≡ None → is_free m r k ≡ true → k < n → n ≤ 2000 → free_number m r ≡ Some k
+pub free_first : (m : Map Record) (r k n : ℕ) → least k (is_free m r) ≡ None → is_free m r k ≡ true → k < n → n ≤ highest_number → free_number m r ≡ Some k
 unfolding free_number
 free_first m r k n e t h most = least_first (is_free m r) k highest_number e t (omega (arith, h, most))
 

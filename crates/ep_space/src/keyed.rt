@@ -3,6 +3,7 @@
 ghost use Rattle.std.specs.Prelude.{◌≡◌, [], List, ◌≤◌, ◌<◌, ℕ, false, Some, None, IfOk, OnOk, OnErr, if◌then◌else◌};
 ghost use Rattle.std.specs.FinSet as set;
 ghost use Rattle.std.specs.Option.{option_copied};
+ghost use Rattle.ep_base.specs.Instances.{number_of, highest_number, IsInstance};
 ghost use Rattle.ep_rules.specs.Cells.{record_or_fresh};
 ghost use Rattle.ep_rules.specs.Maps.{none, get, insert};
 ghost use Rattle.ep_rules.specs.States.{with_held, is_free};
@@ -89,6 +90,14 @@ impl Keyed {
         self.table.entries()
     }
 
+    /// A number above which no instance has a record.
+    pub fn highest(&self) -> u16
+        ensures bounded { result ≤ highest_number }
+        ensures none { (i : ℕ) → IsInstance i → result < number_of i → get self.now.held i ≡ None }
+    {
+        self.table.highest()
+    }
+
     /// Makes a place for the instance, if it has none.
     pub fn reserve(&mut self, id: InstanceId) -> Result<(), AllocError>
         ensures ok { OnOk result (self.new ≡ record { held = self.old.held; places = set.insert self.old.places id; room = self.old.room }) }
@@ -173,7 +182,7 @@ impl Keyed {
 
     /// A number of the replica's first instances that all have a record.
     pub fn taken_by(&self, replica: ReplicaId) -> u16
-        ensures bounded { result ≤ 2000 }
+        ensures bounded { result ≤ highest_number }
         ensures full { (n : ℕ) → n < result → is_free self.now.held replica n ≡ false }
     {
         self.taken[usize::from(replica.index())]

@@ -3,7 +3,7 @@
 ghost use Rattle.std.specs.Prelude.{ℕ, ◌≡◌, ◌≤◌, ◌<◌, ◌-◌, true, Ok, Err, Some, None, IfOk, IsErr, OnOk, OnErr, if◌then◌else◌};
 ghost use Rattle.std.specs.Option.{option_copied};
 ghost use Rattle.std.specs.FinSet as set;
-ghost use Rattle.ep_base.specs.Instances.{highest_number};
+ghost use Rattle.ep_base.specs.Instances.{number_of, highest_number, IsInstance};
 ghost use Rattle.ep_base.specs.Versions.{highest_in};
 ghost use Rattle.ep_base.specs.declared.version_kind.VersionKind.TheVariants.{V2};
 ghost use Rattle.ep_rules.specs.Cells.{is_committed, is_done_at, is_settled_at, voted, voted_ballot};
@@ -105,6 +105,14 @@ impl Space {
         ensures { AreRecords self.now.records result.now }
     {
         self.table.entries()
+    }
+
+    /// A number above which no instance has a record: of what follows, nothing has to be looked up.
+    pub fn highest(&self) -> u16
+        ensures bounded { result ≤ highest_number }
+        ensures none { (i : ℕ) → IsInstance i → result < number_of i → get self.now.records i ≡ None }
+    {
+        self.table.highest()
     }
 
     /// All records and places again. It may have less room.
@@ -335,7 +343,7 @@ impl Space {
     }
 
     fn is_free(&self, replica: ReplicaId, place: u16) -> bool
-        requires { place < 2000 }
+        requires { place < highest_number }
         ensures { result ≡ is_free self.now.records replica place }
     {
         let id = InstanceId::new(replica, place + 1).unwrap();

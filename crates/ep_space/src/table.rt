@@ -4,7 +4,7 @@ ghost use Rattle.std.specs.Prelude.{◌≡◌, ◌≢◌, ◌≤◌, ◌<◌, �
 ghost use Rattle.std.specs.Option.{option_copied};
 ghost use Rattle.std.specs.FinSet as set;
 ghost use Rattle.std.specs.Map.{keys_of, lookup, set_value};
-ghost use Rattle.ep_base.specs.Instances.{IsInstance};
+ghost use Rattle.ep_base.specs.Instances.{number_of, highest_number, IsInstance};
 ghost use Rattle.ep_rules.specs.Maps.{none, get};
 ghost use Rattle.ep_rules.specs.States.{with_held};
 ghost use Rattle.ep_rules.specs.Worlds.{In};
@@ -69,6 +69,14 @@ impl<V: Drop> Table<V> {
         ensures { (i : ℕ) (x : V) → (get self.now.held i ≡ Some x → In (i, Some x) result.now) × (In (i, Some x) result.now → get self.now.held i ≡ Some x) }
     {
         self.entries.as_slice()
+    }
+
+    /// A number above which no instance has a value.
+    pub(crate) fn highest(&self) -> u16
+        ensures bounded { result ≤ highest_number }
+        ensures none { (i : ℕ) → IsInstance i → result < number_of i → get self.now.held i ≡ None }
+    {
+        highest_in(&self.spots)
     }
 
     /// Makes a place for the instance, if it has none. Nothing else takes memory in the table.
@@ -176,7 +184,7 @@ fn duplicate_of<V: Duplicate>(value: &Option<V>, alloc: Global) -> Result<Option
 /// Where a list by instances tells of this one.
 pub(crate) fn slot_of(id: InstanceId) -> usize
     ensures value { result ≡ slot id }
-    ensures small { result < 16008 }
+    ensures small { result < 72008 }
     ensures in_range { IsInstance id }
 {
     usize::from(id.number()) * 8 + usize::from(id.replica().index())
@@ -189,6 +197,19 @@ fn spot_of(spots: &[usize], id: InstanceId) -> usize
 {
     let slot = slot_of(id);
     if slot < spots.len() { spots[slot] } else { 0 }
+}
+
+/// A number above which no instance has a slot.
+fn highest_in(spots: &[usize]) -> u16
+    ensures bounded { result ≤ highest_number }
+    ensures none { (i : ℕ) → IsInstance i → result < number_of i → length spots.now ≤ slot i }
+{
+    let number = spots.len() / 8;
+    if number < 9000 {
+        number as u16
+    } else {
+        InstanceId::HIGHEST_NUMBER
+    }
 }
 
 fn value_at<V>(entries: &Entries<V>, at: usize) -> Option<&V>
@@ -222,7 +243,7 @@ fn add_place<V: Drop>(
 
 /// Makes the list long enough to have this slot, by zeros.
 fn widen(spots: &mut Vec<usize>, slot: usize) -> Result<(), AllocError>
-    requires { slot < 16008 }
+    requires { slot < 72008 }
     ensures slot { OnOk result (slot < length spots.new.items) }
     ensures same { (k : ℕ) → slice_index_or spots.new.items k 0 ≡ slice_index_or spots.old.items k 0 }
 {

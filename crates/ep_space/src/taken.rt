@@ -1,7 +1,7 @@
 //! How many of each replica's first instances have a record.
 
 ghost use Rattle.std.specs.Prelude.{◌≡◌, ◌≤◌, ◌<◌, ◌+◌, ℕ, true, false, None, is_some};
-ghost use Rattle.ep_base.specs.Instances.{instance_of, leader_of, number_of};
+ghost use Rattle.ep_base.specs.Instances.{instance_of, leader_of, number_of, highest_number};
 ghost use Rattle.ep_rules.specs.Maps.{get};
 ghost use Rattle.ep_rules.specs.States.{is_free};
 ghost use Rattle.ep_space.specs.Taken.{taken_by, AreTaken, AreTakenBut};
@@ -28,9 +28,9 @@ pub(crate) fn note(taken: &mut [u16; 7], table: &Table<Record>, id: InstanceId, 
 
 // A number as great or greater of first instances that all have a record.
 fn advanced(table: &Table<Record>, leader: ReplicaId, known: u16) -> u16
-    requires bounded { known ≤ 2000 }
+    requires bounded { known ≤ highest_number }
     requires full { (n : ℕ) → n < known → is_free table.now.held leader n ≡ false }
-    ensures bounded { result ≤ 2000 }
+    ensures bounded { result ≤ highest_number }
     ensures full { (n : ℕ) → n < result → is_free table.now.held leader n ≡ false }
 {
     let mut taken = known;
@@ -42,7 +42,7 @@ fn advanced(table: &Table<Record>, leader: ReplicaId, known: u16) -> u16
 
 // Whether the instance of the leader that this many come before has a record.
 fn has_record(table: &Table<Record>, leader: ReplicaId, place: u16) -> bool
-    requires { place < 2000 }
+    requires { place < highest_number }
     ensures { result ≡ is_some (get table.now.held (instance_of leader (place + 1))) }
 {
     let id = InstanceId::new(leader, place + 1).unwrap();

@@ -140,7 +140,7 @@ fn instance_of(alloc: Global, options: &ArgMatches<'_>) -> Result<Option<Instanc
         None => Err(invalid(
             alloc,
             word,
-            "instance <R.N>': it takes an instance, as 0.1: a replica from 0 to 6, and a number from 1 to 2000",
+            "instance <R.N>': it takes an instance, as 0.1: a replica from 0 to 6, and a number from 1 to 9000",
         )),
     }
 }

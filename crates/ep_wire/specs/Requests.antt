@@ -3,6 +3,7 @@
 use Rattle.std.specs.Prelude.{◌≡◌, ℕ, ◌+◌, ◌-◌, ◌*◌, ◌||◌, ◌&&◌, leb, Bool, true, false, cond, eqb, ltb, get_or, List, [], ◌∷◌, length, Option, Some, None, Result, Ok, Err, IsErr}
 use Rattle.ep_base.specs.Attributes.{same_list}
 use Rattle.ep_base.specs.Quorums.{size}
+use Rattle.ep_base.specs.Versions.{most_frame}
 use Rattle.ep_base.specs.declared.version.Version.{Version}
 use Rattle.ep_base.specs.declared.version_kind.VersionKind.TheVariants.{V1, V2, V3}
 use Rattle.ep_bundle.specs.Journals.{ended}
@@ -183,11 +184,11 @@ request_of how kind bs = cond (is_kind how.version kind) (or_malformed how.versi
 abbrev pub sized : JournalDialect → ℕ → Left → Reading Request
 sized how len l = and_then (field 1 0 255 l) (λ kind l. and_then (run (len - 1) l) (λ bs l. Ok (request_of how kind bs, l)))
 
--- in version 3 a frame may have 200,000 bytes
+-- in version 3 its kind, and the longest frame
 abbrev pub most_length : Version → ℕ
 most_length V1 = 66000
 most_length V2 = 66000
-most_length (V3 g) = 200001
+most_length (V3 g) = most_frame (V3 g) + 1
 
 abbrev pub is_length : Version → ℕ → Bool
 is_length v x = leb 1 x && leb x (most_length v)

@@ -14,13 +14,13 @@ use ep_base::{Source, Version, VersionKind};
 use ep_bundle::{BundleFault, JournalDialect, field_u8, read_run};
 use std::alloc::Global;
 
-/// How many bytes a request of the version has at most: in version 3 a frame may have 200,000.
+/// How many bytes a request of the version has at most: in version 3 its kind, and the longest frame.
 fn most_length(version: Version) -> u32
     ensures { result ≡ most_length version }
 {
     match version.kind() {
         VersionKind::V1 | VersionKind::V2 => 66_000,
-        VersionKind::V3(_) => 200_001,
+        VersionKind::V3(_) => version.most_frame() + 1,
     }
 }
 

@@ -198,11 +198,11 @@ mod tests {
         for cut in 0..out.len() {
             assert_eq!(Committed::read(&mut Fields::new(&out[..cut])), None);
         }
-        // 2,000 is the greatest number.
-        for (bytes, is_one) in [([1, 7, 208, 0, 0], true), ([1, 7, 209, 0, 0], false)] {
+        // 9,000 is the greatest number.
+        for (bytes, is_one) in [([1, 35, 40, 0, 0], true), ([1, 35, 41, 0, 0], false)] {
             assert_eq!(Committed::read(&mut Fields::new(&bytes)).is_some(), is_one);
         }
-        for odd in [[1, 0, 0, 0, 1, 7, 209], [1, 0, 5, 0, 1, 0, 6], [1, 0, 5, 0, 1, 0, 2]] {
+        for odd in [[1, 0, 0, 0, 1, 35, 41], [1, 0, 5, 0, 1, 0, 6], [1, 0, 5, 0, 1, 0, 2]] {
             assert_eq!(Committed::read(&mut Fields::new(&odd)), None);
         }
         assert_eq!(Committed::read(&mut Fields::new(&[1, 0, 5, 0, 2, 0, 8, 0, 8])), None);

@@ -15,6 +15,7 @@ use crate::others::Others;
 use crate::outcome::{Asked, Outcome, Outgoing, Report, receipts};
 use crate::peers::{Membership, Peers, Place};
 use crate::plants::{Plant, changed};
+use crate::presence::Presence;
 use crate::receipts::Receipts;
 use crate::room::{Judgement, Room};
 use crate::stop_fault::StopFault;
@@ -56,6 +57,8 @@ pub enum Event {
     Came { from: u8, bytes: Vec<u8> },
     /// A connection to this peer was opened.
     PeerReached(u8),
+    /// It is over.
+    PeerLost(u8),
     /// It has opened one to this replica.
     PeerCame(u8),
     /// The core answers nothing any more, in the run of this number.
@@ -255,6 +258,8 @@ pub struct Driver<C> {
     pub(crate) alone_since: Option<Instant>,
     /// How far the peers are, and which of them proposals spare.
     pub(crate) distances: Distances,
+    /// When the last turn was wanted at the latest.
+    wanted: Instant,
     /// Commits that wait for something else to be asked, and until when.
     pub(crate) delayed: (Batch, Option<Instant>),
     /// Who asks for INFO, and when the core may be asked for them.
@@ -334,6 +339,7 @@ impl<C: Core> Driver<C> {
             held: VecDeque::new(),
             alone_since: None,
             distances: Distances::new(place.replicas, place.replica, now),
+            wanted: now,
             delayed: (Batch::default(), None),
             infos: Vec::new(),
             next_info: now,
@@ -477,6 +483,7 @@ impl<C: Core> Driver<C> {
         let due = if self.generation.is_sealed() { None } else { self.watch.next() };
         let all = [due, self.delayed.1, self.info_due(), self.next_of_life()];
         let next = all.into_iter().flatten().min().unwrap_or(self.next_tick);
+        self.wanted = next;
         match self.events.recv_timeout(next.saturating_duration_since(Instant::now())) {
             Ok(event) => Ok(Some(event)),
             Err(RecvTimeoutError::Timeout) => Ok(None),
@@ -486,9 +493,20 @@ impl<C: Core> Driver<C> {
 
     fn take(&mut self, event: Event, batch: &mut Batch) -> Result<(), StopFault> {
         match event {
-            Event::Came { from, bytes } if Message::is_one(&bytes) => self.hear(from, &bytes)?,
-            Event::Came { from, bytes } => self.take_frame(from, bytes, batch),
-            Event::PeerReached(peer) => self.greet(peer),
+            Event::Came { from, bytes } => {
+                self.distances.hear(from, Instant::now());
+                if Message::is_one(&bytes) {
+                    self.hear(from, &bytes)?;
+                } else {
+                    self.take_frame(from, bytes, batch);
+                }
+            }
+            Event::PeerReached(peer) => {
+                self.watch.open(peer, Instant::now());
+                self.greet(peer);
+            }
+            // (each turn looks who is reached)
+            Event::PeerLost(_) => {}
             Event::PeerCame(peer) => {
                 self.peers.hurry(peer);
                 // (what came on the connection before may have been lost)
@@ -611,7 +629,7 @@ impl<C: Core> Driver<C> {
     /// Learns which peers are reached, and pings those where that is due.
     fn ping_peers(&mut self) {
         let now = Instant::now();
-        self.distances.look(now);
+        self.distances.look(now, self.wanted);
         for peer in self.peer_numbers() {
             self.distances.reach(peer, self.is_reached(peer), now);
             if let Some(number) = self.distances.ping(peer, now) {
@@ -651,7 +669,7 @@ impl<C: Core> Driver<C> {
                 }
             };
             if is_over {
-                self.watch.find_no_more();
+                self.watch.find_no_more(Instant::now());
                 break;
             }
             if left == 0 {
@@ -686,10 +704,16 @@ impl<C: Core> Driver<C> {
 
     /// Has what is late given up or recovered.
     fn remedy_late(&mut self, batch: &mut Batch) {
+        let now = Instant::now();
         for peer in self.peer_numbers() {
-            self.watch.reach(peer, self.is_reached(peer));
+            let presence = match self.is_reached(peer) {
+                true if self.distances.is_silent(peer, now) => Presence::Silent,
+                true => Presence::There,
+                false => Presence::Gone,
+            };
+            self.watch.reach(peer, presence, now);
         }
-        for event in self.watch.take_late(Instant::now()) {
+        for event in self.watch.take_late(now) {
             match event {
                 epaxos::Event::GiveUp(instance) => batch.requests.push(Request::GiveUp(instance)),
                 epaxos::Event::Recover(instance) => batch.requests.push(Request::Recover(instance)),
@@ -830,14 +854,17 @@ impl<C: Core> Driver<C> {
         if head.is_commit() {
             self.commits.send(head.instance, head.entry, Some(now));
             self.watch.forget(head.instance);
-        } else if head.is_pre_accept() {
+        } else if head.is_asking() {
+            self.distances.owe(to, now);
             self.watch.ask(head.instance, to, now);
-        } else if head.is_accept() || head.is_prepare() {
+        } else if head.is_past_first() {
+            self.distances.owe(to, now);
             self.watch.pass_first(head.instance);
             self.watch.put_off(head.instance, head.ballot, now);
-            // (it goes to all others, and counts once)
-            let number = if head.is_accept() { &self.metrics.accepts } else { &self.metrics.recoveries };
-            number.add(u64::from(Some(to) == first));
+            // (they go to all others, and count once)
+            let is_counted = u64::from(Some(to) == first);
+            self.metrics.accepts.add(is_counted * u64::from(head.is_accept()));
+            self.metrics.recoveries.add(is_counted * u64::from(head.is_prepare()));
         }
         if head.instance.replica == self.place.replica {
             self.generation.dependencies = self.generation.dependencies.max(head.dependencies);
@@ -892,9 +919,10 @@ impl<C: Core> Driver<C> {
                     self.commits.here.insert(head.instance);
                     self.watch.forget(head.instance);
                 } else if head.is_pre_accept_ok() {
-                    let took = self.watch.answer(head.instance, from, Instant::now());
-                    took.into_iter().for_each(|took| self.distances.note(from, took));
-                } else if (head.is_prepare() || head.is_accept()) && !self.commits.here.has(head.instance) {
+                    let now = Instant::now();
+                    let took = self.watch.answer(head.instance, from, now);
+                    took.into_iter().for_each(|took| self.distances.note(from, took, now));
+                } else if head.is_past_first() && !self.commits.here.has(head.instance) {
                     self.watch.put_off(head.instance, head.ballot, Instant::now());
                 }
                 if head.is_seal_committed() {
@@ -918,11 +946,10 @@ impl<C: Core> Driver<C> {
             (Request::Seal(_), Err(_)) => self.generation.lose_seal(),
             // Nothing of such a frame is believed.
             (Request::Frame { .. }, Err(_)) => self.refused_frames += 1,
-            (Request::GiveUp(instance) | Request::Recover(instance), Err(fault)) => match fault {
-                Fault::AlreadyCommitted => self.watch.forget(instance),
-                _ => {}
-            },
-            (Request::GiveUp(_) | Request::Recover(_), Ok(())) => {}
+            (Request::GiveUp(instance) | Request::Recover(instance), Err(Fault::AlreadyCommitted)) => {
+                self.watch.forget(instance);
+            }
+            (Request::GiveUp(_) | Request::Recover(_), _) => {}
         }
         Ok(())
     }

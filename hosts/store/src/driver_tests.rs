@@ -507,6 +507,7 @@ fn a_map_without_room_takes_reads_and_deletes() {
     assert!(is_done(&deleted) && is_done(&asked(&mut driver, 12, put(6, 291))));
     // What others have deleted the next generation tells, once this one is old.
     driver.generation.begun -= FULL_PAUSE;
+    driver.generation.least = Instant::now() + Duration::from_secs(60);
     assert!(matches!(asked(&mut driver, 13, put(7, 291))[..], [Told::MapFull]) && driver.generation.is_short);
     fs::remove_dir_all(&folder).unwrap();
 }

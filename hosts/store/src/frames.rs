@@ -53,9 +53,9 @@ impl Head {
         self.kind == COMMIT
     }
 
-    /// Whether it asks a member of the fast quorum for its vote.
-    pub fn is_pre_accept(&self) -> bool {
-        self.kind == PRE_ACCEPT
+    /// Whether it asks a member of the fast quorum for its vote on a proposal.
+    pub fn is_asking(&self) -> bool {
+        self.kind == PRE_ACCEPT && self.ballot == 0
     }
 
     /// Whether it is a member's vote.
@@ -73,9 +73,14 @@ impl Head {
         self.kind == PREPARE
     }
 
+    /// Whether its sender goes on to a phase that another one's recovery, or one more of its own, would undo: of a recovery, or the second one.
+    pub fn is_past_first(&self) -> bool {
+        self.is_prepare() || self.is_accept() || (self.kind == PRE_ACCEPT && self.ballot > 0)
+    }
+
     /// Whether it tells of a seal that is under way.
     pub fn is_seal_proposed(&self) -> bool {
-        self.is_pre_accept() && self.op == SEAL
+        self.kind == PRE_ACCEPT && self.op == SEAL
     }
 
     /// Whether it tells of a seal that is committed.
@@ -125,12 +130,22 @@ mod tests {
         assert!(Head::read(&frame).unwrap().is_seal_proposed());
         frame[34] = 3;
         assert!(!Head::read(&frame).unwrap().is_seal_proposed());
-        let kinds = |head: &Head| [head.is_pre_accept(), head.is_pre_accept_ok(), head.is_accept()];
-        for (kind, is_one) in
-            [(1, [true, false, false]), (2, [false, true, false]), (3, [false, false, true]), (4, [false; 3])]
-        {
+        // (at the ballot 7.8, and at 0)
+        let kinds = |head: &Head| {
+            [head.is_asking(), head.is_pre_accept_ok(), head.is_accept(), head.is_past_first()].map(u8::from)
+        };
+        for (kind, later, first) in [
+            (1, [0, 0, 0, 1], [1, 0, 0, 0]),
+            (2, [0, 1, 0, 0], [0, 1, 0, 0]),
+            (3, [0, 0, 1, 1], [0, 0, 1, 1]),
+            (4, [0; 4], [0; 4]),
+            (6, [0, 0, 0, 1], [0, 0, 0, 1]),
+        ] {
             frame[3] = kind;
-            assert_eq!(kinds(&Head::read(&frame).unwrap()), is_one);
+            assert_eq!(kinds(&Head::read(&frame).unwrap()), later);
+            let mut frame = frame.clone();
+            frame[23..25].fill(0);
+            assert_eq!(kinds(&Head::read(&frame).unwrap()), first);
         }
         assert_eq!(Head::read(&frame[..43]), None);
         frame[2] = 2;

@@ -162,7 +162,7 @@ mod tests {
         assert!(wants(1_000, 0, 0) && wants(0, 300, 0) && wants(0, 0, 1 << 20));
         // A change took 50 ms, so that the next one comes 500 ms later at the earliest, but where numbers run out.
         assert!(!at(1_500, 300, start).wants_seal(&LIMITS, start + Duration::from_millis(499)));
-        assert!(at(1_890, 0, start).wants_seal(&LIMITS, start) && at(0, 900, start).wants_seal(&LIMITS, start));
+        assert!(at(8_890, 0, start).wants_seal(&LIMITS, start) && at(0, 900, start).wants_seal(&LIMITS, start));
         let mut short = at(0, 0, start);
         short.is_short = true;
         assert!(!short.wants_seal(&LIMITS, start) && short.wants_seal(&LIMITS, now));
@@ -195,7 +195,7 @@ mod tests {
 
     #[test]
     fn numbers_end() {
-        assert!(at(1_988, 0, Instant::now()).has_room(1));
-        assert!(!at(1_988, 0, Instant::now()).has_room(2));
+        assert!(at(8_988, 0, Instant::now()).has_room(1));
+        assert!(!at(8_988, 0, Instant::now()).has_room(2));
     }
 }

@@ -68,7 +68,7 @@ impl Joining<'_> {
                     self.peers.hurry(peer);
                     continue;
                 }
-                Event::NodeEnded(_) => continue,
+                Event::NodeEnded(_) | Event::PeerLost(_) => continue,
             };
             match message {
                 Some(Message::Hello { generation, .. })

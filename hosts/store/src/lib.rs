@@ -66,6 +66,7 @@ mod plain;
 pub mod planning;
 pub mod plants;
 pub mod ports;
+pub mod presence;
 pub mod processes;
 pub mod random;
 pub mod receipts;

@@ -65,7 +65,7 @@ impl<C: Core> Driver<C> {
         };
         let held = self.held.front().map(|held| held.since + self.patience);
         let alone = self.alone_since.map(|since| since + TICK).filter(|_| held.is_some());
-        let ping = self.distances.due();
+        let ping = self.distances.due(Instant::now());
         let all = [Some(self.next_tick), ping, sealed, behind, held, alone, self.ends_at];
         all.into_iter().flatten().min()
     }

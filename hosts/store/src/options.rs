@@ -38,8 +38,8 @@ store: one replica of a replicated store, for clients of the Redis protocol
     --patience S           after so many seconds a client is told TRYAGAIN; default 10. What was proposed may still be done
     --join                 in the place of --new: for a machine that comes in the place of a lost one; it tells its identity and waits
                            until a generation begins that names it (EPAXOS REPLACE, at another replica's admin socket)
-    --seal-numbers N       a generation ends once a replica has proposed so many commands in it: 10 to 1,900; default {NUMBERS}
-    --seal-dependencies N  or once one of its commands depends on so many others: 10 to 14,000; default {DEPENDENCIES}
+    --seal-numbers N       a generation ends once a replica has proposed so many commands in it: 10 to 8,900; default {NUMBERS}
+    --seal-dependencies N  or once one of its commands depends on so many others: 10 to 62,999; default {DEPENDENCIES}
     --seal-log BYTES       or once its log is so long; default {LOG}
     --keep N               number of finished generations to keep in the folder, for an audit, from 1; default {KEPT}
     --help                 this text
@@ -163,8 +163,8 @@ pub fn read(words: impl IntoIterator<Item = String>) -> Result<Words, OptionsFau
             "--metrics" => metrics = Some(with_host(value()?)),
             "--node" => node = Some(PathBuf::from(value()?)),
             "--patience" => patience = Duration::from_secs_f64(number(&word, &value()?, 0.1, 3600.0)?),
-            "--seal-numbers" => limits.numbers = number(&word, &value()?, 10, 1_900)?,
-            "--seal-dependencies" => limits.dependencies = number(&word, &value()?, 10, 14_000)?,
+            "--seal-numbers" => limits.numbers = number(&word, &value()?, 10, 8_900)?,
+            "--seal-dependencies" => limits.dependencies = number(&word, &value()?, 10, 62_999)?,
             "--seal-log" => limits.log = number(&word, &value()?, 1 << 10, u64::MAX)?,
             "--keep" => kept = number(&word, &value()?, 1, usize::MAX)?,
             "--plant" if cfg!(feature = "plants") => {
@@ -298,7 +298,7 @@ mod tests {
             (&format!("{all} --other x"), OptionsFault::Unknown("--other".into())),
             ("--replica 0 --peers a:1,b:2,c:3 --dir", OptionsFault::NoValue("--dir".into())),
             (&format!("{all} --new --join"), OptionsFault::TwoStarts),
-            (&format!("{all} --seal-numbers 1901"), OptionsFault::out_of_range("--seal-numbers", "1901", 10, 1_900)),
+            (&format!("{all} --seal-numbers 8901"), OptionsFault::out_of_range("--seal-numbers", "8901", 10, 8_900)),
             (&format!("{all} --admin 7200"), OptionsFault::OpenAdmin("127.0.0.1:7200".into())),
             (&format!("{all} --admin 0.0.0.0:7200"), OptionsFault::OpenAdmin("0.0.0.0:7200".into())),
             (&format!("{all} --most-map 9"), OptionsFault::out_of_range("--most-map", "9", 1 << 10, i64::MAX)),

@@ -23,7 +23,7 @@ use std::time::{Duration, Instant};
 
 /// How long a frame may be, as in a bundle, or a message of a host.
 const SHORTEST_FRAME: usize = 3;
-const LONGEST_FRAME: usize = 200_000;
+const LONGEST_FRAME: usize = 400_000;
 /// What waits for one peer is at most so many bytes; then the oldest frames are lost.
 const MOST_WAITING: usize = 8 << 20;
 /// What messages are: a greeting or its answer, a frame of the protocol, and that this end is there.
@@ -273,6 +273,9 @@ impl TcpLink {
                 }
                 let cause = self.send_all(stream, channel);
                 self.is_reached.store(false, Ordering::Relaxed);
+                if events.send(Event::PeerLost(self.to)).is_err() {
+                    return;
+                }
                 was_lost = true;
                 warn(&format!("peer {} at {} lost: {cause}", self.to, self.address()));
             }

@@ -1,6 +1,6 @@
 //! Ports for clusters on this machine: those of tests, of the trial and of the bench.
 use std::io;
-use std::net::TcpListener;
+use std::net::{TcpListener, TcpStream};
 
 /// Below those that the system gives to connections by itself.
 const FIRST: u16 = 10_000;
@@ -23,7 +23,7 @@ impl Ports {
         for block in (start..BLOCKS).chain(0..start) {
             let first = FIRST + block * BLOCK;
             let Ok(held) = listen(first) else { continue };
-            if (1..BLOCK).all(|place| listen(first + place).is_ok()) {
+            if (1..BLOCK).all(|place| is_free(first + place)) {
                 return Ok(Ports { first, _held: held });
             }
         }
@@ -46,9 +46,19 @@ fn listen(port: u16) -> io::Result<TcpListener> {
     TcpListener::bind(("127.0.0.1", port))
 }
 
+/// Whether nobody listens at a port. (Whoever listens there to find out keeps the port for longer than he knows: a process that another thread begins
+/// at that moment has it too, until it runs its program.)
+fn is_free(port: u16) -> bool {
+    TcpStream::connect(("127.0.0.1", port)).is_err()
+}
+
 #[cfg(test)]
 mod tests {
     use super::*;
+    use std::process::Command;
+    use std::sync::atomic::{AtomicBool, Ordering};
+    use std::thread;
+    use std::time::{Duration, Instant};
 
     #[test]
     fn no_two_have_a_port() {
@@ -57,5 +67,32 @@ mod tests {
         let second = Ports::take().unwrap();
         assert!(first.first.abs_diff(second.first) >= BLOCK && second.listen(0).is_ok());
         assert_eq!(listener.local_addr().unwrap().port(), first.first + 63);
+    }
+
+    /// Of a run that was taken each port can be listened at at once, however many processes other threads begin meanwhile.
+    #[test]
+    fn what_is_taken_is_free() {
+        let is_over = AtomicBool::new(false);
+        thread::scope(|scope| {
+            for _ in 0..4 {
+                scope.spawn(|| {
+                    while !is_over.load(Ordering::Relaxed) {
+                        let _ = Command::new("true").status();
+                    }
+                });
+            }
+            let takers = (0..4).map(|_| {
+                scope.spawn(|| {
+                    let start = Instant::now();
+                    let is_well = || Ports::take().is_ok_and(|ports| (0..63).all(|place| ports.listen(place).is_ok()));
+                    while start.elapsed() < Duration::from_secs(1) && is_well() {}
+                    start.elapsed()
+                })
+            });
+            let takers: Vec<_> = takers.collect();
+            let all: Vec<_> = takers.into_iter().map(|taker| taker.join().unwrap()).collect();
+            is_over.store(true, Ordering::Relaxed);
+            assert!(all.iter().all(|took| *took >= Duration::from_secs(1)), "{all:?}");
+        });
     }
 }

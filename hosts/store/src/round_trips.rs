@@ -51,6 +51,11 @@ impl RoundTrips {
         Some(now.saturating_duration_since(asked))
     }
 
+    /// The members that were asked for their votes and haven't answered, and when.
+    pub fn asked(&self, instance: Instance) -> Option<&[(u8, Instant)]> {
+        self.proposals.get(&instance).map(|it| &it.asked[..])
+    }
+
     /// This replica has begun a second phase, or a recovery.
     pub fn pass_first(&mut self, instance: Instance) {
         if let Some(proposal) = self.proposals.get_mut(&instance) {

@@ -1,15 +1,25 @@
 //! Watches over open instances. What is late, and what is done about it, the library's patience decides, by the round trips that are measured here.
 use crate::coarse::Coarse;
 use crate::peers::Place;
+use crate::presence::Presence;
 use crate::round_trips::RoundTrips;
 use epaxos::{Cluster, Event, Instance, Leading, OpenInstance, Patience, Phase, Waits};
-use std::collections::BTreeSet;
+use std::collections::{BTreeMap, BTreeSet};
 use std::time::{Duration, Instant};
 
 /// Between two looks for open instances, each of which takes the core several passes over all that it knows.
 const BETWEEN_LOOKS: Duration = Duration::from_millis(30);
 /// Looking may take at most one part in so many of the time.
 const SHARE_OF_LOOKS: u32 = 40;
+/// What is on its way is waited for by time-outs only after so long, while all are there on whom it depends: the leader of another's instance, or the
+/// members that were asked for their votes on an own one. A machine that is overloaded gets slow; the same work once more would make it slower.
+const TRUST: Duration = Duration::from_secs(3);
+/// What a replica leads that is gone is recovered so long after, as what it has sent may still come: by the next one behind it, and by each further one so
+/// much later, as those before it may not know of the instance. What they begin is told meanwhile.
+const AFTER_LOSS: Duration = Duration::from_millis(20);
+const BETWEEN_HEIRS: Duration = Duration::from_millis(150);
+/// At most so many at once.
+const MOST_INHERITED: usize = 64;
 
 /// What decides what is late.
 enum Judge {
@@ -25,12 +35,18 @@ pub struct Watch {
     /// Times are told to the library since then.
     start: Instant,
     round_trips: RoundTrips,
-    /// Of each replica whether frames to it arrive.
-    reached: Vec<bool>,
+    /// Of each replica whether it is there, since when, and when the connection to it was opened last.
+    peers: Vec<(Presence, Instant, Instant)>,
     /// What the last whole look found and isn't committed since, rising.
     open: Vec<OpenInstance>,
     /// Those that a peer tells to be committed. The node may know nothing of them, so that no look finds them.
     told: BTreeSet<Instance>,
+    /// Since when others' instances were seen open.
+    since: BTreeMap<Instance, Instant>,
+    /// What somebody has begun to recover: nobody is heir to it any more.
+    inherited: BTreeSet<Instance>,
+    /// Whether nothing is trusted to come.
+    is_hurried: bool,
     /// What the look that is under way has found, rising.
     found: Vec<OpenInstance>,
     is_looking: bool,
@@ -53,9 +69,12 @@ impl Watch {
             judge: patience.map_or_else(|| Judge::Coarse(Coarse::new(seed)), Judge::Patience),
             start: now,
             round_trips: RoundTrips::default(),
-            reached: vec![true; place.replicas],
+            peers: vec![(Presence::There, now, now); place.replicas],
             open: Vec::new(),
             told: BTreeSet::new(),
+            since: BTreeMap::new(),
+            inherited: BTreeSet::new(),
+            is_hurried: false,
             found: Vec::new(),
             is_looking: false,
             is_changed: true,
@@ -74,7 +93,10 @@ impl Watch {
     pub fn begin(&mut self, now: Instant) {
         self.open.clear();
         self.told.clear();
+        self.since.clear();
+        self.inherited.clear();
         self.found.clear();
+        self.is_hurried = false;
         self.round_trips.begin();
         (self.is_looking, self.is_changed, self.next_look, self.is_due) = (false, true, now, true);
     }
@@ -109,8 +131,11 @@ impl Watch {
     }
 
     /// It found all that there are.
-    pub fn find_no_more(&mut self) {
+    pub fn find_no_more(&mut self, now: Instant) {
         self.open = std::mem::take(&mut self.found);
+        let (mut before, me) = (std::mem::take(&mut self.since), self.place.replica);
+        let others = self.open.iter().map(|open| open.instance).filter(|instance| instance.replica != me);
+        self.since = others.map(|instance| (instance, before.remove(&instance).unwrap_or(now))).collect();
         (self.is_looking, self.is_due) = (false, true);
     }
 
@@ -134,7 +159,7 @@ impl Watch {
         let took = self.round_trips.answer(instance, member, now)?;
         self.measure(member, took);
         // (where somebody is lost there may be enough answers now to wait no longer)
-        if self.reached.contains(&false) {
+        if self.peers.iter().any(|(presence, ..)| *presence != Presence::There) {
             self.due = Some(now);
         }
         Some(took)
@@ -153,13 +178,14 @@ impl Watch {
         self.round_trips.pass_first(instance);
     }
 
-    /// This replica or a peer has begun to recover an instance, at a ballot of this counter.
+    /// This replica or a peer has begun to recover an instance, at a ballot of this counter, or goes on with it.
     pub fn put_off(&mut self, instance: Instance, ballot: u16, now: Instant) {
+        self.inherited.insert(instance);
         let time = self.time(now);
         if let Judge::Patience(patience) = &mut self.judge {
             // (there is such an instance)
             let _ = patience.put_off(instance, ballot, time);
-            self.learn_due();
+            self.learn_due(now);
         }
     }
 
@@ -173,6 +199,8 @@ impl Watch {
     /// It is committed.
     pub fn forget(&mut self, instance: Instance) {
         self.told.remove(&instance);
+        self.since.remove(&instance);
+        self.inherited.remove(&instance);
         if let Ok(place) = self.open.binary_search_by_key(&instance, |it| it.instance) {
             self.open.remove(place);
         }
@@ -184,23 +212,78 @@ impl Watch {
         }
     }
 
-    /// Whether frames to a peer arrive.
-    pub fn reach(&mut self, peer: u8, is_reached: bool) {
-        let before = self.reached.get_mut(usize::from(peer)).map(|reached| std::mem::replace(reached, is_reached));
-        if before == Some(is_reached) {
+    /// Whether a peer is there.
+    pub fn reach(&mut self, peer: u8, presence: Presence, now: Instant) {
+        let Some((before, since, _)) = self.peers.get_mut(usize::from(peer)).filter(|it| it.0 != presence) else {
             return;
-        }
+        };
+        (*before, *since) = (presence, now);
+        self.inherited.retain(|instance| instance.replica != peer);
+        self.is_due = true;
         if let Judge::Patience(patience) = &mut self.judge {
-            let _ = patience.reach(peer, is_reached);
+            let _ = patience.reach(peer, presence == Presence::There);
+        }
+    }
+
+    /// A connection to a peer was opened: what it was asked before may be lost.
+    pub fn open(&mut self, peer: u8, now: Instant) {
+        if let Some((.., opened)) = self.peers.get_mut(usize::from(peer)) {
+            *opened = now;
             self.is_due = true;
         }
     }
 
+    fn is_there(&self, replica: u8) -> bool {
+        self.peers.get(usize::from(replica)).is_some_and(|(presence, ..)| *presence == Presence::There)
+    }
+
+    /// Until when an instance isn't waited for by time-outs.
+    fn trusted_until(&self, instance: Instance) -> Option<Instant> {
+        if self.is_hurried || !self.is_measured() {
+            return None;
+        }
+        if instance.replica != self.place.replica {
+            return self.since.get(&instance).filter(|_| self.is_there(instance.replica)).map(|since| *since + TRUST);
+        }
+        let comes = |(member, asked): &(u8, Instant)| {
+            let opened = self.peers.get(usize::from(*member)).is_some_and(|(.., opened)| opened <= asked);
+            opened && self.is_there(*member)
+        };
+        // (with as many answers as may fail it can be given up, for the others' that are slow)
+        let answers = self.round_trips.answers(instance).filter(|it| usize::from(*it) < self.place.replicas / 2);
+        let asked = self.round_trips.asked(instance).filter(|asked| answers.is_some() && asked.iter().all(comes))?;
+        asked.iter().map(|(_, asked)| *asked + TRUST).max()
+    }
+
+    /// When this replica recovers what another one leads without more ado: where that one is gone, after those between both that are there.
+    fn inherits_from(&self, replica: u8) -> Option<Instant> {
+        let (me, replicas) = (self.place.replica, self.place.replicas as u8);
+        let (_, since, _) = self.peers.get(usize::from(replica)).filter(|it| it.0 == Presence::Gone)?;
+        let there = (0..replicas).filter(|it| *it == me || self.is_there(*it)).count();
+        let behind = (1..replicas).map(|step| (replica + step) % replicas).take_while(|it| *it != me);
+        let before = behind.filter(|it| self.is_there(*it)).count() as u32;
+        (there > self.place.replicas / 2).then_some(*since + AFTER_LOSS + BETWEEN_HEIRS * before)
+    }
+
+    /// Which open instances this replica recovers so now.
+    fn inherit(&mut self, now: Instant, late: &[Event]) -> Vec<Event<'static>> {
+        let is_due = |instance: &Instance| self.inherits_from(instance.replica).is_some_and(|due| due <= now);
+        let is_new = |instance: &Instance| {
+            let is_asked = |event: &Event| matches!(event, Event::Recover(asked) if asked == instance);
+            !self.inherited.contains(instance) && !late.iter().any(is_asked)
+        };
+        let all = self.open.iter().map(|open| open.instance).filter(is_new).filter(is_due);
+        let all: Vec<Instance> = all.take(MOST_INHERITED).collect();
+        self.is_due |= all.len() == MOST_INHERITED;
+        self.inherited.extend(&all);
+        all.into_iter().map(Event::Recover).collect()
+    }
+
     /// What waits for long needn't any more.
     pub fn hurry(&mut self) {
+        (self.is_hurried, self.is_due) = (true, true);
         if let Judge::Patience(patience) = &mut self.judge {
             patience.hurry();
-            self.is_due = true;
         }
     }
 
@@ -218,17 +301,20 @@ impl Watch {
                 open.led = Some(Leading { phase: Phase::Proposing, answers });
             }
         }
-        let late = match &mut self.judge {
+        let is_waited_for = |open: &&OpenInstance| self.trusted_until(open.instance).is_none_or(|until| until <= now);
+        let open: Vec<OpenInstance> = self.open.iter().filter(is_waited_for).copied().collect();
+        let mut late = match &mut self.judge {
             Judge::Patience(patience) => {
                 let told: Vec<Instance> = self.told.iter().copied().collect();
                 // (where there is no memory, it is asked again)
-                patience.turn(time, &self.open, &told).unwrap_or_default()
+                patience.turn(time, &open, &told).unwrap_or_default()
             }
             Judge::Coarse(coarse) => {
-                coarse.turn(now, self.open.iter().map(|open| open.instance).chain(self.told.iter().copied()))
+                coarse.turn(now, open.iter().map(|open| open.instance).chain(self.told.iter().copied()))
             }
         };
-        self.learn_due();
+        late.extend(self.inherit(now, &late));
+        self.learn_due(now);
         late
     }
 
@@ -247,11 +333,17 @@ impl Watch {
         now.saturating_duration_since(self.start).as_micros() as u64
     }
 
-    fn learn_due(&mut self) {
-        self.due = match &mut self.judge {
+    fn learn_due(&mut self, now: Instant) {
+        let judged = match &mut self.judge {
             Judge::Patience(patience) => patience.next_due().map(|due| self.start + Duration::from_micros(due)),
             Judge::Coarse(coarse) => coarse.due(),
         };
+        let open = self.open.iter().map(|open| open.instance);
+        let trusted = open.clone().filter_map(|instance| self.trusted_until(instance)).filter(|until| *until > now);
+        let is_new = |instance: &Instance| !self.inherited.contains(instance);
+        let heirs = open.filter(is_new).filter_map(|instance| self.inherits_from(instance.replica));
+        let inherited = heirs.filter(|due| *due > now);
+        self.due = judged.into_iter().chain(trusted).chain(inherited).min();
     }
 }
 
@@ -274,7 +366,7 @@ mod tests {
     fn look(it: &mut Watch, found: &[Instance], now: Instant) {
         assert_eq!(it.after(), None);
         it.find(&found.iter().map(|instance| open(*instance)).collect::<Vec<_>>());
-        it.find_no_more();
+        it.find_no_more(now);
         it.end_look(Duration::ZERO, now);
     }
 
@@ -295,14 +387,15 @@ mod tests {
 
     #[test]
     fn a_look_goes_on_where_it_was_though_that_is_committed() {
-        let mut it = watch(1, Instant::now());
+        let now = Instant::now();
+        let mut it = watch(1, now);
         let of = |number| Instance { replica: 2, number };
         assert_eq!(it.after(), None);
         it.find(&[OWN, OTHER, of(1)].map(open));
         [OTHER, of(1)].into_iter().for_each(|instance| it.forget(instance));
         assert_eq!(it.after(), Some(of(1)));
         it.find(&[of(9)].map(open));
-        it.find_no_more();
+        it.find_no_more(now);
         assert_eq!(it.count(), 3);
         it.forget(of(1));
         assert_eq!(it.count(), 2);
@@ -356,6 +449,117 @@ mod tests {
         assert_eq!(turns(&mut it, 480, 700), [Event::GiveUp(OWN)]);
     }
 
+    /// What others lead is left to them for a while, and own proposals to those that were asked, as long as they are there. One who is silent isn't waited for.
+    #[test]
+    fn who_is_there_is_trusted() {
+        let (start, ms) = (Instant::now(), Duration::from_millis);
+        let mut it = watch(3, start);
+        if !it.is_measured() {
+            eprintln!("not tried: the library isn't there");
+            return;
+        }
+        // (all answer at once, so that their time-outs are 100 ms)
+        [1, 2].into_iter().for_each(|peer| it.measure(peer, Duration::ZERO));
+        let turns = |it: &mut Watch, from: Instant, to: Instant| {
+            let mut all = Vec::new();
+            let mut now = from;
+            while now < to {
+                it.is_due = true;
+                all.extend(it.take_late(now));
+                now += ms(30);
+            }
+            all
+        };
+        let ask = |it: &mut Watch, now: Instant| {
+            it.begin(now);
+            it.propose(OWN, Some(1));
+            it.ask(OWN, 2, now);
+            look(it, &[OWN, OTHER], now);
+        };
+        ask(&mut it, start);
+        assert_eq!(turns(&mut it, start, start + TRUST), []);
+        assert!(it.next().is_some_and(|due| due <= start + TRUST + ms(200)));
+        let late = turns(&mut it, start + TRUST, start + TRUST + ms(700));
+        assert!([OTHER, OWN].iter().all(|instance| late.contains(&Event::Recover(*instance))), "{late:?}");
+        // The one that was asked has fallen silent: it is recovered at once. The other's leader is there.
+        let now = start + ms(20_000);
+        ask(&mut it, now);
+        it.reach(2, Presence::Silent, now);
+        assert_eq!(it.take_late(now), [Event::Recover(OWN)]);
+        it.reach(2, Presence::There, now);
+        // A leader that is silent is waited for by time-outs.
+        it.reach(1, Presence::Silent, now);
+        let late = turns(&mut it, now, now + ms(230));
+        assert_eq!(late.iter().filter(|event| **event == Event::Recover(OTHER)).count(), 1, "{late:?}");
+        it.reach(1, Presence::There, now);
+        // What was asked on another connection may be lost.
+        let now = start + ms(40_000);
+        ask(&mut it, now);
+        it.open(2, now + ms(1));
+        assert_eq!(turns(&mut it, now + ms(30), now + ms(700)), [Event::Recover(OWN)]);
+        // Once a seal is committed nothing is left to anybody.
+        let now = start + ms(60_000);
+        ask(&mut it, now);
+        it.hurry();
+        let late = turns(&mut it, now, now + ms(700));
+        assert!([OTHER, OWN].iter().all(|instance| late.contains(&Event::Recover(*instance))), "{late:?}");
+    }
+
+    /// What a replica leads that is gone the next one recovers at once; the others later, one after the other.
+    #[test]
+    fn what_is_left_by_who_is_gone_is_recovered_soon() {
+        let start = Instant::now();
+        let watch = |me: u8, gone: &[u8]| {
+            let mut it = Watch::new(Place { replicas: 5, replica: me }, start, 1);
+            look(&mut it, &[OTHER], start);
+            gone.iter().for_each(|peer| it.reach(*peer, Presence::Gone, start));
+            assert_eq!(it.take_late(start), []);
+            it
+        };
+        // When each one recovers it, where these are gone.
+        let late = |me: u8, gone: &[u8]| {
+            let mut it = watch(me, gone);
+            let step = Duration::from_millis(10);
+            (1..50).find(|count| it.take_late(start + step * *count) == [Event::Recover(OTHER)]).map(|count| count * 10)
+        };
+        assert_eq!([2, 3].map(|me| late(me, &[1])), [Some(20), Some(170)]);
+        assert_eq!([3, 4].map(|me| late(me, &[1, 2])), [Some(20), Some(170)]);
+        // (without a majority nothing comes of it)
+        assert_eq!(late(2, &[1, 3, 4]), None);
+        // What somebody has begun is left to him; and it begins anew where the other one was back meanwhile.
+        let (mut it, now) = (watch(3, &[1]), start + AFTER_LOSS + BETWEEN_HEIRS);
+        it.put_off(OTHER, 1, start + AFTER_LOSS);
+        assert_eq!(it.take_late(now), []);
+        it.reach(1, Presence::There, now);
+        it.reach(1, Presence::Gone, now);
+        let later = now + AFTER_LOSS + BETWEEN_HEIRS;
+        assert_eq!((it.take_late(later), it.take_late(later)), (vec![Event::Recover(OTHER)], vec![]));
+    }
+
+    /// Who goes on with a recovery, by whichever phase, isn't disturbed by his own time-outs.
+    #[test]
+    fn what_is_being_recovered_is_put_off() {
+        let (start, ms) = (Instant::now(), Duration::from_millis);
+        let mut it = watch(3, start);
+        if !it.is_measured() {
+            eprintln!("not tried: the library isn't there");
+            return;
+        }
+        (0..20).for_each(|_| it.measure(1, ms(151)));
+        it.reach(2, Presence::Gone, start);
+        it.propose(OWN, Some(1));
+        it.ask(OWN, 2, start);
+        look(&mut it, &[OWN], start);
+        assert_eq!(it.take_late(start), [Event::Recover(OWN)]);
+        for phase in 0..3 {
+            let now = start + ms(151) * phase;
+            it.pass_first(OWN);
+            it.put_off(OWN, 1, now);
+            it.is_due = true;
+            assert_eq!(it.take_late(now + ms(150)), []);
+        }
+    }
+
     /// A proposal that spares a replica is given up once the time-out of the slowest one to which it goes is over, however slow the spared one is; and at once
     /// where one of those is lost.
     #[test]
@@ -375,7 +579,7 @@ mod tests {
             [1, 2].into_iter().for_each(|member| _ = it.answer(OWN, member, start));
             look(&mut it, &[OWN], start);
             assert_eq!(it.take_late(start), []);
-            it.reach(lost, false);
+            it.reach(lost, Presence::Gone, start);
             let late = it.take_late(start + ms(1));
             assert_eq!(late, if is_at_once { vec![Event::GiveUp(OWN)] } else { vec![] }, "{spared:?} {lost}");
         }

@@ -38,8 +38,13 @@ const TRIES: usize = 3;
 static ONE: Mutex<()> = Mutex::new(());
 const PATIENCE: Duration = Duration::from_secs(60);
 
-/// Whether each replica is there.
-type Alive = Arc<Vec<AtomicBool>>;
+/// Whether each replica is there, and whether it says anything.
+struct Life {
+    is_there: AtomicBool,
+    speaks: AtomicBool,
+}
+
+type Alive = Arc<Vec<Life>>;
 
 /// A way between two replicas, on which each message takes so long.
 struct Way {
@@ -67,7 +72,7 @@ impl Way {
 
 impl Link for Way {
     fn send(&self, bytes: Vec<u8>) {
-        if self.is_reached() {
+        if self.is_reached() && self.alive[usize::from(self.ends[0])].speaks.load(Ordering::Relaxed) {
             let _ = self.sender.lock().unwrap().send((Instant::now() + self.delay, bytes));
         }
     }
@@ -77,7 +82,7 @@ impl Link for Way {
     }
 
     fn is_reached(&self) -> bool {
-        self.ends.iter().all(|end| self.alive[usize::from(*end)].load(Ordering::Relaxed))
+        self.ends.iter().all(|end| self.alive[usize::from(*end)].is_there.load(Ordering::Relaxed))
     }
 }
 
@@ -114,7 +119,8 @@ fn play(name: &str, trips: RoundTrips, what: impl FnOnce(&mut Play)) {
     let base = if memory.is_dir() { memory } else { std::env::temp_dir() };
     let folder = base.join(format!("store-distance-{name}-{}", std::process::id()));
     let limits = Limits { numbers: 1_900, dependencies: 10_000, log: u64::MAX };
-    let alive: Alive = Arc::new(trips.iter().map(|_| AtomicBool::new(true)).collect());
+    let life = || Life { is_there: AtomicBool::new(true), speaks: AtomicBool::new(true) };
+    let alive: Alive = Arc::new(trips.iter().map(|_| life()).collect());
     let way = |from: u8, to: u8, events: &SyncSender<Event>| -> Arc<dyn Link> {
         let delay = Duration::from_millis(trips[usize::from(from)][usize::from(to)]) / 2;
         Arc::new(Way::begin([from, to], delay, alive.clone(), events.clone()))
@@ -141,7 +147,22 @@ fn play(name: &str, trips: RoundTrips, what: impl FnOnce(&mut Play)) {
 impl Play {
     /// Replicas with these numbers die.
     fn kill(&self, replicas: &[usize]) {
-        replicas.iter().for_each(|replica| self.alive[*replica].store(false, Ordering::Relaxed));
+        replicas.iter().for_each(|replica| self.alive[*replica].is_there.store(false, Ordering::Relaxed));
+    }
+
+    /// So many commands are under way at the first replica as something happens: how long the longest takes, and how many recoveries there are.
+    fn take_while(&mut self, count: u32, happens: impl FnOnce(&Play)) -> (Duration, u64) {
+        let before = self.metrics[0].recoveries.get();
+        self.asked += 1;
+        let play = &*self;
+        let longest = thread::scope(|scope| {
+            let asked = |client: u32| scope.spawn(move || put(&play.senders[0], 10 + client, play.asked));
+            let asked: Vec<_> = (0..count).map(asked).collect();
+            thread::sleep(Duration::from_millis(40));
+            happens(play);
+            asked.into_iter().map(|it| it.join().unwrap()).max()
+        });
+        (longest.unwrap_or_default(), self.metrics[0].recoveries.get() - before)
     }
 
     /// How many second phases and recoveries there were.
@@ -170,7 +191,7 @@ impl Play {
     fn take(&mut self, expected: &[(usize, u64)]) {
         let replicas: Vec<usize> = expected.iter().map(|(replica, _)| *replica).collect();
         let mut told = Vec::new();
-        let has_fast_path = self.alive.iter().filter(|it| !it.load(Ordering::Relaxed)).count() < 2;
+        let has_fast_path = self.alive.iter().filter(|it| !it.is_there.load(Ordering::Relaxed)).count() < 2;
         for _ in 0..TRIES {
             let slow = self.slow();
             let medians = self.median(&replicas);
@@ -202,6 +223,32 @@ fn one_of_three_dead() {
         play.kill(&[2]);
         play.take(&[(0, 250), (1, 250)]);
     });
+}
+
+/// What is under way to a replica that dies, or falls silent, is recovered once, in three round trips to the other one; of a silent one some 300 ms after its
+/// answer was to come.
+#[test]
+fn what_is_under_way_is_recovered_once() {
+    for (is_silent, most) in [(false, 250 * 3), (true, 130 + 300 + 250 * 3)] {
+        let mut told = Vec::new();
+        for _ in 0..TRIES {
+            play(if is_silent { "silent" } else { "dies" }, THREE, |play| {
+                play.take(&[(0, 130), (2, 130)]);
+                let loss = |play: &Play| match is_silent {
+                    true => play.alive[2].speaks.store(false, Ordering::Relaxed),
+                    false => play.kill(&[2]),
+                };
+                told.push(play.take_while(8, loss));
+            });
+            let is_well =
+                |(longest, count): &(Duration, u64)| *longest < Duration::from_millis(most + 200) && *count == 8;
+            if told.last().is_none_or(is_well) {
+                told.clear();
+                break;
+            }
+        }
+        assert!(told.is_empty(), "{told:?}");
+    }
 }
 
 /// With one of five dead it takes one to the farthest one that is left; with two dead there is no fast quorum, and it takes a second one to a majority.

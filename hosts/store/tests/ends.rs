@@ -2,10 +2,12 @@
 mod common;
 use common::{Places, SYNCED, ask, script, wait};
 use std::fs;
+use std::net::TcpListener;
 use std::os::unix::net::UnixDatagram;
+use std::panic::{AssertUnwindSafe, catch_unwind};
 use std::process::{Command, Output};
 use std::thread;
-use std::time::Duration;
+use std::time::{Duration, Instant};
 use store::client::Reply;
 use store::command_fault::CommandFault;
 
@@ -29,6 +31,24 @@ fn a_node_that_ends_is_noticed_though_nobody_asks() {
     let (status, told) = run(&places, &lines);
     assert_eq!(status, 3);
     assert!(told.contains("was lost. This replica must not come back"), "{told}");
+}
+
+/// Of the tests themselves: they wait for a port that somebody has for a moment, and not for a store that has ended.
+#[test]
+fn a_start_is_waited_for_while_there_is_hope() {
+    let places = Places::new("hope");
+    let taken = TcpListener::bind(places.peer(0)).unwrap();
+    let node = script(&places.folder, &format!("{SYNCED}exec cat >/dev/null\n"));
+    thread::scope(|scope| {
+        let started = scope.spawn(|| places.start(0, &node));
+        thread::sleep(Duration::from_millis(500));
+        assert!(!started.is_finished());
+        drop(taken);
+        started.join().unwrap();
+    });
+    let start = Instant::now();
+    let started = catch_unwind(AssertUnwindSafe(|| places.start(1, &places.folder.join("nothing"))));
+    assert!(started.is_err() && start.elapsed() < Duration::from_secs(100));
 }
 
 #[test]

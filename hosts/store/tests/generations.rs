@@ -94,7 +94,7 @@ fn join(places: &Places, words: Command, replica: usize) -> (Store, String) {
     command.args(words.get_args().filter(|word| *word != "--new")).arg("--join");
     let store = places.launch(&mut command, replica);
     let wish = format!("EPAXOS REPLACE {replica} ");
-    wait("its identity", || store.told().contains(&wish));
+    store.tells(&wish);
     let identity = store.told().split_once(&wish).unwrap().1[..32].to_string();
     (store, identity)
 }
@@ -124,11 +124,11 @@ fn three_become_five_and_three_again() {
     let line = format!("EPAXOS RESIZE 5 3 {of_three} {at_three} 4 {of_four} {at_four}");
     assert!(matches!(zero.operate(&line), Reply::Bulk(Some(_))));
     for store in [&three, &four] {
-        wait("the new ones", || store.told().contains("node process"));
+        store.tells("node process");
     }
     let two = places.start_with(2, &node, &SHORT);
     for store in [&zero, &one, &two] {
-        wait("the others", || store.told().contains("of 5 in generation"));
+        store.tells("of 5 in generation");
     }
     // Asked again, as by somebody who has lost the answer, it is so.
     let again = zero.operate(&line);
@@ -143,7 +143,7 @@ fn three_become_five_and_three_again() {
     meets(&zero, 1, &identity);
     let replaced = zero.operate(&format!("EPAXOS REPLACE 1 {identity}"));
     assert!(matches!(&replaced, Reply::Bulk(Some(_))), "{replaced:?}");
-    wait("the new machine", || one.told().contains("of 5 in generation"));
+    one.tells("of 5 in generation");
     has_all(&one, 0..100);
     // It stays so, whatever `--peers` of the first ones says.
     drop(zero);
@@ -181,7 +181,7 @@ fn a_lost_machine_is_replaced() {
     assert!(matches!(ask(&mut two.client(), "SET x 1"), Reply::Error(_)));
     meets(&one, 2, &identity);
     assert!(matches!(one.operate(&format!("EPAXOS REPLACE 2 {identity}")), Reply::Bulk(Some(_))));
-    wait("the new machine", || two.told().contains("node process"));
+    two.tells("node process");
     has_all(&two, 0..100);
     set(&[&zero, &one, &two], 100..130);
     // The old machine is refused.
@@ -189,7 +189,7 @@ fn a_lost_machine_is_replaced() {
     wait("its folder", || fs::rename(places.directory(2), places.folder.join("new")).is_ok());
     copy(&places.folder.join("lost"), &places.directory(2));
     let mut old = places.launch(&mut places.command(2, &node), 2);
-    wait("its peers", || old.told().contains("knows another replica under this one's number"));
+    old.tells("knows another replica under this one's number");
     assert!(matches!(old.ask("SET x 1"), Reply::Error(_)));
     assert_eq!(old.end("TERM"), Some(0));
 }

@@ -51,7 +51,7 @@ fn join(places: &Places, node: &Path, replica: usize, at: usize) -> (Store, Stri
     command.arg("--node").arg(node);
     let store = places.launch(&mut command, at);
     let wish = format!("EPAXOS REPLACE {replica} ");
-    wait("its identity", || store.told().contains(&wish));
+    store.tells(&wish);
     let identity = store.told().split_once(&wish).unwrap().1[..32].to_string();
     (store, identity, places.peer(at))
 }
@@ -158,7 +158,7 @@ fn a_machine_is_let_in_that_waits_at_its_address() {
     wait_for_peers(&zero, &[1, 2]);
     let (new, identity, address) = join(&places, &node, 2, 4);
     wait("its greeting", || told(zero.ask("EPAXOS MEMBERS")).contains(&format!("2 {identity} waits to be let in")));
-    wait("an answer", || new.told().contains("hasn't let this machine in yet"));
+    new.tells("hasn't let this machine in yet");
     assert!(!new.told().contains("must not come back"), "{}", new.told());
     let line = format!("EPAXOS REPLACE 2 {identity}");
     is_refused(&zero.operate(&format!("{line} {address}")), &["replica 2 is reachable", "FORCE"]);
@@ -169,8 +169,8 @@ fn a_machine_is_let_in_that_waits_at_its_address() {
     assert_eq!(zero.info("generation"), "1");
     assert!(told(zero.operate(&format!("{line} {address} FORCE"))).starts_with("generation "));
     // The old one is thrown out, and the new one takes its place.
-    wait("the old machine", || two.told().contains("this one must not come back"));
-    wait("the new machine", || new.told().contains("node process"));
+    two.tells("this one must not come back");
+    new.tells("node process");
     has_all(&new, 0..10);
     set(&[&zero, &one, &new], 10..20);
     // Asked again it is so.

@@ -35,7 +35,6 @@ def listening(port):
 
 
 def is_free(port):
-    it = listening(port)
-    if it:
-        it.close()
-    return it is not None
+    """Whether nobody listens at the port."""
+    with socket.socket() as it:
+        return it.connect_ex(("127.0.0.1", port)) != 0

@@ -28,7 +28,7 @@ fn join(places: &Places, node: &Path, (replica, count): (usize, usize), at: usiz
     command.arg("--node").arg(node);
     let store = places.launch(&mut command, at);
     let wish = format!("EPAXOS REPLACE {replica} ");
-    wait("its identity", || store.told().contains(&wish));
+    store.tells(&wish);
     let identity = store.told().split_once(&wish).unwrap().1[..32].to_string();
     (store, format!("{replica} {identity} {}", places.peer(at)))
 }
@@ -73,11 +73,11 @@ fn four_new_machines_are_lost() {
     let named: Vec<&str> = new.iter().map(|(_, named)| named.as_str()).collect();
     operate(&stores[0], &format!("EPAXOS RESIZE 7 {}", named.join(" ")));
     for (store, _) in &new {
-        wait("the new machines", || store.told().contains("of 7 in generation 2"));
+        store.tells("of 7 in generation 2");
     }
     drop(new);
     for store in &stores {
-        wait("the new number", || store.told().contains("of 7 in generation 2"));
+        store.tells("of 7 in generation 2");
         wait("their loss", || (3..7).all(|peer| store.info(&format!("peer_{peer}")) == "lost"));
     }
     // Nothing can be done, not even undo it.
@@ -119,7 +119,7 @@ fn four_new_machines_are_lost() {
     stores.iter().for_each(|store| has_all(store, 0..60));
     // One of the four that comes back all the same does nothing by itself.
     let three = places.launch(places.command_of(3, 7, &node).args(["--patience", "5"]), 3);
-    wait("its start", || three.told().contains("node process"));
+    three.tells("node process");
     assert!(matches!(three.ask("SET x 1"), Reply::Error(_)));
     set(&stores.each_ref(), 60..70);
 }
@@ -156,7 +156,7 @@ fn what_may_be_lost_is_accepted_first() {
     let places = Places::new("lost");
     let start = |replica: usize| {
         let store = places.launch(&mut places.command_of(replica, 5, &node), replica);
-        wait("its start", || store.told().contains("node process"));
+        store.tells("node process");
         store
     };
     let stores = [0, 1, 2, 3, 4].map(start);
@@ -172,11 +172,11 @@ fn what_may_be_lost_is_accepted_first() {
     set(&stores.each_ref(), 30..40);
     // One of the three that comes back isn't let in; a new machine is.
     let one = places.launch(&mut places.command_of(1, 5, &node), 1);
-    wait("its peers", || one.told().contains("must not come back"));
+    one.tells("must not come back");
     assert!(matches!(one.ask("SET x 1"), Reply::Error(_)));
     drop(one);
     let (new, named) = join(&places, &node, (1, 3), 5);
     operate(&stores[0], &format!("EPAXOS REPLACE {named}"));
-    wait("the new machine", || new.told().contains("node process"));
+    new.tells("node process");
     has_all(&new, 0..40);
 }

@@ -52,6 +52,6 @@ fn a_scanner_does_not_hide_another_key() {
     other.write_all(&hello.0).unwrap();
     other.read_exact(&mut [0; 16]).unwrap();
     other.write_all(&[0xff; 64]).unwrap();
-    wait("the other line", || store.told().contains("to the peers' port has another key than this one (--peer-key)"));
+    store.tells("to the peers' port has another key than this one (--peer-key)");
     assert_eq!(store.told().matches(scanned).count(), 2, "{}", store.told());
 }

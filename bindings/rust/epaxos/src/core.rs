@@ -48,7 +48,7 @@ pub(crate) struct Lent<'a> {
     pub(crate) is_anew: bool,
 }
 
-/// One replica. While something is lent to be written, nothing is taken.
+/// One replica. While something is lent to be written, nothing is taken, unless what there is to tell of it was made (`begin`).
 pub(crate) trait Host: Send {
     fn take(&mut self, event: &Event) -> Result<(), Fault>;
 
@@ -72,6 +72,12 @@ pub(crate) trait Host: Send {
 
     /// Gathers what there is to tell behind the first `told` entries, all of which are on the disk, and of `most` open instances.
     fn tell(&mut self, told: u32, most: u8) -> Result<(), Fault>;
+
+    /// Makes what `tell` would gather once all that was taken, and is lent, is on the disk. Meanwhile more may be taken.
+    fn begin(&mut self, told: u32, most: u8) -> Result<(), Fault>;
+
+    /// Gathers what `begin` made, all of which is on the disk.
+    fn release(&mut self) -> Result<(), Fault>;
 
     /// What was gathered, in the bytes of an answer of kind 9 (from its kind on).
     fn told(&self) -> &[u8];

@@ -5,7 +5,7 @@ use crate::{Call, Command, Instance, Waits};
 use std::{ptr, slice};
 
 /// What the header is of.
-pub(crate) const VERSION: u32 = 4;
+pub(crate) const VERSION: u32 = 5;
 
 /// `struct ep_replica`
 #[repr(C)]
@@ -142,6 +142,8 @@ unsafe extern "C" {
     fn ep_ready(replica: *mut Held, log: *mut Bytes, is_anew: *mut u8) -> u8;
     fn ep_synced(replica: *mut Held, count: usize) -> u8;
     fn ep_answers(replica: *mut Held, told: u32, most: u8, answers: *mut Bytes) -> u8;
+    fn ep_prepare(replica: *mut Held, told: u32, most: u8) -> u8;
+    fn ep_told(replica: *mut Held, answers: *mut Bytes) -> u8;
     fn ep_ask(replica: *mut Held, request: *const u8, request_len: usize) -> u8;
     fn ep_get(replica: *mut Held, key: *const u8, key_len: usize, value: *mut Bytes) -> u8;
     fn ep_contents(replica: *mut Held, contents: *mut Bytes) -> u8;
@@ -287,6 +289,19 @@ impl Handle {
     pub(crate) fn answers(&mut self, told: u32, most: u8) -> u8 {
         let mut lent = Bytes::EMPTY;
         let status = unsafe { ep_answers(self.held(), told, most, &mut lent) };
+        self.lent = lent;
+        status
+    }
+
+    /// Has answers made of what is lent.
+    pub(crate) fn prepare(&mut self, told: u32, most: u8) -> u8 {
+        unsafe { ep_prepare(self.held(), told, most) }
+    }
+
+    /// Lends them.
+    pub(crate) fn prepared(&mut self) -> u8 {
+        let mut lent = Bytes::EMPTY;
+        let status = unsafe { ep_told(self.held(), &mut lent) };
         self.lent = lent;
         status
     }

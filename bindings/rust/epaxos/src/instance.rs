@@ -17,7 +17,7 @@ use std::fmt;
 pub struct Instance {
     /// The replica that leads it.
     pub replica: u8,
-    /// Its number, from 1 to 2,000.
+    /// Its number, from 1 to 9,000.
     pub number: u16,
 }
 

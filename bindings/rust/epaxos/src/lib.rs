@@ -115,7 +115,7 @@
 //!
 //! # Generations
 //!
-//! A replica takes 1,990 commands in a generation. When [`State::used`] comes near, propose [`Command::Seal`]; once it is executed
+//! A replica takes 8,990 commands in a generation. When [`State::used`] comes near, propose [`Command::Seal`]; once it is executed
 //! ([`Output::is_sealed`]), [`Replica::close`] hands out the opening of the next generation, with which each replica begins anew, of another number of replicas if you like.
 //! A command whose answer is [`Answer::Closed`] is asked again there. Keep the opening of generation 2 as `2/opening`, and its log as `2/log`.
 #![deny(unsafe_code)]
@@ -165,6 +165,7 @@ mod status;
 #[cfg(test)]
 mod vectors;
 pub mod wire;
+mod writing;
 
 pub use answer::{Answer, AnswerOf, OwnedAnswer};
 pub use bytes::Fields;
@@ -195,20 +196,21 @@ pub use replica::Replica;
 pub(crate) use setup::Begin;
 pub use setup::Setup;
 pub use state::State;
+pub use writing::{Writing, Written};
 
 /// A replica proposes so many commands in a generation at most. Its numbers above are for seals.
 ///
 /// ```
-/// assert_eq!(epaxos::MOST_COMMANDS, 1_990);
+/// assert_eq!(epaxos::MOST_COMMANDS, 8_990);
 /// ```
-pub const MOST_COMMANDS: u16 = 1_990;
+pub const MOST_COMMANDS: u16 = 8_990;
 
 /// The greatest number of an instance. Only seals have one above [`MOST_COMMANDS`].
 ///
 /// ```
-/// assert_eq!(epaxos::MOST_INSTANCES, 2_000);
+/// assert_eq!(epaxos::MOST_INSTANCES, 9_000);
 /// ```
-pub const MOST_INSTANCES: u16 = 2_000;
+pub const MOST_INSTANCES: u16 = 9_000;
 
 /// A key has 1 to so many bytes.
 ///

@@ -21,6 +21,8 @@ pub(crate) struct Library {
     /// How many bytes are lent to be written, and whether they take the place of the whole log.
     lent: usize,
     is_anew: bool,
+    /// Whether what there is to tell of it was made, so that more may be taken.
+    is_begun: bool,
     /// Where the last answer stands in what the handle lends.
     told: Range<usize>,
     request: Vec<u8>,
@@ -40,18 +42,30 @@ impl Library {
         }
         let opened = Handle::open(replicas, begin.me, opening, begin.log);
         let handle = opened.map_err(|(status, place)| open_fault(status, place))?;
-        Ok(Library { handle, me: begin.me, lent: 0, is_anew: false, told: 0..0, request: Vec::new() })
+        Ok(Library { handle, me: begin.me, lent: 0, is_anew: false, is_begun: false, told: 0..0, request: Vec::new() })
     }
 
-    /// While something is lent nothing is taken or told. (A refused call of the library would end the lending of the bytes.)
+    /// While something is lent nothing is told. (A refused call of the library would end the lending of the bytes.)
     fn check_not_lent(&self) -> Result<(), Fault> {
         if self.lent > 0 { Err(Fault::Unsynced) } else { Ok(()) }
+    }
+
+    /// Nor is anything taken, before what there is to tell was made.
+    fn check_may_take(&self) -> Result<(), Fault> {
+        if self.is_begun { Ok(()) } else { self.check_not_lent() }
+    }
+
+    /// Notes where the last of the answers stands that the handle lends.
+    fn note_told(&mut self) -> Result<(), Fault> {
+        let (_, last) = last_two(self.handle.lent()).ok_or_else(bad_answers)?;
+        self.told = last;
+        Ok(())
     }
 }
 
 impl Host for Library {
     fn take(&mut self, event: &Event) -> Result<(), Fault> {
-        self.check_not_lent()?;
+        self.check_may_take()?;
         let handle = &mut self.handle;
         match event {
             Event::Propose { call, command } => done(handle.propose(call, command, None)),
@@ -67,12 +81,12 @@ impl Host for Library {
     }
 
     fn advance(&mut self) -> Result<(), Fault> {
-        self.check_not_lent()?;
+        self.check_may_take()?;
         done(self.handle.advance())
     }
 
     fn execute_all(&mut self) -> Result<(), Fault> {
-        self.check_not_lent()?;
+        self.check_may_take()?;
         done(self.handle.execute_all())
     }
 
@@ -94,11 +108,21 @@ impl Host for Library {
         Ok(())
     }
 
+    fn begin(&mut self, told: u32, most: u8) -> Result<(), Fault> {
+        done(self.handle.prepare(told, most))?;
+        self.is_begun = true;
+        Ok(())
+    }
+
     fn tell(&mut self, told: u32, most: u8) -> Result<(), Fault> {
         done(self.handle.answers(told, most))?;
-        let (_, last) = last_two(self.handle.lent()).ok_or_else(bad_answers)?;
-        self.told = last;
-        Ok(())
+        self.note_told()
+    }
+
+    fn release(&mut self) -> Result<(), Fault> {
+        done(self.handle.prepared())?;
+        self.is_begun = false;
+        self.note_told()
     }
 
     fn told(&self) -> &[u8] {

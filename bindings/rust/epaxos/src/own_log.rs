@@ -7,7 +7,7 @@ use crate::records::HEADER;
 use std::sync::atomic::{AtomicU64, Ordering};
 
 /// What a replica knows of the log that is its own.
-#[derive(Debug)]
+#[derive(Clone, Debug)]
 pub(crate) struct OwnLog {
     pub(crate) replica: u8,
     pub(crate) generation: u32,

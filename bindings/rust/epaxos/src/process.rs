@@ -39,8 +39,10 @@ pub(crate) struct Process {
     lent: Vec<u8>,
     is_lent: bool,
     is_anew: bool,
-    /// Whether something is to be written.
+    /// Whether something was taken that isn't lent yet.
     is_dirty: bool,
+    /// What there is to tell of what is lent, where it was asked: then more may be taken.
+    begun: Option<Vec<u8>>,
     request: Vec<u8>,
     answer: Vec<u8>,
     /// The process's last words, if it has ended.
@@ -65,7 +67,7 @@ impl Process {
         let log = &log[..records::whole(log)];
         let (mut process, _) = Process::started(program, &Begin { log: Some(&log[..at]), ..*begin })?;
         process.take_again(&log[at..])?;
-        process.lent = log.to_vec();
+        (process.lent, process.is_dirty) = (log.to_vec(), false);
         Ok(process)
     }
 
@@ -131,7 +133,8 @@ impl Process {
             lent,
             is_lent: true,
             is_anew: true,
-            is_dirty: true,
+            is_dirty: false,
+            begun: None,
             request,
             answer,
             end: None,
@@ -191,21 +194,28 @@ impl Process {
         }
     }
 
-    fn check_not_lent(&self) -> Result<(), Fault> {
-        if self.is_lent { Err(Fault::Unsynced) } else { Ok(()) }
+    fn check_may_take(&self) -> Result<(), Fault> {
+        if self.is_lent && (self.is_anew || self.begun.is_none()) { Err(Fault::Unsynced) } else { Ok(()) }
+    }
+
+    fn check_synced(&self) -> Result<(), Fault> {
+        if self.is_lent || self.is_dirty { Err(Fault::Unsynced) } else { Ok(()) }
     }
 
     fn act(&mut self, question: Question) -> Result<(), Fault> {
-        self.check_not_lent()?;
+        self.check_may_take()?;
         wire::push_question(&mut self.request, question);
         self.send_for(1)?.pop().unwrap_or(Ok(()))
     }
 
     /// Asks something of a replica all of whose entries are on the disk. It is answered at once.
     fn ask(&mut self, question: Question) -> Result<(), Fault> {
-        if self.is_dirty {
-            return Err(Fault::Unsynced);
-        }
+        self.check_synced()?;
+        self.ask_now(question)
+    }
+
+    /// The same where what it tells is held back.
+    fn ask_now(&mut self, question: Question) -> Result<(), Fault> {
         wire::push_question(&mut self.request, question);
         self.send()?;
         self.receive()
@@ -270,13 +280,13 @@ impl Process {
 
 impl Host for Process {
     fn take(&mut self, event: &Event) -> Result<(), Fault> {
-        self.check_not_lent()?;
+        self.check_may_take()?;
         wire::push_event(&mut self.request, event)?;
         self.send_for(1)?.pop().unwrap_or(Ok(()))
     }
 
     fn take_all(&mut self, events: &[Event]) -> Vec<Result<(), Fault>> {
-        if let Err(fault) = self.check_not_lent() {
+        if let Err(fault) = self.check_may_take() {
             return vec![Err(fault); events.len()];
         }
         events.chunks(MOST_EVENTS).flat_map(|events| self.take_some(events)).collect()
@@ -298,7 +308,7 @@ impl Host for Process {
         if read.is_err() || records::seal(&mut self.lent, self.at, self.at).is_none() {
             return Err(self.ended("its log can't be read"));
         }
-        self.is_lent = true;
+        (self.is_lent, self.is_dirty) = (true, false);
         Ok(())
     }
 
@@ -311,7 +321,21 @@ impl Host for Process {
         if self.is_lent {
             self.at += self.lent.len() as u64;
             self.lent.clear();
-            (self.is_lent, self.is_anew, self.is_dirty) = (false, false, false);
+            (self.is_lent, self.is_anew) = (false, false);
+        }
+        Ok(())
+    }
+
+    fn begin(&mut self, told: u32, most: u8) -> Result<(), Fault> {
+        self.ask_now(Question::Ready { told, most })?;
+        self.begun = Some(std::mem::take(&mut self.answer));
+        Ok(())
+    }
+
+    fn release(&mut self) -> Result<(), Fault> {
+        match self.begun.take().filter(|_| !self.is_lent) {
+            Some(begun) => self.answer = begun,
+            None => return Err(Fault::Unsynced),
         }
         Ok(())
     }
@@ -336,9 +360,7 @@ impl Host for Process {
     }
 
     fn contents(&mut self) -> Result<&[u8], Fault> {
-        if self.is_dirty {
-            return Err(Fault::Unsynced);
-        }
+        self.check_synced()?;
         self.answer = self.listed().map_err(|error| Fault::Ended(error.to_string()))?;
         Ok(&self.answer)
     }

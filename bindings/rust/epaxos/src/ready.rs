@@ -1,10 +1,12 @@
 //! What is to be put on the disk.
 #![forbid(unsafe_code)]
 
+use crate::core::Lent;
 use crate::own_log::OwnLog;
-use crate::{CommitFault, Fault, Log, Output, Replica};
+use crate::{CommitFault, Fault, Log, Output, Replica, Writing};
 
-/// What is to be put on the disk, before there is anything to send: [`commit`](Ready::commit) puts it there.
+/// What is to be put on the disk, before there is anything to send: [`commit`](Ready::commit) puts it there; [`begin`](Ready::begin) lets go of the replica
+/// while that is done.
 ///
 /// Dropped without that it is lent again by the next [`ready`](Replica::ready), and until then nothing more is taken ([`Fault::Unsynced`]).
 ///
@@ -28,13 +30,40 @@ use crate::{CommitFault, Fault, Log, Output, Replica};
 /// ```
 #[must_use = "nothing can be sent before the log is on the disk"]
 pub struct Ready<'a> {
-    replica: &'a mut Replica,
+    of: Of<'a>,
     most: u8,
+}
+
+/// Whose bytes they are.
+enum Of<'a> {
+    /// They are lent by a replica.
+    Replica(&'a mut Replica),
+    /// They are a copy.
+    Copy(Copied),
+}
+
+/// A copy of what a replica lends.
+pub(crate) struct Copied {
+    bytes: Vec<u8>,
+    is_anew: bool,
+    own_log: OwnLog,
 }
 
 impl<'a> Ready<'a> {
     pub(crate) fn new(replica: &'a mut Replica, most: u8) -> Ready<'a> {
-        Ready { replica, most }
+        Ready { of: Of::Replica(replica), most }
+    }
+
+    /// That of a copy, which isn't committed by itself.
+    pub(crate) fn of_copy(copied: Copied) -> Ready<'static> {
+        Ready { of: Of::Copy(copied), most: 0 }
+    }
+
+    fn lent(&self) -> Lent<'_> {
+        match &self.of {
+            Of::Replica(replica) => replica.lent(),
+            Of::Copy(Copied { bytes, is_anew, .. }) => Lent { bytes, is_anew: *is_anew },
+        }
     }
 
     /// The bytes to append to the log, whole. None where nothing was taken: then nothing needs to be synced.
@@ -46,7 +75,7 @@ impl<'a> Ready<'a> {
     /// # Ok::<(), Box<dyn std::error::Error>>(())
     /// ```
     pub fn log(&self) -> &[u8] {
-        self.replica.lent().bytes
+        self.lent().bytes
     }
 
     /// Whether the bytes take the place of the whole log, at once, instead of being appended: as a file that is written, synced and then
@@ -61,7 +90,7 @@ impl<'a> Ready<'a> {
     /// # Ok::<(), Box<dyn std::error::Error>>(())
     /// ```
     pub fn is_anew(&self) -> bool {
-        self.replica.lent().is_anew
+        self.lent().is_anew
     }
 
     /// The byte of the log at which these bytes begin: how many the log has so far, or 0 where they take the place of all.
@@ -104,7 +133,10 @@ impl<'a> Ready<'a> {
     }
 
     pub(crate) fn own_log(&self) -> &OwnLog {
-        self.replica.own_log()
+        match &self.of {
+            Of::Replica(replica) => replica.own_log(),
+            Of::Copy(copied) => &copied.own_log,
+        }
     }
 
     /// Puts the bytes on the disk, and hands out what there is to send and to tell.
@@ -154,6 +186,41 @@ impl<'a> Ready<'a> {
     /// # Ok::<(), Box<dyn std::error::Error>>(())
     /// ```
     pub fn assume_synced(self) -> Result<Output<'a>, Fault> {
-        self.replica.synced(self.most)
+        match self.of {
+            Of::Replica(replica) => replica.synced(self.most),
+            // (no such one is handed out)
+            Of::Copy(_) => Err(Fault::Unsynced),
+        }
+    }
+
+    /// Lets go of the replica while the bytes are put on the disk, by another thread: meanwhile it takes more. What there is to send and to tell is made now,
+    /// and comes out by [`Replica::written`]. Until then [`ready`](Replica::ready) lends these bytes, and not those of what is taken.
+    ///
+    /// # Errors
+    ///
+    /// [`Fault::Memory`]: the replica is ready as before. [`Fault::Ended`].
+    ///
+    /// ```
+    /// # use epaxos::{Call, Cluster, Command, Replica};
+    /// # let mut log = Vec::new();
+    /// # let mut replica = Replica::new(Cluster::Three, 0)?;
+    /// # replica.ready()?.commit(&mut log)?;
+    /// let put = Command::Put { key: b"x", value: b"1" };
+    /// replica.propose(Call::new(1, 1), put)?;
+    /// let writing = replica.ready()?.begin()?;
+    /// let disk = std::thread::spawn(move || writing.write(&mut log).map(|written| (written, log)));
+    /// replica.propose(Call::new(1, 2), put)?;                     // (it is in the next batch)
+    /// let (written, mut log) = disk.join().unwrap()?;
+    /// assert_eq!(replica.written(written)?.frames().count(), 1);
+    /// assert_eq!(replica.ready()?.commit(&mut log)?.frames().count(), 1);
+    /// # Ok::<(), Box<dyn std::error::Error>>(())
+    /// ```
+    pub fn begin(self) -> Result<Writing, Fault> {
+        let (bytes, is_anew) = (self.log().to_vec(), self.is_anew());
+        let copied = Copied { bytes, is_anew, own_log: self.own_log().clone() };
+        if let Of::Replica(replica) = self.of {
+            replica.begin(self.most)?;
+        }
+        Ok(Writing::of(copied))
     }
 }

@@ -7,7 +7,7 @@ use crate::records::{self, Follower, HEADER};
 use crate::wire::Told;
 use crate::{
     Begin, Call, CloseFault, Cluster, Command, Contents, Event, Fault, Instance, OpenFault, Output, Ready, Setup,
-    State, found,
+    State, Written, found,
 };
 use std::cell::Cell;
 use std::fmt;
@@ -42,6 +42,10 @@ pub struct Replica {
     told: u32,
     cut: u64,
     own_log: OwnLog,
+    /// How many bytes it has once what is lent is written.
+    end: u64,
+    /// Whether what there is to tell of that was made.
+    is_begun: bool,
     /// How many replicas there are.
     replicas: u8,
     is_alone: PhantomData<Cell<()>>,
@@ -129,6 +133,8 @@ impl Replica {
             told,
             cut,
             own_log: OwnLog::of(&begin),
+            end: 0,
+            is_begun: false,
             replicas: cluster.replicas(),
             is_alone: PhantomData,
         })
@@ -397,6 +403,7 @@ impl Replica {
             self.is_told = false;
         }
         self.own_log.lent(self.host.lent());
+        self.end = self.own_log.with(self.host.lent());
         let lent = self.host.lent().bytes;
         let records = lent.get(self.passed..).unwrap_or_default();
         if !records.is_empty() {
@@ -416,15 +423,49 @@ impl Replica {
     }
 
     pub(crate) fn synced(&mut self, most: u8) -> Result<Output<'_>, Fault> {
-        let bytes = self.own_log.with(self.host.lent());
         self.host.sync()?;
-        self.own_log.bytes = bytes;
+        self.own_log.bytes = self.end;
         self.passed = 0;
-        self.host.tell(self.told, most)?;
+        if std::mem::take(&mut self.is_begun) {
+            self.host.release()?;
+        } else {
+            self.host.tell(self.told, most)?;
+        }
         let told = Told::read(self.host.told()).ok_or_else(bad_report)?;
         self.told = told.entries;
         self.is_told = true;
         Ok(Output::new(told, &self.follower))
+    }
+
+    pub(crate) fn begin(&mut self, most: u8) -> Result<(), Fault> {
+        if !self.is_begun {
+            self.host.begin(self.told, most)?;
+            self.is_begun = true;
+        }
+        Ok(())
+    }
+
+    /// Hands out what there is to send and to tell of what [`Ready::begin`] let go of, and nothing of what was taken since.
+    ///
+    /// # Errors
+    ///
+    /// [`Fault::Unsynced`]: it is of another replica, or was told before. [`Fault::Ended`].
+    ///
+    /// ```
+    /// # let mut log = Vec::new();
+    /// # use epaxos::{Call, Cluster, Command, Replica};
+    /// let mut replica = Replica::new(Cluster::Three, 0)?;
+    /// replica.ready()?.commit(&mut log)?;             // its log comes first
+    /// replica.propose(Call::new(1, 1), Command::Get { key: b"x" })?;
+    /// let written = replica.ready()?.begin()?.write(&mut log)?;
+    /// assert_eq!(replica.written(written)?.proposed().count(), 1);
+    /// # Ok::<(), Box<dyn std::error::Error>>(())
+    /// ```
+    pub fn written(&mut self, written: Written) -> Result<Output<'_>, Fault> {
+        if !self.is_begun || (written.opened, written.end) != (self.own_log.opened, self.end) {
+            return Err(Fault::Unsynced);
+        }
+        self.synced(0)
     }
 
     /// Reports once more what there was to report behind the first `after` entries, for who has to send it again ([when](crate#what-is-lost-on-its-way)): frames,

@@ -21,7 +21,7 @@ pub struct State {
     pub generation: u32,
     /// How many entries its log has.
     pub entries: u32,
-    /// The number that its last proposal took, 0 before any. A command takes none above 1,990: propose a seal in time.
+    /// The number that its last proposal took, 0 before any. A command takes none above 8,990: propose a seal in time.
     pub used: u16,
     /// The most dependencies of an own instance that is committed: 3 bytes each in every frame of such a command.
     pub dependencies: u16,

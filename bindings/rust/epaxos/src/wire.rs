@@ -8,7 +8,7 @@ use crate::bytes::Fields;
 use crate::{Event, Fault, Frame, Instance, OpenInstance, Receipt, State};
 
 /// A frame has at most so many bytes.
-const LONGEST_FRAME: usize = 200_000;
+const LONGEST_FRAME: usize = 400_000;
 
 /// What a replica is asked that is no event.
 ///

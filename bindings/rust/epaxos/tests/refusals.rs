@@ -40,12 +40,12 @@ fn events_are_refused() {
             (Event::ProposeSparing { call: Call::new(1, 1), command: PUT, spared: 255 }, Fault::OutOfRange),
             (Event::Handle(b""), Fault::BadFrame),
             (Event::Handle(b"garbage"), Fault::BadFrame),
-            (Event::Handle(&[0; 200_001]), Fault::BadFrame),
+            (Event::Handle(&[0; 400_001]), Fault::BadFrame),
             (Event::GiveUp(OWN), Fault::NotLeading),
             (Event::GiveUp(none), Fault::OutOfRange),
             (Event::Recover(none), Fault::OutOfRange),
             (Event::Recover(Instance { replica: 0, number: 0 }), Fault::OutOfRange),
-            (Event::Recover(Instance { replica: 0, number: 2_001 }), Fault::OutOfRange),
+            (Event::Recover(Instance { replica: 0, number: 9_001 }), Fault::OutOfRange),
             (Event::Execute(OWN), Fault::NotCommitted(OWN)),
         ] {
             assert_eq!(replica.take(&event), Err(fault), "{event:?}");

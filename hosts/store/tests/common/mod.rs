@@ -9,6 +9,7 @@ use std::fs;
 use std::os::unix::fs::PermissionsExt;
 use std::path::{Path, PathBuf};
 use std::process::{Child, Command, Stdio};
+use std::sync::{Mutex, MutexGuard};
 use std::thread;
 use std::time::{Duration, Instant};
 use store::admin;
@@ -21,6 +22,8 @@ pub const SYNCED: &str = "#!/bin/sh\nhead -c 10 >/dev/null; mkdir -p \"$7/1\"; p
      printf '\\0\\0\\0\\5\\6\\0\\0\\0\\0\\0\\0\\0\\26\\10\\0\\0\\0\\1'; head -c 17 /dev/zero\n";
 /// How long a test waits, and a store has a client wait: other work may leave them little of the processors.
 const PATIENCE: Duration = Duration::from_secs(300);
+/// How long a store is started again that finds a port taken.
+const PORT_PATIENCE: Duration = Duration::from_secs(10);
 const STORE_PATIENCE: &str = "60";
 
 /// A node of this script.
@@ -101,7 +104,7 @@ impl Places {
     /// The same, with more words.
     pub fn start_with(&self, replica: usize, node: &Path, words: &[&str]) -> Store {
         let store = self.launch(self.command(replica, node).args(words), replica);
-        wait("its start", || store.told().contains("node process"));
+        store.tells("node process");
         store
     }
 
@@ -117,16 +120,27 @@ impl Places {
             return None;
         }
         let store = self.launch(self.command_in_store(replica, 3).args(words).env("PATH", "/nowhere"), replica);
-        wait("its start", || store.told().contains("node process"));
+        store.tells("node process");
         Some(store)
     }
 
-    /// Starts a replica by these words, and doesn't wait.
+    /// Starts a replica by these words, and waits for the first that it tells, or for its end. Where it finds a port taken it is started again: a process
+    /// that was killed just now may have had a child that hasn't run its program yet.
     pub fn launch(&self, command: &mut Command, replica: usize) -> Store {
         let told = self.folder.join(format!("told-{replica}"));
-        let errors = fs::File::create(&told).unwrap();
-        let child = command.stdin(Stdio::null()).stderr(errors).spawn().unwrap();
-        Store { child, told, port: self.port(replica), admin: self.directory(replica).join(admin::NAME) }
+        let start = Instant::now();
+        loop {
+            let errors = fs::File::create(&told).unwrap();
+            let child = Mutex::new(command.stdin(Stdio::null()).stderr(errors).spawn().unwrap());
+            let admin = self.directory(replica).join(admin::NAME);
+            let store = Store { child, told: told.clone(), port: self.port(replica), admin };
+            wait("its first word", || !store.told().is_empty() || store.has_ended());
+            let is_taken = store.told().contains("can't listen at 127.0.0.1:");
+            if !is_taken {
+                return store;
+            }
+            assert!(start.elapsed() < PORT_PATIENCE, "a port is taken: {}", store.told());
+        }
     }
 
     /// The folder of a replica.
@@ -143,7 +157,7 @@ impl Drop for Places {
 
 /// A running store. It is killed when it is let go.
 pub struct Store {
-    child: Child,
+    child: Mutex<Child>,
     told: PathBuf,
     port: u16,
     admin: PathBuf,
@@ -160,7 +174,7 @@ impl Store {
     pub fn status(&mut self) -> Option<i32> {
         let start = Instant::now();
         loop {
-            if let Some(status) = self.child.try_wait().unwrap() {
+            if let Some(status) = self.child().try_wait().unwrap() {
                 return status.code();
             }
             assert!(start.elapsed() < PATIENCE, "its end is waited for too long; it has told: {}", self.told());
@@ -168,9 +182,27 @@ impl Store {
         }
     }
 
+    fn child(&self) -> MutexGuard<'_, Child> {
+        self.child.lock().unwrap()
+    }
+
+    fn has_ended(&self) -> bool {
+        self.child().try_wait().unwrap().is_some()
+    }
+
+    /// Waits until it has told this. Of one that has ended nothing more comes.
+    pub fn tells(&self, words: &str) {
+        wait(words, || {
+            let has_ended = self.has_ended();
+            let told = self.told();
+            assert!(!has_ended || told.contains(words), "the store has ended: {told}");
+            told.contains(words)
+        });
+    }
+
     /// Sends it a signal.
     pub fn signal(&self, signal: &str) {
-        let process = self.child.id().to_string();
+        let process = self.child().id().to_string();
         assert!(Command::new("kill").args(["-s", signal, &process]).status().unwrap().success());
     }
 
@@ -223,8 +255,8 @@ impl Store {
 
 impl Drop for Store {
     fn drop(&mut self) {
-        let _ = self.child.kill();
-        let _ = self.child.wait();
+        let _ = self.child().kill();
+        let _ = self.child().wait();
     }
 }
 

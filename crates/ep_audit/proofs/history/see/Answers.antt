@@ -5,5 +5,5 @@ use Rattle.ep_audit.proofs.history.see.Goals as goal
 
 pub returns : goal.returns
 returns c =
-    subst (λ (ys : List ℕ). (i : ℕ) → Has c.add.new.self.list i ↔ (Has ys i ⊎ (i ≡ c.args.instance))) c.reserve.ensures.list
-    (seen_more c.reserve.new.self.list c.add.new.self.list c.args.instance c.add.ensures.new c.add.ensures.old)
+    subst (λ (ys : List ℕ). (i : ℕ) → Has c.add.new.self.list i ↔ (Has ys i ⊎ (i ≡ c.args.instance))) c.reserve_one.ensures.list
+    (seen_more c.reserve_one.new.self.list c.add.new.self.list c.args.instance c.add.ensures.new c.add.ensures.old)

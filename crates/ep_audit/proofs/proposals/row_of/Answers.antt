@@ -12,5 +12,4 @@ loop-place-preserved c =
     let e : Entry = c.index-entries-place.result in
     let next : c.loop-place.place ≡ suc k = omega arith in
     let at : slice_get es k ≡ Some e = slice_get_read es (length es) k e refl (omega arith) c.index-entries-place.is in
-    subst (λ row. IsRowFrom c.args.replica k es row) (sym c.mark.ensures)
-    (row_more c.args.replica k es e c.loop-place.places.items at (subst (λ n. IsRowFrom c.args.replica n es c.loop-place.places.items) next c.loop-place.invariant))
+    row_more c.args.replica k es e c.loop-place.places.items c.mark.new.places.items at c.in_ok-mark.ensures (subst (λ n. IsRowFrom c.args.replica n es c.loop-place.places.items) next c.loop-place.invariant)

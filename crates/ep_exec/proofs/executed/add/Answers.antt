@@ -9,9 +9,6 @@ returns-clause-marks c =
     let is = c.args.list.now.items in
     let ms = c.args.marks.now.items in
     let j = c.args.instance in
-    let all = c.requires.all in
-    let small = c.slot_of.ensures.small in
-    let at = c.slot_of.ensures.value in
-    let within : slot j < length ms = omega (arith, all, small, at) in
+    let within : slot j < length ms = c.requires.slot in
     subst (λ s. AreMarks c.push_reserved.new.self.items (slice_set ms s true)) (sym c.slot_of.ensures.value)
     (subst (λ xs. AreMarks xs (slice_set ms (slot j) true)) (sym c.push_reserved.ensures.items) (marks_more is ms j c.requires.marks c.slot_of.ensures.in_range within))

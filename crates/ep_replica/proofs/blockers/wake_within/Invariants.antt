@@ -9,6 +9,6 @@ invariant-loop-number l = record {
   woken : AreWoken l.fn.instance l.fn.span.first l.number l.fn.items.items l.items.items l.due l.left;
   top : (n : ℕ) → l.fn.span.first ≤ n → n < l.number → (n < l.fn.span.end) × (n ≤ highest_number);
   more : (n : ℕ) → is_due l.fn.due n ≡ true → is_due l.due n ≡ true;
-  long : highest_number < length l.items.items;
+  long : length l.items.items ≡ length l.fn.items.items;
   room : length l.due ≡ length l.fn.due;
 }

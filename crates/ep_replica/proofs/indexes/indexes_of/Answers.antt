@@ -15,7 +15,10 @@ returns-clause-some c =
     omega (arith, range, value, size)
 
 pub returns-clause-remembered : goal.returns-clause-remembered
-returns-clause-remembered c = c.in_ok-remembered.ensures
+returns-clause-remembered c = c.in_ok-remembered.ensures.all c.args.journal.now c.highest.ensures.all
+
+pub returns-clause-fits : goal.returns-clause-fits
+returns-clause-fits c = c.in_ok-remembered.ensures.fits
 
 pub returns-clause-firsts : goal.returns-clause-firsts
 returns-clause-firsts c =

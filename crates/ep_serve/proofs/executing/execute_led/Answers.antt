@@ -18,9 +18,10 @@ loop-number-preserved g c = record {
 
 pub returns-clause-ok : goal.returns-clause-ok
 returns-clause-ok g c =
-    led_all c.args.node.now.replica c.loop-number.node.replica c.args.leader c.loop-number.number (let past = c.loop-number-test.false in omega arith) c.loop-number.invariant.some c.loop-number.invariant.wait
+    led_all c.args.node.now.replica c.loop-number.node.replica c.args.leader c.loop-number.number (λ i r is. let low = c.highest-top.ensures.all i r is in let past = c.loop-number-test.false in omega (arith, low, past)) c.loop-number.invariant.some c.loop-number.invariant.wait
 
 pub returns-in_err-tried-clause-err : goal.returns-in_err-tried-clause-err
 returns-in_err-tried-clause-err g c =
     let low = c.loop-number-test.true in
-    at_error _ (led_short c.args.node.now.replica c.loop-number.node.replica c.try_one.new.node.replica c.args.leader c.loop-number.number c.instance_at.result c.instance_at.ensures c.loop-number.invariant.some c.loop-number.invariant.wait c.in_err-tried.ensures.err (omega arith))
+    let most = c.highest-top.ensures.bounded in
+    at_error _ (led_short c.args.node.now.replica c.loop-number.node.replica c.try_one.new.node.replica c.args.leader c.loop-number.number c.instance_at.result c.instance_at.ensures c.loop-number.invariant.some c.loop-number.invariant.wait c.in_err-tried.ensures.err (omega (arith, low, most)))

@@ -453,13 +453,15 @@ impl Cluster {
         self.running[replica].lock().unwrap().as_ref().map(Child::id)
     }
 
-    /// Waits until a replica has done a command.
+    /// Waits until a replica has done a command, or its store has ended.
     pub fn await_answer(&self, replica: usize) -> Result<(), String> {
         let set = || {
             let mut client = Client::connect(self.client_ports[replica], PATIENCE).ok()?;
             matches!(client.ask(&[b"SET", b"ready", b"1"]), Ok(Reply::Simple(_))).then_some(())
         };
-        wait_for(set).ok_or(format!("replica {replica} doesn't answer"))
+        let is_over = || set().or_else(|| (!self.is_running(replica)).then_some(()));
+        let is_done = wait_for(is_over).is_some() && self.is_running(replica);
+        is_done.then_some(()).ok_or(format!("replica {replica} doesn't answer: {:?}", self.said(replica, 0)))
     }
 
     /// How many bytes the logs of all its generations have.

@@ -28,11 +28,11 @@ const TROUBLE: Duration = Duration::from_secs(10);
 const SETTLING: Duration = Duration::from_secs(3);
 /// A far replica's links take so much longer, one way.
 const FARTHER: Duration = Duration::from_millis(100);
-/// What is under way as a replica dies takes so many round trips more to those that are left: for three phases of a recovery. And for the rest of it, or what waits for a
-/// replica that falls silent or is suddenly far, for four of its time-outs, a client of another site waits so much longer.
+/// What is under way as a replica dies takes so many round trips more to those that are left: for three phases of a recovery. And for the rest of it
+/// a client of another site waits so much longer; or until a replica is known to be silent, or what was asked of one that is suddenly far is given up.
 const ROUND_TRIPS_OF_RECOVERY: u32 = 3;
 const MOST_AT_DEATH: Duration = Duration::from_millis(300);
-const MOST_AT_SILENCE: Duration = Duration::from_secs(2);
+const MOST_AT_SILENCE: Duration = Duration::from_secs(1);
 /// A client's patience: that of a store is 10 s.
 const PATIENCE: Duration = Duration::from_secs(30);
 
@@ -142,9 +142,9 @@ struct Told {
 
 /// What a replica tells that it has begun.
 #[derive(Clone, Copy, PartialEq, Eq)]
-struct Begun {
+pub struct Begun {
     accepts: u64,
-    recoveries: u64,
+    pub recoveries: u64,
 }
 
 /// What the clients of each site were told.
@@ -168,9 +168,9 @@ pub fn run(options: &Options, cluster: &Cluster) -> Result<Vec<String>, String> 
 /// Without trouble, so many of 100 commands being of one key.
 fn measure(options: &Options, cluster: &Cluster, share: u64) -> Result<Vec<String>, String> {
     let sites = &options.sites;
-    let before = begun(cluster, sites)?;
+    let before = begun(cluster)?;
     let all = play(cluster, sites, share, options.time, || Ok(()))?;
-    let after = begun(cluster, sites)?;
+    let after = begun(cluster)?;
     println!(
         "| {sites}, {share} % on one key | expected | others p50 / p90 / p99 ms (commands) | the one key | second phases | recoveries |"
     );
@@ -364,7 +364,7 @@ fn figures(waits: &[Duration]) -> String {
 }
 
 /// What each replica has begun until now.
-fn begun(cluster: &Cluster, sites: &Sites) -> Result<Vec<Begun>, String> {
+pub fn begun(cluster: &Cluster) -> Result<Vec<Begun>, String> {
     let of = |replica: usize| {
         let mut client = Client::connect(cluster.client_ports[replica], PATIENCE).map_err(|error| error.to_string())?;
         let told = client.ask(&[b"INFO"]).map_err(|error| error.to_string())?;
@@ -376,7 +376,7 @@ fn begun(cluster: &Cluster, sites: &Sites) -> Result<Vec<Begun>, String> {
         };
         Ok(Begun { accepts: number("accepts_begun")?, recoveries: number("recoveries_begun")? })
     };
-    (0..sites.count()).map(of).collect()
+    (0..cluster.replicas).map(of).collect()
 }
 
 #[cfg(test)]

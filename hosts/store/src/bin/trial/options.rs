@@ -161,7 +161,7 @@ pub fn read(words: impl IntoIterator<Item = String>) -> Result<Option<Options>, 
     if options.sites.count() > 0 {
         (options.replicas, options.least_changes) = (options.sites.count(), 0);
         // (a seal interferes with all commands)
-        (options.numbers, options.dependencies) = (1_900, 14_000);
+        (options.numbers, options.dependencies) = (8_900, 62_999);
         options.troubled = at.map_or(Ok(1), |name| options.sites.replica(&name))?;
     }
     if options.clients == 0 {
@@ -172,7 +172,7 @@ pub fn read(words: impl IntoIterator<Item = String>) -> Result<Option<Options>, 
     }
     if options.plant == Some(Plant::Older) {
         // (in a later generation an older copy has promised nothing)
-        (options.numbers, options.dependencies, options.replaced) = (1_900, 14_000, 0);
+        (options.numbers, options.dependencies, options.replaced) = (8_900, 62_999, 0);
     }
     if options.smoke || options.starved || options.plant.is_some() {
         options.least_changes = 0;

@@ -1,6 +1,7 @@
 //! A play on stores that have a processor for a fifth of the time: long values, many under way. A machine that is overloaded gets slow; it isn't to do
 //! the same work again and again.
 use crate::cluster::Cluster;
+use crate::distance::begun;
 use std::process::{Child, Command, Stdio};
 use std::thread;
 use std::time::{Duration, Instant};
@@ -10,9 +11,9 @@ use store::client::{Client, Reply};
 const CLIENTS: usize = 16;
 const VALUES: usize = 3;
 const LENGTH: usize = 60_000;
-/// The logs of a replica may have so many times as many bytes as all values. (Without recoveries they have 4/3 to 7/3: the proposals, and the frames that
-/// were handled.)
-const MOST_TIMES: u64 = 3;
+/// The logs of the replicas may have so many times as many bytes as all values, on the mean. (Without recoveries they have 7/3: each value is in its
+/// proposal, in the frame that this sends, which another one handles, and in two Commits that are sent and handled. A recovery adds twelve copies.)
+const MOST_TIMES: f64 = 2.6;
 /// How long the stores are stopped and run, in turns, in seconds.
 const STOPPED: &str = "0.08";
 const RUNNING: &str = "0.02";
@@ -44,6 +45,7 @@ impl Drop for Starving<'_> {
 /// The faults that were found.
 pub fn run(cluster: &Cluster) -> Result<Vec<String>, String> {
     (0..cluster.replicas).try_for_each(|replica| cluster.await_answer(replica))?;
+    let recovered_before = recoveries(cluster)?;
     let before: Vec<u64> = (0..cluster.replicas).map(|replica| cluster.log_bytes(replica)).collect();
     let starving =
         (0..cluster.replicas).map(|replica| Starving::begin(cluster, replica)).collect::<Result<Vec<_>, _>>()?;
@@ -61,15 +63,24 @@ pub fn run(cluster: &Cluster) -> Result<Vec<String>, String> {
     let bytes = (values * LENGTH) as u64;
     let logs = (0..cluster.replicas).map(|replica| cluster.log_bytes(replica) - before[replica]);
     let times: Vec<f64> = logs.map(|log| log as f64 / bytes as f64).collect();
-    println!("{told} of {values} values told in {:.1} s; logs of {times:.1?} times the values", time.as_secs_f64());
+    let (mean, recovered) = (times.iter().sum::<f64>() / times.len() as f64, recoveries(cluster)? - recovered_before);
+    println!(
+        "{told} of {values} values told in {:.1} s, {recovered} recoveries; logs of {times:.1?} times the values, mean {mean:.2}",
+        time.as_secs_f64()
+    );
     let mut faults = Vec::new();
     if told < values {
         faults.push(format!("{told} of {values} values were told"));
     }
-    if times.iter().any(|times| *times > MOST_TIMES as f64) {
+    if mean > MOST_TIMES {
         faults.push(format!("logs are more than {MOST_TIMES} times as long as the values"));
     }
     Ok(faults)
+}
+
+/// How many recoveries the stores have begun.
+fn recoveries(cluster: &Cluster) -> Result<u64, String> {
+    Ok(begun(cluster)?.iter().map(|begun| begun.recoveries).sum())
 }
 
 /// Sets values, one after the other, each until that is told: how many were.

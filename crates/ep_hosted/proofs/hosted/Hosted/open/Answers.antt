@@ -18,7 +18,8 @@ returns-in-Ok-clause-ok c =
       all = handed.lent.2;
       anew = handed.anew;
       asked = handed.none.0;
-      told = handed.none.1;
+      held = handed.none.1;
+      told = handed.none.2;
     })
     c.in_ok-origin.ensures.ok c.in-Ok.ensures.origin ok.1 ok.2 (ok.3 _ (λ t. Some (seen t))) (c.in-Ok.ensures.written _ (λ t. Some (seen t)))
 

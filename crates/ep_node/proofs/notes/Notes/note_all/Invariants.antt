@@ -1,11 +1,9 @@
-use Rattle.std.proofs.Common.{◌≤◌, length, take}
-use Rattle.ep_node.specs.Telling.{about_by, learnt_by, AreFirst}
+use Rattle.std.proofs.Common.{◌-◌, length}
+use Rattle.ep_node.specs.Telling.{Knows}
 use Rattle.ep_node.proofs.notes.Notes.note_all.Given as goal
 
-abbrev pub invariant-loop-place : goal.invariant-loop-place
-invariant-loop-place l = record {
-  room_about : 16008 ≤ length l.self.about;
-  room_commits : 16008 ≤ length l.self.commits;
-  about : AreFirst about_by (take l.place l.entries) l.self.about;
-  commits : AreFirst learnt_by (take l.place l.entries) l.self.commits;
-}
+abbrev pub invariant-loop-self : goal.invariant-loop-self
+invariant-loop-self l = Knows l.entries l.self.seen l.self.about l.self.commits
+
+abbrev pub decreases-loop-self : goal.decreases-loop-self
+decreases-loop-self l = length l.entries - l.self.seen

@@ -14,3 +14,6 @@ loop-preserved c =
       long = (let h = c.loop.invariant.long in omega arith);
       same = λ n. ap (λ (xs : List (Option Spot)). spot_at xs n) more ∙ pushed_none was n ∙ c.loop.invariant.same n;
     }
+
+pub returns-clause-firsts : goal.returns-clause-firsts
+returns-clause-firsts c = λ me es firsts number low. c.loop.invariant.same number ∙ firsts number low

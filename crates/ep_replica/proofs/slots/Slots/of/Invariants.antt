@@ -1,10 +1,6 @@
-use Rattle.std.proofs.Common.{◌<◌, length, take}
-use Rattle.ep_base.specs.Instances.{highest_number}
+use Rattle.std.proofs.Common.{take}
 use Rattle.ep_replica.specs.Slots.{Tells}
 use Rattle.ep_replica.proofs.slots.Slots.of.Given as goal
 
 abbrev pub invariant-loop-entry : goal.invariant-loop-entry
-invariant-loop-entry l = record {
-  room : highest_number < length l.slots;
-  told : Tells l.me (take l.entry-index l.entries) l.slots;
-}
+invariant-loop-entry l = Tells l.me (take l.entry-index l.entries) l.slots

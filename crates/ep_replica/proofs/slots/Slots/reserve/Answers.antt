@@ -14,3 +14,6 @@ loop-preserved c =
       long = (let h = c.loop.invariant.long in omega arith);
       same = λ n. ap (λ (xs : List (Option Proposal)). found xs n) more ∙ pushed_none was n ∙ c.loop.invariant.same n;
     }
+
+pub returns-clause-tells : goal.returns-clause-tells
+returns-clause-tells c = λ me es tells number low. c.loop.invariant.same number ∙ tells number low
