@@ -3,3 +3,5 @@ pub mod Rows
 pub mod OneByOne
 pub mod Compared
 pub mod Seals
+pub mod Looks
+pub mod Rescues

@@ -8,3 +8,4 @@ pub mod Worlds
 pub mod Operations
 pub mod Closing
 pub mod Generations
+pub mod Reads

@@ -1,0 +1,17 @@
+pub mod OneKey
+pub mod Finding
+pub mod Backers
+pub mod Fronts
+pub mod Inserted
+pub mod Splits
+pub mod Told
+pub mod Looking
+pub mod Owned
+pub mod Moments
+pub mod Reading
+pub mod WholeReading
+pub mod InTurn
+pub mod LifeReading
+pub mod Placing
+pub mod Taking
+pub mod LifeOrdering

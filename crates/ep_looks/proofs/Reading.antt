@@ -1,0 +1,76 @@
+-- Every read of one key is told what one map, or one machine, tells at one moment between its question and its answer.
+use Rattle.std.proofs.Common.{◌≡◌, ℕ, ◌<◌, ◌≤◌, true, false, List, ◌++◌, take, drop, refl, sym, ap, subst, ◌∙◌}
+use Rattle.std.proofs.lemmas.Bool.{false≢true}
+use Rattle.std.proofs.lemmas.List.{take-append-drop}
+use Rattle.ep_base.specs.Commands.{Command, Noop, Get, Put, Del, Swap, Cas, Seal, Opaque}
+use Rattle.ep_base.specs.Interference.{only_reads}
+use Rattle.ep_base.specs.Places.{Has}
+use Rattle.ep_base.specs.Quorums.{size}
+use Rattle.ep_base.specs.Sameness.{is_noop}
+use Rattle.ep_rules.specs.Machines.{Machine, after_operations, executed_at}
+use Rattle.ep_rules.specs.OneMap.{Store, reply, after_commands}
+use Rattle.ep_rules.specs.Operations.{Operation, instances_of, commands_of, history_of}
+use Rattle.ep_rules.specs.Worlds.{opening, Act, IsRun}
+use Rattle.ep_rules.proofs.Places.{has_left}
+use Rattle.ep_rules.proofs.RunHistories.{instances_append, history_grows_lem}
+use Rattle.ep_looks.specs.Reads.{world_at, Read, reply_of, IsRead, ReadsAreLinearizable}
+use Rattle.ep_looks.specs.MachineReads.{MachineReadsAreLinearizable}
+use Rattle.ep_looks.proofs.Moments.{at, fits, is_between, history_front}
+use Rattle.ep_looks.proofs.Owned.{c, h, own, known, map_is, history_leaves, machine_is, machine_leaves}
+use Rattle.ep_looks.proofs.Told.{map_told, machine_told}
+
+pub reader_real : (d : Command) → only_reads d ≡ true → is_noop d ≡ false
+reader_real Noop e = absurd (false≢true e)
+reader_real (Get k) e = refl
+reader_real (Put k v) e = refl
+reader_real (Del k) e = refl
+reader_real (Swap p) e = refl
+reader_real (Cas k x n) e = refl
+reader_real (Seal v) e = refl
+reader_real (Opaque p b) e = refl
+
+-- an instance that isn't in the history of a run isn't in that of a beginning
+pub out_of_part : (base : Store) (f n : ℕ) (acts : List Act) (i : ℕ) → (Has (instances_of (history_of base f acts)) i → ⊥) → Has (instances_of (history_of base f (take n acts))) i → ⊥
+out_of_part base f n acts i out k =
+    let t = history_grows_lem base f (take n acts) (drop n acts) in
+    let e : history_of base f acts ≡ history_of base f (take n acts) ++ t.0 = ap (history_of base f) (sym (take-append-drop n acts)) ∙ t.1 in
+    out (subst (λ is. Has is i) (sym (ap instances_of e ∙ instances_append (history_of base f (take n acts)) t.0)) (has_left (instances_of (history_of base f (take n acts))) (instances_of t.0) i k))
+
+module _ (base : Store) (f : ℕ) (some : 0 < f) (few : size f ≤ 256) (acts : List Act) (run : IsRun f (opening base) acts) (r : Read) (is : IsRead base f acts r) where
+  abbrev spot : ℕ
+  spot = at base f some few acts run r is
+
+  abbrev cs : ℕ → Command
+  cs = c base f some few acts run r.answered r.reader
+
+  abbrev done : List ℕ
+  done = own base f some few acts run r.answered r.reader
+
+  abbrev history : List ℕ
+  history = h base f some few acts run r.answered r.reader
+
+  legal : reply_of base f acts r ≡ reply (after_commands base (commands_of (take spot (history_of base f acts)))) r.command
+  legal =
+      ap (λ s. reply s r.command) (map_is base f some few acts run r.answered r.reader)
+      ∙ map_told cs r.command done history spot (known base f some few acts run r.answered r.reader) (fits base f some few acts run r is) base
+      ∙ ap (λ s. reply s r.command) (history_leaves base f some few acts run r.answered r.reader spot)
+      ∙ ap (λ os. reply (after_commands base (commands_of os)) r.command) (sym (history_front base f some few acts run r is))
+
+  module _ (i : ℕ) (out : ¬ Has (instances_of (history_of base f acts)) i) {S R : Type 0} (M : Machine S R) (start : S) where
+    abbrev o : Operation
+    o = record { instance = i; command = r.command }
+
+    machine_legal : M.reply (after_operations M start (executed_at (world_at base f acts r.answered) r.reader)) o ≡ M.reply (after_operations M start (take spot (history_of base f acts))) o
+    machine_legal =
+        ap (λ s. M.reply s o) (machine_is base f some few acts run r.answered r.reader M start)
+        ∙ machine_told cs r.command done history spot (known base f some few acts run r.answered r.reader) (fits base f some few acts run r is) i (out_of_part base f r.answered acts i out) M
+        (reader_real r.command is.reads.only) start
+        ∙ ap (λ s. M.reply s o) (machine_leaves base f some few acts run r.answered r.reader M start spot)
+        ∙ ap (λ os. M.reply (after_operations M start os) o) (sym (history_front base f some few acts run r is))
+
+pub reads_are_linearizable_lem : ReadsAreLinearizable
+reads_are_linearizable_lem base f some few acts run r is = (_, is_between base f some few acts run r is, legal base f some few acts run r is)
+
+pub machine_reads_are_linearizable_lem : (S R : Type 0) → MachineReadsAreLinearizable S R
+machine_reads_are_linearizable_lem S R M start base f some few acts run r is i out =
+    (_, is_between base f some few acts run r is, machine_legal base f some few acts run r is i out M start)

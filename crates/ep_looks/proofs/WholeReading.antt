@@ -1,0 +1,63 @@
+-- A read of any keys is told what one map, or one machine, tells where its reply is taken, if all that is found after that was executed already.
+use Rattle.std.proofs.Common.{◌≡◌, ℕ, ◌<◌, ◌≤◌, List, [], length, take, ap, ◌∙◌, arith, append-nil}
+use Rattle.std.proofs.lemmas.List.{take_all}
+use Rattle.ep_base.specs.Commands.{Command}
+use Rattle.ep_base.specs.Places.{Has}
+use Rattle.ep_base.specs.Quorums.{size}
+use Rattle.ep_rules.specs.Closing.{store_of}
+use Rattle.ep_rules.specs.Machines.{Machine, after_operations, executed_at}
+use Rattle.ep_rules.specs.OneMap.{Store, reply, after_commands}
+use Rattle.ep_rules.specs.Operations.{Operation, instances_of, commands_of}
+use Rattle.ep_rules.specs.Worlds.{opening, Act, IsRun}
+use Rattle.ep_looks.specs.Reads.{world_at, history_at, Read}
+use Rattle.ep_looks.specs.WholeReads.{IsWholeRead, WholeReadsAreLinearizable, MachineWholeReadsAreLinearizable}
+use Rattle.ep_looks.proofs.Fronts.{as_many}
+use Rattle.ep_looks.proofs.Inserted.{Fits}
+use Rattle.ep_looks.proofs.Looking.{history_found}
+use Rattle.ep_looks.proofs.Owned.{c, h, executed, own, run_whole, known, own_has, map_is, history_leaves, machine_is, machine_leaves}
+use Rattle.ep_looks.proofs.Reading.{reader_real}
+use Rattle.ep_looks.proofs.Splits.{fits_all}
+use Rattle.ep_looks.proofs.Told.{map_told, machine_told}
+
+module _ (base : Store) (f : ℕ) (some : 0 < f) (few : size f ≤ 256) (acts : List Act) (run : IsRun f (opening base) acts) (r : Read) (is : IsWholeRead base f acts r) where
+  abbrev cs : ℕ → Command
+  cs = c base f some few acts run r.asked r.reader
+
+  abbrev done : List ℕ
+  done = own base f some few acts run r.asked r.reader
+
+  abbrev history : List ℕ
+  history = h base f some few acts run r.asked r.reader
+
+  fits : Fits cs r.command done history (length history)
+  fits = fits_all cs r.command done history (known base f some few acts run r.asked r.reader) (λ u k e.
+      own_has base f some few acts run r.asked r.reader u r.command e
+      (history_found base f some few acts run r.command r.looked r.asked (executed base f some few acts run r.asked r.reader) is.many (λ q n at. (is.between q n at).0) is.executed
+      (take r.asked acts) [] (run_whole base f some few acts run r.asked r.reader) (append-nil (take r.asked acts)) u k e))
+
+  whole_history : take (length history) (history_at base f acts r.asked) ≡ history_at base f acts r.asked
+  whole_history = take_all (length history) (history_at base f acts r.asked) (let n = as_many (history_at base f acts r.asked) in omega arith)
+
+  legal : reply (store_of (world_at base f acts r.asked) r.reader) r.command ≡ reply (after_commands base (commands_of (history_at base f acts r.asked))) r.command
+  legal =
+      ap (λ s. reply s r.command) (map_is base f some few acts run r.asked r.reader)
+      ∙ map_told cs r.command done history (length history) (known base f some few acts run r.asked r.reader) fits base
+      ∙ ap (λ s. reply s r.command) (history_leaves base f some few acts run r.asked r.reader (length history))
+      ∙ ap (λ os. reply (after_commands base (commands_of os)) r.command) whole_history
+
+  module _ (i : ℕ) (out : ¬ Has (instances_of (history_at base f acts r.asked)) i) {S R : Type 0} (M : Machine S R) (start : S) where
+    abbrev o : Operation
+    o = record { instance = i; command = r.command }
+
+    machine_legal : M.reply (after_operations M start (executed_at (world_at base f acts r.asked) r.reader)) o ≡ M.reply (after_operations M start (history_at base f acts r.asked)) o
+    machine_legal =
+        ap (λ s. M.reply s o) (machine_is base f some few acts run r.asked r.reader M start)
+        ∙ machine_told cs r.command done history (length history) (known base f some few acts run r.asked r.reader) fits i out M (reader_real r.command is.only) start
+        ∙ ap (λ s. M.reply s o) (machine_leaves base f some few acts run r.asked r.reader M start (length history))
+        ∙ ap (λ os. M.reply (after_operations M start os) o) whole_history
+
+pub whole_reads_are_linearizable_lem : WholeReadsAreLinearizable
+whole_reads_are_linearizable_lem base f some few acts run r is = legal base f some few acts run r is
+
+pub machine_whole_reads_are_linearizable_lem : (S R : Type 0) → MachineWholeReadsAreLinearizable S R
+machine_whole_reads_are_linearizable_lem S R M start base f some few acts run r is i out = machine_legal base f some few acts run r is i out M start

@@ -1,0 +1,58 @@
+//! Laws of reads that write nothing, in every run and in every life.
+
+ghost use Rattle.ep_looks.specs.LifeOrder.{LifeReadsKeepRealTime};
+ghost use Rattle.ep_looks.specs.LifeReads.{LifeReadsAreLinearizable};
+ghost use Rattle.ep_looks.specs.MachineReads.{MachineReadsAreLinearizable};
+ghost use Rattle.ep_looks.specs.RealTime.{ReadsKeepRealTime};
+ghost use Rattle.ep_looks.specs.Reads.{ReadsAreLinearizable};
+ghost use Rattle.ep_looks.specs.WholeReads.{MachineWholeReadsAreLinearizable, WholeReadsAreLinearizable};
+ghost use Rattle.ep_looks.specs.WithReads.{HistoriesTakeReads};
+
+/// Every read of one key takes effect at one moment between its question and its answer.
+///
+/// Its reply is one map's reply after a beginning of the run's history. All that any replica had executed when the read was
+/// asked is in that beginning, and nothing that was first executed after the answer.
+pub fn reads_are_linearizable()
+    ensures { ReadsAreLinearizable }
+{}
+
+/// So a read stands behind each operation that any replica had executed when it was asked, before each that is proposed after
+/// its answer, and not behind any read that is asked after its answer.
+pub fn reads_keep_real_time()
+    ensures { ReadsKeepRealTime }
+{}
+
+/// With its reads of one key put into their places, every run's history stays a linearization of it: one map's replies to all,
+/// in the order of real time, whatever the reads are, and whichever replicas answer them.
+pub fn histories_take_reads()
+    ensures { HistoriesTakeReads }
+{}
+
+/// Whatever the machine outside: a read of one key that its reader's machine answers is linearizable too.
+pub fn machine_reads_are_linearizable<S, R>()
+    ensures { MachineReadsAreLinearizable S R }
+{}
+
+/// A read of any keys takes effect where its reply is taken, if all that is found after that was executed already.
+pub fn whole_reads_are_linearizable()
+    ensures { WholeReadsAreLinearizable }
+{}
+
+/// And so does one of a machine outside.
+pub fn machine_whole_reads_are_linearizable<S, R>()
+    ensures { MachineWholeReadsAreLinearizable S R }
+{}
+
+/// Every read of one key in a generation of a life takes effect at one moment between its question and its answer there.
+///
+/// It is answered that the map is closed, or by one map's reply to all generations before and a beginning of its own. Then
+/// nobody had opened the next generation when it was asked.
+pub fn life_reads_are_linearizable()
+    ensures { LifeReadsAreLinearizable }
+{}
+
+/// Such a read that is right stands behind each operation, of whatever generation, that any replica had executed when it was
+/// asked; and two reads in turn never go back, whatever their generations.
+pub fn life_reads_keep_real_time()
+    ensures { LifeReadsKeepRealTime }
+{}

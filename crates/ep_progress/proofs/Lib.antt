@@ -1,0 +1,16 @@
+pub mod Entries
+pub mod Sound
+pub mod Acting
+pub mod Tally
+pub mod Leading
+pub mod Rules
+pub mod Rounds
+pub mod Same
+pub mod Ending
+pub mod AnyOrder
+pub mod AnyAnswer
+pub mod AnyRun
+pub mod Counters
+pub mod Knowing
+pub mod Waiting
+pub mod Turning

@@ -1,0 +1,4 @@
+pub mod Alone
+pub mod Quiet
+pub mod Executing
+pub mod InTurn
