@@ -19,7 +19,7 @@ use Rattle.ep_patience.specs.declared.waiting.Waiting.{Waiting}
 
 -- What is asked for an instance names it.
 
-abbrev Names : ℕ → Option Remedy → Type 0
+abbrev pub Names : ℕ → Option Remedy → Type 0
 Names i None = Unit {0}
 Names i (Some r) = named r ≡ i
 
@@ -33,7 +33,7 @@ own_names o i (Some (Proposing, n)) silent = if_names (leb o.place.size n) i _ _
 own_names o i (Some (Accepting, n)) silent = if_names (leb 3 silent) i _ _ refl tt
 own_names o i (Some (Preparing, n)) silent = refl
 
-at_names : (o : Outlook) (x : Seen) (w : Waiting) → Names x.instance (remedy_at o x w)
+pub at_names : (o : Outlook) (x : Seen) (w : Waiting) → Names x.instance (remedy_at o x w)
 at_names o x w = if_names (is_late o x w) x.instance _ _ (if_names (is_own o x) x.instance _ _ (own_names o x.instance x.leads w.silent) refl) tt
 
 -- Where nothing is asked for an instance, none of what is asked for names it.

@@ -1,4 +1,5 @@
 mod AskedWritten
+mod AtLast
 mod InTime
 mod OpenRead
 mod Turning

@@ -1,3 +1,4 @@
+pub mod AtLast
 pub mod Hosting
 pub mod InTime
 pub mod OpenBytes

@@ -7,6 +7,7 @@
 //! Start with `patience.rt` and specs/Turning.antt; then `trip.rt` and specs/Trips.antt (RFC 6298), `outlook.rt` and `choosing.rt`.
 #![tactic(auto)]
 
+mod at_last;
 mod choosing;
 mod hosted_patience;
 mod in_time;
@@ -23,6 +24,7 @@ mod waiting;
 mod waits;
 mod writing;
 
+pub use at_last::asks_at_last;
 pub use hosted_patience::HostedPatience;
 pub use in_time::{begins_patient, stays_patient};
 pub use patience::Patience;

@@ -59,10 +59,10 @@ those_only from (suc n) m s there =
 
 -- States of the others, and interference sets in instance i.
 
-state_apart : (f : ℕ) (w : World) (a : Act) (k : ℕ) → k ≢ a.replica → (moved f w a).states k ≡ w.states k
+pub state_apart : (f : ℕ) (w : World) (a : Act) (k : ℕ) → k ≢ a.replica → (moved f w a).states k ≡ w.states k
 state_apart f w a k ne = ap (λ b. cond b (leaves f k (w.states k) a.event a.done) (w.states k)) (ne_eqb a.replica k (λ e. ne (sym e)))
 
-state_here : (f : ℕ) (w : World) (a : Act) → (moved f w a).states a.replica ≡ leaves f a.replica (w.states a.replica) a.event a.done
+pub state_here : (f : ℕ) (w : World) (a : Act) → (moved f w a).states a.replica ≡ leaves f a.replica (w.states a.replica) a.event a.done
 state_here f w a = ap (λ b. cond b (leaves f a.replica (w.states a.replica) a.event a.done) (w.states a.replica)) (eq-eqb a.replica a.replica refl)
 
 -- what an act in instance i does

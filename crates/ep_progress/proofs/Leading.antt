@@ -18,11 +18,11 @@ module _ (f : ℕ) (live : ℕ → Bool) (q i : ℕ) where
   pub then_act : (n k : ℕ) (w : World) (a : Act) (P : World → Type 0) → Happens f w a → live a.replica ≡ true → Serves q i a.replica a.event → recovers a.event + k ≤ n → Leads f live q i k (moved f w a) P → Leads f live q i n w P
   then_act n k w a P h l s c t = record { acts = a ∷ t.acts; run = (h, t.run); serve = (l, s, t.serve); few = (let few = t.few in omega arith); end = t.end }
 
-  join : (xs ys : List Act) (w : World) → IsRun f w xs → IsRun f (ends f w xs) ys → IsRun f w (xs ++ ys)
+  pub join : (xs ys : List Act) (w : World) → IsRun f w xs → IsRun f (ends f w xs) ys → IsRun f w (xs ++ ys)
   join [] ys w a b = b
   join (x ∷ xs) ys w a b = (a.0, join xs ys (moved f w x) a.1 b)
 
-  ends_join : (xs ys : List Act) (w : World) → ends f w (xs ++ ys) ≡ ends f (ends f w xs) ys
+  pub ends_join : (xs ys : List Act) (w : World) → ends f w (xs ++ ys) ≡ ends f (ends f w xs) ys
   ends_join [] ys w = refl
   ends_join (x ∷ xs) ys w = ends_join xs ys (moved f w x)
 
@@ -30,7 +30,7 @@ module _ (f : ℕ) (live : ℕ → Bool) (q i : ℕ) where
   serve_join [] ys a b = b
   serve_join (x ∷ xs) ys a b = (a.0, a.1, serve_join xs ys a.2 b)
 
-  sum_join : (xs ys : List Act) → recoveries (xs ++ ys) ≡ recoveries xs + recoveries ys
+  pub sum_join : (xs ys : List Act) → recoveries (xs ++ ys) ≡ recoveries xs + recoveries ys
   sum_join [] ys = omega arith
   sum_join (x ∷ xs) ys = let ih = sum_join xs ys in omega arith
 

@@ -14,3 +14,16 @@ pub mod Counters
 pub mod Knowing
 pub mod Waiting
 pub mod Turning
+pub mod Reaching
+pub mod Searching
+pub mod Ranking
+pub mod Planning
+pub mod Executing
+pub mod Knowledge
+pub mod Spreading
+pub mod Finishing
+pub mod Naming
+pub mod Choosing
+pub mod Serving
+pub mod Sealed
+pub mod Answering

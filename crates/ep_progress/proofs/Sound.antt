@@ -350,7 +350,7 @@ act_at : (n i : ℕ) (o : Outcome) → leader_of i < n → OutcomeSound n i o �
 act_at n i (Ok ch) lead p = (lead, p)
 act_at n i (Err e) lead p = tt
 
-own_leader : (me m : ℕ) → m < highest_number → leader_of (instance_of me (m + 1)) ≡ me
+pub own_leader : (me m : ℕ) → m < highest_number → leader_of (instance_of me (m + 1)) ≡ me
 own_leader me m lt = omega arith
 
 -- A step.
@@ -402,7 +402,7 @@ module _ (f me : ℕ) (few : size f ≤ 256) (here : me < size f) (s : State) (o
 
 -- The state after it.
 
-entry_kept : (P : ℕ → Record → Type 0) (m : Map Record) (i : ℕ) (o : Option Record) → ((x : Record) → o ≡ Some x → P i x) → AllEntries P (entries m) → AllEntries P (entries (with_entry m i o))
+pub entry_kept : (P : ℕ → Record → Type 0) (m : Map Record) (i : ℕ) (o : Option Record) → ((x : Record) → o ≡ Some x → P i x) → AllEntries P (entries m) → AllEntries P (entries (with_entry m i o))
 entry_kept P m i None p a = a
 entry_kept P m i (Some x) p a = all_insert P m i x (p x refl) a
 
@@ -410,22 +410,27 @@ new_entry : (n i : ℕ) (o : Option Record) → EntrySound n i o → (x : Record
 new_entry n i None p x e = absurd (cc)
 new_entry n i (Some y) p x e = let same : y ≡ x = cc in subst (λ z. RecordSound n i z) same p
 
-leads_kept : (n : ℕ) (m : Map Led) (i : ℕ) (o : Option (Option Led)) → NewLeadSound n o → ((j : ℕ) (l : Led) → get m j ≡ Some l → LedSound n l) → (j : ℕ) (l : Led) → get (with_led m i o) j ≡ Some l → LedSound n l
-leads_kept n m i None p all j l e = all j l e
-leads_kept n m i (Some None) p all j l e = elim (cases_eq j i) [
+pub leads_kept : (Q : Led → Type 0) (m : Map Led) (i : ℕ) (o : Option (Option Led)) → ((l : Led) → o ≡ Some (Some l) → Q l) → ((j : ℕ) (l : Led) → get m j ≡ Some l → Q l) → (j : ℕ) (l : Led) → get (with_led m i o) j ≡ Some l → Q l
+leads_kept Q m i None p all j l e = all j l e
+leads_kept Q m i (Some None) p all j l e = elim (cases_eq j i) [
   | inl is ↦ absurd (let t : None ≡ Some l = sym (ap (get (with_led m i (Some None))) is ∙ remove_same m i) ∙ e in cc)
   | inr ne ↦ all j l (sym (remove_other m i j ne) ∙ e)
 ]
-leads_kept n m i (Some (Some k)) p all j l e = elim (cases_eq j i) [
-  | inl is ↦ (let t : Some k ≡ Some l = sym (ap (get (with_led m i (Some (Some k)))) is ∙ insert_same m i k) ∙ e in let same : k ≡ l = cc in subst (λ z. LedSound n z) same p)
+leads_kept Q m i (Some (Some k)) p all j l e = elim (cases_eq j i) [
+  | inl is ↦ (let t : Some k ≡ Some l = sym (ap (get (with_led m i (Some (Some k)))) is ∙ insert_same m i k) ∙ e in let same : k ≡ l = cc in subst Q same (p k refl))
   | inr ne ↦ all j l (sym (insert_other m i k j ne) ∙ e)
 ]
+
+new_lead : (n : ℕ) (o : Option (Option Led)) → NewLeadSound n o → (l : Led) → o ≡ Some (Some l) → LedSound n l
+new_lead n None p l e = absurd (cc)
+new_lead n (Some None) p l e = absurd (let t : None ≡ Some l = cc in cc)
+new_lead n (Some (Some k)) p l e = let t : Some k ≡ Some l = cc in let same : k ≡ l = cc in subst (λ z. LedSound n z) same p
 
 pub changed_sound : (n : ℕ) (s : State) (o : Result (ℕ × Change) Refusal) → ActSound n o → StateSound n s → StateSound n (changed_by s o)
 changed_sound n s (Ok p) h ok = record {
   ranged = entry_kept (λ (j : ℕ) (x : Record). leader_of j < n) s.records p.0 p.1.entry (λ x e. h.0) ok.ranged;
   records = entry_kept (λ (j : ℕ) (x : Record). RecordSound n j x) s.records p.0 p.1.entry (new_entry n p.0 p.1.entry (h.1).entry) ok.records;
-  leads = leads_kept n s.leads p.0 p.1.led (h.1).led ok.leads;
+  leads = leads_kept (λ l. LedSound n l) s.leads p.0 p.1.led (new_lead n p.1.led (h.1).led) ok.leads;
 }
 changed_sound n s (Err e) h ok = ok
 
@@ -438,7 +443,7 @@ none_of_any : {X : Type 0} (P : ℕ → X → Type 0) (es : List (ℕ × X)) →
 none_of_any P [] e = tt
 none_of_any P (x ∷ xs) e = absurd (omega arith)
 
-nothing_in : {X : Type 0} (P : ℕ → X → Type 0) → AllEntries P (entries (none {X = X}))
+pub nothing_in : {X : Type 0} (P : ℕ → X → Type 0) → AllEntries P (entries (none {X = X}))
 nothing_in {X} P = none_of_any P (entries (none {X = X})) (sym (len-entries (none {X = X})) ∙ len-empty nat_cmp X)
 
 pub fresh_state_sound : (n : ℕ) (base : Store) → StateSound n (fresh_state base)
