@@ -1,6 +1,6 @@
 -- Texts of lines, one after another.
-use Rattle.std.proofs.Common.{◌≡◌, ℕ, suc, ◌+◌, List, [], ◌∷◌, ◌++◌, length, refl, sym, ap, ◌∙◌, append_assoc}
-use Rattle.std.specs.Prelude.{codes, decimal}
+use Rattle.std.proofs.Common.{◌≡◌, ℕ, suc, ◌+◌, List, [], ◌∷◌, ◌++◌, length, refl, sym, ap, ◌∙◌, append_assoc, Result, Ok, Err}
+use Rattle.std.specs.Prelude.{codes, decimal, OnOk}
 use Rattle.std.proofs.lemmas.List.{append-nil}
 use Rattle.ep_audit.specs.declared.happening.Happening.{Happening}
 use Rattle.ep_report.specs.Reports.{text_of, counted, history_lines}
@@ -24,21 +24,13 @@ pub and_more : (o a b x y : List ℕ) → x ≡ o ++ a → y ≡ x ++ b → y �
 and_more o a b x y e f = f ∙ ap (λ (t : List ℕ). t ++ b) e ∙ append_assoc o a b
 
 -- the parts of a generation's line in a chain
-pub link_told : (o g c cs h hs blank closing contents : List ℕ) (t1 t2 t3 t4 t5 t6 t7 t8 t9 whole : List ℕ) →
-    t1 ≡ o ++ g → t2 ≡ t1 ++ c → t3 ≡ t2 ++ cs → t4 ≡ t3 ++ h → t5 ≡ t4 ++ hs → t6 ≡ t5 ++ blank → t7 ≡ t6 ++ closing → t8 ≡ t7 ++ blank → t9 ≡ t8 ++ contents → whole ≡ t9 ++ codes "\n" →
-    whole ≡ o ++ (g ++ c ++ cs ++ h ++ hs ++ blank ++ closing ++ blank ++ contents) ++ codes "\n"
-link_told o g c cs h hs blank closing contents t1 t2 t3 t4 t5 t6 t7 t8 t9 whole is1 is2 is3 is4 is5 is6 is7 is8 is9 last =
-    last
-    ∙ ap (λ (t : List ℕ). t ++ codes "\n") (
-    and_more o (g ++ c ++ cs ++ h ++ hs ++ blank ++ closing ++ blank) contents t8 t9
-    (and_more o (g ++ c ++ cs ++ h ++ hs ++ blank ++ closing) blank t7 t8
-    (and_more o (g ++ c ++ cs ++ h ++ hs ++ blank) closing t6 t7
-    (and_more o (g ++ c ++ cs ++ h ++ hs) blank t5 t6
-    (and_more o (g ++ c ++ cs ++ h) hs t4 t5 (and_more o (g ++ c ++ cs) h t3 t4 (and_more o (g ++ c) cs t2 t3 (and_more o g c t1 t2 is1 is2) is3) is4) is5)
-    is6)
-    is7)
-    is8)
-    is9)
+pub link_told : {T E : Type 0} (r : Result T E) (o g closing contents t1 t2 whole : List ℕ) →
+    t1 ≡ o ++ g → t2 ≡ t1 ++ closing ++ codes " " → OnOk r (whole ≡ t2 ++ contents ++ codes "\n") → OnOk r (whole ≡ o ++ (g ++ closing ++ codes " " ++ contents) ++ codes "\n")
+link_told (Ok x) o g closing contents t1 t2 whole is1 is2 is3 =
+    is3 ∙ ap (λ (t : List ℕ). t ++ codes "\n") (
+    and_more o (g ++ closing ++ codes " ") contents t2 (t2 ++ contents)
+    (and_more o (g ++ closing) (codes " ") (t1 ++ closing) t2 (and_more o g closing t1 (t1 ++ closing) is1 refl) is2) refl)
+link_told (Err x) o g closing contents t1 t2 whole is1 is2 is3 = is3
 
 -- five parts below a first line
 pub text_of_parts : (first : List ℕ) (p q r s t : List (List ℕ)) (a b c d e f : List ℕ) →

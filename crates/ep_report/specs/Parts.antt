@@ -6,6 +6,8 @@ use Rattle.ep_base.specs.declared.reply.Reply.{Reply}
 use Rattle.ep_base.specs.declared.reply.Reply.TheVariants.{Absent, Present, Closed, Ordered}
 use Rattle.ep_base.specs.declared.reply.Answer.{Answer}
 use Rattle.ep_base.specs.declared.reply.Answer.TheVariants.{Lost, Told}
+use Rattle.ep_report.specs.declared.part.Part.{Part}
+use Rattle.ep_report.specs.declared.part.Part.TheVariants as part
 use Rattle.ep_script.specs.Word.{word_of}
 
 -- the replica that leads it, a dot, and its number
@@ -56,3 +58,23 @@ reply_text Ordered = codes "ordered"
 abbrev pub answer_text : Answer → List ℕ
 answer_text Lost = codes "lost"
 answer_text (Told reply) = reply_text reply
+
+abbrev pub part_text : Part → List ℕ
+part_text (part.Text bytes) = bytes.now
+part_text (part.Number n) = decimal n
+part_text (part.Word bytes) = word_of bytes.now
+part_text (part.Instance i) = instance_text i
+part_text (part.Deps d) = deps_text d.now
+part_text (part.Command c) = command_text c.now
+part_text (part.Reply r) = reply_text r.now
+part_text (part.Answer a) = answer_text a.now
+
+-- what stands before, and then the parts
+abbrev pub more_parts : List ℕ → List Part → List ℕ
+more_parts before [] = before
+more_parts before (p ∷ ps) = more_parts (before ++ part_text p) ps
+
+-- one after another, grouped as the texts of lines are
+abbrev pub parts_text : List Part → List ℕ
+parts_text [] = []
+parts_text (p ∷ ps) = more_parts (part_text p) ps

@@ -19,6 +19,7 @@ mod life;
 mod lines;
 mod lives;
 mod losses;
+mod part;
 mod parts;
 mod reports;
 
@@ -30,5 +31,8 @@ pub use life::Life;
 pub use lines::{push_contents, push_link_line};
 pub use lives::{life_of, told_contents};
 pub use losses::Losses;
-pub use parts::{push_answer, push_command, push_deps, push_instance, push_number, push_reply};
+pub use part::Part;
+pub use parts::{
+    push_answer, push_command, push_deps, push_instance, push_number, push_parts, push_reply,
+};
 pub use reports::{accepted, chain_refusal, refusal, report, run_report};

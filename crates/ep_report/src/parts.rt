@@ -4,9 +4,10 @@ ghost use Rattle.std.specs.Prelude.{◌≡◌, ◌<◌, ◌≤◌, ◌+◌, ◌+
 ghost use Rattle.std.specs.Option.{option_copied};
 ghost use Rattle.ep_base.specs.Commands.{Put, Swap, Cas, Opaque};
 ghost use Rattle.ep_base.specs.Views.{touched};
-ghost use Rattle.ep_report.specs.Parts.{instance_text, deps_text, more_deps, option_text, request_text, second_key_text, command_text, reply_text, answer_text};
+ghost use Rattle.ep_report.specs.Parts.{instance_text, deps_text, more_deps, option_text, request_text, second_key_text, command_text, reply_text, answer_text, part_text, parts_text};
 ghost use Rattle.ep_script.specs.Word.{word_of};
 
+use crate::part::Part;
 use ep_base::{Answer, Command, CommandView, Deps, InstanceId, Reply, Touching};
 use ep_script::push_word;
 use itoa::Buffer;
@@ -215,5 +216,30 @@ pub fn push_answer(text: &mut Vec<u8>, answer: &Answer) -> Result<(), AllocError
     match answer {
         Answer::Lost => text.extend_from_slice(b"lost"),
         Answer::Told(reply) => push_reply(text, reply),
+    }
+}
+
+/// Appends the parts, one after another: one call in place of many, each of which could end the caller.
+pub fn push_parts(text: &mut Vec<u8>, parts: &[Part<'_>]) -> Result<(), AllocError>
+    ensures { OnOk result (text.new.items ≡ text.old.items ++ parts_text parts.now) }
+{
+    for part in parts {
+        push_part(text, part)?;
+    }
+    Ok(())
+}
+
+fn push_part(text: &mut Vec<u8>, part: &Part<'_>) -> Result<(), AllocError>
+    ensures { OnOk result (text.new.items ≡ text.old.items ++ part_text part.now) }
+{
+    match part {
+        Part::Text(bytes) => text.extend_from_slice(bytes),
+        Part::Number(number) => push_number(text, *number),
+        Part::Word(bytes) => push_word(text, bytes),
+        Part::Instance(instance) => push_instance(text, *instance),
+        Part::Deps(deps) => push_deps(text, deps),
+        Part::Command(command) => push_command(text, command),
+        Part::Reply(reply) => push_reply(text, reply),
+        Part::Answer(answer) => push_answer(text, answer),
     }
 }

@@ -15,7 +15,8 @@ use crate::lines::{
     push_history_line, push_lost_line, push_receipt_line, push_refused_line,
 };
 use crate::losses::Losses;
-use crate::parts::push_number;
+use crate::part::Part;
+use crate::parts::push_parts;
 use ep_audit::{AuditFault, ChainFault, Happening};
 use ep_base::{Decree, InstanceId};
 use ep_rules::Receipt;
@@ -79,9 +80,7 @@ fn push_generation_lines(text: &mut Vec<u8>, life: Option<&Life<'_>>) -> Result<
     let Some(life) = life else {
         return Ok(());
     };
-    push_generation(text, life)?;
-    text.push(b'\n')?;
-    Ok(())
+    push_generation(text, life)
 }
 
 // Appends the first seal and what the keys have after the history, in version 3.
@@ -91,11 +90,8 @@ fn push_closing_lines(text: &mut Vec<u8>, life: Option<&Life<'_>>) -> Result<(),
     let Some(life) = life else {
         return Ok(());
     };
-    push_closing(text, life.closing())?;
-    text.push(b'\n')?;
-    push_contents_line(text, life.contents())?;
-    text.push(b'\n')?;
-    Ok(())
+    push_closing(text, life.closing(), b"\n")?;
+    push_contents_line(text, life.contents())
 }
 
 // How many bytes such a report usually has at most, where keys and values are short. It is room that is made at once.
@@ -155,9 +151,16 @@ pub fn run_report(
 pub fn refusal(alloc: Global, fault: AuditFault) -> Result<Vec<u8>, AllocError>
     ensures { IfOk result (λ t. t.items ≡ text_of (refusal_lines (fault_of fault))) }
 {
-    let mut text = Vec::from_slice(alloc, b"verdict refused\n")?;
-    text.extend_from_slice(fault.to_string(alloc)?.as_bytes())?;
-    text.push(b'\n')?;
+    let line = fault.to_string(alloc)?;
+    let mut text = Vec::new(alloc);
+    push_parts(
+        &mut text,
+        &[
+            Part::Text(b"verdict refused\n"),
+            Part::Text(line.as_bytes()),
+            Part::Text(b"\n"),
+        ],
+    )?;
     Ok(text)
 }
 
@@ -169,10 +172,15 @@ pub fn chain_refusal(
 ) -> Result<Vec<u8>, AllocError>
     ensures { IfOk result (λ t. t.items ≡ text_of (chain_refusal_lines generation fault.now)) }
 {
-    let mut text = Vec::from_slice(alloc, b"verdict refused\ngeneration ")?;
-    push_number(&mut text, u64::from(generation))?;
-    text.push(b'\n')?;
+    let mut text = Vec::new(alloc);
+    push_parts(
+        &mut text,
+        &[
+            Part::Text(b"verdict refused\ngeneration "),
+            Part::Number(generation as u64),
+            Part::Text(b"\n"),
+        ],
+    )?;
     push_chain_fault(&mut text, fault)?;
-    text.push(b'\n')?;
     Ok(text)
 }

@@ -9,7 +9,7 @@ use ep_base::{InstanceId, ReplicaId};
 use ep_frame::Frame;
 use ep_phase::LeadPhase;
 use ep_replica::Replica;
-use ep_report::{push_instance, push_number};
+use ep_report::{Part, push_parts};
 use ep_view::push_message;
 use ep_world::World;
 use std::alloc::AllocError;
@@ -18,11 +18,16 @@ use std::alloc::AllocError;
 fn push_frame(text: &mut Vec<u8>, frame: &Frame) -> Result<(), AllocError>
     ensures { OnOk result (text.new.items ≡ text.old.items ++ frame_text frame.now) }
 {
-    text.extend_from_slice(b" from ")?;
-    push_number(text, u64::from(frame.from().index()))?;
-    text.extend_from_slice(b" to ")?;
-    push_number(text, u64::from(frame.origin().to.index()))?;
-    text.extend_from_slice(b": ")?;
+    push_parts(
+        text,
+        &[
+            Part::Text(b" from "),
+            Part::Number(frame.from().index() as u64),
+            Part::Text(b" to "),
+            Part::Number(frame.origin().to.index() as u64),
+            Part::Text(b": "),
+        ],
+    )?;
     push_message(text, frame)
 }
 
@@ -30,8 +35,10 @@ fn push_frame(text: &mut Vec<u8>, frame: &Frame) -> Result<(), AllocError>
 fn push_ungiven(text: &mut Vec<u8>, message: u64, frame: &Frame) -> Result<(), AllocError>
     ensures { OnOk result (text.new.items ≡ text.old.items ++ ungiven_line message (Some frame.now)) }
 {
-    text.extend_from_slice(b"never given  #")?;
-    push_number(text, message)?;
+    push_parts(
+        text,
+        &[Part::Text(b"never given  #"), Part::Number(message)],
+    )?;
     push_frame(text, frame)?;
     text.push(b'\n')?;
     Ok(())
@@ -57,14 +64,14 @@ fn push_all_ungiven(text: &mut Vec<u8>, world: &World, messages: &[u64]) -> Resu
     Ok(())
 }
 
-// Appends that a replica leads an instance in this phase.
-fn push_phase(text: &mut Vec<u8>, phase: LeadPhase) -> Result<(), AllocError>
-    ensures { OnOk result (text.new.items ≡ text.old.items ++ phase_text phase) }
+// That a replica leads an instance in this phase.
+fn phase_words(phase: LeadPhase) -> &'static [u8]
+    ensures { result.now ≡ phase_text phase }
 {
     match phase {
-        LeadPhase::Proposing => text.extend_from_slice(b", which leads it: PreAccepts are out"),
-        LeadPhase::Accepting => text.extend_from_slice(b", which leads it: Accepts are out"),
-        LeadPhase::Preparing => text.extend_from_slice(b", which leads it: Prepares are out"),
+        LeadPhase::Proposing => b", which leads it: PreAccepts are out",
+        LeadPhase::Accepting => b", which leads it: Accepts are out",
+        LeadPhase::Preparing => b", which leads it: Prepares are out",
     }
 }
 
@@ -72,9 +79,14 @@ fn push_phase(text: &mut Vec<u8>, phase: LeadPhase) -> Result<(), AllocError>
 fn push_leading(text: &mut Vec<u8>, phase: LeadPhase, answers: u8) -> Result<(), AllocError>
     ensures { OnOk result (text.new.items ≡ text.old.items ++ leading_text phase answers) }
 {
-    push_phase(text, phase)?;
-    text.extend_from_slice(b", answers of others so far: ")?;
-    push_number(text, u64::from(answers))
+    push_parts(
+        text,
+        &[
+            Part::Text(phase_words(phase)),
+            Part::Text(b", answers of others so far: "),
+            Part::Number(answers as u64),
+        ],
+    )
 }
 
 // Appends what the replica waits for.
@@ -91,9 +103,14 @@ fn push_waiting(text: &mut Vec<u8>, progress: Option<(LeadPhase, u8)>) -> Result
 fn push_spot(text: &mut Vec<u8>, replica: ReplicaId, instance: InstanceId) -> Result<(), AllocError>
     ensures { OnOk result (text.new.items ≡ text.old.items ++ spot_text replica instance) }
 {
-    push_instance(text, instance)?;
-    text.extend_from_slice(b" at replica ")?;
-    push_number(text, u64::from(replica.index()))
+    push_parts(
+        text,
+        &[
+            Part::Instance(instance),
+            Part::Text(b" at replica "),
+            Part::Number(replica.index() as u64),
+        ],
+    )
 }
 
 // Appends the line of an instance that isn't committed.

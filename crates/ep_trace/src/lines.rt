@@ -9,7 +9,7 @@ use crate::numbers::{Numbers, next};
 use ep_base::{Command, InstanceId, ReplicaId};
 use ep_frame::Frame;
 use ep_journal::{Entry, Event};
-use ep_report::{EventFault, push_command, push_instance, push_number};
+use ep_report::{EventFault, Part, push_parts};
 use ep_view::{push_between, push_done, push_message, push_taken, words_of};
 use ep_world::WorldEvent;
 use std::alloc::AllocError;
@@ -21,10 +21,10 @@ fn push_given(text: &mut Vec<u8>, number: Option<u64>) -> Result<(), AllocError>
     let Some(number) = number else {
         return Ok(());
     };
-    text.push(b'#')?;
-    push_number(text, number)?;
-    text.push(b' ')?;
-    Ok(())
+    push_parts(
+        text,
+        &[Part::Text(b"#"), Part::Number(number), Part::Text(b" ")],
+    )
 }
 
 // Appends a message that is handled.
@@ -33,9 +33,14 @@ fn push_handled(text: &mut Vec<u8>, number: Option<u64>, frame: &Frame) -> Resul
 {
     text.extend_from_slice(b"handle ")?;
     push_given(text, number)?;
-    text.extend_from_slice(b"from ")?;
-    push_number(text, u64::from(frame.from().index()))?;
-    text.extend_from_slice(b": ")?;
+    push_parts(
+        text,
+        &[
+            Part::Text(b"from "),
+            Part::Number(frame.from().index() as u64),
+            Part::Text(b": "),
+        ],
+    )?;
     push_message(text, frame)
 }
 
@@ -60,10 +65,15 @@ fn push_happening(
 fn push_receiver(text: &mut Vec<u8>, number: u64, frame: &Frame) -> Result<(), AllocError>
     ensures { OnOk result (text.new.items ≡ text.old.items ++ receiver_text number frame.now) }
 {
-    text.push(b'#')?;
-    push_number(text, number)?;
-    text.extend_from_slice(b" to ")?;
-    push_number(text, u64::from(frame.origin().to.index()))
+    push_parts(
+        text,
+        &[
+            Part::Text(b"#"),
+            Part::Number(number),
+            Part::Text(b" to "),
+            Part::Number(frame.origin().to.index() as u64),
+        ],
+    )
 }
 
 // Appends what is sent, from this number on, after a frame of these words.
@@ -122,15 +132,20 @@ fn push_place(
 ) -> Result<(), AllocError>
     ensures { OnOk result (text.new.items ≡ text.old.items ++ place_text line replica entry.now) }
 {
-    text.extend_from_slice(b"line ")?;
-    push_number(text, u64::from(line))?;
-    text.extend_from_slice(b"  stamp ")?;
-    push_number(text, entry.stamp.ticks())?;
-    text.extend_from_slice(b"  replica ")?;
-    push_number(text, u64::from(replica.index()))?;
-    text.extend_from_slice(b" entry ")?;
-    push_number(text, u64::from(entry.number))?;
-    text.extend_from_slice(b"  ")
+    push_parts(
+        text,
+        &[
+            Part::Text(b"line "),
+            Part::Number(line as u64),
+            Part::Text(b"  stamp "),
+            Part::Number(entry.stamp.ticks()),
+            Part::Text(b"  replica "),
+            Part::Number(replica.index() as u64),
+            Part::Text(b" entry "),
+            Part::Number(entry.number as u64),
+            Part::Text(b"  "),
+        ],
+    )
 }
 
 // Appends what happened in an entry.
@@ -167,12 +182,17 @@ fn push_proposal(
 ) -> Result<(), AllocError>
     ensures { OnOk result (text.new.items ≡ text.old.items ++ proposal_text replica client command.now) }
 {
-    text.extend_from_slice(b"propose ")?;
-    push_number(text, u64::from(replica.index()))?;
-    text.push(b' ')?;
-    push_number(text, u64::from(client))?;
-    text.push(b' ')?;
-    push_command(text, command)
+    push_parts(
+        text,
+        &[
+            Part::Text(b"propose "),
+            Part::Number(replica.index() as u64),
+            Part::Text(b" "),
+            Part::Number(client as u64),
+            Part::Text(b" "),
+            Part::Command(command),
+        ],
+    )
 }
 
 // Appends what stands before a proposal that names the replica to be spared.
@@ -182,10 +202,14 @@ fn push_spared(text: &mut Vec<u8>, spared: Option<ReplicaId>) -> Result<(), Allo
     let Some(replica) = spared else {
         return Ok(());
     };
-    text.extend_from_slice(b"sparing ")?;
-    push_number(text, u64::from(replica.index()))?;
-    text.push(b' ')?;
-    Ok(())
+    push_parts(
+        text,
+        &[
+            Part::Text(b"sparing "),
+            Part::Number(replica.index() as u64),
+            Part::Text(b" "),
+        ],
+    )
 }
 
 // Appends a line's first word, and a replica and an instance.
@@ -195,12 +219,17 @@ fn push_named(
     replica: ReplicaId,
     instance: InstanceId,
 ) -> Result<(), AllocError>
-    ensures { OnOk result (text.new.items ≡ text.old.items ++ word.now ++ decimal replica ++ codes " " ++ instance_text instance) }
+    ensures { OnOk result (text.new.items ≡ text.old.items ++ (word.now ++ decimal replica ++ codes " " ++ instance_text instance)) }
 {
-    text.extend_from_slice(word)?;
-    push_number(text, u64::from(replica.index()))?;
-    text.push(b' ')?;
-    push_instance(text, instance)
+    push_parts(
+        text,
+        &[
+            Part::Text(word),
+            Part::Number(replica.index() as u64),
+            Part::Text(b" "),
+            Part::Instance(instance),
+        ],
+    )
 }
 
 // Appends an event as a script has it.
@@ -228,10 +257,10 @@ fn push_asked(text: &mut Vec<u8>, event: &WorldEvent) -> Result<(), AllocError>
         WorldEvent::Execute { replica, instance } => {
             push_named(text, b"execute ", *replica, *instance)
         }
-        WorldEvent::Deliver(message) => {
-            text.extend_from_slice(b"deliver ")?;
-            push_number(text, *message)
-        }
+        WorldEvent::Deliver(message) => push_parts(
+            text,
+            &[Part::Text(b"deliver "), Part::Number(*message)],
+        ),
     }
 }
 
@@ -244,12 +273,17 @@ pub(crate) fn push_refused(
 ) -> Result<(), AllocError>
     ensures { OnOk result (text.new.items ≡ text.old.items ++ refused_line line event.now cause) }
 {
-    text.extend_from_slice(b"line ")?;
-    push_number(text, u64::from(line))?;
-    text.extend_from_slice(b"  refused ")?;
     let words = cause.to_string(*text.allocator())?;
-    text.extend_from_slice(words.as_bytes())?;
-    text.extend_from_slice(b": ")?;
+    push_parts(
+        text,
+        &[
+            Part::Text(b"line "),
+            Part::Number(line as u64),
+            Part::Text(b"  refused "),
+            Part::Text(words.as_bytes()),
+            Part::Text(b": "),
+        ],
+    )?;
     push_asked(text, event)?;
     text.push(b'\n')?;
     Ok(())

@@ -88,11 +88,8 @@ abbrev pub replied : Option Reply → List ℕ
 replied None = []
 replied (Some reply) = codes "\\n" ++ dot_words (reply_text reply)
 
-abbrev pub name_text : ℕ → List ℕ
-name_text i = codes "\"" ++ instance_text i ++ codes "\""
-
 abbrev pub node_start : ℕ → List ℕ
-node_start i = codes "  " ++ name_text i ++ codes " [style=solid, label=\"" ++ instance_text i ++ codes " "
+node_start i = codes "  \"" ++ instance_text i ++ codes "\" [style=solid, label=\"" ++ instance_text i ++ codes " "
 
 -- what is committed in instance i: its command, and the reply
 abbrev pub node_text : ℕ → Decree → Option Reply → List ℕ
@@ -100,7 +97,7 @@ node_text i x reply = node_start i ++ dot_words (command_text x.command) ++ repl
 
 -- that instance i depends on j
 abbrev pub edge_text : ℕ → ℕ → List ℕ
-edge_text i j = codes "  " ++ name_text i ++ codes " -> " ++ name_text j ++ codes ";\n"
+edge_text i j = codes "  \"" ++ instance_text i ++ codes "\" -> \"" ++ instance_text j ++ codes "\";\n"
 
 abbrev pub edges_text : ℕ → List ℕ → List ℕ
 edges_text i [] = []

@@ -77,14 +77,8 @@ module _ (handled : List ℕ → Bool) where
   abbrev pub entry_lines : ℕ → Entry → List ℕ
   entry_lines r e = happened r e.event e.frames ++ all_answered e.done ++ codes "\n" ++ lost_lines r e.frames
 
-unfoldable pub participant_start : ℕ → List ℕ
-participant_start r = codes "  participant r" ++ decimal r
-
-unfoldable pub participant_end : ℕ → List ℕ
-participant_end r = codes " as replica " ++ decimal r ++ codes "\n"
-
 unfoldable pub participant_text : ℕ → List ℕ
-participant_text r = participant_start r ++ participant_end r
+participant_text r = codes "  participant r" ++ decimal r ++ codes " as replica " ++ decimal r ++ codes "\n"
 
 -- the lines of the replicas below n
 abbrev pub participants : ℕ → List ℕ

@@ -15,16 +15,9 @@ use Rattle.ep_view.specs.Editions.{edition_text}
 use Rattle.ep_view.specs.Words.{event_text, origin_text}
 use Rattle.ep_view.specs.Strings.{string_text}
 
--- the process of a replica, and its one thread
-unfoldable pub pid_text : ℕ → List ℕ
-pid_text r = codes ",\"tid\":0,\"pid\":" ++ decimal r
-
-unfoldable pub time_text : ℕ → List ℕ
-time_text time = codes ",\"ts\":" ++ decimal time
-
--- an event that begins so, of this replica's process, at this time
+-- an event that begins so, of this replica's process and its one thread, at this time
 unfoldable pub begun : List ℕ → ℕ → ℕ → List ℕ
-begun start r time = codes ",\n{" ++ start ++ pid_text r ++ time_text time
+begun start r time = codes ",\n{" ++ start ++ codes ",\"tid\":0,\"pid\":" ++ decimal r ++ codes ",\"ts\":" ++ decimal time
 
 -- its name
 unfoldable pub named : List ℕ → List ℕ
@@ -112,15 +105,9 @@ entry_events handled r e = slice_text r e ++ arrow_of r e e.event ++ instants_te
 
 -- Processes.
 
-unfoldable pub process_start : ℕ → List ℕ
-process_start r = codes ",\n{\"ph\":\"M\",\"name\":\"process_name\",\"pid\":" ++ decimal r
-
-unfoldable pub process_name : ℕ → List ℕ
-process_name r = codes ",\"tid\":0,\"args\":{\"name\":\"replica " ++ decimal r ++ codes "\"}}"
-
 -- the process of a replica
 unfoldable pub process_text : ℕ → List ℕ
-process_text r = process_start r ++ process_name r
+process_text r = codes ",\n{\"ph\":\"M\",\"name\":\"process_name\",\"pid\":" ++ decimal r ++ codes ",\"tid\":0,\"args\":{\"name\":\"replica " ++ decimal r ++ codes "\"}}"
 
 -- the first event, which says that the process of replica 0 stands first
 unfoldable pub first_event : List ℕ

@@ -6,7 +6,7 @@ ghost use Rattle.ep_view.specs.Editions.{generation_text, opening_text, edition_
 
 use ep_base::{Version, VersionKind};
 use ep_journal::Opening;
-use ep_report::{push_contents, push_number};
+use ep_report::{Part, push_contents, push_parts};
 use std::alloc::{AllocError, Global};
 
 // Appends version 3 with this generation.
@@ -14,15 +14,13 @@ use std::alloc::{AllocError, Global};
 fn push_numbered(text: &mut Vec<u8>, generation: u32) -> Result<(), AllocError>
     ensures { OnOk result (text.new.items ≡ text.old.items ++ generation_text generation) }
 {
-    text.extend_from_slice(b"version 3 generation ")?;
-    push_number(text, u64::from(generation))
-}
-
-// Appends the stamp that the clocks go on from.
-fn push_since(text: &mut Vec<u8>, opening: &Opening) -> Result<(), AllocError>
-    ensures { OnOk result (text.new.items ≡ text.old.items ++ decimal opening.now.since) }
-{
-    push_number(text, opening.since())
+    push_parts(
+        text,
+        &[
+            Part::Text(b"version 3 generation "),
+            Part::Number(generation as u64),
+        ],
+    )
 }
 
 // Appends how many keys there are, and the digest of what they have.
@@ -36,9 +34,14 @@ fn push_opened(text: &mut Vec<u8>, opening: &Opening) -> Result<(), AllocError>
 fn push_opening(text: &mut Vec<u8>, opening: &Opening) -> Result<(), AllocError>
     ensures { OnOk result (text.new.items ≡ text.old.items ++ opening_text opening.now) }
 {
-    text.extend_from_slice(b" since ")?;
-    push_since(text, opening)?;
-    text.extend_from_slice(b" opening ")?;
+    push_parts(
+        text,
+        &[
+            Part::Text(b" since "),
+            Part::Number(opening.since()),
+            Part::Text(b" opening "),
+        ],
+    )?;
     push_opened(text, opening)
 }
 

@@ -9,7 +9,7 @@ use crate::messages::{push_message, push_origin};
 use ep_base::{Command, InstanceId, ReplicaId};
 use ep_frame::Frame;
 use ep_journal::Event;
-use ep_report::{push_command, push_instance, push_number};
+use ep_report::{Part, push_command, push_parts};
 use std::alloc::{AllocError, Global};
 
 /// Appends the replica that a proposal names as the spared one, if it does.
@@ -19,8 +19,13 @@ pub(crate) fn push_sparing(text: &mut Vec<u8>, spared: Option<ReplicaId>) -> Res
     let Some(replica) = spared else {
         return Ok(());
     };
-    text.extend_from_slice(b" sparing ")?;
-    push_number(text, u64::from(replica.index()))
+    push_parts(
+        text,
+        &[
+            Part::Text(b" sparing "),
+            Part::Number(replica.index() as u64),
+        ],
+    )
 }
 
 // Appends a command that is proposed, with its client's request.
@@ -33,16 +38,20 @@ fn push_request(
 ) -> Result<(), AllocError>
     ensures { OnOk result (text.new.items ≡ text.old.items ++ request_text client request command.now seen) }
 {
-    text.extend_from_slice(b"propose ")?;
-    push_command(text, command)?;
-    text.extend_from_slice(b" (client ")?;
-    push_number(text, u64::from(client))?;
-    text.extend_from_slice(b" request ")?;
-    push_number(text, u64::from(request))?;
-    text.extend_from_slice(b" seen ")?;
-    push_number(text, seen)?;
-    text.push(b')')?;
-    Ok(())
+    push_parts(
+        text,
+        &[
+            Part::Text(b"propose "),
+            Part::Command(command),
+            Part::Text(b" (client "),
+            Part::Number(client as u64),
+            Part::Text(b" request "),
+            Part::Number(request as u64),
+            Part::Text(b" seen "),
+            Part::Number(seen),
+            Part::Text(b")"),
+        ],
+    )
 }
 
 fn push_handling(text: &mut Vec<u8>, frame: &Frame) -> Result<(), AllocError>
@@ -56,10 +65,9 @@ fn push_handling(text: &mut Vec<u8>, frame: &Frame) -> Result<(), AllocError>
 
 // Appends a word or two, and then an instance.
 fn push_named(text: &mut Vec<u8>, name: &[u8], instance: InstanceId) -> Result<(), AllocError>
-    ensures { OnOk result (text.new.items ≡ text.old.items ++ name.now ++ instance_text instance) }
+    ensures { OnOk result (text.new.items ≡ text.old.items ++ (name.now ++ instance_text instance)) }
 {
-    text.extend_from_slice(name)?;
-    push_instance(text, instance)
+    push_parts(text, &[Part::Text(name), Part::Instance(instance)])
 }
 
 /// Appends an event: a proposal with its command and its client's request, a handled frame with its origin and its message,

@@ -3,7 +3,7 @@
 ghost use Rattle.std.specs.Prelude.{◌≡◌, ◌++◌, IfOk, OnOk, codes, option_copied};
 ghost use Rattle.ep_audit.specs.Tables.{agreed_in};
 ghost use Rattle.ep_report.specs.Parts.{command_text, reply_text};
-ghost use Rattle.ep_view.specs.Graphs.{reply_in, replied, name_text, node_start, node_text, edge_text, edges_text, lines_of, lines_in, generation_title, edition_title, graph_start, graph_text, whole_text, IsHistoryOf, IsGraph};
+ghost use Rattle.ep_view.specs.Graphs.{reply_in, replied, node_start, node_text, edge_text, edges_text, lines_of, lines_in, generation_title, edition_title, graph_start, graph_text, whole_text, IsHistoryOf, IsGraph};
 ghost use Rattle.ep_view.specs.Labels.{dot_words};
 
 use crate::beginning::begun;
@@ -15,7 +15,7 @@ use crate::selection::Selection;
 use ep_audit::{Happening, Verdict};
 use ep_base::{Command, Decree, InstanceId, Reply, Version, VersionKind};
 use ep_journal::{Journals, Opening};
-use ep_report::{push_instance, push_reply};
+use ep_report::{Part, push_parts, push_reply};
 use std::alloc::{AllocError, Global};
 
 // The first reply to the instance.
@@ -56,23 +56,20 @@ fn push_given_reply(text: &mut Vec<u8>, reply: &Reply) -> Result<(), AllocError>
     push_dot_words(text, &words)
 }
 
-fn push_name(text: &mut Vec<u8>, instance: InstanceId) -> Result<(), AllocError>
-    ensures { OnOk result (text.new.items ≡ text.old.items ++ name_text instance) }
-{
-    text.extend_from_slice(b"\"")?;
-    push_instance(text, instance)?;
-    text.extend_from_slice(b"\"")
-}
-
 // Appends the beginning of an instance's node, up to its command.
 fn push_node_start(text: &mut Vec<u8>, instance: InstanceId) -> Result<(), AllocError>
     ensures { OnOk result (text.new.items ≡ text.old.items ++ node_start instance) }
 {
-    text.extend_from_slice(b"  ")?;
-    push_name(text, instance)?;
-    text.extend_from_slice(b" [style=solid, label=\"")?;
-    push_instance(text, instance)?;
-    text.extend_from_slice(b" ")
+    push_parts(
+        text,
+        &[
+            Part::Text(b"  \""),
+            Part::Instance(instance),
+            Part::Text(b"\" [style=solid, label=\""),
+            Part::Instance(instance),
+            Part::Text(b" "),
+        ],
+    )
 }
 
 fn push_labelled(text: &mut Vec<u8>, command: &Command) -> Result<(), AllocError>
@@ -100,11 +97,16 @@ fn push_node(
 fn push_edge(text: &mut Vec<u8>, from: InstanceId, to: InstanceId) -> Result<(), AllocError>
     ensures { OnOk result (text.new.items ≡ text.old.items ++ edge_text from to) }
 {
-    text.extend_from_slice(b"  ")?;
-    push_name(text, from)?;
-    text.extend_from_slice(b" -> ")?;
-    push_name(text, to)?;
-    text.extend_from_slice(b";\n")
+    push_parts(
+        text,
+        &[
+            Part::Text(b"  \""),
+            Part::Instance(from),
+            Part::Text(b"\" -> \""),
+            Part::Instance(to),
+            Part::Text(b"\";\n"),
+        ],
+    )
 }
 
 fn push_edges(text: &mut Vec<u8>, from: InstanceId, all: &[InstanceId]) -> Result<(), AllocError>

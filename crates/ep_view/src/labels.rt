@@ -3,7 +3,7 @@
 ghost use Rattle.std.specs.Prelude.{◌≡◌, ◌++◌, OnOk, codes, decimal};
 ghost use Rattle.ep_view.specs.Labels.{is_from, stands_for_itself, mermaid_byte, mermaid_words, dot_other, dot_byte, dot_words, AreLabels};
 
-use ep_report::push_number;
+use ep_report::{Part, push_parts};
 use std::alloc::AllocError;
 
 fn is_from(low: u8, high: u8, byte: u8) -> bool
@@ -30,11 +30,16 @@ fn stands_for_itself(byte: u8) -> bool
 
 // Appends a byte by its number.
 fn push_numbered(text: &mut Vec<u8>, start: &[u8], byte: u8) -> Result<(), AllocError>
-    ensures { OnOk result (text.new.items ≡ text.old.items ++ start.now ++ decimal byte ++ codes ";") }
+    ensures { OnOk result (text.new.items ≡ text.old.items ++ (start.now ++ decimal byte ++ codes ";")) }
 {
-    text.extend_from_slice(start)?;
-    push_number(text, u64::from(byte))?;
-    text.extend_from_slice(b";")
+    push_parts(
+        text,
+        &[
+            Part::Text(start),
+            Part::Number(byte as u64),
+            Part::Text(b";"),
+        ],
+    )
 }
 
 fn push_mermaid_byte(text: &mut Vec<u8>, byte: u8) -> Result<(), AllocError>

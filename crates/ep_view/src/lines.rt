@@ -10,7 +10,7 @@ use crate::messages::push_message;
 use ep_base::{Answer, InstanceId, ReplicaId};
 use ep_frame::Frame;
 use ep_journal::{Entry, Event};
-use ep_report::{push_answer, push_instance, push_number};
+use ep_report::{Part, push_parts};
 use std::alloc::{AllocError, Global};
 
 // Appends an instance that was executed, with its answer.
@@ -18,9 +18,14 @@ fn push_answered(text: &mut Vec<u8>, done: &(InstanceId, Answer)) -> Result<(), 
     ensures { OnOk result (text.new.items ≡ text.old.items ++ answered_text done.now) }
 {
     let (instance, answer) = done;
-    push_instance(text, *instance)?;
-    text.extend_from_slice(b" -> ")?;
-    push_answer(text, answer)
+    push_parts(
+        text,
+        &[
+            Part::Instance(*instance),
+            Part::Text(b" -> "),
+            Part::Answer(answer),
+        ],
+    )
 }
 
 fn push_more_done(text: &mut Vec<u8>, done: &[(InstanceId, Answer)]) -> Result<(), AllocError>
@@ -52,8 +57,10 @@ fn push_took(text: &mut Vec<u8>, frames: &[Frame]) -> Result<(), AllocError>
     let [first, ..] = frames else {
         return Ok(());
     };
-    text.extend_from_slice(b"; took ")?;
-    push_instance(text, first.instance())
+    push_parts(
+        text,
+        &[Part::Text(b"; took "), Part::Instance(first.instance())],
+    )
 }
 
 /// Appends an event, and for a proposal the instance that it takes.
@@ -83,17 +90,27 @@ pub fn push_between(text: &mut Vec<u8>, words: &[u8], next: &[u8]) -> Result<(),
     if words == next {
         return text.extend_from_slice(b", ");
     }
-    text.extend_from_slice(b": ")?;
-    text.extend_from_slice(words)?;
-    text.extend_from_slice(b"; sends ")
+    push_parts(
+        text,
+        &[
+            Part::Text(b": "),
+            Part::Text(words),
+            Part::Text(b"; sends "),
+        ],
+    )
 }
 
 // Appends the receiver of a frame, and whether nobody handles it.
 fn push_receiver(text: &mut Vec<u8>, handled: &Handled, frame: &Frame) -> Result<(), AllocError>
     ensures { OnOk result (text.new.items ≡ text.old.items ++ receiver_text (is_in handled.now) frame.now) }
 {
-    text.extend_from_slice(b"to ")?;
-    push_number(text, u64::from(frame.origin().to.index()))?;
+    push_parts(
+        text,
+        &[
+            Part::Text(b"to "),
+            Part::Number(frame.origin().to.index() as u64),
+        ],
+    )?;
     push_unless(text, handled.has(frame))
 }
 
@@ -175,12 +192,17 @@ pub(crate) fn push_entry(
 ) -> Result<(), AllocError>
     ensures { OnOk result (text.new.items ≡ text.old.items ++ entry_text (is_in handled.now) replica entry.now) }
 {
-    text.extend_from_slice(b"stamp ")?;
-    push_number(text, entry.stamp.ticks())?;
-    text.extend_from_slice(b"  replica ")?;
-    push_number(text, u64::from(replica.index()))?;
-    text.extend_from_slice(b" entry ")?;
-    push_number(text, u64::from(entry.number))?;
-    text.extend_from_slice(b"  ")?;
+    push_parts(
+        text,
+        &[
+            Part::Text(b"stamp "),
+            Part::Number(entry.stamp.ticks()),
+            Part::Text(b"  replica "),
+            Part::Number(replica.index() as u64),
+            Part::Text(b" entry "),
+            Part::Number(entry.number as u64),
+            Part::Text(b"  "),
+        ],
+    )?;
     push_happened(text, handled, entry)
 }

@@ -7,55 +7,68 @@ ghost use Rattle.ep_view.specs.Words.{ballot_text, attrs_text, decree_text, stat
 
 use ep_base::{Attrs, Ballot, Decree, InstanceId, Message, Vote, VoteStatus};
 use ep_frame::Frame;
-use ep_report::{push_command, push_deps, push_instance, push_number};
+use ep_report::{Part, push_parts};
 use std::alloc::AllocError;
 
 /// Appends a ballot: its counter and the replica that leads it.
 pub fn push_ballot(text: &mut Vec<u8>, ballot: Ballot) -> Result<(), AllocError>
     ensures { OnOk result (text.new.items ≡ text.old.items ++ ballot_text ballot) }
 {
-    text.push(b'(')?;
-    push_number(text, u64::from(ballot.counter()))?;
-    text.extend_from_slice(b", ")?;
-    push_number(text, u64::from(ballot.replica().index()))?;
-    text.push(b')')?;
-    Ok(())
+    push_parts(
+        text,
+        &[
+            Part::Text(b"("),
+            Part::Number(ballot.counter() as u64),
+            Part::Text(b", "),
+            Part::Number(ballot.replica().index() as u64),
+            Part::Text(b")"),
+        ],
+    )
 }
 
 fn push_attrs(text: &mut Vec<u8>, attrs: &Attrs) -> Result<(), AllocError>
     ensures { OnOk result (text.new.items ≡ text.old.items ++ attrs_text attrs.now) }
 {
-    text.extend_from_slice(b" seq ")?;
-    push_number(text, u64::from(attrs.seq.number()))?;
-    text.extend_from_slice(b" deps ")?;
-    push_deps(text, &attrs.deps)
+    push_parts(
+        text,
+        &[
+            Part::Text(b" seq "),
+            Part::Number(attrs.seq.number() as u64),
+            Part::Text(b" deps "),
+            Part::Deps(&attrs.deps),
+        ],
+    )
 }
 
 // Appends a command with its attributes.
 fn push_decree(text: &mut Vec<u8>, decree: &Decree) -> Result<(), AllocError>
     ensures { OnOk result (text.new.items ≡ text.old.items ++ decree_text decree.now) }
 {
-    text.push(b' ')?;
-    push_command(text, &decree.command)?;
+    push_parts(text, &[Part::Text(b" "), Part::Command(&decree.command)])?;
     push_attrs(text, &decree.attrs)
 }
 
-fn push_status(text: &mut Vec<u8>, status: VoteStatus) -> Result<(), AllocError>
-    ensures { OnOk result (text.new.items ≡ text.old.items ++ status_text status) }
+fn status_words(status: VoteStatus) -> &'static [u8]
+    ensures { result.now ≡ status_text status }
 {
     match status {
-        VoteStatus::PreAccepted => text.extend_from_slice(b"pre-accepted"),
-        VoteStatus::Accepted => text.extend_from_slice(b"accepted"),
-        VoteStatus::Committed => text.extend_from_slice(b"committed"),
+        VoteStatus::PreAccepted => b"pre-accepted",
+        VoteStatus::Accepted => b"accepted",
+        VoteStatus::Committed => b"committed",
     }
 }
 
 fn push_given_vote(text: &mut Vec<u8>, vote: &Vote) -> Result<(), AllocError>
     ensures { OnOk result (text.new.items ≡ text.old.items ++ vote_text (Some vote.now)) }
 {
-    text.extend_from_slice(b" vote ")?;
-    push_status(text, vote.status)?;
-    text.extend_from_slice(b" at ")?;
+    push_parts(
+        text,
+        &[
+            Part::Text(b" vote "),
+            Part::Text(status_words(vote.status)),
+            Part::Text(b" at "),
+        ],
+    )?;
     push_ballot(text, vote.ballot)?;
     push_decree(text, &vote.decree)
 }
@@ -78,9 +91,14 @@ fn push_about(
 ) -> Result<(), AllocError>
     ensures { OnOk result (text.new.items ≡ text.old.items ++ name.now ++ about_text instance ballot) }
 {
-    text.extend_from_slice(name)?;
-    push_instance(text, instance)?;
-    text.extend_from_slice(b" ballot ")?;
+    push_parts(
+        text,
+        &[
+            Part::Text(name),
+            Part::Instance(instance),
+            Part::Text(b" ballot "),
+        ],
+    )?;
     push_ballot(text, ballot)
 }
 
@@ -115,8 +133,7 @@ fn push_voted(
 fn push_commit(text: &mut Vec<u8>, instance: InstanceId, decree: &Decree) -> Result<(), AllocError>
     ensures { OnOk result (text.new.items ≡ text.old.items ++ message_text (message.Commit instance decree.now)) }
 {
-    text.extend_from_slice(b"Commit ")?;
-    push_instance(text, instance)?;
+    push_parts(text, &[Part::Text(b"Commit "), Part::Instance(instance)])?;
     push_decree(text, decree)
 }
 
@@ -200,9 +217,14 @@ pub fn push_origin(text: &mut Vec<u8>, frame: &Frame) -> Result<(), AllocError>
     ensures { OnOk result (text.new.items ≡ text.old.items ++ origin_text frame.now) }
 {
     let origin = frame.origin();
-    push_number(text, u64::from(frame.from().index()))?;
-    text.push(b':')?;
-    push_number(text, u64::from(origin.entry))?;
-    text.push(b':')?;
-    push_number(text, u64::from(origin.out))
+    push_parts(
+        text,
+        &[
+            Part::Number(frame.from().index() as u64),
+            Part::Text(b":"),
+            Part::Number(origin.entry as u64),
+            Part::Text(b":"),
+            Part::Number(origin.out as u64),
+        ],
+    )
 }

@@ -14,7 +14,7 @@ use crate::labels::push_mermaid_words;
 use ep_base::{Answer, Command, InstanceId, Message, ReplicaId};
 use ep_frame::Frame;
 use ep_journal::{Entry, Event};
-use ep_report::{push_answer, push_instance, push_number};
+use ep_report::{Part, push_answer, push_parts};
 use std::alloc::{AllocError, Global};
 
 /// Appends the beginning of a note at this replica's line.
@@ -22,9 +22,14 @@ use std::alloc::{AllocError, Global};
 pub(crate) fn push_note_start(text: &mut Vec<u8>, replica: u8) -> Result<(), AllocError>
     ensures { OnOk result (text.new.items ≡ text.old.items ++ note_start replica) }
 {
-    text.extend_from_slice(b"  Note over r")?;
-    push_number(text, u64::from(replica))?;
-    text.extend_from_slice(b": ")
+    push_parts(
+        text,
+        &[
+            Part::Text(b"  Note over r"),
+            Part::Number(replica as u64),
+            Part::Text(b": "),
+        ],
+    )
 }
 
 // Appends the beginning of an arrow from one replica's line to another one's.
@@ -32,27 +37,33 @@ pub(crate) fn push_note_start(text: &mut Vec<u8>, replica: u8) -> Result<(), All
 fn push_arrow_start(text: &mut Vec<u8>, from: u8, arrow: &[u8], to: u8) -> Result<(), AllocError>
     ensures { OnOk result (text.new.items ≡ text.old.items ++ arrow_start from arrow.now to) }
 {
-    text.extend_from_slice(b"  r")?;
-    push_number(text, u64::from(from))?;
-    text.extend_from_slice(arrow)?;
-    text.extend_from_slice(b"r")?;
-    push_number(text, u64::from(to))?;
-    text.extend_from_slice(b": ")
+    push_parts(
+        text,
+        &[
+            Part::Text(b"  r"),
+            Part::Number(from as u64),
+            Part::Text(arrow),
+            Part::Text(b"r"),
+            Part::Number(to as u64),
+            Part::Text(b": "),
+        ],
+    )
 }
 
 fn push_kind(text: &mut Vec<u8>, kind: &[u8], instance: InstanceId) -> Result<(), AllocError>
-    ensures { OnOk result (text.new.items ≡ text.old.items ++ kind.now ++ instance_text instance) }
+    ensures { OnOk result (text.new.items ≡ text.old.items ++ (kind.now ++ instance_text instance)) }
 {
-    text.extend_from_slice(kind)?;
-    push_instance(text, instance)
+    push_parts(text, &[Part::Text(kind), Part::Instance(instance)])
 }
 
 #[tactic(auto, unfolding(crate::specs::Sequences::pre_accept_ok_text))]
 fn push_pre_accept_ok(text: &mut Vec<u8>, instance: InstanceId) -> Result<(), AllocError>
     ensures { OnOk result (text.new.items ≡ text.old.items ++ pre_accept_ok_text instance) }
 {
-    text.extend_from_slice(b"PreAcceptOK ")?;
-    push_instance(text, instance)
+    push_parts(
+        text,
+        &[Part::Text(b"PreAcceptOK "), Part::Instance(instance)],
+    )
 }
 
 fn push_told(text: &mut Vec<u8>, told: &Message) -> Result<(), AllocError>
@@ -95,8 +106,10 @@ fn push_as(text: &mut Vec<u8>, frames: &[Frame]) -> Result<(), AllocError>
     let [first, ..] = frames else {
         return Ok(());
     };
-    text.extend_from_slice(b" as ")?;
-    push_instance(text, first.instance())
+    push_parts(
+        text,
+        &[Part::Text(b" as "), Part::Instance(first.instance())],
+    )
 }
 
 fn push_proposed(
@@ -169,9 +182,14 @@ fn push_answered(text: &mut Vec<u8>, done: &(InstanceId, Answer)) -> Result<(), 
 {
     let (instance, answer) = done;
     let words = answer_words(*text.allocator(), answer)?;
-    text.extend_from_slice(b"<br/>")?;
-    push_instance(text, *instance)?;
-    text.extend_from_slice(b" answers ")?;
+    push_parts(
+        text,
+        &[
+            Part::Text(b"<br/>"),
+            Part::Instance(*instance),
+            Part::Text(b" answers "),
+        ],
+    )?;
     push_mermaid_words(text, &words)
 }
 

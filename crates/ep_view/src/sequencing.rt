@@ -4,7 +4,7 @@ ghost use Rattle.std.specs.Prelude.{◌≡◌, ◌++◌, IfOk, OnOk};
 ghost use Rattle.ep_base.specs.Quorums.{size};
 ghost use Rattle.ep_journal.specs.Entries.{AreJournals};
 ghost use Rattle.ep_view.specs.Handled.{is_in};
-ghost use Rattle.ep_view.specs.Sequences.{participant_start, participant_end, participant_text, participants, sequence_start, edition_note, entry_lines, sequence_text, IsSequence};
+ghost use Rattle.ep_view.specs.Sequences.{participant_text, participants, sequence_start, edition_note, entry_lines, sequence_text, IsSequence};
 ghost use Rattle.ep_view.specs.Walks.{told_at};
 
 use crate::editions::generation_words;
@@ -16,7 +16,7 @@ use crate::showing::schedule;
 use crate::walk::{Printer, push_kept};
 use ep_base::{ReplicaId, Version, VersionKind};
 use ep_journal::{Entry, Journals, Opening};
-use ep_report::push_number;
+use ep_report::{Part, push_parts};
 use std::alloc::{AllocError, Global};
 
 /// Tells an entry as its lines in a sequence diagram.
@@ -38,29 +38,20 @@ impl<'a> Printer for Arrows<'a> {
     }
 }
 
-#[tactic(auto, unfolding(crate::specs::Sequences::participant_start))]
-fn push_participant_start(text: &mut Vec<u8>, replica: u8) -> Result<(), AllocError>
-    ensures { OnOk result (text.new.items ≡ text.old.items ++ participant_start replica) }
-{
-    text.extend_from_slice(b"  participant r")?;
-    push_number(text, u64::from(replica))
-}
-
-#[tactic(auto, unfolding(crate::specs::Sequences::participant_end))]
-fn push_participant_end(text: &mut Vec<u8>, replica: u8) -> Result<(), AllocError>
-    ensures { OnOk result (text.new.items ≡ text.old.items ++ participant_end replica) }
-{
-    text.extend_from_slice(b" as replica ")?;
-    push_number(text, u64::from(replica))?;
-    text.extend_from_slice(b"\n")
-}
-
 #[tactic(auto, unfolding(crate::specs::Sequences::participant_text))]
 fn push_participant(text: &mut Vec<u8>, replica: u8) -> Result<(), AllocError>
     ensures { OnOk result (text.new.items ≡ text.old.items ++ participant_text replica) }
 {
-    push_participant_start(text, replica)?;
-    push_participant_end(text, replica)
+    push_parts(
+        text,
+        &[
+            Part::Text(b"  participant r"),
+            Part::Number(replica as u64),
+            Part::Text(b" as replica "),
+            Part::Number(replica as u64),
+            Part::Text(b"\n"),
+        ],
+    )
 }
 
 // Appends the lines of as many replicas.

@@ -14,7 +14,7 @@ use crate::walk::{Printer, push_kept};
 use ep_audit::Verdict;
 use ep_base::ReplicaId;
 use ep_journal::{Entry, Journals};
-use ep_report::push_number;
+use ep_report::{Part, push_parts};
 use std::alloc::{AllocError, Global};
 
 /// All entries of the journals, by stamp and replica: each as its replica with its number.
@@ -62,9 +62,14 @@ pub(crate) fn push_none_kept(text: &mut Vec<u8>, count: usize) -> Result<(), All
     if count == 0 {
         return Ok(());
     }
-    text.extend_from_slice(b"0 of ")?;
-    push_number(text, count as u64)?;
-    text.extend_from_slice(b" entries\n")
+    push_parts(
+        text,
+        &[
+            Part::Text(b"0 of "),
+            Part::Number(count as u64),
+            Part::Text(b" entries\n"),
+        ],
+    )
 }
 
 // Appends the lines of the entries at these places, or that none of them is kept.

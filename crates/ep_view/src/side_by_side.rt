@@ -8,11 +8,14 @@ use crate::showing::{push_none_kept, schedule};
 use ep_audit::entry_at;
 use ep_base::ReplicaId;
 use ep_journal::{Entry, Journals};
-use ep_report::push_number;
+use ep_report::{Part, push_parts};
 use std::alloc::{AllocError, Global};
 
 /// How many bytes wide a column is. There are two spaces between columns, so that three of them take 100.
 const WIDTH: usize = 32;
+
+/// What stands between the names of two columns, as `replica 0` is 9 wide.
+const GAP: &[u8] = b"                         ";
 
 // Where the first row of a text that is wider than a column ends, and where the next one begins: at the last space that leaves
 // the row no wider than the column, or else at the column's end.
@@ -43,9 +46,7 @@ fn push_row(text: &mut Vec<u8>, replica: u8, row: &[u8]) -> Result<(), AllocErro
     for _ in 0..usize::from(replica) * (WIDTH + 2) {
         text.push(b' ')?;
     }
-    text.extend_from_slice(row)?;
-    text.push(b'\n')?;
-    Ok(())
+    push_parts(text, &[Part::Text(row), Part::Text(b"\n")])
 }
 
 // Appends a text in the replica's column.
@@ -64,11 +65,17 @@ fn push_cell(text: &mut Vec<u8>, replica: u8, cell: &[u8]) -> Result<(), AllocEr
 
 // What is told of an entry in its replica's column.
 fn cell_of(alloc: Global, handled: &Handled, entry: &Entry) -> Result<Vec<u8>, AllocError> {
-    let mut cell = Vec::from_slice(alloc, b"stamp ")?;
-    push_number(&mut cell, entry.stamp.ticks())?;
-    cell.extend_from_slice(b" entry ")?;
-    push_number(&mut cell, u64::from(entry.number))?;
-    cell.extend_from_slice(b": ")?;
+    let mut cell = Vec::new(alloc);
+    push_parts(
+        &mut cell,
+        &[
+            Part::Text(b"stamp "),
+            Part::Number(entry.stamp.ticks()),
+            Part::Text(b" entry "),
+            Part::Number(entry.number as u64),
+            Part::Text(b": "),
+        ],
+    )?;
     push_happened(&mut cell, handled, entry)?;
     Ok(cell)
 }
@@ -108,13 +115,15 @@ fn push_cells(
 // Appends the names of as many columns.
 fn push_names(text: &mut Vec<u8>, count: u8) -> Result<(), AllocError> {
     for replica in 0..count {
-        if replica > 0 {
-            for _ in 0..WIDTH + 2 - 9 {
-                text.push(b' ')?;
-            }
-        }
-        text.extend_from_slice(b"replica ")?;
-        push_number(text, u64::from(replica))?;
+        let gap = if replica > 0 { GAP } else { b"" };
+        push_parts(
+            text,
+            &[
+                Part::Text(gap),
+                Part::Text(b"replica "),
+                Part::Number(replica as u64),
+            ],
+        )?;
     }
     text.push(b'\n')?;
     Ok(())

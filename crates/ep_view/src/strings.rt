@@ -16,10 +16,9 @@ fn digit(value: u8) -> u8
 fn push_number(text: &mut Vec<u8>, byte: u8) -> Result<(), AllocError>
     ensures { OnOk result (text.new.items ≡ text.old.items ++ escaped_number byte) }
 {
-    text.extend_from_slice(b"\\u00")?;
-    text.push(digit(byte / 16))?;
-    text.push(digit(byte % 16))?;
-    Ok(())
+    let high = digit(byte / 16);
+    let low = digit(byte % 16);
+    text.extend_from_slice(&[b'\\', b'u', b'0', b'0', high, low])
 }
 
 // Whether the byte stands in a string for itself: it is printed, and none of those that end a string or an escape, or begin a tag, or a

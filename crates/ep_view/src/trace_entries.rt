@@ -14,7 +14,7 @@ use crate::trace_parts::{push_arrow_id, push_begun, push_instant, push_named};
 use ep_base::ReplicaId;
 use ep_frame::Frame;
 use ep_journal::{Entry, Event};
-use ep_report::{push_instance, push_number};
+use ep_report::{Part, push_instance, push_parts};
 use std::alloc::{AllocError, Global};
 
 fn event_words(alloc: Global, event: &Event) -> Result<Vec<u8>, AllocError>
@@ -53,9 +53,14 @@ fn push_slice_words(text: &mut Vec<u8>, entry: &Entry) -> Result<(), AllocError>
     ensures { OnOk result (text.new.items ≡ text.old.items ++ slice_words entry.now) }
 {
     let words = happened_words(*text.allocator(), entry)?;
-    text.extend_from_slice(b",\"args\":{\"entry\":")?;
-    push_number(text, u64::from(entry.number))?;
-    text.extend_from_slice(b",\"words\":")?;
+    push_parts(
+        text,
+        &[
+            Part::Text(b",\"args\":{\"entry\":"),
+            Part::Number(entry.number as u64),
+            Part::Text(b",\"words\":"),
+        ],
+    )?;
     push_string(text, &words)?;
     text.extend_from_slice(b"}}")
 }
@@ -186,10 +191,16 @@ fn words_of_lost(alloc: Global, frame: &Frame) -> Result<Vec<u8>, AllocError>
     ensures { IfOk result (λ words. words.items ≡ lost_words frame.now) }
 {
     let message = words_of(alloc, frame)?;
-    let mut words = Vec::from_slice(alloc, b"never handled: to ")?;
-    push_number(&mut words, u64::from(frame.origin().to.index()))?;
-    words.extend_from_slice(b": ")?;
-    words.extend_from_slice(&message)?;
+    let mut words = Vec::new(alloc);
+    push_parts(
+        &mut words,
+        &[
+            Part::Text(b"never handled: to "),
+            Part::Number(frame.origin().to.index() as u64),
+            Part::Text(b": "),
+            Part::Text(&message),
+        ],
+    )?;
     Ok(words)
 }
 

@@ -1,7 +1,7 @@
 //! The parts of trace events.
 
 ghost use Rattle.std.specs.Prelude.{◌≡◌, ◌++◌, OnOk};
-ghost use Rattle.ep_view.specs.TraceEvents.{pid_text, time_text, begun, named, instant_text, arrow_id, process_start, process_name, process_text, first_event, generation_event, edition_event};
+ghost use Rattle.ep_view.specs.TraceEvents.{begun, named, instant_text, arrow_id, process_text, first_event, generation_event, edition_event};
 
 use crate::editions::generation_words;
 use crate::messages::push_origin;
@@ -9,24 +9,8 @@ use crate::strings::push_string;
 use ep_base::{ReplicaId, Version, VersionKind};
 use ep_frame::Frame;
 use ep_journal::{Entry, Opening};
-use ep_report::push_number;
+use ep_report::{Part, push_parts};
 use std::alloc::AllocError;
-
-#[tactic(auto, unfolding(crate::specs::TraceEvents::pid_text))]
-fn push_pid(text: &mut Vec<u8>, replica: ReplicaId) -> Result<(), AllocError>
-    ensures { OnOk result (text.new.items ≡ text.old.items ++ pid_text replica) }
-{
-    text.extend_from_slice(b",\"tid\":0,\"pid\":")?;
-    push_number(text, u64::from(replica.index()))
-}
-
-#[tactic(auto, unfolding(crate::specs::TraceEvents::time_text))]
-fn push_time(text: &mut Vec<u8>, time: u64) -> Result<(), AllocError>
-    ensures { OnOk result (text.new.items ≡ text.old.items ++ time_text time) }
-{
-    text.extend_from_slice(b",\"ts\":")?;
-    push_number(text, time)
-}
 
 /// Appends the beginning of an event of this replica's process, at this time.
 #[tactic(auto, unfolding(crate::specs::TraceEvents::begun))]
@@ -38,10 +22,17 @@ pub(crate) fn push_begun(
 ) -> Result<(), AllocError>
     ensures { OnOk result (text.new.items ≡ text.old.items ++ begun start.now replica time) }
 {
-    text.extend_from_slice(b",\n{")?;
-    text.extend_from_slice(start)?;
-    push_pid(text, replica)?;
-    push_time(text, time)
+    push_parts(
+        text,
+        &[
+            Part::Text(b",\n{"),
+            Part::Text(start),
+            Part::Text(b",\"tid\":0,\"pid\":"),
+            Part::Number(replica.index() as u64),
+            Part::Text(b",\"ts\":"),
+            Part::Number(time),
+        ],
+    )
 }
 
 /// Appends the name of an event.
@@ -85,28 +76,16 @@ pub(crate) fn push_arrow_id(
 {
     text.extend_from_slice(b",\"id\":\"")?;
     push_origin(text, frame)?;
-    text.extend_from_slice(b" by ")?;
-    push_number(text, u64::from(replica.index()))?;
-    text.extend_from_slice(b":")?;
-    push_number(text, u64::from(entry.number))?;
-    text.extend_from_slice(b"\"}")
-}
-
-#[tactic(auto, unfolding(crate::specs::TraceEvents::process_start))]
-fn push_process_start(text: &mut Vec<u8>, replica: u8) -> Result<(), AllocError>
-    ensures { OnOk result (text.new.items ≡ text.old.items ++ process_start replica) }
-{
-    text.extend_from_slice(b",\n{\"ph\":\"M\",\"name\":\"process_name\",\"pid\":")?;
-    push_number(text, u64::from(replica))
-}
-
-#[tactic(auto, unfolding(crate::specs::TraceEvents::process_name))]
-fn push_process_name(text: &mut Vec<u8>, replica: u8) -> Result<(), AllocError>
-    ensures { OnOk result (text.new.items ≡ text.old.items ++ process_name replica) }
-{
-    text.extend_from_slice(b",\"tid\":0,\"args\":{\"name\":\"replica ")?;
-    push_number(text, u64::from(replica))?;
-    text.extend_from_slice(b"\"}}")
+    push_parts(
+        text,
+        &[
+            Part::Text(b" by "),
+            Part::Number(replica.index() as u64),
+            Part::Text(b":"),
+            Part::Number(entry.number as u64),
+            Part::Text(b"\"}"),
+        ],
+    )
 }
 
 /// Appends the process of the replica of this number.
@@ -114,8 +93,16 @@ fn push_process_name(text: &mut Vec<u8>, replica: u8) -> Result<(), AllocError>
 pub(crate) fn push_process(text: &mut Vec<u8>, replica: u8) -> Result<(), AllocError>
     ensures { OnOk result (text.new.items ≡ text.old.items ++ process_text replica) }
 {
-    push_process_start(text, replica)?;
-    push_process_name(text, replica)
+    push_parts(
+        text,
+        &[
+            Part::Text(b",\n{\"ph\":\"M\",\"name\":\"process_name\",\"pid\":"),
+            Part::Number(replica as u64),
+            Part::Text(b",\"tid\":0,\"args\":{\"name\":\"replica "),
+            Part::Number(replica as u64),
+            Part::Text(b"\"}}"),
+        ],
+    )
 }
 
 /// Appends the first event.
