@@ -4,6 +4,7 @@ the folder that libepaxos.a and libepaxos.so are in.
 """
 
 import filecmp
+import hashlib
 import os
 import re
 import shutil
@@ -39,6 +40,19 @@ def rust(scratch, environment, library):
             yield is_well([f"{scratch}/target/debug/examples/{words[0]}", *words[1:]], env=core)
         folders = [f"{folder}/{me}" for me in range(3)]
         yield is_audited(environment["EPAXOS"], folders, [f"{it}/receipts" for it in folders]) == 600
+    if library:
+        for last in (4, 7):
+            yield goes_on([f"{scratch}/target/debug/examples/generations", f"{scratch}/rust-generations"], cores[1], last)
+
+
+def goes_on(words, core, last):
+    """Whether an example goes through three generations up to this one, and comes back."""
+    print(*(os.path.relpath(it, TOP) if it.startswith(TOP) else it for it in words), flush=True)
+    said = subprocess.run(words, env=core, stdin=subprocess.DEVNULL, stdout=subprocess.PIPE, text=True).stdout.splitlines()
+    told = [re.fullmatch(r"generation (\d+): (\d+)\.20", it) for it in said[:-1]]
+    # (the last to put a value is client 3 * G + me in generation G)
+    found = [int(it[1]) for it in told if it and int(it[2]) // 3 == int(it[1]) - 1]
+    return found == list(range(last - 2, last + 1)) and said[-1:] == ["three replicas agree, and each start does"]
 
 
 def is_audited(program, folders, receipts=()):
@@ -99,12 +113,42 @@ def vectors():
     told = (output.entries, output.is_sealed, output.frames, output.receipts, output.committed, output.executed)
     yield told == (4, True, [(2, b"\x06\x07")], receipts, [seven], [seven, one]) and output.open == [epaxos.Open(epaxos.Instance(2, 3), 0, 2, 1)]
 
+    reference = epaxos.Reference(3, 2, 321, bytes(range(32)))
+    run = opening_line("45504f52", 3)
+    yield reference.bytes == run and epaxos.Reference.read(run) == reference and reference.binding(b"9" * 32) == b"EPOB\3" + run[-32:] + b"9" * 32
+    yield all(is_no_reference(epaxos, changed) for changed in changes(run))
+
     put = epaxos._request(1, struct.pack(">IIQ", 1, 2, 3) + epaxos.put(b"x", b"1"))
     yield put == line("0000001a 01")[0]
     answer, frame = line("0000004f 09")
     output, first = epaxos.Output(answer[4:]), epaxos.Instance(0, 1)
     told = (output.entries, output.is_sealed, output.frames, output.receipts, output.committed, output.executed)
     yield told == (1, False, [(1, frame)], [], [], []) and output.open == [epaxos.Open(first, 1, 1, 0)]
+
+
+def opening_line(begin, count):
+    """The bytes of so many lines of examples/openings.txt that are indented, from the one on that begins so."""
+    with open(f"{TOP}/examples/openings.txt", encoding="utf-8") as file:
+        lines = [it.strip() for it in file if it.startswith("    ")]
+    at = next(place for place, it in enumerate(lines) if it.startswith(begin))
+    return bytes.fromhex("".join(lines[at : at + count]))
+
+
+def changes(run):
+    """These bytes cut anywhere, with one more, and with each of them changed; and with a digest that is right, but for a field that isn't."""
+    yield from (run[:length] for length in range(len(run)))
+    yield run + b"\0"
+    yield from (run[:at] + bytes([run[at] ^ 1]) + run[at + 1 :] for at in range(len(run)))
+    for at, field in ((5, b"\4"), (6, bytes(4)), (6, b"\0\0\0\1"), (10, (42).to_bytes(8, "big"))):
+        front = run[:at] + field + run[at + len(field) : 50]
+        yield front + hashlib.sha256(front).digest()
+
+
+def is_no_reference(epaxos, run):
+    try:
+        return not epaxos.Reference.read(run)
+    except ValueError:
+        return True
 
 
 def asked_by(use):
@@ -198,6 +242,9 @@ def python(scratch, environment, library):
         for name in ("0.log", "1.log", "2.log"):
             yield filecmp.cmp(f"{scratch}/python0/{name}", f"{scratch}/python1/{name}", shallow=False)
         yield is_well([sys.executable, f"{PYTHON}/large.py"], env=cores[1])
+        for last in (4, 7):
+            yield goes_on([sys.executable, f"{PYTHON}/generations.py", f"{scratch}/python-generations"], cores[1], last)
+        yield says(cores[1], SUCCEEDS, "what doesn't go on", SUCCEEDS_SAYS)
     import epaxos
 
     yield from (takes_turns(core) for core in cores)
@@ -290,6 +337,78 @@ replica.propose(1, 2, epaxos.put(b"b", b"2"))
 first, second = ready.synced(), replica.ready().synced()
 print(f"told of {first.entries} entry, by {len(first.frames)} frame; then of {second.entries}, by {len(second.frames)}")
 """
+
+
+# A replica that goes on when it may not: it is as it was.
+SUCCEEDS = """
+import hashlib, sys
+sys.path.insert(0, sys.argv[1])
+import epaxos
+def refused(of, *words):
+    try:
+        of.succeed(*words)
+    except epaxos.Fault as fault:
+        print(fault.name, end=" ")
+    except epaxos.OpenFault as fault:
+        print(fault, end="; ")
+    else:
+        print("done", end=" ")
+def settle(replicas):
+    frames = True
+    while frames:
+        frames = []
+        for replica in replicas:
+            replica.execute_all()
+            frames += replica.ready().synced().frames
+        for to, frame in frames:
+            replicas[to].handle(frame)
+replicas = [epaxos.Replica.new(3, me) for me in range(3)]
+log = replicas[0].ready().log
+for it in replicas: it.ready().synced()
+zero = replicas[0]
+early = zero.reference(3, hashlib.sha256(log).digest())
+refused(zero, early, 0)
+refused(zero, early, 3)
+refused(zero, early._replace(generation=3), 0)
+refused(zero, early._replace(length=44), 0)
+zero.propose(1, 1, epaxos.put(b"a", b"1"))
+refused(zero, early, 0)
+ready = zero.ready()
+refused(zero, early, 0)
+ready.begin()
+refused(zero, early, 0)
+frames = ready.synced().frames
+for to, frame in frames: replicas[to].handle(frame)
+settle(replicas)
+zero.propose(1, 2, epaxos.seal(b"s"))
+settle(replicas)
+print("closes:", len(zero.close(3)), end=": ")
+refused(zero, early, 0)
+zero.propose(1, 3, epaxos.put(b"b", b"2"))
+settle(replicas)
+reference = zero.reference(3, b"9" * 32)
+refused(zero, reference, 0, b"")
+refused(zero, reference, 0, log, 1)
+file = zero.close(3)
+checkpoint = zero.succeed(reference, 0)
+print("goes on:", b"".join(iter(lambda: checkpoint.piece(10), None)) == file, checkpoint.piece(), end=" ")
+refused(zero, reference, 0)
+refused(zero, reference._replace(generation=3, length=43), 0)
+ready = zero.ready()
+print(ready.is_anew, ready.log[-32:] == reference.digest, ready.synced().entries, zero.get(b"a"), end=": ")
+refused(zero, reference._replace(generation=3, length=43), 0)
+one = replicas[1]
+refused(one, one.reference(3, b"9" * 32), 1, log)
+refused(one, one.reference(3, b"9" * 32), 1)
+zero.end()
+refused(zero, reference._replace(generation=3, length=43), 0)
+print()
+"""
+SUCCEEDS_SAYS = (
+    "NotSealed OutOfRange OtherReference OtherReference Unsynced Unsynced Unsynced closes: 77: OtherReference the log is empty; "
+    "the log has 0 entries, and 1 were told: it is an older one, and must not be gone on from; goes on: True None OtherReference OtherReference "
+    "True True 0 b'1': NotSealed a log of another generation; NoReplica NoReplica \n"
+)
 
 
 # Opens a log of which so many entries were told.

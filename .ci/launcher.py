@@ -251,7 +251,8 @@ def shown(room):
     yield "a script from the terminal", (status, "reading from the terminal; Ctrl-D ends the input\n" in seen), (0, True)
     many = SCRIPT + "#\n" * 20000
     room.write("many.script", many)
-    closed = "(./epaxos {} < {}; echo $? > it.status) | (exec <&-; sleep 0.3); cat it.status"
+    # (the reader is gone before anything is written)
+    closed = "(sleep 0.2; ./epaxos {} < {}; echo $? > it.status) | (exec <&-; sleep 0.3); cat it.status"
     for words, given in (("replay", "put.script"), ("show", "unsent.bundle"), ("help replay", "/dev/null")):
         yield f"{words}, its pipe closed, on a terminal", room.seen(closed.format(words, given)), (0, "4\n")
         told = subprocess.run(["bash", "-c", closed.format(words, given)], cwd=room.top, stdout=subprocess.PIPE, stderr=subprocess.PIPE)

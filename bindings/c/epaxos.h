@@ -13,7 +13,8 @@
  *     proof covers it; EP_EMPTY has an address. Nothing that is handed in is used after the call.
  *   - Bytes that are lent lie in the replica, and stay until the next call with it; those of ep_ready stay until ep_synced or ep_free.
  *   - A replica is used by one call at a time. It may go to another thread in between, by a lock or a join. Two calls at once are undefined; EP_NO_REPLICA
- *     of a replica that is there is a sign of it. No call comes from a signal handler.
+ *     of a replica that is there is a sign of it. No call comes from a signal handler. The same holds of a checkpoint, by itself: its pieces may be taken
+ *     while another thread is in a call with the replica that it is of, and after that has ended.
  *   - In bytes, numbers have the highest byte first; docs/FORMATS.md has them all: section 10 requests and answers, 9 logs, 12 openings, 2 bundles.
  *     epaxos_answers.h, a header alone, reads what is told.
  */
@@ -28,7 +29,7 @@ extern "C" {
 #endif
 
 /* What ep_version() answers of the library that this header is of. */
-#define EP_VERSION 5
+#define EP_VERSION 6
 
 /* Begins a struct ep_bytes of no bytes, and a struct ep_replica of no replica. */
 #define EP_EMPTY { (const uint8_t *)"", 0 }
@@ -72,6 +73,24 @@ struct ep_call {
     /* The other replica that isn't asked at first: the slowest one, or one that can't be reached. All others have to
        answer before the command is committed in one round trip. */
     uint8_t spared;
+};
+
+/* A file that is given in pieces, on the heap, or none, as one pointer. C begins it with a null pointer, and changes
+   nothing in it. So each call sees whether it has none, was freed, or has one already, and none is undefined. */
+struct ep_checkpoint {
+    void *at;
+};
+
+/* A log whose generation is closed, and the generation that opens with what it leaves. */
+struct ep_closed_log {
+    /* The SHA-256 of the log's bytes, of 32 bytes. */
+    struct ep_bytes sum;
+    /* How many bytes it has. */
+    uint64_t length;
+    /* The generation after it, from 2. */
+    uint32_t generation;
+    /* How many replicas that has: 3, 5 or 7. */
+    uint8_t replicas;
 };
 
 /* What a key has to have, and what it then gets. */
@@ -123,6 +142,20 @@ struct ep_setup {
     uint8_t replica;
     /* 0: the replica goes on from its log; else it is new. A replica whose log is lost must never be new again: it
        would have forgotten what it told. */
+    uint8_t is_new;
+};
+
+/* What the next generation begins as. */
+struct ep_succession {
+    /* The digest that its log names, of 32 bytes: the last ones of ep_reference's, or of an opening file. */
+    struct ep_bytes digest;
+    /* All bytes of its log; none of a new replica. */
+    struct ep_bytes log;
+    /* How many replicas it has: 3, 5 or 7. */
+    uint8_t replicas;
+    /* Which of them this is, from 0. */
+    uint8_t replica;
+    /* 0: the replica goes on from this log, as after a start; else it is new there. */
     uint8_t is_new;
 };
 
@@ -220,6 +253,11 @@ enum {
     EP_HAS_PATIENCE = 45,
     /* What ep_prepare made before wasn't told: ep_told lends it. */
     EP_UNTOLD = 46,
+    /* There is no file that is given in pieces: none was begun, it was freed, or another thread is in a call with
+       it. */
+    EP_NO_CHECKPOINT = 30,
+    /* There is such a file already: free it before. */
+    EP_HAS_CHECKPOINT = 31,
     /* The log has no bytes, and the replica isn't new. */
     EP_NO_LOG = 48,
     /* The log has bytes, and the replica is new. */
@@ -318,6 +356,10 @@ static inline const char *ep_status_name(uint8_t status)
         return "EP_HAS_PATIENCE";
     case EP_UNTOLD:
         return "EP_UNTOLD";
+    case EP_NO_CHECKPOINT:
+        return "EP_NO_CHECKPOINT";
+    case EP_HAS_CHECKPOINT:
+        return "EP_HAS_CHECKPOINT";
     case EP_NO_LOG:
         return "EP_NO_LOG";
     case EP_LOG_EXISTS:
@@ -508,6 +550,47 @@ uint8_t ep_leads(struct ep_replica *replica, struct ep_instance instance, struct
    EP_NOT_SEALED; EP_LAST_GENERATION; EP_OUT_OF_RANGE: a cluster has 3, 5 or 7 replicas. */
 uint8_t ep_close(struct ep_replica *replica, uint8_t replicas, struct ep_bytes *opening);
 
+/* ---- The next generation in the place of the one before ---- */
+
+/* Copies the reference to a log whose generation is closed: what the generation after it opens with is what this log
+   leaves. It has 82 bytes, of which the last 32 are its digest, which ep_succeed has the next log name; `len`
+   becomes how many it has. Have it on the disk before that log. EP_TOO_SHORT: nothing was copied; EP_MEMORY;
+   EP_OUT_OF_RANGE: `sum` hasn't 32 bytes, the length is less than that of a header, 43, the generation isn't from 2,
+   or `replicas` isn't 3, 5 or 7. */
+uint8_t ep_reference(const struct ep_closed_log *closed, uint8_t *out, size_t out_len, size_t *len);
+
+/* Goes on in the next generation, once a seal was executed here, all is on the disk and nothing is lent: the replica
+   is then that of the next generation, new, with the map as it is, of which nothing is copied where nobody else has
+   what this generation opened with. ep_ready lends the header of its log, which names the digest. Behind
+   `checkpoint` is then the file that it opened with, which shares the map: write it when there is time, and free it
+   before the next ep_succeed, which has to copy the map else. After a start the replica goes through the generations
+   since the last whole opening by this call, with the log of each. EP_NO_REPLICA, EP_UNSYNCED; EP_NOT_SEALED;
+   EP_LAST_GENERATION; EP_HAS_CHECKPOINT; EP_LOG_EXISTS; EP_OUT_OF_RANGE: `digest` hasn't 32 bytes, `replicas` isn't
+   3, 5 or 7, or `replica` isn't below it: all is as it was. EP_MEMORY, and each other status from EP_NO_LOG on, by
+   which the log is refused, where `place` becomes the numbers that the status names: the replica, or the checkpoint,
+   may be gone; what was said to be on the disk is there, and ep_open goes on from it. */
+uint8_t ep_succeed(struct ep_replica *replica, struct ep_checkpoint *checkpoint,
+                   const struct ep_succession *succession, struct ep_place *place);
+
+/* Lends the next bytes of the opening file: at most `most` of them, or 189,004 where that is more, since no field is
+   cut. All pieces, one after the other, are the file; each has some bytes, and the last one is its digest alone.
+   They lie there until the next call with this checkpoint, which any thread may make, whatever the replica does.
+   EP_NO_CHECKPOINT, EP_MEMORY; EP_NONE: all was given. */
+uint8_t ep_checkpoint_next(struct ep_checkpoint *checkpoint, size_t most, struct ep_bytes *piece);
+
+/* Lets the file go, if it is there. EP_DONE. */
+uint8_t ep_checkpoint_free(struct ep_checkpoint *checkpoint);
+
+/* ---- A replica whose log names a reference ---- */
+
+/* Opens a replica as ep_open does, of a generation that was begun by a reference, once its opening file was written:
+   its log names the reference's digest, and that is what `succession` has. Only the binding on the disk says that
+   the file is the one for which the reference stood: look there before. EP_HAS_REPLICA, EP_MEMORY; EP_OUT_OF_RANGE:
+   `digest` hasn't 32 bytes, `replicas` isn't 3, 5 or 7, or `replica` isn't below it; and each status from EP_NO_LOG
+   on, as ep_open has them. */
+uint8_t ep_open_bound(struct ep_replica *replica, const uint8_t *opening, size_t opening_len,
+                      const struct ep_succession *succession, struct ep_place *place);
+
 /* ---- When to give up, and when to recover ---- */
 
 /* Begins to tell when a replica is to wait no longer, if nothing was begun: any answer is safe, and this one is wise
@@ -562,6 +645,11 @@ uint32_t ep_version(void);
    how many bytes it has. EP_TOO_SHORT: nothing was copied; EP_MEMORY; EP_OUT_OF_RANGE: a cluster has 3, 5 or 7
    replicas. */
 uint8_t ep_first_opening(uint8_t replicas, uint8_t *out, size_t out_len, size_t *len);
+
+/* Copies the SHA-256 of the bytes, which has 32, such as that of a log that is closed (ep_reference). `len` becomes
+   32. A megabyte takes some milliseconds: a host that can, adds what it writes to a sum of its own, and has it at
+   once. EP_TOO_SHORT: nothing was copied. */
+uint8_t ep_sum(const uint8_t *bytes, size_t bytes_len, uint8_t *out, size_t out_len, size_t *len);
 
 /* Audits a bundle, of any version, and copies the report of what it finds; of bytes that are no bundle the line that
    says why. `len` becomes how many bytes that has. EP_DONE: the audit accepts; EP_REFUSED: it refuses; EP_NOT_A_RUN,

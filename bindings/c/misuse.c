@@ -94,6 +94,55 @@ static void wait_no_longer(void)
     WANT(EP_DONE, ep_patience_free(&patience));
 }
 
+/* A change of generation that can't be: nothing is sealed, or what is given is wrong. What is told of the replica is as it was. */
+static void go_on(struct ep_replica *replica)
+{
+    static const uint8_t digest[32] = { 1 };
+    struct ep_checkpoint checkpoint = EP_CLOSED;
+    struct ep_replica none = EP_CLOSED;
+    struct ep_succession next = { { digest, 32 }, EP_EMPTY, 3, 0, 1 };
+    struct ep_closed_log closed = { { digest, 32 }, 43, 2, 3 };
+    struct ep_place place = { 5, 6 };
+    struct ep_bytes piece = { digest, 7 };
+    uint8_t out[82] = { 9 };
+    size_t len = 3;
+
+    WANT(EP_NO_REPLICA, ep_succeed(&none, &checkpoint, &next, &place));
+    WANT(EP_NO_CHECKPOINT, ep_checkpoint_next(&checkpoint, 100, &piece));
+    WANT(EP_DONE, ep_checkpoint_free(&checkpoint));
+    WANT(EP_NOT_SEALED, ep_succeed(replica, &checkpoint, &next, &place));
+    next.digest.len = 31;
+    WANT(EP_OUT_OF_RANGE, ep_succeed(replica, &checkpoint, &next, &place));
+    WANT(EP_OUT_OF_RANGE, ep_open_bound(&none, digest, 1, &next, &place));
+    next.digest.len = 32, next.replicas = 4;
+    WANT(EP_OUT_OF_RANGE, ep_succeed(replica, &checkpoint, &next, &place));
+    next.replicas = 3, next.log = piece;
+    WANT(EP_LOG_EXISTS, ep_succeed(replica, &checkpoint, &next, &place));
+    WANT(EP_LOG_EXISTS, ep_open_bound(&none, digest, 1, &next, &place));
+    WANT(EP_HAS_REPLICA, ep_open_bound(replica, digest, 1, &next, &place));
+    closed.length = 42;
+    WANT(EP_OUT_OF_RANGE, ep_reference(&closed, out, sizeof out, &len));
+    closed.length = 43, closed.generation = 1;
+    WANT(EP_OUT_OF_RANGE, ep_reference(&closed, out, sizeof out, &len));
+    closed.generation = 2, closed.replicas = 6;
+    WANT(EP_OUT_OF_RANGE, ep_reference(&closed, out, sizeof out, &len));
+    closed.replicas = 3, closed.sum.len = 33;
+    WANT(EP_OUT_OF_RANGE, ep_reference(&closed, out, sizeof out, &len));
+    WANT(3, (int)len);
+    closed.sum.len = 32;
+    WANT(EP_TOO_SHORT, ep_reference(&closed, out, 81, &len));
+    if (place.at != 5 || place.by != 6 || piece.len != 7 || checkpoint.at || none.at || len != 82 || out[0] != 9)
+        puts("something was written"), wrong = 1;
+    WANT(EP_DONE, ep_reference(&closed, out, sizeof out, &len));
+    WANT(0, memcmp(out, "EPOR\3\3\0\0\0\2", 10));
+    WANT(EP_TOO_SHORT, ep_sum(digest, 0, out, 31, &len));
+    WANT(EP_DONE, ep_sum(digest, 0, out, 32, &len));
+    WANT(0, memcmp(out, "\xe3\xb0\xc4\x42", 4));
+    next.log.len = 0;
+    WANT(EP_OPENING_SHORT, ep_open_bound(&none, digest, 1, &next, &place));
+    WANT(1, (int)place.at);
+}
+
 int main(void)
 {
     static const uint8_t key[] = "k", damaged[43] = "EPLG";
@@ -231,6 +280,7 @@ int main(void)
     WANT(EP_NOT_ONE, ep_ask(&replica, (const uint8_t *)"\0\0\0\1\13x", 6));
     WANT(EP_NOT_ONE, ep_ask(&replica, (const uint8_t *)"\0\0\0\2\13", 5));
     WANT(EP_NOT_SEALED, ep_close(&replica, 3, &value));
+    go_on(&replica);
     WANT(EP_NONE, ep_get(&replica, key, 1, &value));
     WANT(EP_DONE, ep_handled(&replica, 1, &count));
     WANT(0, (int)count);

@@ -1,5 +1,5 @@
 /* Three replicas, whose every allocation fails in turn: each refusal is a status, the same call succeeds when it is asked again, the run ends as one without a
-   refusal, and nothing is left in memory. Built with -Wl,--wrap=malloc,--wrap=realloc,--wrap=free over libepaxos.a. */
+   refusal, and nothing is left in memory; but for a change of generation, which may lose its replica. Built with -Wl,--wrap=malloc,--wrap=realloc,--wrap=free over libepaxos.a. */
 #include "epaxos.h"
 
 #include <stdio.h>
@@ -110,6 +110,20 @@ static void settle(void)
     }
 }
 
+/* Goes on in the next generation, once a seal was executed. Where memory is refused the replica, or its file, is gone; what there is of them is let go. */
+static void go_on(uint8_t me)
+{
+    static const uint8_t digest[32] = { 1 };
+    struct ep_checkpoint checkpoint = EP_CLOSED;
+    struct ep_succession next = { { digest, sizeof digest }, EP_EMPTY, REPLICAS, me, 1 };
+    struct ep_place place;
+    struct ep_bytes piece;
+    if (!again("ep_succeed", ep_succeed(&replicas[me], &checkpoint, &next, &place), EP_DONE))
+        for (uint8_t status = EP_DONE; status != EP_NONE; again("ep_checkpoint_next", status, EP_NONE))
+            status = ep_checkpoint_next(&checkpoint, 10, &piece);
+    ep_checkpoint_free(&checkpoint);
+}
+
 static void once(void)
 {
     static const uint8_t key[] = "k", value[] = "v", other[] = "other", state[] = { 0, 0, 0, 1, 11 };
@@ -144,8 +158,17 @@ static void once(void)
     while (again("ep_close", ep_close(&replicas[0], 5, &lent), EP_NOT_SEALED)) { }
     while (again("ep_audit", ep_audit(value, 1, report, sizeof report, &len), EP_BAD_BUNDLE)) { }
     add(report, len);
-    for (int me = 0; me < REPLICAS; me++)
+    struct ep_call last = { 0, 9, 1, 0, 0 };
+    ask(ep_propose_seal, (&replicas[0], &last, value, 1));
+    turn(0);
+    settle();
+    for (uint8_t me = 0; me < REPLICAS; me++) {
+        /* (a Commit that came last is executed by the next call) */
+        ask(ep_execute_all, (&replicas[me]));
+        turn(me);
+        go_on(me);
         ep_free(&replicas[me]);
+    }
 }
 
 int main(void)

@@ -133,6 +133,45 @@ def seal(value):
     return _command(9, b"", body=value)
 
 
+class Reference(NamedTuple):
+    """What a generation opens with, by the log that leaves it: that of the generation before, of which the first `length` bytes, with this SHA-256, count. `replicas`: how many the
+    generation has; `generation`: from 2. Keep `bytes` as `G/reference`, on the disk before the log of G is: `Replica.succeed`."""
+
+    replicas: int
+    generation: int
+    length: int
+    sum: bytes
+
+    @classmethod
+    def read(cls, run):
+        """That of these bytes. ValueError: they are those of none."""
+        if len(run) == 82 and run[:5] == b"EPOR\3":
+            read = cls(*struct.unpack_from(">BIQ32s", run, 5))
+            if read.replicas in (3, 5, 7) and read.generation >= 2 and read.length >= _HEADER and read.bytes == run:
+                return read
+        raise ValueError("no reference")
+
+    @property
+    def bytes(self):
+        """The bytes of the file."""
+        front = b"EPOR\3" + _packed(">BIQ32s", *self)
+        return front + hashlib.sha256(front).digest()
+
+    @property
+    def digest(self):
+        """The digest that the generation's log names."""
+        return self.bytes[-32:]
+
+    def is_to(self, log):
+        """Whether these are the bytes of the log that it names: as many, with its sum."""
+        return len(log) == self.length and hashlib.sha256(log).digest() == self.sum
+
+    def binding(self, digest):
+        """The bytes of `G/whole`, which say that `G/opening`, a file that ends in this digest, is what the reference stood for. Write it once that is on the disk; then what is older
+        may go."""
+        return b"EPOB\3" + self.digest + digest
+
+
 def first_opening(replicas):
     """The file that generation 1 opens with, of so many replicas: a map in which nothing is. `epaxos collect` wants it beside each log (README.md)."""
     front = b"EPOP\3" + bytes([replicas]) + (1).to_bytes(4, "big") + bytes(17)
@@ -247,23 +286,22 @@ class Replica:
 
     def __init__(self, core, told):
         self._core, self._told, self._lock, self._begun = core, told, threading.Lock(), False
+        # its generation; how many bytes its log has, and has once what is lent is there: none of these is known before its log is lent
+        self._generation, self._length, self._end = 0, 0, 0
 
     @classmethod
-    def new(cls, replicas, me, opening=None, core=None):
-        """Replica `me` of so many, before any event; of generation 1, or of the one that `opening` begins. `core`: LIBRARY, PROCESS, or the one that is found."""
-        return cls(_core(core)(replicas, me, opening, None), 0)
+    def new(cls, replicas, me, opening=None, core=None, reference=None):
+        """Replica `me` of so many, before any event; of generation 1, or of the one that `opening` begins. `core`: LIBRARY, PROCESS, or the one that is found. `reference`: that which
+        stood for the opening before it was written, where the generation was begun by one (`succeed`): its log names that. Look at the binding first."""
+        return cls(_core(core)(replicas, me, opening, None, reference), 0)
 
     @classmethod
-    def open(cls, replicas, me, log, opening=None, told=None, core=None):
+    def open(cls, replicas, me, log, opening=None, told=None, core=None, reference=None):
         """The replica that this log is of, as if it had never stopped. `told`: how many entries were told before; None: all that the log has."""
         if not log:
             raise OpenFault("the log is empty")
-        replica = cls(_core(core)(replicas, me, opening, log), _entries(log))
-        if told is not None and told > replica._told:
-            replica.end()
-            raise OpenFault(f"the log has {replica._told} entries, and {told} were told: it is an older one, and must not be gone on from")
-        replica._told = replica._told if told is None else told
-        return replica
+        told = _told_of(log, told)
+        return cls(_core(core)(replicas, me, opening, log, reference), told)
 
     @_in_turn
     def propose(self, client, request, command, seen=0, spared=None):
@@ -308,7 +346,11 @@ class Replica:
     @_in_turn
     def ready(self, most=0):
         """What is to be put on the disk; then `synced` hands out what is to be sent, and at most so many open instances."""
-        return Ready(self, *self._core.lend(), most)
+        log, is_anew = self._core.lend()
+        self._end = len(log) if is_anew else self._length + len(log)
+        if is_anew:
+            self._generation = int.from_bytes(log[7:11], "big")
+        return Ready(self, log, is_anew, most)
 
     @_in_turn
     def _begin(self, most):
@@ -319,6 +361,7 @@ class Replica:
     @_in_turn
     def _synced(self, most):
         self._core.sync()
+        self._length = self._end
         begun, self._begun = self._begun, False
         output = Output(self._core.release() if begun else self._core.tell(self._told, most))
         self._told = output.entries
@@ -356,6 +399,37 @@ class Replica:
         return self._core.close(replicas)
 
     @_in_turn
+    def reference(self, replicas, sum):
+        """The reference to its log as it is on the disk, with this SHA-256, by which the next generation, of so many replicas, begins."""
+        if replicas not in (3, 5, 7) or len(sum) != 32 or not 0 < self._generation < 2**32 - 1 or self._length < _HEADER:
+            raise Fault("OutOfRange")
+        return Reference(replicas, self._generation + 1, self._length, bytes(sum))
+
+    @_in_turn
+    def succeed(self, reference, me, log=None, told=None):
+        """Goes on in the next generation, once a seal was executed and all that was taken is on the disk and told: it is replica `me` of that one then, with the map as it is. Its log
+        comes first, as of `new`, and names the reference. What is returned gives the file that the generation opens with, in pieces: a `Checkpoint`. Of the library alone.
+
+        The order on the disk, for generation G + 1: `reference.bytes` as `G+1/reference`; this call; `G+1/log`, which `ready` lends; the mark `G/left`; and only then `synced`. When
+        there is time: the pieces as `G+1/opening`, then `reference.binding(digest)` as `G+1/whole`; then what is older may go.
+
+        After a start the same call, with `log`, and `told` as of `open`, leads from the last whole opening through the generations since: each log is opened up to the bytes that the
+        next reference names (`is_to`), and said to be synced.
+
+        Faults: Unsynced, NotSealed, LastGeneration, OutOfRange; OtherReference: it isn't to this log. The replica is as it was then. At Memory, and an OpenFault of the log, it is gone:
+        open it again from what is on the disk."""
+        if self._begun:
+            raise Fault("Unsynced")
+        if not 0 <= me < reference.replicas:
+            raise Fault("OutOfRange")
+        if (reference.generation, reference.length) != (self._generation + 1, self._length):
+            raise Fault("OtherReference")
+        told = 0 if log is None else _told_of(log, told)
+        checkpoint = self._core.succeed(reference, me, log)
+        self._told, self._generation, self._length, self._end = told, reference.generation, 0, 0
+        return checkpoint
+
+    @_in_turn
     def end(self):
         """Ends it; what wasn't synced is gone."""
         self._core.end()
@@ -365,6 +439,37 @@ class Replica:
 
     def __exit__(self, *_):
         self.end()
+
+
+class Checkpoint:
+    """The file that a generation opens with, in pieces: `for piece in checkpoint: file.write(piece)`. Any thread may take them, whatever the replica does, whose map it shares. The last
+    piece is the file's digest alone, 32 bytes. Let it go when it is written: the replica's next `succeed` has to copy the map else."""
+
+    PIECE = 1 << 16
+
+    def __init__(self, calls, handle):
+        self._calls, self._handle, self._lock = calls, handle, threading.Lock()
+
+    @_in_turn
+    def piece(self, most=PIECE):
+        """The next piece: at most `most` bytes, or 189,004 where that is more, since no field is cut. None: all was given. (Fault Memory: the same call may succeed later.)"""
+        lent = _STRUCTS["ep_bytes"]()
+        status = self._calls.ep_checkpoint_next(self._handle, most, lent)
+        if status in (_STATUSES["EP_NONE"], _STATUSES["EP_NO_CHECKPOINT"]):
+            return None
+        _Library.check(status)
+        return _copied(lent)
+
+    def __iter__(self):
+        return iter(self.piece, None)
+
+    @_in_turn
+    def end(self):
+        """Lets it go; it gives nothing more."""
+        self._calls.ep_checkpoint_free(self._handle)
+
+    def __del__(self):
+        self._calls.ep_checkpoint_free(self._handle)
 
 
 def _pair(fields):
@@ -418,6 +523,16 @@ def _entries(log):
     return count
 
 
+def _told_of(log, told):
+    """How many entries of the log were told: so many, or all."""
+    if not log:
+        raise OpenFault("the log is empty")
+    entries = _entries(log)
+    if told is not None and told > entries:
+        raise OpenFault(f"the log has {entries} entries, and {told} were told: it is an older one, and must not be gone on from")
+    return entries if told is None else told
+
+
 def _sealed(records, begin):
     """The same records, which say that the log was on the disk up to where they begin."""
     made, at = [], 0
@@ -432,7 +547,9 @@ def _sealed(records, begin):
 class _Process:
     """The core in a process of its own, whose own log stands in a scratch folder. (As bindings/rust/epaxos/src/process.rs)"""
 
-    def __init__(self, replicas, me, opening, log):
+    def __init__(self, replicas, me, opening, log, reference=None):
+        if reference is not None:
+            raise OpenFault("a process doesn't open a log that names a reference: take the library")
         memory = "/dev/shm"
         self.scratch = tempfile.mkdtemp(prefix="epaxos-", dir=memory if os.path.isdir(memory) else None)
         self.running, self.folder = None, f"{self.scratch}/node"
@@ -558,6 +675,9 @@ class _Process:
     def close(self, replicas):
         raise NotImplementedError("a process closes no generation here: take the library")
 
+    def succeed(self, reference, me, log):
+        raise NotImplementedError("a process serves one generation: take the library")
+
     def end(self):
         if self.running:
             self.stop()
@@ -567,10 +687,11 @@ class _Process:
 
 # Those parts of bindings/c/epaxos.h that are used here, word for word.
 _DECLARED = """
-#define EP_VERSION 5
+#define EP_VERSION 6
 EP_MEMORY = 1
 EP_OUT_OF_RANGE = 3
 EP_NOT_COMMITTED = 10
+EP_NO_CHECKPOINT = 30
 EP_NO_REPLICA = 32
 EP_LENT = 34
 EP_UNSYNCED = 35
@@ -596,6 +717,8 @@ EP_OTHER_OPENING = 63
 struct ep_replica { void *at; };
 struct ep_bytes { const uint8_t *at; size_t len; };
 struct ep_setup { struct ep_bytes opening; struct ep_bytes log; uint8_t replicas; uint8_t replica; uint8_t is_new; };
+struct ep_succession { struct ep_bytes digest; struct ep_bytes log; uint8_t replicas; uint8_t replica; uint8_t is_new; };
+struct ep_checkpoint { void *at; };
 struct ep_place { uint64_t at; uint64_t by; };
 struct ep_call { uint64_t seen; uint32_t client; uint32_t request; uint8_t has_spared; uint8_t spared; };
 struct ep_exchange { struct ep_bytes expected; struct ep_bytes desired; uint8_t has_expected; uint8_t has_desired; };
@@ -628,6 +751,10 @@ uint8_t ep_get(struct ep_replica *replica, const uint8_t *key, size_t key_len, s
 uint8_t ep_contents(struct ep_replica *replica, struct ep_bytes *contents);
 uint8_t ep_handled(struct ep_replica *replica, uint8_t peer, uint32_t *entries);
 uint8_t ep_close(struct ep_replica *replica, uint8_t replicas, struct ep_bytes *opening);
+uint8_t ep_succeed(struct ep_replica *replica, struct ep_checkpoint *checkpoint, const struct ep_succession *succession, struct ep_place *place);
+uint8_t ep_checkpoint_next(struct ep_checkpoint *checkpoint, size_t most, struct ep_bytes *piece);
+uint8_t ep_checkpoint_free(struct ep_checkpoint *checkpoint);
+uint8_t ep_open_bound(struct ep_replica *replica, const uint8_t *opening, size_t opening_len, const struct ep_succession *succession, struct ep_place *place);
 uint8_t ep_patience_begin(struct ep_patience *patience, const struct ep_waits *waits);
 uint8_t ep_patience_free(struct ep_patience *patience);
 uint8_t ep_patience_measure(struct ep_patience *patience, uint8_t peer, uint32_t took);
@@ -702,7 +829,7 @@ _UNOPENED = {
 class _Library:
     """The core in this process. What it lends is copied, and freed by itself."""
 
-    def __init__(self, replicas, me, opening, log):
+    def __init__(self, replicas, me, opening, log, reference=None):
         self.calls, self.lent, self.begun, self.replicas = _loaded(_library()), 0, True, replicas
         opening = self.first_opening(replicas) if opening is None else opening
         # (no bytes are no opening; to the library they would be another version)
@@ -710,7 +837,32 @@ class _Library:
             self.opened(_STATUSES["EP_OUT_OF_RANGE" if opening else "EP_OPENING_SHORT"], _STRUCTS["ep_place"]())
         setup = _STRUCTS["ep_setup"](_bytes(opening), _bytes(log or b""), replicas, me, log is None)
         self.replica, place = _STRUCTS["ep_replica"](), _STRUCTS["ep_place"]()
-        self.opened(self.calls.ep_open(self.replica, setup, place), place)
+        if reference is None:
+            self.opened(self.calls.ep_open(self.replica, setup, place), place)
+        elif (reference.replicas, reference.generation) != (replicas, int.from_bytes(opening[6:10], "big")):
+            raise OpenFault("the reference is that of another generation")
+        else:
+            digest = reference.digest
+            self.opened(self.calls.ep_open_bound(self.replica, bytes(opening), len(opening), self.succession(reference, digest, me, log), place), place)
+
+    @staticmethod
+    def succession(reference, digest, me, log):
+        """What a replica goes on as. (The digest has to outlive it.)"""
+        return _STRUCTS["ep_succession"](_bytes(digest), _bytes(log or b""), reference.replicas, me, log is None)
+
+    def succeed(self, reference, me, log):
+        if self.lent:
+            raise Fault("Unsynced")
+        digest, checkpoint, place = reference.digest, _STRUCTS["ep_checkpoint"](), _STRUCTS["ep_place"]()
+        status = self.calls.ep_succeed(self.replica, checkpoint, self.succession(reference, digest, me, log), place)
+        if status == _STATUSES["EP_MEMORY"]:
+            # (it may be there without its file)
+            self.end()
+        if status >= _STATUSES["EP_NO_LOG"]:
+            self.opened(status, place)
+        self.check(status)
+        self.begun, self.replicas = True, reference.replicas
+        return Checkpoint(self.calls, checkpoint)
 
     @staticmethod
     def opened(status, place):

@@ -66,6 +66,6 @@ pub use write_laws::{
     learn_fits, learn_opening,
 };
 pub use writing::{
-    put_command, put_entry, put_frame, put_instance, put_receipt, put_receipts, put_value,
-    write_bundle, write_contents, write_entry, write_journal,
+    put_command, put_entry, put_frame, put_instance, put_pairs, put_receipt, put_receipts,
+    put_value, write_bundle, write_contents, write_entry, write_journal,
 };

@@ -15,6 +15,6 @@ pub mod Searching
 pub mod Sealed
 pub mod Rising
 pub mod Sorting
-pub mod Filling
 pub mod Placed
 pub mod Nexts
+pub mod Mixed

@@ -1,8 +1,9 @@
 -- The contents of a map as the rising list of their entries.
-use Rattle.std.proofs.Common.{◌≡◌, ℕ, zero, suc, ◌+◌, ◌-◌, length, drop, Bool, true, false, ◌&&◌, ◌↔◌, ◌≢◌, true≢false, T, List, [], ◌∷◌, ◌++◌, Some, None, refl, sym, ap, ap₂, subst, ◌∙◌, arith, Ordering, Less, Equal, Greater, is_lt}
+use Rattle.std.proofs.Common.{◌≡◌, ℕ, zero, suc, ◌+◌, ◌-◌, length, drop, Bool, true, false, ◌&&◌, eqb, ◌↔◌, ◌≢◌, true≢false, T, List, [], ◌∷◌, ◌++◌, Some, None, refl, sym, ap, ap₂, subst, ◌∙◌, arith, Ordering, Less, Equal, Greater, is_lt}
 use Rattle.std.proofs.Math.ListN.{drop_of_length-le}
+use Rattle.std.proofs.lemmas.Bool.{eqb-true}
 use Rattle.std.specs.Bool.{IsTrue}
-use Rattle.std.specs.FinMap.{FinMap, get-entries, entries, empty, from_sorted, from_entries, is_sorted, same_entries_map, entries-from_sorted, get-empty, get-from_entries, get-from_sorted}
+use Rattle.std.specs.FinMap.{FinMap, entries, empty, from_sorted, is_sorted, same_entries_map, entries-from_sorted, get-empty, get-entries, find, get-from_sorted}
 use Rattle.std.specs.FinMap.Entries.{below_all}
 use Rattle.std.specs.Cmp.Lexicographic.{nat_list_cmp_total}
 use Rattle.std.specs.Prelude.{slice_get}
@@ -125,6 +126,7 @@ pushed es ms e h g is = ap (λ (x : List Pair). entries (from_sorted {R = key_cm
 pub still_sorted : (es : List Pair) (e : Pair) (b : Bool) → is_sorted key_cmp es ≡ true → is_sorted key_cmp (es ++ e ∷ []) ≡ b → is_sorted key_cmp (entries (from_sorted {R = key_cmp} es) ++ e ∷ []) ≡ b
 still_sorted es e b h g = ap (λ x. is_sorted key_cmp (x ++ e ∷ [])) (list_is es h) ∙ g
 
--- what a table that is filled with the entries of contents has
-pub opened_is : (m n : FinMap key_cmp (List ℕ)) → n ≡ from_entries (entries m) → n ≡ m
-opened_is m n e = e ∙ same_contents _ _ (λ q. get-from_entries nat_list_cmp_total (entries m) q ∙ sym (get-entries m q))
+-- a map with no entry says nothing of any key
+pub nothing_said : (m : FinMap key_cmp (List ℕ)) (xs : List Pair) (b : Bool) → xs ≡ entries m → b ≡ eqb (length xs) 0 → (k : List ℕ) → b ≡ true → one_map.value_at m k ≡ None
+nothing_said m [] b e l k t = get-entries m k ∙ ap (find key_cmp k) (sym e)
+nothing_said m (x ∷ xs) b e l k t = let n : suc (length xs) ≡ 0 = eqb-true (suc (length xs)) 0 (sym l ∙ t) in absurd (omega (arith, n))

@@ -13,3 +13,4 @@ pub mod Missing
 pub mod Taking
 pub mod Sorting
 pub mod Bytes
+pub mod Merging

@@ -121,6 +121,18 @@ impl Contents {
         Ok(Contents { alloc, shared })
     }
 
+    /// The entries: they are moved, where no copy shares them.
+    #[tactic(auto, using(crate::proofs::Rising::list_is))]
+    pub(crate) fn into_items(self) -> Result<Vec<(Key, Value)>, AllocError>
+        ensures { IfOk result (λ items. items.items ≡ entries_in self) }
+    {
+        let Contents { alloc, shared } = self;
+        match shared {
+            None => Ok(Vec::new(alloc)),
+            Some(items) => unshared(alloc, items),
+        }
+    }
+
     /// Whether both say that each key has the same.
     pub fn is_same(&self, other: &Contents) -> bool
         ensures { IsTrue result ↔ (self.now ≡ other.now) }
@@ -136,6 +148,16 @@ fn listed(shared: &Option<Arc<Vec<(Key, Value)>>>) -> &[(Key, Value)]
     match shared {
         None => <&[(Key, Value)]>::default(),
         Some(items) => items.as_slice(),
+    }
+}
+
+/// The entries, for one owner.
+fn unshared(alloc: Global, items: Arc<Vec<(Key, Value)>>) -> Result<Vec<(Key, Value)>, AllocError>
+    ensures { IfOk result (λ own. own.items ≡ (arc_value items).items) }
+{
+    match Arc::try_unwrap(items) {
+        Ok(own) => Ok(own),
+        Err(shared) => copied(alloc, shared.as_slice()),
     }
 }
 

@@ -10,7 +10,7 @@ ghost use Rattle.ep_exec.specs.Held.{held};
 
 use crate::contents::Contents;
 use crate::contents_fault::ContentsFault;
-use crate::sorted::sorted;
+use crate::merging::merged;
 use crate::table::{self, Table, apply_open, sealed, unchanged, value_of};
 use crate::trial::Trial;
 use ep_base::{Command, Key, Reply, Value};
@@ -97,8 +97,19 @@ impl Store {
         ensures ok { IfOk result (λ c. c ≡ self.now.contents) }
         ensures refused { IfErr result (λ fault. IsBad (entries self.now.contents) fault) }
     {
-        let items = sorted(self.alloc, &self.table)?;
-        let contents = Contents::of_sorted(self.alloc, items)?;
+        let copy = self.copy()?;
+        copy.into_contents()
+    }
+
+    /// The same, of which the map becomes a part: where nobody else has the contents that it began with, nothing of these is copied.
+    pub fn into_contents(self) -> Result<Contents, ContentsFault>
+        ensures ok { IfOk result (λ c. c ≡ self.contents) }
+        ensures refused { IfErr result (λ fault. IsBad (entries self.contents) fault) }
+    {
+        let Store { alloc, table, seal } = self;
+        drop(seal);
+        let items = merged(alloc, table)?;
+        let contents = Contents::of_sorted(alloc, items)?;
         Ok(contents)
     }
 

@@ -39,11 +39,21 @@ pub fn value_of<'a>(table: &'a Table, key: &[u8]) -> Option<&'a Value>
     }
 }
 
+/// Whether the contents say nothing of any key.
+fn is_bare(base: &Contents) -> bool
+    ensures { (k : List ℕ) → result ≡ true → value_at base.now k ≡ None }
+{
+    base.entries().is_empty()
+}
+
 /// What the contents say of a key that has no place among the changes, as a copy; none of one that has. A key that has a place needs no memory.
 fn below(alloc: Global, table: &Table, key: &[u8]) -> Result<Option<Value>, AllocError>
     ensures none { IfOk result (λ was. lookup (is_at key.now) table.now.changes.entries ≡ None → was ≡ value_at table.now.base key.now) }
     ensures absent { OnErr result (has_place table.now.changes.entries key.now ≡ false) }
 {
+    if is_bare(&table.base) {
+        return Ok(None);
+    }
     if table.changes.contains_key(key) {
         return Ok(None);
     }

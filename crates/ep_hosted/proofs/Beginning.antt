@@ -17,7 +17,7 @@ use Rattle.ep_opening.specs.Files.{File}
 use Rattle.ep_opening.specs.Reading.{IsRefused}
 use Rattle.ep_opening.specs.declared.opening_fault.OpeningFault.{OpeningFault}
 use Rattle.ep_opening.specs.declared.opening_fault.OpeningFault.TheVariants as unread
-use Rattle.ep_hosted.specs.Beginning.{begin_of, log_of, IsBegun, IsOriginOf, IsUnbegun, IsUnfounded}
+use Rattle.ep_hosted.specs.Beginning.{begin_of, log_of, IsBegun, IsBegunAs, IsOriginOf, IsUnbegun, IsUnbegunAs, IsUnfounded}
 use Rattle.ep_hosted.specs.Faults.{of_open, of_opening}
 use Rattle.ep_hosted.specs.Hosting.{Buffer, Hosting, IsHosted}
 use Rattle.ep_hosted.specs.declared.seat.Seat.{Seat}
@@ -51,6 +51,19 @@ unopened_so seat opening log o unopened.OtherLog origin un = (o, origin, un, λ 
 unopened_so seat opening log o (unopened.Log fault) origin un = (o, origin, un, λ e. absurd cc)
 unopened_so seat opening log o (unopened.NotClocked number) origin un = (o, origin, un, λ e. absurd cc)
 
+pub unopened_as : (seat : Seat) (opening log : Option (List ℕ)) (o : Origin) (fault : OpenFault) (told : StartFault) → told ≡ of_open fault → IsOriginOf seat.cluster opening o → IsUnbegunAs o seat.cluster seat.me log fault
+    → IsUnbegun seat opening log told
+unopened_as seat opening log o fault told as_told origin un = subst (λ (f : StartFault). IsUnbegun seat opening log f) (sym as_told) (unopened_so seat opening log o fault origin un)
+
+-- a log or none, memory may be refused
+pub no_memory : (o : Origin) (f r : ℕ) (log : Option (List ℕ)) → IsUnbegunAs o f r log unopened.Memory
+no_memory o f r None = tt
+no_memory o f r (Some bytes) = tt
+
+-- a fault is told by a test whether the log is begun
+pub unopened_on : (o : Origin) (f r : ℕ) (log : Option (List ℕ)) (begin : Begin) (fault : OpenFault) → begin ≡ begin_of log → IsUnopened begin o f r (log_of log) fault → IsUnbegunAs o f r log fault
+unopened_on o f r log begin fault begins un = subst (λ (b : Begin). IsUnopened b o f r (log_of log) fault) begins un
+
 -- What there is.
 
 -- a node of this origin was opened, and is handed on
@@ -67,27 +80,45 @@ pub record IsHanded (n : Logged MemoryDevice) (h : Hosting) : Type 0 where
   pub held : h.held ≡ None
   pub told : h.answers.items ≡ []
 
-pub begun : (seat : Seat) (opening log : Option (List ℕ)) (o : Origin) (n : Logged MemoryDevice) (h : Hosting) → IsHanded n h → IsOriginOf seat.cluster opening o → origin_of n ≡ o → n.replica.faults ≡ seat.cluster → n.replica.me ≡ seat.me
-    → IsOpened (begin_of log) o seat.cluster seat.me (log_of log) n.replica.entries n.cut → (bytes : List ℕ) → Some (memory_bytes n.device) ≡ Some bytes → IsWrittenAnew (begin_of log) o seat.cluster seat.me (log_of log) bytes
-    → IsBegun seat opening log h
-begun seat opening log o n h handed origin of_it cluster me opened bytes seen written =
-    let same : origin_of h.node ≡ o = (λ t. record { version = (handed.replica t).version; opening = (handed.replica t).opening; digest = handed.digest t }) ∙ of_it in
-    let all : bytes ≡ handed.bytes.items = (let e : memory_bytes n.device ≡ bytes = cc in sym e ∙ sym handed.all) in
+-- it is the one of this log, which a test tells whether it is begun
+pub begun_on : (o : Origin) (f r : ℕ) (log : Option (List ℕ)) (begin : Begin) (n : Logged MemoryDevice) (h : Hosting) → begin ≡ begin_of log → IsHanded n h → origin_of n ≡ o → n.replica.faults ≡ f → n.replica.me ≡ r
+    → IsOpened begin o f r (log_of log) n.replica.entries n.cut → (bytes : List ℕ) × (Some (memory_bytes n.device) ≡ Some bytes) × IsWrittenAnew begin o f r (log_of log) bytes → IsBegunAs o f r log h
+begun_on o f r log begin n h begins handed of_it cluster me opened written =
+    let all : memory_bytes n.device ≡ written.0 = (let seen = written.1 in cc) in
     record {
-      origin = subst (λ (x : Origin). IsOriginOf seat.cluster opening x) (sym same) origin;
+      origin = (λ t. record { version = (handed.replica t).version; opening = (handed.replica t).opening; digest = handed.digest t }) ∙ of_it;
       cluster = ap (λ k. k.faults) handed.replica ∙ cluster;
       me = ap (λ k. k.me) handed.replica ∙ me;
-      opened = subst (λ (x : Origin). IsOpened (begin_of log) x seat.cluster seat.me (log_of log) h.node.replica.entries h.node.cut) (sym same)
-          (subst (λ (es : List Entry). IsOpened (begin_of log) o seat.cluster seat.me (log_of log) es h.node.cut) (sym (ap (λ k. k.entries) handed.replica))
-          (subst (λ (c : Option Cut). IsOpened (begin_of log) o seat.cluster seat.me (log_of log) n.replica.entries c) (sym handed.cut) opened));
+      opened = subst (λ (b : Begin). IsOpened b o f r (log_of log) h.node.replica.entries h.node.cut) begins
+          (subst (λ (es : List Entry). IsOpened begin o f r (log_of log) es h.node.cut) (sym (ap (λ k. k.entries) handed.replica))
+          (subst (λ (c : Option Cut). IsOpened begin o f r (log_of log) n.replica.entries c) (sym handed.cut) opened));
       quiet = handed.quiet;
       bytes = handed.bytes;
       lent = handed.lent;
       anew = handed.anew;
-      written = subst (λ (x : Origin). IsWrittenAnew (begin_of log) x seat.cluster seat.me (log_of log) handed.bytes.items) (sym same) (subst (λ (l : List ℕ). IsWrittenAnew (begin_of log) o seat.cluster seat.me (log_of log) l) all written);
+      written = subst (λ (b : Begin). IsWrittenAnew b o f r (log_of log) handed.bytes.items) begins
+          (subst (λ (l : List ℕ). IsWrittenAnew begin o f r (log_of log) l) (sym (handed.all ∙ all)) written.2);
       asked = handed.asked;
       held = handed.held;
       told = handed.told;
+    }
+
+pub begun : (seat : Seat) (opening log : Option (List ℕ)) (o : Origin) (h : Hosting) → IsOriginOf seat.cluster opening o → IsBegunAs o seat.cluster seat.me log h → IsBegun seat opening log h
+begun seat opening log o h origin b =
+    let is = sym b.origin in
+    record {
+      origin = subst (λ (x : Origin). IsOriginOf seat.cluster opening x) is origin;
+      cluster = b.cluster;
+      me = b.me;
+      opened = subst (λ (x : Origin). IsOpened (begin_of log) x seat.cluster seat.me (log_of log) h.node.replica.entries h.node.cut) is b.opened;
+      quiet = b.quiet;
+      bytes = b.bytes;
+      lent = b.lent;
+      anew = b.anew;
+      written = subst (λ (x : Origin). IsWrittenAnew (begin_of log) x seat.cluster seat.me (log_of log) b.bytes.items) is b.written;
+      asked = b.asked;
+      held = b.held;
+      told = b.told;
     }
 
 -- its log, in memory, is what is lent
@@ -100,16 +131,3 @@ lends_whole n n' d bytes same quiet log all =
       within = let all = quiet.synced in omega (arith, all);
       lends = (record { works = quiet.works; synced = quiet.synced }, subst (λ (l : List ℕ). IsLogOf (origin_of n) n.replica.faults n.replica.me (take n.synced n.replica.entries) n.on_disk l) (sym all) (log (memory_bytes n.device) refl));
     })
-
--- the same, where it is told by a test whether the log is begun
-pub begun_as : (seat : Seat) (opening log : Option (List ℕ)) (begin : Begin) (o : Origin) (n : Logged MemoryDevice) (h : Hosting) → begin ≡ begin_of log → IsHanded n h → IsOriginOf seat.cluster opening o → origin_of n ≡ o → n.replica.faults ≡ seat.cluster → n.replica.me ≡ seat.me
-    → IsOpened begin o seat.cluster seat.me (log_of log) n.replica.entries n.cut → (bytes : List ℕ) × (Some (memory_bytes n.device) ≡ Some bytes) × IsWrittenAnew begin o seat.cluster seat.me (log_of log) bytes
-    → IsBegun seat opening log h
-begun_as seat opening log begin o n h is handed origin of_it cluster me opened written =
-    begun seat opening log o n h handed origin of_it cluster me (subst (λ (b : Begin). IsOpened b o seat.cluster seat.me (log_of log) n.replica.entries n.cut) is opened)
-    written.0 written.1 (subst (λ (b : Begin). IsWrittenAnew b o seat.cluster seat.me (log_of log) written.0) is written.2)
-
-pub unopened_as : (seat : Seat) (opening log : Option (List ℕ)) (begin : Begin) (o : Origin) (fault : OpenFault) (told : StartFault) → begin ≡ begin_of log → told ≡ of_open fault → IsOriginOf seat.cluster opening o
-    → IsUnopened begin o seat.cluster seat.me (log_of log) fault → IsUnbegun seat opening log told
-unopened_as seat opening log begin o fault told is as_told origin un =
-    subst (λ (f : StartFault). IsUnbegun seat opening log f) (sym as_told) (unopened_so seat opening log o fault origin (subst (λ (b : Begin). IsUnopened b o seat.cluster seat.me (log_of log) fault) is un))

@@ -5,3 +5,4 @@ mod Still
 mod Writing
 mod Puts
 mod Longer
+pub mod Heirs

@@ -7,6 +7,7 @@ use Rattle.ep_node.specs.Nodes.{IsQuiet, origin_of}
 use Rattle.ep_node.specs.Opening.{IsOpened, IsUnopened, IsWrittenAnew}
 use Rattle.ep_node.specs.declared.begin.Begin.{Begin}
 use Rattle.ep_node.specs.declared.begin.Begin.TheVariants.{New, Existing}
+use Rattle.ep_node.specs.declared.open_fault.OpenFault.{OpenFault}
 use Rattle.ep_node.specs.declared.open_fault.OpenFault.TheVariants as unopened
 use Rattle.ep_opening.specs.Bytes.{file_digest, opening_bytes}
 use Rattle.ep_opening.specs.Files.{File}
@@ -41,7 +42,22 @@ abbrev pub log_of : Option (List ℕ) → List ℕ
 log_of None = []
 log_of (Some log) = log
 
--- The node is opened on these bytes, and lends the log that is to take their place. Nothing was asked or told.
+-- The node of this replica, of this origin, is opened on these bytes, and lends the log that is to take their place. Nothing was asked or told.
+pub record IsBegunAs (o : Origin) (f r : ℕ) (log : Option (List ℕ)) (h : Hosting) : Type 0 where
+  pub origin : origin_of h.node ≡ o
+  pub cluster : h.node.replica.faults ≡ f
+  pub me : h.node.replica.me ≡ r
+  pub opened : IsOpened (begin_of log) o f r (log_of log) h.node.replica.entries h.node.cut
+  pub quiet : IsQuiet h.node
+  pub bytes : Buffer
+  pub lent : h.lent ≡ Some bytes
+  pub anew : h.is_anew ≡ true
+  pub written : IsWrittenAnew (begin_of log) o f r (log_of log) bytes.items
+  pub asked : h.dues ≡ []
+  pub held : h.held ≡ None
+  pub told : h.answers.items ≡ []
+
+-- the same, of what this seat's replica begins with
 pub record IsBegun (seat : Seat) (opening log : Option (List ℕ)) (h : Hosting) : Type 0 where
   pub origin : IsOriginOf seat.cluster opening (origin_of h.node)
   pub cluster : h.node.replica.faults ≡ seat.cluster
@@ -62,6 +78,10 @@ IsUnfounded cluster opening Memory = Unit {0}
 IsUnfounded cluster opening (Opening fault) = (bytes : List ℕ) × (opening ≡ Some bytes) × IsRefused fault bytes × (fault ≢ unread.Memory)
 IsUnfounded cluster opening (OtherSize count) = (bytes : List ℕ) × (file : File) × (opening ≡ Some bytes) × (bytes ≡ opening_bytes file) × (file.faults ≢ cluster) × (count ≡ size file.faults)
 IsUnfounded cluster opening (Log fault) = ⊥
+
+-- why no node of this replica is: want of memory; no such member; or the log can't be begun, or gone on from
+abbrev pub IsUnbegunAs : Origin → ℕ → ℕ → Option (List ℕ) → OpenFault → Type 0
+IsUnbegunAs o f r log fault = IsUnopened (begin_of log) o f r (log_of log) fault
 
 -- why there is no node: this; or the log can't be begun, or gone on from
 abbrev pub IsUnbegun : Seat → Option (List ℕ) → Option (List ℕ) → StartFault → Type 0

@@ -4,3 +4,5 @@ pub mod Beginning
 pub mod Taking
 pub mod Asking
 pub mod Telling
+pub mod Succeeding
+pub mod Bound

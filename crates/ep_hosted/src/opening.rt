@@ -5,7 +5,7 @@ ghost use Rattle.std.specs.Option.{option_map};
 ghost use Rattle.ep_device.specs.Memory.{memory_bytes};
 ghost use Rattle.ep_node.specs.Nodes.{IsQuiet};
 ghost use Rattle.ep_opening.specs.Bytes.{opening_bytes};
-ghost use Rattle.ep_hosted.specs.Beginning.{begin_of, log_of, IsFileOf, IsOriginOf, IsUnfounded};
+ghost use Rattle.ep_hosted.specs.Beginning.{begin_of, log_of, IsBegunAs, IsFileOf, IsOriginOf, IsUnbegunAs, IsUnfounded};
 ghost use Rattle.ep_hosted.specs.Hosting.{Buffer};
 
 use crate::blocks::Blocks;
@@ -15,11 +15,11 @@ use crate::start_fault::StartFault;
 use ep_base::Size;
 use ep_device::{HostDevice, MemoryDevice};
 use ep_log::Beginning;
-use ep_node::{Begin, Node, Whose};
+use ep_node::{Begin, Node, OpenFault, Whose};
 use ep_opening::SpelledFile;
 use std::alloc::Global;
 
-fn is_same_size(size: Size, other: Size) -> bool
+pub(crate) fn is_same_size(size: Size, other: Size) -> bool
     ensures yes { result ≡ true → size ≡ other }
     ensures no { result ≡ false → size ≢ other }
 {
@@ -111,6 +111,27 @@ fn hosted_by(alloc: Global, node: Node<MemoryDevice>) -> Hosted
     }
 }
 
+/// The node of this replica: new, or as it goes on from this log.
+#[tactic(auto, using(crate::proofs::Beginning::no_memory))]
+pub(crate) fn begun_as(
+    alloc: Global,
+    whose: Whose,
+    log: Option<Vec<u8>>,
+) -> Result<Hosted, OpenFault>
+    ensures ok { IfOk result (IsBegunAs whose.origin whose.cluster whose.me (option_map (λ v. v.items) log)) }
+    ensures err { IfErr result (IsUnbegunAs whose.origin whose.cluster whose.me (option_map (λ v. v.items) log)) }
+{
+    let begin = begin_of(&log);
+    let device = MemoryDevice::new(alloc, bytes_of(alloc, log), 0)?;
+    match Node::opened(alloc, device, whose, begin) {
+        Ok(node) => Ok(hosted_by(alloc, node)),
+        Err((fault, device)) => {
+            drop(device);
+            Err(fault)
+        }
+    }
+}
+
 impl Hosted {
     ghost use Rattle.std.specs.Prelude.{◌≡◌, IfOk, IfErr};
     ghost use Rattle.std.specs.Option.{option_map};
@@ -129,19 +150,14 @@ impl Hosted {
         ensures err { IfErr result (IsUnbegun seat (option_map (λ v. v.items) opening) (option_map (λ v. v.items) log)) }
     {
         let origin = beginning_of(alloc, seat.cluster, opening)?;
-        let begin = begin_of(&log);
-        let device = MemoryDevice::new(alloc, bytes_of(alloc, log), 0)?;
         let whose = Whose {
             cluster: seat.cluster,
             me: seat.me,
             origin,
         };
-        match Node::opened(alloc, device, whose, begin) {
-            Ok(node) => Ok(hosted_by(alloc, node)),
-            Err((fault, device)) => {
-                drop(device);
-                Err(StartFault::from(fault))
-            }
+        match begun_as(alloc, whose, log) {
+            Ok(hosted) => Ok(hosted),
+            Err(fault) => Err(StartFault::from(fault)),
         }
     }
 }

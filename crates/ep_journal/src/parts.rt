@@ -1,6 +1,8 @@
 //! What a replica is, by its parts, and its step.
 
 ghost use Rattle.std.specs.Prelude.{◌≡◌, ◌<◌, ◌≤◌, ◌+◌, ℕ, None, Some, Ok, IfOk, IfErr, IfSome, IsErr, OnErr};
+ghost use Rattle.std.specs.FinMap.{entries};
+ghost use Rattle.ep_exec.specs.Sorting.{IsBad};
 ghost use Rattle.ep_phase.specs.Changes.{change_of, sends};
 ghost use Rattle.ep_base.specs.Instances.{instance_of};
 ghost use Rattle.ep_base.specs.Versions.{highest_for};
@@ -26,7 +28,7 @@ use crate::step_fault::StepFault;
 use crate::taken::Taken;
 use crate::versioned::check_version;
 use ep_base::{Command, InstanceId, ReplicaId, Version, spared_by};
-use ep_exec::{Executed, Store};
+use ep_exec::{Contents, ContentsFault, Executed, Store};
 use ep_frame::Frame;
 use ep_phase::{Cell, Lead, next_instance};
 use ep_space::{Space, SpaceFull};
@@ -83,6 +85,24 @@ impl Parts {
             executed,
             store,
         })
+    }
+
+    /// What the keys of the map have, and no longer the rest.
+    pub fn into_contents(self) -> Result<Contents, ContentsFault>
+        ensures ok { IfOk result (λ c. c ≡ self.store.contents) }
+        ensures refused { IfErr result (λ fault. IsBad (entries self.store.contents) fault) }
+    {
+        let Parts {
+            me: _,
+            space,
+            lead,
+            executed,
+            store,
+        } = self;
+        drop(space);
+        drop(lead);
+        drop(executed);
+        store.into_contents()
     }
 
     /// Takes the step of an event with this mark: what came of it; or why it is refused. `None` as the mark says that the

@@ -8,3 +8,5 @@ pub mod Telling
 pub mod Alone
 pub mod Opening
 pub mod Patience
+pub mod Succeeding
+pub mod Bound

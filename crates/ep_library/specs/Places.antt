@@ -1,7 +1,9 @@
 -- Where faults are.
-use Rattle.std.specs.Prelude.{ℕ}
+use Rattle.std.specs.Prelude.{ℕ, Option, Some, None}
 use Rattle.ep_hosted.specs.declared.start_fault.StartFault.{StartFault}
 use Rattle.ep_hosted.specs.declared.start_fault.StartFault.TheVariants as start
+use Rattle.ep_hosted.specs.declared.succeed_fault.SucceedFault.{SucceedFault}
+use Rattle.ep_hosted.specs.declared.succeed_fault.SucceedFault.TheVariants as succeed
 use Rattle.ep_library.specs.declared.place.Place.{Place}
 use Rattle.ep_log.specs.declared.log_fault.LogFault.{LogFault}
 use Rattle.ep_log.specs.declared.log_fault.LogFault.TheVariants as log
@@ -52,3 +54,12 @@ start_place start.Memory = nowhere
 start_place (start.Opening fault) = opening_place fault
 start_place (start.OtherSize count) = byte_at count
 start_place (start.Log fault) = open_place fault
+
+-- where the log of a replica of the next generation is wrong, if that is why there is none
+abbrev pub succeed_place : SucceedFault → Option Place
+succeed_place succeed.Memory = None
+succeed_place succeed.OutOfRange = None
+succeed_place succeed.NotSealed = None
+succeed_place succeed.LastGeneration = None
+succeed_place succeed.Unsynced = None
+succeed_place (succeed.Log fault) = Some (open_place fault)

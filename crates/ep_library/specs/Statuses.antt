@@ -10,6 +10,8 @@ use Rattle.ep_hosted.specs.declared.prepare_fault.PrepareFault.{PrepareFault}
 use Rattle.ep_hosted.specs.declared.prepare_fault.PrepareFault.TheVariants as prepare
 use Rattle.ep_hosted.specs.declared.start_fault.StartFault.{StartFault}
 use Rattle.ep_hosted.specs.declared.start_fault.StartFault.TheVariants as start
+use Rattle.ep_hosted.specs.declared.succeed_fault.SucceedFault.{SucceedFault}
+use Rattle.ep_hosted.specs.declared.succeed_fault.SucceedFault.TheVariants as succeed
 use Rattle.ep_hosted.specs.declared.sync_fault.SyncFault.{SyncFault}
 use Rattle.ep_hosted.specs.declared.sync_fault.SyncFault.TheVariants as sync
 use Rattle.ep_hosted.specs.declared.taking_fault.TakingFault.{TakingFault}
@@ -46,6 +48,12 @@ no_patience = 44
 
 abbrev pub has_patience : ℕ
 has_patience = 45
+
+abbrev pub no_checkpoint : ℕ
+no_checkpoint = 30
+
+abbrev pub has_checkpoint : ℕ
+has_checkpoint = 31
 
 abbrev pub log_exists : ℕ
 log_exists = 49
@@ -148,3 +156,12 @@ bundle_status bundle.Memory = memory
 bundle_status bundle.ReadFailed = memory
 bundle_status (bundle.BadBundle at) = 12
 bundle_status (bundle.NotARun replica entry) = 11
+
+-- why no replica goes on in the next generation
+abbrev pub succeed_status : SucceedFault → ℕ
+succeed_status succeed.Memory = memory
+succeed_status succeed.OutOfRange = out_of_range
+succeed_status succeed.NotSealed = 42
+succeed_status succeed.LastGeneration = 43
+succeed_status succeed.Unsynced = unsynced
+succeed_status (succeed.Log fault) = open_status fault

@@ -6,7 +6,8 @@ ghost use Rattle.ep_bundle.specs.Contents.{contents_of};
 ghost use Rattle.ep_bundle.specs.Texts.{fault_text};
 ghost use Rattle.ep_opening.specs.Bytes.{opening_bytes};
 ghost use Rattle.ep_library.specs.Alone.{first_file, verdict_status, Audits, Copies, IsFound, IsOfBytes, IsRead, IsVerdict, OpensFirst};
-ghost use Rattle.ep_library.specs.Statuses.{bundle_status};
+ghost use Rattle.ep_library.specs.Statuses.{bundle_status, done};
+ghost use Rattle.sha2.specs.Sha256.{sha256};
 
 use crate::codes::bundle_status;
 use crate::copying::copy_out;
@@ -16,14 +17,15 @@ use ep_bundle::{Bundle, BundleFault, read_bundle};
 use ep_journal::Opening;
 use ep_opening::{OpeningFile, write_opening};
 use ep_report::{Judgement, judge};
+use sha2::{Digest, Sha256};
 use std::alloc::{AllocError, Global};
 
 /// Which library this is: EP_VERSION of the header that it was built with. Another number is another set of calls.
 #[unsafe(no_mangle)]
 pub extern "C" fn ep_version() -> u32
-    ensures { result ≡ 5 }
+    ensures { result ≡ 6 }
 {
-    5
+    6
 }
 
 /// Copies the text, if there is room, with this status.
@@ -72,6 +74,17 @@ pub extern "C" fn ep_first_opening(
         Ok(bytes) => copies(DONE, &bytes, out, len),
         Err(_) => MEMORY,
     }
+}
+
+/// Copies the SHA-256 of the bytes, which has 32, such as that of a log that is closed (ep_reference). `len` becomes 32. A megabyte takes some milliseconds: a host that can, adds what it
+/// writes to a sum of its own, and has it at once. EP_TOO_SHORT: nothing was copied.
+#[unsafe(no_mangle)]
+pub extern "C" fn ep_sum(bytes: &[u8], out: &mut [u8], len: &mut usize) -> u8
+    ensures { Copies result done (sha256 bytes.now) out.old out.new len.new }
+{
+    let mut hasher = Sha256::new();
+    hasher.update(bytes);
+    copies(DONE, &hasher.finalize(), out, len)
 }
 
 /// What an audit tells, and its status.

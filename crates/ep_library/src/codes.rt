@@ -1,7 +1,7 @@
 //! Faults by their statuses.
 
 ghost use Rattle.std.specs.Prelude.{◌≡◌, ◌≢◌};
-ghost use Rattle.ep_library.specs.Statuses.{ask_status, bundle_status, close_status, command_status, log_status, open_status, opening_status, prepare_status, start_status, sync_status, taking_status, tell_status};
+ghost use Rattle.ep_library.specs.Statuses.{ask_status, bundle_status, close_status, command_status, log_status, open_status, opening_status, prepare_status, start_status, succeed_status, sync_status, taking_status, tell_status};
 
 use crate::status::{
     BAD_BUNDLE, BAD_CHECKSUM, BAD_ENTRY, BAD_FRAME, BAD_LENGTH, LAST_GENERATION, LENT, LOG_EXISTS,
@@ -11,7 +11,9 @@ use crate::status::{
 };
 use ep_base::CommandFault;
 use ep_bundle::BundleFault;
-use ep_hosted::{AskFault, PrepareFault, StartFault, SyncFault, TakingFault, TellFault};
+use ep_hosted::{
+    AskFault, PrepareFault, StartFault, SucceedFault, SyncFault, TakingFault, TellFault,
+};
 use ep_log::LogFault;
 use ep_node::{CloseFault, OpenFault};
 use ep_opening::OpeningFault;
@@ -97,6 +99,21 @@ pub(crate) fn close_status(fault: CloseFault) -> u8
         CloseFault::LastGeneration => LAST_GENERATION,
         // (no device fails here)
         CloseFault::Unsynced | CloseFault::Closed => UNSYNCED,
+    }
+}
+
+/// Why no replica goes on in the next generation.
+pub(crate) fn succeed_status(fault: SucceedFault) -> u8
+    ensures value { result ≡ succeed_status fault }
+    ensures fault { result ≢ 0 }
+{
+    match fault {
+        SucceedFault::Memory => MEMORY,
+        SucceedFault::OutOfRange => OUT_OF_RANGE,
+        SucceedFault::NotSealed => NOT_SEALED,
+        SucceedFault::LastGeneration => LAST_GENERATION,
+        SucceedFault::Unsynced => UNSYNCED,
+        SucceedFault::Log(fault) => open_status(fault),
     }
 }
 

@@ -11,7 +11,9 @@
 
 mod alone;
 mod answering;
+mod bound;
 mod call;
+mod closed_log;
 mod codes;
 mod copying;
 mod events;
@@ -28,6 +30,8 @@ mod proposing;
 mod refusals;
 mod setup;
 mod status;
+mod succeeding;
+mod succession;
 mod syncing;
 mod touching;
 mod waits;

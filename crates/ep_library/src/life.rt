@@ -34,7 +34,7 @@ fn is_spare(setup: &Setup<'_>) -> bool
 }
 
 /// Puts the replica, if one was begun, behind the handle; else tells why none was.
-fn seat(
+pub(crate) fn seat(
     alloc: Global,
     handle: &mut Handle,
     begun: Result<Hosted, StartFault>,

@@ -1,10 +1,10 @@
 //! Where faults are.
 
 ghost use Rattle.std.specs.Prelude.{◌≡◌};
-ghost use Rattle.ep_library.specs.Places.{log_place, open_place, opening_place, start_place};
+ghost use Rattle.ep_library.specs.Places.{log_place, open_place, opening_place, start_place, succeed_place};
 
 use crate::place::Place;
-use ep_hosted::StartFault;
+use ep_hosted::{StartFault, SucceedFault};
 use ep_log::LogFault;
 use ep_node::OpenFault;
 use ep_opening::OpeningFault;
@@ -69,5 +69,19 @@ pub(crate) fn start_place(fault: StartFault) -> Place
             by: 0,
         },
         StartFault::Log(fault) => open_place(fault),
+    }
+}
+
+/// Where the log of a replica of the next generation is wrong, if that is why there is none.
+pub(crate) fn succeed_place(fault: SucceedFault) -> Option<Place>
+    ensures { result ≡ succeed_place fault }
+{
+    match fault {
+        SucceedFault::Memory
+        | SucceedFault::OutOfRange
+        | SucceedFault::NotSealed
+        | SucceedFault::LastGeneration
+        | SucceedFault::Unsynced => None,
+        SucceedFault::Log(fault) => Some(open_place(fault)),
     }
 }

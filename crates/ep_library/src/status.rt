@@ -60,6 +60,10 @@ pub(crate) const NO_PATIENCE: u8 = 44;
 pub(crate) const HAS_PATIENCE: u8 = 45;
 /// What ep_prepare made before wasn't told: ep_told lends it.
 pub(crate) const UNTOLD: u8 = 46;
+/// There is no file that is given in pieces: none was begun, it was freed, or another thread is in a call with it.
+pub(crate) const NO_CHECKPOINT: u8 = 30;
+/// There is such a file already: free it before.
+pub(crate) const HAS_CHECKPOINT: u8 = 31;
 /// The log has no bytes, and the replica isn't new.
 pub(crate) const NO_LOG: u8 = 48;
 /// The log has bytes, and the replica is new.

@@ -21,3 +21,4 @@ mod Noting
 mod OpenTold
 mod Decided
 mod Learnt
+pub mod Unclosed

@@ -3,6 +3,7 @@ use Rattle.std.specs.Prelude.{◌≡◌, ◌<◌, false, true, length}
 use Rattle.ep_opening.specs.Closing as opening
 use Rattle.ep_opening.specs.declared.closing_fault.ClosingFault.{ClosingFault}
 use Rattle.ep_opening.specs.declared.closing_fault.ClosingFault.TheVariants as closing
+use Rattle.ep_replica.specs.Kept.{Kept}
 use Rattle.ep_node.specs.Nodes.{Logged, IsQuiet}
 use Rattle.ep_node.specs.declared.close_fault.CloseFault.{CloseFault}
 use Rattle.ep_node.specs.declared.close_fault.CloseFault.TheVariants.{Memory, NotSealed, LastGeneration, Unsynced, Closed}
@@ -20,3 +21,11 @@ IsUnclosed n NotSealed = IsQuiet n × opening.IsUnclosed n.replica closing.NotSe
 IsUnclosed n LastGeneration = IsQuiet n × opening.IsUnclosed n.replica closing.LastGeneration
 IsUnclosed n Unsynced = (n.closed ≡ false) × (n.synced < length n.replica.entries)
 IsUnclosed n Closed = n.closed ≡ true
+
+-- why there is none of a node that is quiet
+abbrev pub IsUnsealed : Kept → CloseFault → Type 0
+IsUnsealed k Memory = Unit {0}
+IsUnsealed k NotSealed = opening.IsUnclosed k closing.NotSealed
+IsUnsealed k LastGeneration = opening.IsUnclosed k closing.LastGeneration
+IsUnsealed k Unsynced = ⊥
+IsUnsealed k Closed = ⊥

@@ -7,6 +7,7 @@
 
 mod begin;
 mod close_fault;
+mod closing;
 mod crash_law;
 mod cut;
 mod executing;

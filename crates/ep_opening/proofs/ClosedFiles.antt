@@ -12,7 +12,7 @@ use Rattle.ep_base.specs.declared.reply.Reply.{Reply}
 use Rattle.ep_base.proofs.Members.{same_members}
 use Rattle.ep_journal.specs.Entries.{Log, entries_of}
 use Rattle.ep_opening.specs.Closing.{store_of, WasAnswered}
-use Rattle.ep_opening.specs.Closings.{ClosingsAgree, ClosingsGoOn, GoesOn, IsOneOf}
+use Rattle.ep_opening.specs.Closings.{ClosingIsOne, ClosingsAgree, ClosingsGoOn, GoesOn, IsOneOf}
 use Rattle.ep_opening.specs.Files.{File}
 use Rattle.ep_rules.specs.Chains.{store_left, history_from}
 use Rattle.ep_rules.specs.Closing.{has_seal, up_to_seal, HasClosed}
@@ -188,3 +188,13 @@ closings_agree_lem m f journal schedule given j k next x y one other versions is
     (same_members y.executed x.executed y_is.deps.rising x_is.deps.rising
     (λ i h. (is.executed i).1 (done_alike m f journal schedule given k j other one is.closed i ((as_well.executed i).0 h)))
     (λ i h. (as_well.executed i).1 (done_alike m f journal schedule given j k one other as_well.closed i ((is.executed i).0 h))))
+
+pub closing_is_one_lem : ClosingIsOne
+closing_is_one_lem j next x y is as_well x_is y_is =
+    let executed : y.executed ≡ x.executed = same_members y.executed x.executed y_is.deps.rising x_is.deps.rising (λ i h. (is.executed i).1 ((as_well.executed i).0 h)) (λ i h. (as_well.executed i).1 ((is.executed i).0 h)) in
+    let faults : y.faults ≡ x.faults = as_well.faults ∙ sym is.faults in
+    let generation : y.generation ≡ x.generation = as_well.generation ∙ sym is.generation in
+    let contents : y.opening.contents ≡ x.opening.contents = as_well.contents ∙ sym is.contents in
+    let since : y.opening.since ≡ x.opening.since = as_well.since ∙ sym is.since in
+    let seal : y.seal ≡ x.seal = as_well.seal ∙ sym is.seal in
+    λ t. record { faults = faults t; generation = generation t; opening = record { contents = contents t; since = since t }; seal = seal t; executed = executed t }

@@ -11,3 +11,7 @@ pub mod Led
 pub mod Unsealed
 pub mod FileParts
 pub mod ClosedFiles
+pub mod ReadReferences
+pub mod WrittenReferences
+pub mod Giving
+pub mod Short

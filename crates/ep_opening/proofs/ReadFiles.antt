@@ -30,7 +30,7 @@ use Rattle.ep_opening.specs.declared.opening_fault.OpeningFault.TheVariants.{Cut
 use Rattle.ep_opening.specs.declared.opening_field.OpeningField.TheVariants.{Map, Rest}
 use Rattle.ep_opening.proofs.Tellings.{told_then, telling_read}
 
-the_same : (n x : ℕ) → Ranges n n x → x ≡ n
+pub the_same : (n x : ℕ) → Ranges n n x → x ≡ n
 the_same n x p = let a : n ≤ x = p.least in let b : x ≤ n = p.most in omega arith
 
 lead_gives : (l : Left) → AreBytes l.bytes → Gives (λ (x : ℕ). lead_bytes) (λ x. Unit {0}) l (lead l)
@@ -128,7 +128,7 @@ after_map h m l = and_told (telling (executed_field l.at) (executed h.generation
 abbrev pub after_front : Front → Left → Telling File
 after_front h l = and_told (telling (λ at. Map) (map_in (V3 h.generation) l)) (after_map h)
 
-nothing_after : (bs : List ℕ) (l m : Left) (x : Unit {0}) → none_in bs l ≡ Ok (x, m) → bs ≡ []
+pub nothing_after : (bs : List ℕ) (l m : Left) (x : Unit {0}) → none_in bs l ≡ Ok (x, m) → bs ≡ []
 nothing_after [] l m x h = refl
 nothing_after (b ∷ bs) l m x h = absurd (cc)
 

@@ -8,6 +8,7 @@ use Rattle.ep_base.specs.declared.reply.Reply.TheVariants.{Closed}
 use Rattle.ep_base.specs.declared.version_kind.VersionKind.TheVariants.{V3}
 use Rattle.ep_journal.specs.Entries.{Log, entries_of}
 use Rattle.ep_journal.specs.Leaving.{standing}
+use Rattle.ep_journal.specs.Openings.{Opening}
 use Rattle.ep_opening.specs.Files.{File}
 use Rattle.ep_opening.specs.declared.closing_fault.ClosingFault.{ClosingFault}
 use Rattle.ep_opening.specs.declared.closing_fault.ClosingFault.TheVariants.{Memory, NotSealed, LastGeneration}
@@ -22,6 +23,10 @@ WasAnswered es i = (e : Entry) × (told : Reply) × In e es × In (i, Told told)
 -- the map that the journal leaves
 abbrev pub store_of : Log → Store
 store_of j = (standing j).state.store
+
+-- the map that the journal leaves, with clocks that go on from its last stamp
+abbrev pub IsLeft : Log → Opening → Type 0
+IsLeft j o = o ≡ record { contents = (store_of j).contents; since = stamp_after j.opening.since (entries_of j.entries) }
 
 -- the file of the generation after the journal's, of which `next` replicas may fail
 pub record IsClosing (j : Log) (next : ℕ) (f : File) : Type 0 where

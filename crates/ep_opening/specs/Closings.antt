@@ -40,3 +40,7 @@ abbrev pub ClosingsAgree : Type 0
 ClosingsAgree =
     (m : Contents) (f : ℕ) (journal : Journals) (schedule : List Scheduled) → Merges (opened m) f journal schedule → (j k : Log) (next : ℕ) (x y : File) → IsOneOf m f journal j → IsOneOf m f journal k →
     j.version ≡ k.version → IsClosing j next x → IsClosing k next y → IsFile x → IsFile y → y ≡ record x { opening = record { contents = x.opening.contents; since = y.opening.since } }
+
+-- The file that closes a journal is one.
+abbrev pub ClosingIsOne : Type 0
+ClosingIsOne = (j : Log) (next : ℕ) (x y : File) → IsClosing j next x → IsClosing j next y → IsFile x → IsFile y → y ≡ x

@@ -5,3 +5,6 @@ pub mod Closings
 pub mod Gathering
 pub mod Reading
 pub mod Texts
+pub mod References
+pub mod ReferenceReading
+pub mod Pieces

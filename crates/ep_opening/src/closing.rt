@@ -1,18 +1,21 @@
 //! The file that the next generation opens with.
 
-ghost use Rattle.std.specs.Prelude.{◌≡◌, ◌≤◌, suc, true, None, IfSome, IfOk, IfErr};
+ghost use Rattle.std.specs.Prelude.{◌≡◌, ◌≢◌, ◌≤◌, ◌↔◌, ℕ, suc, true, None, IfSome, IfOk, IfErr};
+ghost use Rattle.ep_base.specs.Places.{Has};
 ghost use Rattle.ep_base.specs.Versions.{generation_of, version_number};
 ghost use Rattle.ep_base.specs.declared.version_kind.VersionKind.TheVariants.{V3};
 ghost use Rattle.ep_journal.specs.Entries.{entries_of};
-ghost use Rattle.ep_opening.specs.Closing.{store_of, IsClosing, IsNext, IsUnclosed};
+ghost use Rattle.ep_opening.specs.Closing.{store_of, IsClosing, IsLeft, IsNext, IsUnclosed, WasAnswered};
+ghost use Rattle.ep_opening.specs.declared.closing_fault.ClosingFault.TheVariants.{Memory as NoMemory};
 ghost use Rattle.ep_opening.specs.Files.{HasItsSeal};
-ghost use Rattle.ep_rules.specs.Journals.{stamp_after};
 ghost use Rattle.ep_rules.specs.OneMap.{is_closed};
 
 use crate::answered::answered;
 use crate::closing_fault::ClosingFault;
 use crate::opening_file::OpeningFile;
-use ep_base::{Deps, Generation, Size, Value, Version};
+use crate::past::Past;
+use ep_base::{Generation, Size, Value, Version};
+use ep_exec::Contents;
 use ep_journal::{Journal, Opening};
 use std::alloc::{AllocError, Global};
 
@@ -43,6 +46,7 @@ fn next_after(journal: &Journal) -> Result<Generation, ClosingFault>
     requires { is_closed (store_of journal.now) ≡ true }
     ensures ok { IfOk result (λ g. IsNext journal.now g) }
     ensures err { IfErr result (λ fault. IsUnclosed journal.now fault) }
+    ensures known { IfErr result (λ fault. fault ≢ NoMemory) }
 {
     learn_closed(journal);
     match next_of(journal.version()) {
@@ -51,11 +55,12 @@ fn next_after(journal: &Journal) -> Result<Generation, ClosingFault>
     }
 }
 
-/// The same, where a seal was executed.
+/// The generation after the journal's, where a seal was executed. It is no want of memory that refuses it.
 #[tactic(auto, using(crate::proofs::FileParts::open_now, crate::proofs::FileParts::closed_now))]
-fn next_generation(journal: &Journal) -> Result<Generation, ClosingFault>
+pub fn next_generation(journal: &Journal) -> Result<Generation, ClosingFault>
     ensures ok { IfOk result (λ g. IsNext journal.now g) }
     ensures err { IfErr result (λ fault. IsUnclosed journal.now fault) }
+    ensures known { IfErr result (λ fault. fault ≢ NoMemory) }
 {
     match journal.seal() {
         None => Err(ClosingFault::NotSealed),
@@ -73,31 +78,65 @@ fn seal_of(alloc: Global, journal: &Journal) -> Result<Option<Value>, AllocError
     }
 }
 
-/// The map that the journal leaves, with clocks that go on from its last stamp. Where more than 4,000,000,000 keys have a value, it is refused.
-fn opening_of(journal: &Journal) -> Result<Opening, AllocError>
-    ensures { IfOk result (λ o. o ≡ record { contents = (store_of journal.now).contents; since = stamp_after journal.now.opening.since (entries_of journal.now.entries) }) }
+/// What began the generation after the journal's, where this one has executed a seal.
+fn past_of(alloc: Global, journal: &Journal) -> Result<Past, ClosingFault>
+    ensures next { IfOk result (λ p. IsNext journal.now p.generation) }
+    ensures seal { IfOk result (λ p. p.seal ≡ (store_of journal.now).seal) }
+    ensures executed { IfOk result (λ p. (i : ℕ) → Has p.executed i ↔ WasAnswered (entries_of journal.now.entries) i) }
+    ensures err { IfErr result (λ fault. IsUnclosed journal.now fault) }
 {
-    let Ok(contents) = journal.contents() else {
-        return Err(AllocError);
-    };
-    match Opening::new(contents, journal.last_stamp()) {
+    let generation = next_generation(journal)?;
+    let executed = answered(alloc, journal.entries())?;
+    let seal = seal_of(alloc, journal)?;
+    Ok(Past {
+        generation,
+        seal,
+        executed,
+    })
+}
+
+/// These contents, with clocks that go on from this stamp. Where more than 4,000,000,000 keys have a value, it is refused.
+fn opening_with(contents: Contents, since: u64) -> Result<Opening, AllocError>
+    ensures { IfOk result (λ o. o ≡ record { contents = contents; since = since }) }
+{
+    match Opening::new(contents, since) {
         Ok(opening) => Ok(opening),
         Err(_) => Err(AllocError),
     }
 }
 
-/// The file of these parts, of a generation that a seal began.
-fn file_of(
-    size: Size,
-    generation: Generation,
-    opening: Opening,
-    seal: Option<Value>,
-    executed: Deps,
-) -> OpeningFile
-    requires later { 2 ≤ generation }
-    requires seal { HasItsSeal generation seal }
-    ensures { result ≡ record { faults = size; generation = generation; opening = opening; seal = seal; executed = executed } }
+/// The map that the journal leaves, with clocks that go on from its last stamp.
+fn opening_of(journal: &Journal) -> Result<Opening, AllocError>
+    ensures { IfOk result (IsLeft journal.now) }
 {
+    match journal.contents() {
+        Ok(contents) => opening_with(contents, journal.last_stamp()),
+        Err(_) => Err(AllocError),
+    }
+}
+
+/// The same, and no longer the journal.
+fn opening_from(journal: Journal) -> Result<Opening, AllocError>
+    ensures { IfOk result (IsLeft journal) }
+{
+    let since = journal.last_stamp();
+    match journal.into_contents() {
+        Ok(contents) => opening_with(contents, since),
+        Err(_) => Err(AllocError),
+    }
+}
+
+/// The file of these parts.
+fn file_of(size: Size, past: Past, opening: Opening) -> OpeningFile
+    requires later { 2 ≤ past.generation }
+    requires seal { HasItsSeal past.generation past.seal }
+    ensures { result ≡ record { faults = size; generation = past.generation; opening = opening; seal = past.seal; executed = past.executed } }
+{
+    let Past {
+        generation,
+        seal,
+        executed,
+    } = past;
     OpeningFile::new(size, generation, opening, seal, executed).unwrap()
 }
 
@@ -110,9 +149,42 @@ pub fn closing_of(alloc: Global, journal: &Journal, next: Size) -> Result<Openin
     ensures ok { IfOk result (λ file. IsClosing journal.now next file) }
     ensures err { IfErr result (λ fault. IsUnclosed journal.now fault) }
 {
-    let generation = next_generation(journal)?;
-    let executed = answered(alloc, journal.entries())?;
-    let seal = seal_of(alloc, journal)?;
+    let past = past_of(alloc, journal)?;
     let opening = opening_of(journal)?;
-    Ok(file_of(next, generation, opening, seal, executed))
+    Ok(file_of(next, past, opening))
+}
+
+/// The same file, and no longer the journal, whose map becomes a part of it: where nobody else has what the journal opened with, nothing of that is copied.
+pub fn closing_from(
+    alloc: Global,
+    journal: Journal,
+    next: Size,
+) -> Result<OpeningFile, ClosingFault>
+    ensures ok { IfOk result (λ file. IsClosing journal next file) }
+    ensures err { IfErr result (λ fault. IsUnclosed journal fault) }
+{
+    match past_of(alloc, &journal) {
+        Ok(past) => closed_with(journal, next, past),
+        Err(fault) => {
+            drop(journal);
+            Err(fault)
+        }
+    }
+}
+
+/// The file of the journal's map, and of what began the generation after the journal's.
+fn closed_with(journal: Journal, next: Size, past: Past) -> Result<OpeningFile, ClosingFault>
+    requires next { IsNext journal past.generation }
+    requires seal { past.seal ≡ (store_of journal).seal }
+    requires executed { (i : ℕ) → Has past.executed i ↔ WasAnswered (entries_of journal.entries) i }
+    ensures ok { IfOk result (λ file. IsClosing journal next file) }
+    ensures err { IfErr result (λ fault. fault ≡ NoMemory) }
+{
+    match opening_from(journal) {
+        Ok(opening) => Ok(file_of(next, past, opening)),
+        Err(_) => {
+            drop(past);
+            Err(ClosingFault::Memory)
+        }
+    }
 }

@@ -4,6 +4,7 @@ ghost use Rattle.std.specs.Prelude.{◌≡◌, Some};
 ghost use Rattle.sha2.specs.Sha256.{sha256};
 ghost use Rattle.ep_opening.specs.Bytes.{file_digest, opening_bytes};
 ghost use Rattle.ep_opening.specs.Files.{File};
+ghost use Rattle.ep_opening.specs.References.{reference_bytes, reference_digest, Reference};
 
 use sha2::{Digest, Sha256};
 
@@ -11,7 +12,7 @@ use sha2::{Digest, Sha256};
 pub(crate) const DIGEST_LEN: usize = 32;
 
 /// The SHA-256 of the bytes.
-pub(crate) fn digest_of(bytes: &[u8]) -> [u8; 32]
+pub fn digest_of(bytes: &[u8]) -> [u8; 32]
     ensures { result ≡ sha256 bytes.now }
 {
     let mut hasher = Sha256::new();
@@ -19,9 +20,10 @@ pub(crate) fn digest_of(bytes: &[u8]) -> [u8; 32]
     hasher.finalize()
 }
 
-/// The digest that the bytes of a file end with, which the log of its generation names; none of fewer than 32 bytes.
+/// The digest that the bytes of a file or of a reference end with, which the log of its generation names; none of fewer than 32 bytes.
 pub fn digest_in(bytes: &[u8]) -> Option<[u8; 32]>
-    ensures { (f : File) → bytes.now ≡ opening_bytes f → result ≡ Some (file_digest f) }
+    ensures file { (f : File) → bytes.now ≡ opening_bytes f → result ≡ Some (file_digest f) }
+    ensures reference { (r : Reference) → bytes.now ≡ reference_bytes r → result ≡ Some (reference_digest r) }
 {
     if bytes.len() < DIGEST_LEN {
         return None;

@@ -4,9 +4,10 @@ ghost use Rattle.std.specs.Prelude.{◌≤◌, length};
 ghost use Rattle.ep_base.specs.Deps.{IsDeps};
 ghost use Rattle.ep_base.specs.Generations.{IsGeneration};
 ghost use Rattle.ep_base.specs.Values.{most_value};
-ghost use Rattle.ep_opening.specs.Closings.{ClosingsAgree, ClosingsGoOn};
+ghost use Rattle.ep_opening.specs.Closings.{ClosingIsOne, ClosingsAgree, ClosingsGoOn};
 ghost use Rattle.ep_opening.specs.Files.{HasItsSeal, IsFile, SealFits};
 ghost use Rattle.ep_opening.specs.Reading.{FilesAreReadBack};
+ghost use Rattle.ep_opening.specs.ReferenceReading.{ReferencesAreReadBack};
 
 use crate::opening_file::OpeningFile;
 use ep_base::{Deps, Generation, Size, Value};
@@ -32,7 +33,7 @@ fn learn_value(value: &Value)
 }
 
 #[tactic(auto, using(crate::proofs::Known::no_seal, crate::proofs::Known::some_seal))]
-fn learn_seal(file: &OpeningFile)
+pub(crate) fn learn_seal(file: &OpeningFile)
     ensures short { SealFits file.now.seal }
     ensures begun { HasItsSeal file.now.generation file.now.seal }
 {
@@ -79,4 +80,16 @@ pub fn closings_go_on()
 /// Two files that close journals of one generation, for a next one of one size, differ in the stamps alone that their clocks go on from.
 pub fn closings_agree()
     ensures { ClosingsAgree }
+{}
+
+/// The file that closes a journal is one: who reads the journal once more and closes it has the very same opening.
+#[tactic(auto, using(crate::proofs::ClosedFiles::closing_is_one_lem))]
+pub fn closing_is_one()
+    ensures { ClosingIsOne }
+{}
+
+/// The bytes of each reference are read as that one, and nothing is left.
+#[tactic(auto, using(crate::proofs::WrittenReferences::references_back))]
+pub fn references_are_read_back()
+    ensures { ReferencesAreReadBack }
 {}

@@ -13,6 +13,8 @@
 #![tactic(auto)]
 
 mod answered;
+mod binding;
+mod checkpoint;
 mod closing;
 mod closing_fault;
 mod digest;
@@ -21,21 +23,34 @@ mod laws;
 mod opening_fault;
 mod opening_field;
 mod opening_file;
+mod opening_reference;
 mod parts;
 mod parts_fault;
+mod past;
 mod reading;
+mod reference_reading;
+mod reference_writing;
 mod spelled_file;
+mod stage;
 mod stages;
 mod writing;
 
-pub use closing::closing_of;
+pub use binding::write_binding;
+pub use checkpoint::Checkpoint;
+pub use closing::{closing_from, closing_of, next_generation};
 pub use closing_fault::ClosingFault;
-pub use digest::digest_in;
-pub use laws::{closings_agree, closings_go_on, files_are_read_back, learn_file};
+pub use digest::{digest_in, digest_of};
+pub use laws::{
+    closing_is_one, closings_agree, closings_go_on, files_are_read_back, learn_file,
+    references_are_read_back,
+};
 pub use opening_fault::OpeningFault;
 pub use opening_field::OpeningField;
 pub use opening_file::OpeningFile;
+pub use opening_reference::OpeningReference;
 pub use parts_fault::PartsFault;
 pub use reading::read_opening;
+pub use reference_reading::read_reference;
+pub use reference_writing::write_reference;
 pub use spelled_file::SpelledFile;
 pub use writing::write_opening;

@@ -1,8 +1,8 @@
-//! The fields of opening files.
+//! The fields of opening files and of references.
 
 use std::fmt;
 
-/// A field of an opening file, in the file's order.
+/// A field of an opening file, or of a reference to a log, in their order.
 #[derive(Clone, Copy, Debug, PartialEq, Eq)]
 pub enum OpeningField {
     /// The four bytes that say what the file is.
@@ -27,7 +27,9 @@ pub enum OpeningField {
     Count,
     /// One of them.
     Instance,
-    /// Bytes behind the last one.
+    /// How many bytes the log has that a reference names, or their SHA-256.
+    Log,
+    /// Bytes behind the last field.
     Rest,
 }
 
@@ -39,7 +41,7 @@ impl fmt::Display for OpeningField {
 
     fn fmt<W: fmt::Write>(&self, f: &mut fmt::Formatter<W>) -> fmt::Result {
         match self {
-            OpeningField::Magic => f.write_str("the word EPOP"),
+            OpeningField::Magic => f.write_str("the word in front"),
             OpeningField::Version => f.write_str("the version"),
             OpeningField::Replicas => f.write_str("the number of replicas"),
             OpeningField::Generation => f.write_str("the generation"),
@@ -52,7 +54,8 @@ impl fmt::Display for OpeningField {
             OpeningField::Map => f.write_str("the map"),
             OpeningField::Count => f.write_str("the number of executed instances"),
             OpeningField::Instance => f.write_str("an executed instance"),
-            OpeningField::Rest => f.write_str("what stands behind the last instance"),
+            OpeningField::Log => f.write_str("the log's length"),
+            OpeningField::Rest => f.write_str("what stands behind the last field"),
         }
     }
 }

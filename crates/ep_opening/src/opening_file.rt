@@ -11,13 +11,28 @@ use std::marker::Model;
 
 /// What the replicas of a generation open with; the value of the seal that began the generation, where it isn't the first; and the instances that
 /// the generation before executed up to that seal.
-#[derive(Drop)]
 pub struct OpeningFile {
     size: Size,
     generation: Generation,
     opening: Opening,
     seal: Option<Value>,
     executed: Deps,
+}
+
+// (by hand, so that no crate above proves again how the parts are dropped)
+impl Drop for OpeningFile {
+    fn drop(self) {
+        let OpeningFile {
+            size: _,
+            generation: _,
+            opening,
+            seal,
+            executed,
+        } = self;
+        drop(opening);
+        drop(seal);
+        drop(executed);
+    }
 }
 
 impl Model for OpeningFile {

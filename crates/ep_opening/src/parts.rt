@@ -19,7 +19,7 @@ use ep_exec::Contents;
 use std::alloc::{AllocError, Global};
 
 /// Where the field at fault begins, unless memory was refused: a file is a slice, which doesn't fail to be read.
-fn place_of(fault: BundleFault) -> Result<u64, AllocError>
+pub(crate) fn place_of(fault: BundleFault) -> Result<u64, AllocError>
     ensures { IfOk result (λ at. (fault ≢ Memory) × (fault ≢ ReadFailed) × (at ≡ place_of fault)) }
 {
     match fault {
@@ -30,7 +30,7 @@ fn place_of(fault: BundleFault) -> Result<u64, AllocError>
 }
 
 /// The field of the lead that begins here.
-fn lead_field(at: u64) -> OpeningField
+pub(crate) fn lead_field(at: u64) -> OpeningField
     ensures { result ≡ lead_field at }
 {
     if at < 4 {

@@ -22,7 +22,7 @@ use std::alloc::Global;
 const LEAST_LEN: usize = 59;
 
 /// What is known of bytes: a law, which costs nothing to call.
-fn are_bytes(bytes: &[u8])
+pub(crate) fn are_bytes(bytes: &[u8])
     ensures { AreBytes bytes.now }
 {}
 
@@ -62,7 +62,7 @@ fn read_parts<S: Source>(
 }
 
 /// Whether this is the digest of the bytes.
-fn is_sealed(body: &[u8], digest: &[u8]) -> bool
+pub(crate) fn is_sealed(body: &[u8], digest: &[u8]) -> bool
     ensures { result ≡ same_list (sha256 body.now) digest.now }
 {
     digest_of(body).as_slice() == digest

@@ -13,7 +13,7 @@ use ep_bundle::{put_instance, put_run, put_u8, put_u32, put_u64, write_contents}
 use std::alloc::{AllocError, Global};
 
 /// What says that this is an opening file, of version 3.
-fn put_lead<K: Sink>(sink: &mut K) -> Result<(), WriteFailed>
+pub(crate) fn put_lead<K: Sink>(sink: &mut K) -> Result<(), WriteFailed>
     ensures { Puts (K.held sink.old) (K.held sink.new) (K.has_failed sink.old) (K.has_failed sink.new) result lead_bytes }
 {
     put_u32(sink, 0x4550_4f50)?;
@@ -42,7 +42,7 @@ fn put_seal<K: Sink>(sink: &mut K, file: &OpeningFile) -> Result<(), WriteFailed
 }
 
 /// What stands between the version and the map.
-fn put_front<K: Sink>(sink: &mut K, file: &OpeningFile) -> Result<(), WriteFailed>
+pub(crate) fn put_front<K: Sink>(sink: &mut K, file: &OpeningFile) -> Result<(), WriteFailed>
     ensures { Puts (K.held sink.old) (K.held sink.new) (K.has_failed sink.old) (K.has_failed sink.new) result (front_bytes file.now) }
 {
     put_u8(sink, file.size().count())?;
@@ -62,7 +62,7 @@ fn put_instances<K: Sink>(sink: &mut K, instances: &[InstanceId]) -> Result<(), 
 }
 
 /// The instances that the generation before executed, with their number before them.
-fn put_executed<K: Sink>(sink: &mut K, executed: &Deps) -> Result<(), WriteFailed>
+pub(crate) fn put_executed<K: Sink>(sink: &mut K, executed: &Deps) -> Result<(), WriteFailed>
     ensures { Puts (K.held sink.old) (K.held sink.new) (K.has_failed sink.old) (K.has_failed sink.new) result (executed_bytes executed.now) }
 {
     put_u32(sink, executed.len() as u32)?;

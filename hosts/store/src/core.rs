@@ -40,8 +40,18 @@ pub trait Core {
     }
 
     /// What its generation opened with. None where the file has to be read.
-    fn opening(&mut self) -> Option<Opening> {
+    fn opening(&self) -> Option<Opening> {
         None
+    }
+
+    /// Has the file written that its generation opened with, where it isn't and nothing else is being written: whether it is there.
+    fn put_opening(&mut self) -> Result<bool, NodeFault> {
+        Ok(true)
+    }
+
+    /// Whether a file is being written that a generation opened with. Meanwhile a change of generation costs more.
+    fn is_writing(&mut self) -> bool {
+        false
     }
 
     /// Ends it, once it has answered all, and starts it again: so it goes on to the next generation, where it has executed a seal. How far it is then.
@@ -107,8 +117,16 @@ impl<C: Core + ?Sized> Core for Box<C> {
         (**self).is_prepared()
     }
 
-    fn opening(&mut self) -> Option<Opening> {
+    fn opening(&self) -> Option<Opening> {
         (**self).opening()
+    }
+
+    fn put_opening(&mut self) -> Result<bool, NodeFault> {
+        (**self).put_opening()
+    }
+
+    fn is_writing(&mut self) -> bool {
+        (**self).is_writing()
     }
 
     fn start_again(&mut self, begin: &Begin) -> Result<State, NodeFault> {

@@ -1,8 +1,10 @@
 //! The folder of a replica: where its files are, a lock, and whether they are whole.
 use crate::directory_fault::DirectoryFault;
 use crate::file_fault::FileFault;
-use crate::generations::numbers_in;
+use crate::generations::{look, numbers_in, reference};
 use crate::identities;
+use crate::opening::Opening;
+use crate::planning::{first, newest};
 use std::fs::{self, File, OpenOptions, TryLockError};
 use std::io::{self, Seek, Write};
 use std::path::{Path, PathBuf};
@@ -197,9 +199,28 @@ impl Directory {
         Ok(())
     }
 
-    /// The newest generation that has an opening.
+    /// The newest generation that is here.
     pub fn newest(&self) -> Option<u32> {
-        self.generations_with("opening").pop()
+        let held = look(&self.generations()).unwrap_or_default();
+        Some(newest(&held)).filter(|newest| *newest > 0)
+    }
+
+    /// The newest generation that is here, and how many replicas it has; none where there is none.
+    pub fn newest_size(&self) -> Result<Option<(u32, u8)>, DirectoryFault> {
+        let Some(newest) = self.newest() else { return Ok(None) };
+        let path = self.opening(newest);
+        if path.exists() {
+            let opening = Opening::read_front_of(&path).map_err(|error| unusable(path, error))?;
+            return Ok(Some((opening.generation, opening.replicas)));
+        }
+        let reference = reference(&self.generations(), newest).map_err(DirectoryFault::Generations)?;
+        Ok(Some((newest, reference.cluster().replicas())))
+    }
+
+    /// Whether the opening of a generation is read from its file.
+    pub fn is_whole(&self, generation: u32) -> bool {
+        let held = look(&self.generations()).unwrap_or_default();
+        held.iter().any(|one| one.number == generation && one.is_whole())
     }
 
     /// Takes back that the node has opened its newest generation, of which nobody was told: it was for another number of replicas than
@@ -216,11 +237,14 @@ impl Directory {
         removed.map_err(failed(folder))
     }
 
-    /// Drops what isn't needed of generations that were left: all but the last `kept` ones, whose marks go last. A thread does it, where there is
-    /// something: long files take a while.
+    /// Drops what isn't needed of generations that were left: all but the last `kept` ones, and those whose logs lead to the newest one. Marks go last. A
+    /// thread does it, where there is something: long files take a while.
     pub fn drop_left_beside(&self, kept: usize) -> Option<JoinHandle<()>> {
-        let mut left = self.generations_with("left");
+        let held = look(&self.generations()).ok()?;
+        let needed = first(&held, newest(&held)).ok()?;
+        let mut left: Vec<u32> = held.iter().filter(|one| one.left_for > 0).map(|one| one.number).collect();
         left.truncate(left.len().saturating_sub(kept));
+        left.retain(|generation| *generation < needed);
         if left.is_empty() {
             return None;
         }

@@ -1,5 +1,6 @@
 //! Why a folder isn't taken.
 use crate::file_fault::FileFault;
+use crate::generations_fault::GenerationsFault;
 use crate::identities;
 use std::fmt;
 use std::path::PathBuf;
@@ -28,12 +29,18 @@ pub enum DirectoryFault {
     },
     /// There are entries, and no identities.
     NotWhole(PathBuf),
+    /// Its generations aren't gone on with.
+    Generations(GenerationsFault),
 }
 
 impl DirectoryFault {
     /// Whether the replica must not come back with this folder.
     pub fn is_lasting(&self) -> bool {
-        !matches!(self, DirectoryFault::File(_))
+        match self {
+            DirectoryFault::File(_) => false,
+            DirectoryFault::Generations(fault) => fault.is_lasting(),
+            _ => true,
+        }
     }
 }
 
@@ -47,6 +54,7 @@ impl fmt::Display for DirectoryFault {
     fn fmt(&self, f: &mut fmt::Formatter) -> fmt::Result {
         match self {
             DirectoryFault::File(fault) => fault.fmt(f),
+            DirectoryFault::Generations(fault) => fault.fmt(f),
             DirectoryFault::Old(path) => write!(
                 f,
                 "the folder {} has a log from before generations, and this store doesn't go on from it: start the store of that time, \

@@ -277,6 +277,11 @@ pub struct Driver<C> {
     pub(crate) taken: Option<(u32, PathBuf)>,
     /// Since when a peer is in a later generation.
     pub(crate) behind_since: Option<Instant>,
+    /// The peers that want an opening which isn't written yet, and when a piece was wanted last.
+    pub(crate) wanting: BTreeSet<u8>,
+    pub(crate) handed: Option<Instant>,
+    /// Whether an opening was being written when it was looked at last.
+    pub(crate) is_writing: bool,
     pub(crate) members: Members,
     pub(crate) wishes: Vec<Wish>,
     /// The number under which this replica proposes seals, and how many it has.
@@ -351,6 +356,9 @@ impl<C: Core> Driver<C> {
             fetch: None,
             taken: None,
             behind_since: None,
+            wanting: BTreeSet::new(),
+            handed: None,
+            is_writing: false,
             members: Members(vec![Member::default(); place.replicas]),
             wishes: Vec::new(),
             sealer: (parts.sealer, 0),
@@ -411,6 +419,7 @@ impl<C: Core> Driver<C> {
         self.tell_infos()?;
         self.close()?;
         self.go_on()?;
+        self.hand_wanted()?;
         self.tell_metrics();
         Ok(())
     }
@@ -606,11 +615,12 @@ impl<C: Core> Driver<C> {
     /// Has the generation sealed, where that is due.
     fn seal(&mut self, batch: &mut Batch) {
         let now = Instant::now();
-        if self.is_alone() || self.ends_at.is_some() || !self.generation.wants_seal(&self.limits, now) {
+        if self.is_alone() || self.ends_at.is_some() || !self.generation.wants_seal(&self.limits, false, now) {
             return;
         }
         self.drop_unfit_wishes();
-        if !self.generation.wants_seal(&self.limits, now) {
+        let is_used = self.is_opening_used(now);
+        if !self.generation.wants_seal(&self.limits, is_used, now) {
             return;
         }
         self.generation.note_seal(now);

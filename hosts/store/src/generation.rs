@@ -89,8 +89,8 @@ impl Generation {
         matches!(self.stage, Stage::Sealed(_))
     }
 
-    /// Whether this replica is to propose a seal.
-    pub fn wants_seal(&self, limits: &Limits, now: Instant) -> bool {
+    /// Whether this replica is to propose a seal. While its opening is used it waits for as long as there are numbers.
+    pub fn wants_seal(&self, limits: &Limits, is_opening_used: bool, now: Instant) -> bool {
         let is_free = match self.stage {
             Stage::Open => true,
             Stage::Sealing(since) => now >= since + SEAL_PATIENCE,
@@ -99,7 +99,7 @@ impl Generation {
         let is_long = self.used >= limits.numbers || self.dependencies >= limits.dependencies || self.log >= limits.log;
         let is_full = is_long || self.is_short;
         let is_urgent = self.used >= URGENT || self.dependencies >= limits.dependencies.saturating_mul(URGENT_TIMES);
-        is_free && (self.is_asked || is_urgent || (is_full && now >= self.least))
+        is_free && (self.is_asked || is_urgent || (is_full && !is_opening_used && now >= self.least))
     }
 
     /// A seal is under way.
@@ -156,19 +156,22 @@ mod tests {
         let wants = |used, dependencies, log| {
             let mut it = at(used, dependencies, start);
             it.log = log;
-            it.wants_seal(&LIMITS, now)
+            it.wants_seal(&LIMITS, false, now)
         };
         assert!(!wants(999, 299, (1 << 20) - 1));
         assert!(wants(1_000, 0, 0) && wants(0, 300, 0) && wants(0, 0, 1 << 20));
         // A change took 50 ms, so that the next one comes 500 ms later at the earliest, but where numbers run out.
-        assert!(!at(1_500, 300, start).wants_seal(&LIMITS, start + Duration::from_millis(499)));
-        assert!(at(8_890, 0, start).wants_seal(&LIMITS, start) && at(0, 900, start).wants_seal(&LIMITS, start));
+        assert!(!at(1_500, 300, start).wants_seal(&LIMITS, false, start + Duration::from_millis(499)));
+        assert!(at(8_890, 0, start).wants_seal(&LIMITS, true, start));
+        assert!(at(0, 900, start).wants_seal(&LIMITS, true, start));
+        // While its opening is used a generation is longer.
+        assert!(!at(1_500, 300, start).wants_seal(&LIMITS, true, now));
         let mut short = at(0, 0, start);
         short.is_short = true;
-        assert!(!short.wants_seal(&LIMITS, start) && short.wants_seal(&LIMITS, now));
+        assert!(!short.wants_seal(&LIMITS, false, start) && short.wants_seal(&LIMITS, false, now));
         let mut asked = at(0, 0, start);
         asked.is_asked = true;
-        assert!(asked.wants_seal(&LIMITS, start));
+        assert!(asked.wants_seal(&LIMITS, true, start));
     }
 
     #[test]
@@ -178,16 +181,16 @@ mod tests {
         let mut it = at(1_900, 0, start);
         it.note_seal(start);
         // It stops nobody.
-        assert!(!it.is_holding() && !it.wants_seal(&LIMITS, start));
+        assert!(!it.is_holding() && !it.wants_seal(&LIMITS, false, start));
         // It seems lost.
-        assert!(!it.is_holding() && it.wants_seal(&LIMITS, later));
+        assert!(!it.is_holding() && it.wants_seal(&LIMITS, false, later));
         it.note_seal(later);
         assert_eq!(it.stage, Stage::Sealing(later));
         it.lose_seal();
         assert_eq!(it.stage, Stage::Open);
         assert!(it.commit_seal() && !it.commit_seal());
         it.lose_seal();
-        assert!(it.is_holding() && !it.wants_seal(&LIMITS, later));
+        assert!(it.is_holding() && !it.wants_seal(&LIMITS, false, later));
         it.learn(State { is_sealed: true, entries: 9, ..State::default() }, later);
         assert!(it.is_sealed() && it.entries == 9);
         assert!(!it.commit_seal() && it.is_sealed());

@@ -24,6 +24,16 @@ pub enum GenerationsFault {
     BadOpening(Option<u32>, String),
     /// In the place of the opening of the first of these generations stands that of the second.
     OfAnother(u32, u32),
+    /// What this generation opens with is gone, and a later one rests on it.
+    Broken(u32),
+    /// What stands in the place of this generation's reference is none: why.
+    BadReference(u32, String),
+    /// In the place of the reference of the first of these generations stands that of the second.
+    ReferenceOf(u32, u32),
+    /// The log of this generation is gone, or has fewer bytes than the next one opens with.
+    ShortLog(u32),
+    /// The log of this generation isn't the one that the next one opens with.
+    OtherLog(u32),
     /// What is to be taken is for so many replicas, and there are others.
     OtherCluster(u8),
     /// This generation is for so many replicas, and isn't closed.
@@ -71,6 +81,26 @@ impl fmt::Display for GenerationsFault {
             GenerationsFault::OfAnother(generation, other) => {
                 write!(f, "folder refused: the opening of generation {generation} is that of generation {other}")
             }
+            GenerationsFault::Broken(generation) => write!(
+                f,
+                "folder refused: what generation {generation} opens with is gone, and a later one rests on it; take the opening of a later one"
+            ),
+            GenerationsFault::BadReference(generation, why) => {
+                write!(f, "folder refused: the reference of generation {generation}: {why}")
+            }
+            GenerationsFault::ReferenceOf(generation, other) => {
+                write!(f, "folder refused: the reference of generation {generation} is that of generation {other}")
+            }
+            GenerationsFault::ShortLog(generation) => write!(
+                f,
+                "folder refused: the log of generation {generation} is gone or cut short, and what it leaves opens generation {}",
+                u64::from(*generation) + 1
+            ),
+            GenerationsFault::OtherLog(generation) => write!(
+                f,
+                "folder refused: the log of generation {generation} isn't the one that generation {} opens with",
+                u64::from(*generation) + 1
+            ),
             GenerationsFault::OtherCluster(replicas) => write!(f, "opening refused: it is for {replicas} replicas"),
             GenerationsFault::OtherSize(generation, replicas) => write!(
                 f,

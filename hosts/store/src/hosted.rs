@@ -1,18 +1,24 @@
 //! The core without a disk of its own: in this process, or in one beside it. Its logs are the store's to keep, in the folder that a node would have.
+use crate::checkpoint::{Unwritten, Writing};
 use crate::core::{Begin, Core, Pairs};
 use crate::file_fault::FileFault;
-use crate::generations::{Generations, Opened, opened};
+use crate::generations::{Generations, Opened, Started, opened};
 use crate::generations_fault::GenerationsFault;
-use crate::next::Next;
 use crate::node_fault::NodeFault;
 use crate::opening::Opening;
 use crate::outcome::{Asked, Outcome, Outgoing, Report};
 use crate::peers::Place;
-use epaxos::{Cluster, CommitFault, Fault, Instance, LogFile, OpenFault, Output, Replica, Setup, State};
+use crate::summed_log::SummedLog;
+use crate::tally::Tally;
+use epaxos::{
+    Cluster, CommitFault, Fault, Instance, LogFile, OpenFault, Output, Reference, Replica, Setup, State, SucceedFault,
+    Succession,
+};
 use std::fs;
+use std::panic::resume_unwind;
 use std::path::{Path, PathBuf};
 use std::sync::Arc;
-use std::thread;
+use std::thread::{self, JoinHandle};
 
 /// Which replica it is, and where it runs.
 #[derive(Clone)]
@@ -21,6 +27,8 @@ pub struct Hosting {
     /// The folder of its generations.
     pub folder: PathBuf,
     pub core: epaxos::Core,
+    /// An opening is written once the logs since the last one have so many bytes, and as many as that one.
+    pub checkpoint: u64,
 }
 
 /// A core that is hosted here.
@@ -29,10 +37,14 @@ pub struct Hosted {
     generations: Arc<Generations>,
     /// None where it could not be started again.
     acting: Option<Acting>,
-    /// The next generation, while it is made ready.
-    next: Option<Next>,
-    /// What the generation opened with, until somebody has asked.
+    /// What the generation opened with.
     opening: Option<Opening>,
+    /// That opening, with what stands for it, where no file has it.
+    unwritten: Option<(Reference, Unwritten)>,
+    /// The opening that is being written, of this generation or of an earlier one.
+    writing: Option<Writing>,
+    /// The folder of the next generation, while it is made.
+    ahead: Option<JoinHandle<Result<(), GenerationsFault>>>,
     run: u64,
     /// What there is to tell people.
     lines: Vec<String>,
@@ -41,25 +53,112 @@ pub struct Hosted {
 /// The replica of a generation, with its log.
 struct Acting {
     replica: Replica,
-    file: LogFile,
+    file: SummedLog,
     /// The log's path.
     path: PathBuf,
     /// How far it was when it was last looked at.
     state: State,
+    tally: Tally,
+}
+
+/// A replica in its generation, whose log comes first.
+struct Begun {
+    generation: u32,
+    replicas: u8,
+    replica: Replica,
+    file: SummedLog,
+    opening: Opening,
+    unwritten: Option<(Reference, Unwritten)>,
 }
 
 impl Hosted {
     /// Starts it, as the run of this number: no other one may have it.
     pub fn start(hosting: Hosting, begin: &Begin, run: u64) -> Result<Hosted, NodeFault> {
         let generations = Arc::new(Generations::open(&hosting.folder).map_err(NodeFault::Generations)?);
-        let mut lines = Vec::new();
-        let opening = hosting.open(&generations, begin)?;
-        let acting = Some(hosting.act(&generations, (opening, None), &mut lines)?);
-        Ok(Hosted { hosting, generations, acting, next: None, opening: None, run, lines })
+        let (acting, opening, unwritten, writing, ahead, lines) = (None, None, None, None, None, Vec::new());
+        let mut hosted = Hosted { hosting, generations, acting, opening, unwritten, writing, ahead, run, lines };
+        let begun = hosted.hosting.start(&hosted.generations, begin)?;
+        hosted.act(begun)?;
+        Ok(hosted)
     }
 
     fn acting(&mut self) -> Result<&mut Acting, NodeFault> {
         self.acting.as_mut().ok_or(NodeFault::NotStarted)
+    }
+
+    /// Goes on with this generation, and with the next ones while one has executed a seal.
+    fn act(&mut self, mut begun: Begun) -> Result<(), NodeFault> {
+        loop {
+            let (generation, replicas) = (begun.generation, begun.replicas);
+            (self.opening, self.unwritten) = (Some(begun.opening), begun.unwritten);
+            let map = self.opening.as_ref().map_or(0, |opening| opening.map);
+            let path = self.generations.log(generation);
+            let (replica, file, state) = (begun.replica, begun.file, State::default());
+            let mut acting = Acting { replica, file, path, state, tally: Tally::of(map) };
+            // (what was handed out before this start may be lost: it is sent again as anything that is lost is)
+            acting.sync(&mut Outcome::default())?;
+            self.generations.leave_before(generation).map_err(NodeFault::Generations)?;
+            self.lines.extend(acting.replica.said().lines().map(str::to_string));
+            if acting.replica.cut() > 0 {
+                let cut = acting.replica.cut();
+                self.lines.push(format!("log cut: {cut} bytes behind its last record were no whole one"));
+            }
+            acting.state = acting.replica.state().map_err(NodeFault::Core)?;
+            if !acting.state.is_sealed {
+                self.hosting.check_size(generation, replicas)?;
+                self.acting = Some(acting);
+                return self.write_if_due();
+            }
+            begun = self.next(acting)?;
+        }
+    }
+
+    /// Leaves the generation of a replica that has executed a seal: what it goes on with.
+    fn next(&mut self, acting: Acting) -> Result<Begun, NodeFault> {
+        // (while somebody has what the generation opened with, the map is copied)
+        self.unwritten = None;
+        self.note_written();
+        let ahead = self.ahead.take().map(|ahead| ahead.join().unwrap_or_else(|panic| resume_unwind(panic)));
+        self.hosting.next(&self.generations, acting, ahead)
+    }
+
+    /// Learns whether an opening is written by now.
+    fn note_written(&mut self) {
+        if let Some(writing) = self.writing.take_if(|writing| writing.is_over()) {
+            self.end_writing(writing);
+        }
+    }
+
+    fn end_writing(&mut self, writing: Writing) {
+        let generation = writing.generation();
+        if let Err(fault) = writing.wait() {
+            self.lines.push(format!("the opening of generation {generation} can't be written: {fault}"));
+        }
+    }
+
+    /// Has the opening written, where the logs since the last one are long.
+    fn write_if_due(&mut self) -> Result<(), NodeFault> {
+        let Some((reference, _)) = &self.unwritten else { return Ok(()) };
+        let weight = self.generations.weight(reference.generation()).map_err(NodeFault::Generations)?;
+        let (opening, logs) = weight;
+        if logs >= opening.max(self.hosting.checkpoint) { self.write().map(|_| ()) } else { Ok(()) }
+    }
+
+    /// Has the opening of this generation written, where nothing is being written: whether it is there.
+    fn write(&mut self) -> Result<bool, NodeFault> {
+        self.note_written();
+        if self.writing.is_some() {
+            return Ok(false);
+        }
+        let Some((reference, unwritten)) = self.unwritten.take() else { return Ok(true) };
+        self.writing = Some(Writing::begin(self.generations.clone(), reference, unwritten)?);
+        Ok(false)
+    }
+}
+
+impl Drop for Hosted {
+    fn drop(&mut self) {
+        self.end();
     }
 }
 
@@ -68,6 +167,7 @@ impl Acting {
     fn sync(&mut self, outcome: &mut Outcome) -> Result<(), NodeFault> {
         let ready = self.replica.ready().map_err(NodeFault::Core)?;
         let output = ready.commit(&mut self.file).map_err(|fault| commit_fault(fault, &self.path))?;
+        output.executed().for_each(|executed| self.tally.add(&executed));
         outcome.entries = Some(output.entries()).filter(|entries| *entries > self.state.entries);
         self.state.entries = output.entries();
         outcome.proposed.extend(output.proposed());
@@ -83,23 +183,33 @@ impl Hosting {
         cluster(self.place.replicas as u8)
     }
 
-    fn check_size(&self, opening: &Opened) -> Result<(), NodeFault> {
-        let fault = GenerationsFault::OtherSize(opening.generation, opening.replicas);
-        if usize::from(opening.replicas) == self.place.replicas { Ok(()) } else { Err(NodeFault::Generations(fault)) }
+    fn check_size(&self, generation: u32, replicas: u8) -> Result<(), NodeFault> {
+        let fault = GenerationsFault::OtherSize(generation, replicas);
+        if usize::from(replicas) == self.place.replicas { Ok(()) } else { Err(NodeFault::Generations(fault)) }
+    }
+
+    /// Whether the core goes on in the next generation by itself.
+    fn succeeds(&self) -> bool {
+        match &self.core {
+            epaxos::Core::Library => true,
+            // (as the crate finds it)
+            epaxos::Core::Found => epaxos::Core::has_library() && std::env::var_os("EPAXOS").is_none(),
+            epaxos::Core::Process(_) => false,
+        }
     }
 
     /// The generation with which the folder is gone on with.
-    fn open(&self, generations: &Generations, begin: &Begin) -> Result<Opened, NodeFault> {
-        let opening = match begin {
+    fn start(&self, generations: &Generations, begin: &Begin) -> Result<Begun, NodeFault> {
+        let started = match begin {
             Begin::Again => generations.go_on(),
             Begin::New => generations.begin(self.cluster()?.replicas()),
             Begin::Take(path) => generations.take(self.taken(path)?),
         };
-        let opening = opening.map_err(NodeFault::Generations)?;
-        if opening.is_new {
-            self.check_size(&opening)?;
+        let started = started.map_err(NodeFault::Generations)?;
+        if started.is_new {
+            self.check_size(started.generation(), started.replicas())?;
         }
-        Ok(opening)
+        self.begin(generations, &started)
     }
 
     /// The opening in a file that is to be taken: nothing of it comes into the folder before the core has judged it.
@@ -116,63 +226,161 @@ impl Hosting {
         Ok(taken)
     }
 
-    /// Closes the generation of a replica that has executed a seal: the next one.
-    fn close(&self, generations: &Generations, replica: Replica) -> Result<Opened, NodeFault> {
-        let bytes = replica.close(self.cluster()?).map_err(|(_, fault)| NodeFault::Close(fault))?;
-        generations.take(self.closed(bytes)?).map_err(NodeFault::Generations)
-    }
-
-    /// The opening that a replica has closed its generation with.
-    pub(crate) fn closed(&self, bytes: Vec<u8>) -> Result<Opened, NodeFault> {
-        opened(bytes).map_err(|why| NodeFault::Generations(GenerationsFault::BadOpening(None, why)))
-    }
-
     /// How a replica begins with this opening, or goes on.
     fn setup<'a>(&self, opening: &'a Opened) -> Result<Setup<'a>, NodeFault> {
         let new = Setup::new(cluster(opening.replicas)?, self.place.replica);
-        Ok(Setup { opening: Some(&opening.bytes), core: self.core.clone(), ..new })
+        let (opening, reference) = (Some(&opening.bytes[..]), opening.reference);
+        Ok(Setup { opening, reference, told: Some(0), core: self.core.clone(), ..new })
     }
 
-    /// A replica that begins with this opening.
-    pub(crate) fn begin(&self, opening: &Opened) -> Result<Replica, NodeFault> {
-        self.setup(opening)?.begin().map_err(|fault| open_fault(fault, Some(opening.generation)))
+    /// The replica of a generation that is begun, or gone on with: by its opening's file, or by the logs from an earlier one on.
+    fn begin(&self, generations: &Generations, started: &Started) -> Result<Begun, NodeFault> {
+        let (first, is_new) = (&started.first, started.is_new);
+        let Some(reference) = started.references.last().copied() else {
+            let (file, log) = log_of(&generations.log(first.generation), is_new)?;
+            let setup = self.setup(first)?;
+            let replica = log.map_or_else(|| setup.begin(), |log| setup.open(&log));
+            let replica = replica.map_err(|fault| open_fault(fault, Some(first.generation)))?;
+            let opening = Opening::of(&first.bytes).unwrap_or_default();
+            let (generation, replicas) = (first.generation, first.replicas);
+            return Ok(Begun { generation, replicas, replica, file, opening, unwritten: None });
+        };
+        let (mut replica, tally) = self.lead(generations, started)?;
+        let (file, log) = log_of(&generations.log(reference.generation()), is_new)?;
+        let succession = self.succession(reference, log.as_deref());
+        let checkpoint = replica.succeed(&succession).map_err(|fault| succeed_fault(fault, reference))?;
+        let (unwritten, front) = Unwritten::read(checkpoint)?;
+        Ok(Begun::by(reference, replica, file, (unwritten, front), tally))
     }
 
-    /// Goes on with this generation, and with the next ones while one has executed a seal. The replica may have begun with the opening already.
-    fn act(
+    /// The replica that the logs of earlier generations lead to, which has executed the seal of the last of these.
+    fn lead(&self, generations: &Generations, started: &Started) -> Result<(Replica, Tally), NodeFault> {
+        let Started { first, references, .. } = started;
+        if !self.succeeds() {
+            return Err(NodeFault::NoLibrary);
+        }
+        let read = |generation, next| generations.log_of(generation, next).map_err(NodeFault::Generations);
+        let log = read(first.generation, &references[0])?;
+        let replica = self.setup(first)?.open(&log);
+        let mut replica = replica.map_err(|fault| open_fault(fault, Some(first.generation)))?;
+        let mut tally = Tally::of(Opening::of(&first.bytes).map_or(0, |opening| opening.map));
+        replay(&mut replica, &log, first.generation, &mut tally)?;
+        for two in references.windows(2) {
+            let (reference, log) = (two[0], read(two[0].generation(), &two[1])?);
+            let succession = self.succession(reference, Some(&log));
+            drop(replica.succeed(&succession).map_err(|fault| succeed_fault(fault, reference))?);
+            tally = Tally::of(tally.map);
+            replay(&mut replica, &log, reference.generation(), &mut tally)?;
+        }
+        Ok((replica, tally))
+    }
+
+    /// What a generation of this folder opens with, of which nothing is changed: as its file has it, or as logs lead to it.
+    pub fn opening(&self, generation: u32) -> Result<Opened, NodeFault> {
+        let generations = Generations::look(&self.folder);
+        let started = generations.started(generation).map_err(NodeFault::Generations)?;
+        let Some(reference) = started.references.last().copied() else { return Ok(started.first) };
+        let (mut replica, _) = self.lead(&generations, &started)?;
+        let checkpoint = replica.succeed(&self.succession(reference, None));
+        let mut bytes = Vec::new();
+        for piece in checkpoint.map_err(|fault| succeed_fault(fault, reference))? {
+            bytes.extend(piece.map_err(NodeFault::Core)?);
+        }
+        Ok(Opened { generation, replicas: reference.cluster().replicas(), bytes, reference: Some(reference) })
+    }
+
+    fn succession<'a>(&self, reference: Reference, log: Option<&'a [u8]>) -> Succession<'a> {
+        Succession { log, told: Some(0), ..Succession::new(reference, self.place.replica) }
+    }
+
+    /// The next generation of a replica that has executed a seal: with the map as it is, which only a reference names at first; or, where the core is a
+    /// process, by the file that it closes its generation with. `ahead`: whether the folder is there.
+    fn next(
         &self,
         generations: &Generations,
-        (mut opening, mut begun): (Opened, Option<Replica>),
-        lines: &mut Vec<String>,
-    ) -> Result<Acting, NodeFault> {
-        loop {
-            let path = generations.log(opening.generation);
-            let failed = |error| NodeFault::Log(path.clone(), error);
-            let begun = begun.take().filter(|_| opening.is_new);
-            let (mut file, mut replica) = if opening.is_new {
-                let file = LogFile::begin(&path).map_err(failed)?;
-                (file, begun.map_or_else(|| self.begin(&opening), Ok)?)
-            } else {
-                let (file, log) = LogFile::open(&path).map_err(failed)?;
-                let refused = |fault| open_fault(fault, Some(opening.generation));
-                (file, self.setup(&opening)?.open(&log).map_err(refused)?)
-            };
-            let ready = replica.ready().map_err(NodeFault::Core)?;
-            // (what was handed out before this start may be lost: it is sent again as anything that is lost is)
-            ready.commit(&mut file).map_err(|fault| commit_fault(fault, &path))?;
-            generations.leave_before(opening.generation).map_err(NodeFault::Generations)?;
-            lines.extend(replica.said().lines().map(str::to_string));
-            if replica.cut() > 0 {
-                lines.push(format!("log cut: {} bytes behind its last record were no whole one", replica.cut()));
-            }
-            let state = replica.state().map_err(NodeFault::Core)?;
-            if !state.is_sealed {
-                self.check_size(&opening)?;
-                return Ok(Acting { replica, file, path, state });
-            }
+        acting: Acting,
+        ahead: Option<Result<(), GenerationsFault>>,
+    ) -> Result<Begun, NodeFault> {
+        let Acting { mut replica, file, tally, .. } = acting;
+        let cluster = self.cluster()?;
+        if !self.succeeds() {
             drop(file);
-            opening = self.close(generations, replica)?;
+            let bytes = replica.close(cluster).map_err(|(_, fault)| NodeFault::Close(fault))?;
+            let closed =
+                opened(bytes).map_err(|why| NodeFault::Generations(GenerationsFault::BadOpening(None, why)))?;
+            let started = generations.take(closed).map_err(NodeFault::Generations)?;
+            return self.begin(generations, &started);
         }
+        let (_, sum) = file.named();
+        let last = |_| NodeFault::Succeed(SucceedFault::LastGeneration);
+        let reference = replica.reference(cluster, sum).map_err(last)?;
+        drop(file);
+        let is_made = ahead.transpose().map_err(NodeFault::Generations)?.is_some();
+        if !is_made {
+            generations.make_ahead(reference.generation()).map_err(NodeFault::Generations)?;
+        }
+        let (put, checkpoint) = thread::scope(|scope| {
+            let put = scope.spawn(|| generations.put_reference(&reference));
+            let checkpoint = replica.succeed(&self.succession(reference, None));
+            (put.join().unwrap_or_else(|panic| resume_unwind(panic)), checkpoint)
+        });
+        put.map_err(NodeFault::Generations)?;
+        let (unwritten, front) = Unwritten::read(checkpoint.map_err(NodeFault::Succeed)?)?;
+        // (where a start was broken off before there was an entry, the log is begun again)
+        let (file, _) = log_of(&generations.log(reference.generation()), true)?;
+        Ok(Begun::by(reference, replica, file, (unwritten, front), tally))
+    }
+}
+
+impl Begun {
+    /// The replica of a generation that this reference opens, whose map has the rest of this tally.
+    fn by(
+        reference: Reference,
+        replica: Replica,
+        file: SummedLog,
+        (unwritten, front): (Unwritten, Opening),
+        tally: Tally,
+    ) -> Begun {
+        Begun {
+            generation: reference.generation(),
+            replicas: reference.cluster().replicas(),
+            replica,
+            file,
+            opening: Opening { map: tally.map, executed: tally.executed, ..front },
+            unwritten: Some((reference, unwritten)),
+        }
+    }
+}
+
+/// The log of this path, which is begun, or has these bytes.
+fn log_of(path: &Path, is_new: bool) -> Result<(SummedLog, Option<Vec<u8>>), NodeFault> {
+    let failed = |error| NodeFault::Log(path.to_path_buf(), error);
+    if is_new {
+        return Ok((SummedLog::of(LogFile::begin(path).map_err(failed)?), None));
+    }
+    let (file, log) = LogFile::open(path).map_err(failed)?;
+    Ok((SummedLog::of(file), Some(log)))
+}
+
+/// Has a replica take its log for what is on the disk, all of which is its own.
+fn replay(replica: &mut Replica, log: &[u8], generation: u32, tally: &mut Tally) -> Result<(), NodeFault> {
+    let ready = replica.ready().map_err(NodeFault::Core)?;
+    if ready.log() != log {
+        return Err(NodeFault::Generations(GenerationsFault::OtherLog(generation)));
+    }
+    let output = ready.assume_synced().map_err(NodeFault::Core)?;
+    output.executed().for_each(|executed| tally.add(&executed));
+    Ok(())
+}
+
+/// Why the logs don't lead to the generation of this reference.
+fn succeed_fault(fault: SucceedFault, reference: Reference) -> NodeFault {
+    match fault {
+        SucceedFault::NotSealed => {
+            NodeFault::Generations(GenerationsFault::OtherLog(reference.generation().saturating_sub(1)))
+        }
+        SucceedFault::Log(fault) => NodeFault::Open(fault),
+        fault => NodeFault::Succeed(fault),
     }
 }
 
@@ -249,51 +457,48 @@ impl Core for Hosted {
     }
 
     fn prepare(&mut self) -> Result<(), NodeFault> {
-        let cluster = self.hosting.cluster()?;
-        let Some(acting) = self.acting.as_mut().filter(|_| self.next.is_none()) else { return Ok(()) };
-        if let Some(bytes) = acting.replica.next_opening(cluster).map_err(NodeFault::Close)? {
-            self.next = Some(Next::begin(self.hosting.clone(), self.generations.clone(), bytes)?);
-        }
+        let Some(acting) = self.acting.as_ref().filter(|_| self.ahead.is_none() && self.hosting.succeeds()) else {
+            return Ok(());
+        };
+        let (generations, next) = (self.generations.clone(), acting.state.generation.saturating_add(1));
+        let make = move || generations.make_ahead(next);
+        self.ahead = Some(thread::Builder::new().name("ahead".into()).spawn(make).map_err(NodeFault::Thread)?);
         Ok(())
     }
 
     fn is_prepared(&self) -> bool {
-        self.next.as_ref().is_none_or(Next::is_ready)
+        self.ahead.as_ref().is_none_or(JoinHandle::is_finished)
     }
 
-    fn opening(&mut self) -> Option<Opening> {
-        self.opening.take()
+    fn opening(&self) -> Option<Opening> {
+        self.opening.clone()
+    }
+
+    fn put_opening(&mut self) -> Result<bool, NodeFault> {
+        self.write()
+    }
+
+    fn is_writing(&mut self) -> bool {
+        self.note_written();
+        self.writing.is_some()
     }
 
     fn start_again(&mut self, begin: &Begin) -> Result<State, NodeFault> {
         let mut acting = self.acting.take();
-        let readied = self.next.take().map(Next::wait);
         let has_sealed = |it: &mut Acting| it.replica.state().is_ok_and(|state| state.is_sealed);
         let is_sealed = acting.as_mut().is_some_and(has_sealed);
-        let (opening, begun) = match (readied, acting) {
-            (Some(readied), acting) if *begin == Begin::Again => {
-                let readied = readied?;
-                // (it acts no more; to let go of its map takes a while)
-                let _ = thread::Builder::new().name("left".into()).spawn(move || drop(acting));
-                self.opening = readied.opening;
-                let opening = self.generations.take_written(readied.opened).map_err(NodeFault::Generations)?;
-                (opening, Some(readied.replica))
-            }
-            (_, Some(acting)) if is_sealed && *begin == Begin::Again => {
-                (self.hosting.close(&self.generations, acting.replica)?, None)
-            }
-            (_, acting) => {
+        let begun = match acting {
+            Some(acting) if is_sealed && *begin == Begin::Again => self.next(acting)?,
+            acting => {
                 // (the log's lock goes with it)
                 drop(acting);
-                (self.hosting.open(&self.generations, begin)?, None)
+                (self.unwritten, self.opening) = (None, None);
+                self.hosting.start(&self.generations, begin)?
             }
         };
-        if begun.is_none() {
-            self.opening = Opening::of(&opening.bytes);
-        }
-        let acting = self.hosting.act(&self.generations, (opening, begun), &mut self.lines)?;
+        self.act(begun)?;
         self.run += 1;
-        Ok(self.acting.insert(acting).state)
+        Ok(self.acting()?.state)
     }
 
     fn run(&self) -> u64 {
@@ -304,8 +509,13 @@ impl Core for Hosted {
         std::process::id()
     }
 
+    /// (the folder is another one's to open then)
     fn end(&mut self) {
-        (self.acting, self.next) = (None, None);
+        (self.acting, self.unwritten) = (None, None);
+        self.ahead.take().map(JoinHandle::join);
+        if let Some(writing) = self.writing.take() {
+            self.end_writing(writing);
+        }
     }
 
     fn ended(&mut self) -> NodeFault {

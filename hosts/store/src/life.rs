@@ -30,6 +30,10 @@ const MOST_WAIT_FOR_PEERS: Duration = Duration::from_millis(100);
 const MOST_WAIT_AT_LEAVING: Duration = Duration::from_secs(10);
 /// Whether the next generation is ready is looked at that often, where it is waited for.
 const LOOK: Duration = Duration::from_millis(1);
+/// Whether an opening that a peer wants is written is looked at that often.
+const LOOK_AT_WRITING: Duration = Duration::from_millis(5);
+/// Who gets an opening asks for its pieces, and has all of it once it hasn't asked for so long.
+const HANDING: Duration = Duration::from_secs(1);
 /// A replica that lags closes by itself in this time, or takes the opening of another one.
 const BEHIND: Duration = Duration::from_millis(150);
 /// Who asked for something is told no once so many generations have begun without it.
@@ -48,6 +52,12 @@ impl<C: Core> Driver<C> {
         self.greet_all();
         self.others.save(self.generation.number);
         self.generation.log = self.directory.log_length(self.generation.number);
+        self.tell_lines();
+        if self.is_writing && !self.node.is_writing() {
+            // (what is older than the opening that was written may go)
+            self.drop_left();
+        }
+        self.is_writing = self.node.is_writing();
         if self.is_unexecuted { self.execute_all() } else { Ok(()) }
     }
 
@@ -66,7 +76,8 @@ impl<C: Core> Driver<C> {
         let held = self.held.front().map(|held| held.since + self.patience);
         let alone = self.alone_since.map(|since| since + TICK).filter(|_| held.is_some());
         let ping = self.distances.due(Instant::now());
-        let all = [Some(self.next_tick), ping, sealed, behind, held, alone, self.ends_at];
+        let writing = (!self.wanting.is_empty()).then(|| Instant::now() + LOOK_AT_WRITING);
+        let all = [Some(self.next_tick), ping, sealed, behind, held, alone, writing, self.ends_at];
         all.into_iter().flatten().min()
     }
 
@@ -111,12 +122,7 @@ impl<C: Core> Driver<C> {
             Some(Message::Hello { generation, is_sealed, seen }) => {
                 self.hear_hello(from, generation, is_sealed, seen)?
             }
-            Some(Message::Want { generation, offset }) => {
-                // (where it can't be read, somebody else has it)
-                if let Ok(piece) = piece(&self.directory, self.generation.number, generation, offset) {
-                    self.peers.send(from, piece.write());
-                }
-            }
+            Some(Message::Want { generation, offset }) => self.hand_piece(from, generation, offset)?,
             Some(piece @ Message::Piece { .. }) => self.take_piece(from, piece)?,
             Some(Message::Ping(number)) => self.peers.send(from, Message::Pong(number).write()),
             Some(Message::Pong(number)) => self.hear_pong(from, number),
@@ -152,6 +158,45 @@ impl<C: Core> Driver<C> {
             self.greet_late(peer);
         }
         Ok(())
+    }
+
+    /// Hands a peer the piece of an opening that it wants: of the newest one from its beginning, where that isn't here, once it is written.
+    fn hand_piece(&mut self, to: u8, generation: u32, offset: u64) -> Result<(), StopFault> {
+        self.handed = Some(Instant::now());
+        let is_here = generation > 0 && self.directory.is_whole(generation);
+        let (generation, offset) = if is_here { (generation, offset) } else { (self.generation.number, 0) };
+        if !is_here && !self.node.put_opening().map_err(StopFault::Node)? {
+            self.wanting.insert(to);
+        } else if let Ok(piece) = piece(&self.directory, generation, offset) {
+            // (where it can't be read, somebody else has it)
+            self.peers.send(to, piece.write());
+        }
+        Ok(())
+    }
+
+    /// Hands openings that were wanted before they were written.
+    pub(crate) fn hand_wanted(&mut self) -> Result<(), StopFault> {
+        if self.wanting.is_empty() || self.node.is_writing() {
+            return Ok(());
+        }
+        std::mem::take(&mut self.wanting).into_iter().try_for_each(|peer| self.hand_piece(peer, 0, 0))
+    }
+
+    /// Whether an opening is being written, or handed to a peer: then the generation is to last.
+    pub(crate) fn is_opening_used(&mut self, now: Instant) -> bool {
+        self.handed.is_some_and(|handed| now < handed + HANDING) || self.node.is_writing()
+    }
+
+    /// Tells what the core tells people.
+    fn tell_lines(&mut self) {
+        self.node.told().iter().for_each(|line| warn(&format!("the node tells: {line}")));
+    }
+
+    /// Drops what isn't needed any more of generations that were left.
+    fn drop_left(&mut self) {
+        // (while files are dropped nothing else looks at the folder)
+        self.dropping.take().map(JoinHandle::join);
+        self.dropping = self.directory.drop_left_beside(self.kept);
     }
 
     fn take_piece(&mut self, from: u8, piece: Message) -> Result<(), StopFault> {
@@ -276,7 +321,7 @@ impl<C: Core> Driver<C> {
             state = self.node.start_again(&Begin::Again);
         }
         let state = state.map_err(StopFault::Node)?;
-        self.node.told().iter().for_each(|line| warn(&format!("the node tells: {line}")));
+        self.tell_lines();
         if state.generation == before && matches!(begin, Begin::Take(_)) {
             (self.fetch, self.behind_since) = (None, None);
             return Ok(());
@@ -307,7 +352,8 @@ impl<C: Core> Driver<C> {
         self.meet(&opening)?;
         self.greet_all();
         self.fulfil();
-        self.dropping = self.directory.drop_left_beside(self.kept);
+        self.is_writing = self.node.is_writing();
+        self.drop_left();
         self.is_fresh = true;
         Ok(())
     }
@@ -334,7 +380,7 @@ impl<C: Core> Driver<C> {
 
     /// At a start: learns who takes part.
     pub(crate) fn meet_members(&mut self) -> Result<(), StopFault> {
-        let opening = self.opening(self.generation.number)?;
+        let opening = self.node.opening().map_or_else(|| self.opening(self.generation.number), Ok)?;
         match self.generation.entries {
             0 => self.room.begin(opening.map, self.place.replicas),
             _ => self.room.resume(opening.map, self.place.replicas),

@@ -382,22 +382,23 @@ fn start_again(
     let mut wanted = None;
     let mut run = 0;
     loop {
-        let file = match &begin {
-            Begin::Take(path) => Some(path.clone()),
-            _ => directory.newest().map(|newest| directory.opening(newest)),
+        let found = match &begin {
+            _ if wanted.is_some() => wanted.take(),
+            Begin::Take(path) => {
+                let front = Opening::read_front_of(path);
+                let front = front.map_err(|error| StoreFault::Stop(StopFault::File(path.clone(), error)))?;
+                Some((front.generation, front.replicas))
+            }
+            _ => directory.newest_size().map_err(StoreFault::Directory)?,
         };
-        let (generation, replicas) = match (wanted.take(), file.map(read).transpose()?) {
-            (Some(wanted), _) => wanted,
-            (None, Some(opening)) => (opening.generation, opening.replicas),
-            (None, None) => (1, options.peers.len() as u8),
-        };
+        let (generation, replicas) = found.unwrap_or((1, options.peers.len() as u8));
         let place = Place { replicas: replicas.into(), replica: options.replica };
         check_place(place, generation)?;
         match start_node(options, place, directory, (&begin, run), events) {
             Ok((mut node, state)) => {
                 // (where it stays it is refused at the next start, or is the very one that is there)
                 let _ = std::fs::remove_file(&whole);
-                let opening = read(directory.opening(state.generation))?;
+                let opening = node.opening().map_or_else(|| read(directory.opening(state.generation)), Ok)?;
                 if opening.wanted() == opening.replicas {
                     return Ok((node, state, opening));
                 }
@@ -441,7 +442,7 @@ fn start_node(
 ) -> Result<(AnyCore, State), StoreFault> {
     let folder = directory.generations();
     if options.node.is_none() && epaxos::Core::has_library() {
-        let hosting = Hosting { place, folder, core: epaxos::Core::Library };
+        let hosting = Hosting { place, folder, core: epaxos::Core::Library, checkpoint: options.checkpoint };
         let hosted = Hosted::start(hosting, begin, run).map_err(StoreFault::Node)?;
         return tell_of(Box::new(hosted));
     }

@@ -1,6 +1,6 @@
 //! Why a core gives no answer.
 use crate::generations_fault::GenerationsFault;
-use epaxos::{CloseFault, Fault, OpenFault};
+use epaxos::{CloseFault, Fault, OpenFault, SucceedFault};
 use std::fmt;
 use std::io;
 use std::path::PathBuf;
@@ -31,7 +31,13 @@ pub enum NodeFault {
     Core(Fault),
     /// It doesn't close its generation.
     Close(CloseFault),
-    /// No thread makes the next generation ready.
+    /// It doesn't go on in the next generation.
+    Succeed(SucceedFault),
+    /// What its generation opened with isn't told.
+    NoOpening,
+    /// The folder's openings are read by the library alone.
+    NoLibrary,
+    /// There is no thread.
     Thread(io::Error),
 }
 
@@ -86,6 +92,11 @@ impl fmt::Display for NodeFault {
             NodeFault::Log(path, error) => write!(f, "log failed: {}: {error}", path.display()),
             NodeFault::Core(fault) => fault.fmt(f),
             NodeFault::Close(fault) => write!(f, "the generation can't be closed: {fault}"),
+            NodeFault::Succeed(fault) => write!(f, "the next generation can't be begun: {fault}"),
+            NodeFault::NoOpening => f.write_str("what the generation opened with isn't told"),
+            NodeFault::NoLibrary => f.write_str(
+                "the folder is one of a store that was built with the library, and this one is built without it",
+            ),
             NodeFault::Thread(error) => write!(f, "a thread can't be started: {error}"),
             NodeFault::NotFurther(generation) => write!(f, "the node doesn't go on from generation {generation}"),
         }

@@ -36,6 +36,11 @@ impl Opening {
         self.members().map_or(self.replicas, |members| members.0.len() as u8)
     }
 
+    /// What a file tells before its map.
+    pub fn read_front_of(path: &Path) -> io::Result<Opening> {
+        Opening::read_front(&mut BufReader::new(File::open(path)?))
+    }
+
     pub fn read(path: &Path) -> io::Result<Opening> {
         Opening::from(BufReader::with_capacity(1 << 16, File::open(path)?))
     }
@@ -45,7 +50,29 @@ impl Opening {
         Opening::from(bytes).ok()
     }
 
+    /// What an opening tells before its map, by its first bytes. None where they are too few, or none's.
+    pub fn front(mut bytes: &[u8]) -> Option<Opening> {
+        Opening::read_front(&mut bytes).ok()
+    }
+
     fn from(mut input: impl Read) -> io::Result<Opening> {
+        let mut opening = Opening::read_front(&mut input)?;
+        for _ in 0..opening.keys {
+            let [key] = array(&mut input)?;
+            let length = u64::from(key) + u64::from(u32::from_be_bytes(array(&mut input)?));
+            skip(&mut input, length)?;
+            opening.map += OF_A_KEY + length;
+        }
+        let count = u32::from_be_bytes(array(&mut input)?);
+        for _ in 0..count {
+            let [replica, high, low] = array(&mut input)?;
+            opening.executed.insert(Instance { replica, number: u16::from_be_bytes([high, low]) });
+        }
+        array::<32>(&mut input)?;
+        Ok(opening)
+    }
+
+    fn read_front(mut input: &mut impl Read) -> io::Result<Opening> {
         if array(&mut input)? != MAGIC {
             return Err(bad());
         }
@@ -61,21 +88,7 @@ impl Opening {
             _ => return Err(bad()),
         };
         let keys = u32::from_be_bytes(array(&mut input)?);
-        let mut map = 0;
-        for _ in 0..keys {
-            let [key] = array(&mut input)?;
-            let length = u64::from(key) + u64::from(u32::from_be_bytes(array(&mut input)?));
-            skip(&mut input, length)?;
-            map += OF_A_KEY + length;
-        }
-        let count = u32::from_be_bytes(array(&mut input)?);
-        let mut executed = HashSet::new();
-        for _ in 0..count {
-            let [replica, high, low] = array(&mut input)?;
-            executed.insert(Instance { replica, number: u16::from_be_bytes([high, low]) });
-        }
-        array::<32>(&mut input)?;
-        Ok(Opening { replicas, generation, since, seal, keys, map, executed })
+        Ok(Opening { replicas, generation, since, seal, keys, ..Opening::default() })
     }
 }
 

@@ -17,10 +17,8 @@ const MOST_PASSED: u8 = 3;
 /// A replica that tells nothing for so many times as long isn't asked any more.
 const TIMES: u32 = 4;
 
-/// The piece that a peer wants: of the opening that it names, if that is here, else of the newest one from its beginning.
-pub fn piece(directory: &Directory, newest: u32, generation: u32, offset: u64) -> io::Result<Message> {
-    let is_here = generation > 0 && directory.opening(generation).exists();
-    let (generation, offset) = if is_here { (generation, offset) } else { (newest, 0) };
+/// The piece of an opening that begins there.
+pub fn piece(directory: &Directory, generation: u32, offset: u64) -> io::Result<Message> {
     let mut file = File::open(directory.opening(generation))?;
     let total = file.metadata()?.len();
     let offset = offset.min(total);
@@ -183,7 +181,9 @@ mod tests {
 
     fn answer(directory: &Directory, ask: &Message, newest: u32) -> Message {
         let Message::Want { generation, offset } = *ask else { panic!() };
-        piece(directory, newest, generation, offset).unwrap()
+        let is_here = generation > 0 && directory.is_whole(generation);
+        let (generation, offset) = if is_here { (generation, offset) } else { (newest, 0) };
+        piece(directory, generation, offset).unwrap()
     }
 
     #[test]

@@ -41,6 +41,8 @@ store: one replica of a replicated store, for clients of the Redis protocol
     --seal-numbers N       a generation ends once a replica has proposed so many commands in it: 10 to 8,900; default {NUMBERS}
     --seal-dependencies N  or once one of its commands depends on so many others: 10 to 62,999; default {DEPENDENCIES}
     --seal-log BYTES       or once its log is so long; default {LOG}
+    --checkpoint BYTES     the whole map is written once the logs since that was done last are so long, and as long as what was written; until then a
+                           start goes by these logs; default {CHECKPOINT}
     --keep N               number of finished generations to keep in the folder, for an audit, from 1; default {KEPT}
     --help                 this text
     --version              the version
@@ -55,12 +57,15 @@ and this folder can go on; standard error says why.
 /// When a generation ends, where nothing is told.
 pub const LIMITS: Limits = Limits { numbers: MOST_COMMANDS / 10 * 9, dependencies: 600, log: 16 << 20 };
 const KEPT: usize = 2;
+/// An opening is written once the logs since the last one have so many bytes, where nothing is told.
+pub const CHECKPOINT: u64 = 64 << 20;
 const MEMORY: usize = 512 << 20;
 
 /// The text that `--help` tells.
 pub fn help() -> String {
     let numbers = [("{NUMBERS}", LIMITS.numbers.into()), ("{DEPENDENCIES}", LIMITS.dependencies.into())];
-    let others = [("{LOG}", LIMITS.log), ("{KEPT}", KEPT as u64), ("{MEMORY}", MEMORY as u64)];
+    let others =
+        [("{LOG}", LIMITS.log), ("{CHECKPOINT}", CHECKPOINT), ("{KEPT}", KEPT as u64), ("{MEMORY}", MEMORY as u64)];
     let all = numbers.into_iter().chain(others);
     let text = TEXT.replace("{ADMIN}", admin::NAME);
     all.fold(text, |text, (word, number): (&str, u64)| text.replace(word, &number.to_string()))
@@ -100,6 +105,8 @@ pub struct Options {
     pub node: Option<PathBuf>,
     pub patience: Duration,
     pub limits: Limits,
+    /// How many bytes the logs have since an opening was written when the next one is.
+    pub checkpoint: u64,
     /// How many generations that were left stay in the folder.
     pub kept: usize,
     pub plant: Option<Plant>,
@@ -125,7 +132,7 @@ pub fn read(words: impl IntoIterator<Item = String>) -> Result<Words, OptionsFau
     let (mut auth, mut memory, mut metrics, mut most_map) = (None, MEMORY, None, None);
     let (mut admin, mut admin_auth) = (None, None);
     let mut start = Start::Again;
-    let (mut limits, mut kept) = (LIMITS, KEPT);
+    let (mut limits, mut checkpoint, mut kept) = (LIMITS, CHECKPOINT, KEPT);
     while let Some(word) = words.next() {
         match word.as_str() {
             "--help" | "-h" => return Ok(Words::Help),
@@ -166,6 +173,7 @@ pub fn read(words: impl IntoIterator<Item = String>) -> Result<Words, OptionsFau
             "--seal-numbers" => limits.numbers = number(&word, &value()?, 10, 8_900)?,
             "--seal-dependencies" => limits.dependencies = number(&word, &value()?, 10, 62_999)?,
             "--seal-log" => limits.log = number(&word, &value()?, 1 << 10, u64::MAX)?,
+            "--checkpoint" => checkpoint = number(&word, &value()?, 0, u64::MAX)?,
             "--keep" => kept = number(&word, &value()?, 1, usize::MAX)?,
             "--plant" if cfg!(feature = "plants") => {
                 let name = value()?;
@@ -198,6 +206,7 @@ pub fn read(words: impl IntoIterator<Item = String>) -> Result<Words, OptionsFau
         node,
         patience,
         limits,
+        checkpoint,
         kept,
         plant,
     })))
@@ -262,6 +271,8 @@ mod tests {
         let Ok(Words::Run(it)) = words(&format!("{line} --auth a --memory 2000000 --metrics 9000")) else { panic!() };
         assert_eq!((it.auth, it.memory, it.metrics), (Some("a".into()), 2_000_000, Some("127.0.0.1:9000".into())));
         assert_eq!(options.peer_key, Some(PathBuf::from("k")));
+        let Ok(Words::Run(it)) = words(&format!("{line} --checkpoint 1000")) else { panic!() };
+        assert_eq!((it.checkpoint, options.checkpoint), (1_000, CHECKPOINT));
         let Ok(Words::Run(it)) = words(&format!("{line} --most-map 10000000")) else { panic!() };
         assert_eq!((it.most_map, options.most_map), (Some(10_000_000), None));
         let Ok(Words::Run(options)) = words("--replica 0 --peers a:1,b:2,c:3 --dir d") else { panic!() };

@@ -6,8 +6,22 @@ use crate::generations_fault::GenerationsFault;
 pub struct Held {
     pub number: u32,
     pub has_opening: bool,
+    pub has_reference: bool,
+    /// Whether a binding says that both stand for one another.
+    pub is_bound: bool,
     /// The later generation that a mark says was begun; 0 where there is no mark.
     pub left_for: u32,
+}
+
+impl Held {
+    pub fn is_here(&self) -> bool {
+        self.has_opening || self.has_reference
+    }
+
+    /// Whether its opening is read from its file.
+    pub fn is_whole(&self) -> bool {
+        self.has_opening && (!self.has_reference || self.is_bound)
+    }
 }
 
 /// What a start is asked for. An opening that is handed over is the same where its bytes are those of the newest one here.
@@ -41,9 +55,23 @@ pub struct Plan {
     pub log: LogStart,
 }
 
-/// The greatest generation that has an opening; 0 where none has.
+/// The greatest generation that is here; 0 where none is.
 pub fn newest(held: &[Held]) -> u32 {
-    held.iter().filter(|one| one.has_opening).map(|one| one.number).max().unwrap_or(0)
+    held.iter().filter(|one| one.is_here()).map(|one| one.number).max().unwrap_or(0)
+}
+
+/// The whole generation whose opening this one's is read from: itself, or the greatest below it up to which all have references. Their logs lead from the
+/// one to the other.
+pub fn first(held: &[Held], generation: u32) -> Result<u32, GenerationsFault> {
+    let mut first = generation;
+    loop {
+        let found = held.iter().find(|one| one.number == first);
+        match found {
+            Some(one) if one.is_whole() => return Ok(first),
+            Some(one) if one.has_reference => first -= 1,
+            _ => return Err(GenerationsFault::Broken(first)),
+        }
+    }
 }
 
 /// How a replica whose folder has this starts, or why it doesn't.
@@ -70,7 +98,7 @@ pub fn plan(held: &[Held], wish: Wish) -> Result<Plan, GenerationsFault> {
         Wish::GoOn if newest == 0 => Err(GenerationsFault::None),
         Wish::GoOn => {
             // (a mark may be that of any generation that was left, so one alone doesn't tell that this one was begun)
-            let has_before = held.iter().any(|one| one.has_opening && one.number == newest - 1);
+            let has_before = held.iter().any(|one| one.is_here() && one.number == newest - 1);
             Ok(kept(if has_before { where_unmarked } else { LogStart::Existing }))
         }
         Wish::New { .. } if newest == 0 => Ok(Plan { generation: 1, writes: true, log: LogStart::New }),
@@ -97,6 +125,38 @@ pub fn left_in(bytes: &[u8], generation: u32) -> u32 {
 #[cfg(test)]
 mod tests {
     use super::*;
+
+    fn held(number: u32, [has_opening, has_reference, is_bound]: [bool; 3]) -> Held {
+        Held { number, has_opening, has_reference, is_bound, left_for: 0 }
+    }
+
+    #[test]
+    fn an_opening_is_read_or_replayed() {
+        const FILE: [bool; 3] = [true, false, false];
+        const NAMED: [bool; 3] = [false, true, false];
+        const UNBOUND: [bool; 3] = [true, true, false];
+        const BOUND: [bool; 3] = [true, true, true];
+        const NOTHING: [bool; 3] = [false; 3];
+        for (all, newest_one, wanted) in [
+            (&[FILE][..], 1, Ok(1)),
+            (&[FILE, NAMED], 2, Ok(1)),
+            (&[FILE, NAMED, UNBOUND], 3, Ok(1)),
+            (&[FILE, NAMED, BOUND], 3, Ok(3)),
+            (&[NOTHING, BOUND, NAMED, NAMED], 4, Ok(2)),
+            (&[NOTHING, FILE, NAMED], 3, Ok(2)),
+            (&[NOTHING, NAMED, NAMED], 3, Err(1)),
+            (&[FILE, NOTHING, UNBOUND, NAMED], 4, Err(2)),
+            (&[NAMED], 1, Err(0)),
+        ] {
+            let all: Vec<Held> = (1..).zip(all).map(|(number, it)| held(number, *it)).collect();
+            assert_eq!(newest(&all), newest_one);
+            let found = first(&all, newest_one).map_err(|fault| match fault {
+                GenerationsFault::Broken(generation) => generation,
+                fault => panic!("{fault}"),
+            });
+            assert_eq!(found, wanted, "{all:?}");
+        }
+    }
 
     #[test]
     fn names_and_marks() {

@@ -29,6 +29,14 @@ pub fn processor_time(process: u32) -> Duration {
     Duration::from_millis(ticks * 1_000 / TICKS) + running
 }
 
+/// How many bytes a process, and its children that run, have had written to disks.
+pub fn written(process: u32) -> u64 {
+    let text = fs::read_to_string(format!("/proc/{process}/io")).unwrap_or_default();
+    let line = text.lines().find_map(|line| line.strip_prefix("write_bytes:"));
+    let own = line.and_then(|bytes| bytes.trim().parse().ok()).unwrap_or(0);
+    own + children(process).into_iter().map(written).sum::<u64>()
+}
+
 #[cfg(test)]
 mod tests {
     use super::*;

@@ -4,20 +4,24 @@
 //! if nothing was done since: in a generation of which no majority ever acted nothing was.
 use crate::core::{Begin, Core};
 use crate::directory::{self, Directory};
-use crate::generations::{left_for, whole};
+use crate::generations::{left_for, look, reference, whole};
 use crate::hosted::{Hosted, Hosting};
 use crate::identities::{self, Identities, Identity, by_chance, digits};
 use crate::listing::pairs;
 use crate::members::{Member, Members};
+use crate::node_fault::NodeFault;
 use crate::opening::Opening;
 use crate::outcome::Asked;
 use crate::peers::{MOST_REPLICAS, Place};
+use crate::planning::{first, newest};
 use crate::plants::skip_key;
 use crate::random::Random;
 use crate::recovery_fault::RecoveryFault;
 use crate::say::error;
-use epaxos::{Cluster, Fields, Setup};
+use epaxos::{Cluster, Fields, Reference, Setup};
 use sha2::{Digest, Sha256};
+use std::cell::RefCell;
+use std::collections::BTreeMap;
 use std::fmt::Write as _;
 use std::fs::{self, File};
 use std::io::{self, Read, Write as _};
@@ -109,18 +113,25 @@ struct Left {
     identity: Identity,
     /// Whom it knows, by numbers.
     known: Vec<Option<Identity>>,
-    /// The generations whose openings it has, in rising order; there is one.
+    /// The generations whose openings it has, or logs that lead to them, in rising order; there is one.
     generations: Vec<u32>,
+    core: epaxos::Core,
+    /// The openings that logs led to.
+    replayed: RefCell<BTreeMap<u32, Vec<u8>>>,
 }
 
 impl Left {
     /// The replica of a folder, of which nothing is changed.
-    fn open(path: &Path) -> Result<Left, RecoveryFault> {
+    fn open(path: &Path, core: &epaxos::Core) -> Result<Left, RecoveryFault> {
         let directory = Directory::look(path).map_err(RecoveryFault::Directory)?;
         directory.check_files().map_err(RecoveryFault::Directory)?;
         let none = || RecoveryFault::NoReplica(path.to_path_buf());
-        let generations = directory.generations_with("opening");
-        let newest = *generations.last().ok_or_else(none)?;
+        let held = look(&directory.generations()).map_err(|fault| RecoveryFault::Directory(fault.into()))?;
+        let newest = Some(newest(&held)).filter(|newest| *newest > 0).ok_or_else(none)?;
+        if let Err(fault) = first(&held, newest) {
+            return Err(RecoveryFault::Node(NodeFault::Generations(fault)));
+        }
+        let generations = held.iter().map(|one| one.number).filter(|one| first(&held, *one).is_ok()).collect();
         let left =
             left_for(&directory.generations()).map_err(|error| RecoveryFault::File(directory.generations(), error))?;
         if left > newest {
@@ -143,7 +154,8 @@ impl Left {
         {
             return Err(RecoveryFault::Made(waits, opening.generation));
         }
-        Ok(Left { directory, replica, identity: identities.own(), known, generations })
+        let (identity, core, replayed) = (identities.own(), core.clone(), RefCell::default());
+        Ok(Left { directory, replica, identity, known, generations, core, replayed })
     }
 
     fn newest(&self) -> u32 {
@@ -153,12 +165,36 @@ impl Left {
     /// The bytes of an opening that is here, whose digest is right, and what they tell.
     fn opening(&self, generation: u32) -> Result<(Vec<u8>, Opening), RecoveryFault> {
         let path = self.directory.opening(generation);
-        let bytes = fs::read(&path).map_err(|error| RecoveryFault::File(path.clone(), error))?;
+        let bytes = if self.directory.is_whole(generation) {
+            fs::read(&path).map_err(|error| RecoveryFault::File(path.clone(), error))?
+        } else {
+            self.replay(generation)?
+        };
         let bad = |why| RecoveryFault::BadOpening(path.clone(), why);
         let bytes = whole(bytes).map_err(bad)?.bytes;
-        let opening =
-            Opening::read(&path).map_err(|error| RecoveryFault::BadOpening(path.clone(), error.to_string()))?;
+        let opening = Opening::of(&bytes).ok_or_else(|| bad("it can't be read".into()))?;
         if opening.generation == generation { Ok((bytes, opening)) } else { Err(bad("it is another one's".into())) }
+    }
+
+    /// The bytes of an opening that no file has, as logs lead to it.
+    fn replay(&self, generation: u32) -> Result<Vec<u8>, RecoveryFault> {
+        if let Some(bytes) = self.replayed.borrow().get(&generation) {
+            return Ok(bytes.clone());
+        }
+        let place = Place { replicas: MOST_REPLICAS, replica: self.replica };
+        let core = if epaxos::Core::has_library() { epaxos::Core::Library } else { self.core.clone() };
+        let hosting = Hosting { place, folder: self.directory.generations(), core, checkpoint: u64::MAX };
+        let bytes = hosting.opening(generation).map_err(RecoveryFault::Node)?.bytes;
+        self.replayed.borrow_mut().insert(generation, bytes.clone());
+        Ok(bytes)
+    }
+
+    /// The reference that stood for the opening of a generation, where it was begun by one.
+    fn reference(&self, generation: u32) -> Result<Option<Reference>, RecoveryFault> {
+        let folder = self.directory.generations();
+        let is_there = folder.join(format!("{generation}/reference")).exists();
+        let read = is_there.then(|| reference(&folder, generation)).transpose();
+        read.map_err(|fault| RecoveryFault::Node(NodeFault::Generations(fault)))
     }
 
     /// How many commands are committed in the newest generation as far as its log tells, and the last stamp.
@@ -174,7 +210,10 @@ impl Left {
         }
         let cluster = Cluster::try_from(opening.replicas);
         let cluster = cluster.map_err(|_| RecoveryFault::BadOpening(path.clone(), "no such size".into()))?;
-        let setup = Setup { opening: Some(&bytes), core: core.clone(), ..Setup::new(cluster, self.replica) };
+        let reference = self.reference(self.newest())?;
+        let core = if reference.is_some() && epaxos::Core::has_library() { &epaxos::Core::Library } else { core };
+        let new = Setup::new(cluster, self.replica);
+        let setup = Setup { opening: Some(&bytes), reference, core: core.clone(), ..new };
         let mut replica = setup.open(&log).map_err(|fault| RecoveryFault::BadLog(path.clone(), fault))?;
         let core = |fault| RecoveryFault::Core(path.clone(), fault);
         // (nothing is told to anybody)
@@ -193,7 +232,7 @@ impl Left {
 
 /// The text that tells what was found, and what was done.
 fn recover(words: &Words, chance: u32) -> Result<String, RecoveryFault> {
-    let mut all = words.folders.iter().map(|path| Left::open(path)).collect::<Result<Vec<Left>, _>>()?;
+    let mut all = words.folders.iter().map(|path| Left::open(path, &words.core)).collect::<Result<Vec<Left>, _>>()?;
     all.sort_by_key(|left| left.replica);
     check_cluster(&all)?;
     let mut text = String::new();
@@ -340,8 +379,7 @@ fn members_of(all: &[Left], size: u8) -> Result<Members, RecoveryFault> {
     let mut told = Vec::new();
     for left in all {
         for generation in left.generations.iter().rev().take(LOOKED_AT) {
-            let path = left.directory.opening(*generation);
-            let opening = Opening::read(&path).map_err(|error| RecoveryFault::File(path, error))?;
+            let (_, opening) = left.opening(*generation)?;
             told.extend(opening.members().map(|members| (*generation, members)));
         }
     }
@@ -390,13 +428,19 @@ fn furthest_map(left: &Left, core: &epaxos::Core) -> Result<Vec<u8>, RecoveryFau
 /// Has a copy of a replica's newest generation, in this folder, execute all that it knows to be committed.
 fn execute_all(left: &Left, core: &epaxos::Core, scratch: &Path) -> Result<(), RecoveryFault> {
     let (generation, folder) = (left.newest(), scratch.join(left.newest().to_string()));
-    let (opening, log) = (left.directory.opening(generation), left.directory.log(generation));
+    let ((bytes, opening), reference) = (left.opening(generation)?, left.reference(generation)?);
     let copied = fs::create_dir_all(&folder)
-        .and_then(|()| fs::copy(opening, folder.join("opening")))
-        .and_then(|_| fs::copy(log, folder.join("log")));
-    copied.map_err(|error| RecoveryFault::File(folder, error))?;
-    let place = Place { replicas: left.opening(generation)?.1.replicas.into(), replica: left.replica };
-    let hosting = Hosting { place, folder: scratch.to_path_buf(), core: core.clone() };
+        .and_then(|()| fs::write(folder.join("opening"), &bytes))
+        .and_then(|()| fs::copy(left.directory.log(generation), folder.join("log")));
+    let bound = reference.map_or(Ok(()), |reference| {
+        let digest = bytes.last_chunk().unwrap_or(&[0; 32]);
+        fs::write(folder.join("reference"), reference.bytes())
+            .and_then(|()| fs::write(folder.join("whole"), reference.binding(digest)))
+    });
+    copied.and(bound).map_err(|error| RecoveryFault::File(folder, error))?;
+    let place = Place { replicas: opening.replicas.into(), replica: left.replica };
+    let core = if reference.is_some() && epaxos::Core::has_library() { &epaxos::Core::Library } else { core };
+    let hosting = Hosting { place, folder: scratch.to_path_buf(), core: core.clone(), checkpoint: u64::MAX };
     let mut hosted = Hosted::start(hosting, &Begin::Again, 0).map_err(RecoveryFault::Node)?;
     hosted.carry_out(&Asked { executes_all: true, ..Asked::default() }).map(drop).map_err(RecoveryFault::Node)
 }

@@ -1,6 +1,6 @@
 //! How much the map may grow (`--most-map`), so that it never passes what it may have: a generation begins with a map whose length all know, and each
 //! replica's commands may add its share of the room that there is then. What a command has changed its answer tells, so nothing is estimated.
-use epaxos::{Answer, OwnedCommand};
+use epaxos::{Answer, Command, OwnedCommand};
 
 /// What a key takes besides its own bytes and its value's, as in an opening.
 pub const OF_A_KEY: u64 = 5;
@@ -73,7 +73,7 @@ impl Room {
     /// It was answered, or is not under way any more.
     pub fn settle(&mut self, command: &OwnedCommand, answer: Option<&Answer>) {
         self.reserved -= cost(command);
-        self.grown += answer.map_or(0, |answer| growth(command, answer));
+        self.grown += answer.map_or(0, |answer| growth(&command.lent(), answer));
     }
 }
 
@@ -98,19 +98,17 @@ fn cost(command: &OwnedCommand) -> i64 {
 }
 
 /// By how many bytes a command has made it longer, which was answered so.
-fn growth(command: &OwnedCommand, answer: &Answer) -> i64 {
+pub(crate) fn growth(command: &Command, answer: &Answer) -> i64 {
     let before = match answer {
         Answer::Present(value) => Some(*value),
         Answer::Absent => None,
         // (it wasn't done)
         _ => return 0,
     };
-    match command {
-        OwnedCommand::Put { key, value } => length(key, Some(value)) - length(key, before),
-        OwnedCommand::Del { key } => -length(key, before),
-        OwnedCommand::Cas { key, expected, new } if expected.as_deref() == before => {
-            length(key, new.as_deref()) - length(key, before)
-        }
+    match *command {
+        Command::Put { key, value } => length(key, Some(value)) - length(key, before),
+        Command::Del { key } => -length(key, before),
+        Command::Cas { key, expected, new } if expected == before => length(key, new) - length(key, before),
         _ => 0,
     }
 }
@@ -158,8 +156,8 @@ mod tests {
         let longer = OwnedCommand::Cas { key: b"b".into(), expected: Some(vec![1; 494]), new: Some(vec![1; 994]) };
         let shorter = OwnedCommand::Cas { key: b"b".into(), expected: Some(vec![1; 494]), new: None };
         assert_eq!((cost(&longer), cost(&shorter)), (500, 0));
-        assert_eq!(growth(&longer, &Answer::Present(&[2; 494])), 0);
-        assert_eq!(growth(&shorter, &Answer::Present(&[1; 494])), -500);
+        assert_eq!(growth(&longer.lent(), &Answer::Present(&[2; 494])), 0);
+        assert_eq!(growth(&shorter.lent(), &Answer::Present(&[1; 494])), -500);
         // After a start nobody knows what was added: the next generation tells.
         room.resume(100, 3);
         assert_eq!((room.judge(&small), room.judge(&del("a"))), (Judgement::NextGeneration, Judgement::Fits));

@@ -127,7 +127,7 @@ fn play(name: &str, trips: RoundTrips, what: impl FnOnce(&mut Play)) {
     };
     let cluster = Cluster { replicas: trips.len() as u8, folder: &folder, plant: None, limits };
     let Joined { drivers, senders, metrics } = join(&cluster, way, |place, directory, _| {
-        let hosting = Hosting { place, folder: directory.generations(), core: Core::Library };
+        let hosting = Hosting { place, folder: directory.generations(), core: Core::Library, checkpoint: 1 << 26 };
         let mut hosted = Hosted::start(hosting, &Begin::New, 0).unwrap();
         let state = hosted.state().unwrap();
         (hosted, state)

@@ -1,6 +1,7 @@
 //! Stores around the proved program that go from generation to generation.
 mod common;
 use common::{Places, Store, ask, real_node, wait};
+use std::cell::Cell;
 use std::fs;
 use std::path::Path;
 use std::process::Command;
@@ -85,6 +86,48 @@ fn who_lags_comes_along() {
     has_all(&two, 0..160);
     set(&[&two], 160..170);
     has_all(&zero, 0..170);
+}
+
+/// Cores in the stores go on in memory; checkpoints are written now and then, and what is older goes.
+#[test]
+fn generations_follow_one_another_in_memory() {
+    let places = Places::new("in-memory");
+    let start = |replica: usize| {
+        places.start_in_store_with(replica, &["--seal-numbers", "20", "--checkpoint", "60000", "--keep", "1"])
+    };
+    let [Some(zero), Some(one), Some(two)] = [0, 1, 2].map(start) else { return };
+    let count = Cell::new(0);
+    let set_more = |stores: &[&Store]| {
+        set(stores, count.get()..count.get() + 20);
+        count.set(count.get() + 20);
+    };
+    let set_until = |stores: &[&Store], least: usize| {
+        wait("generations", || {
+            set_more(stores);
+            generation(stores[0]) >= least
+        });
+    };
+    set_until(&[&zero, &one, &two], 3);
+    // One of them is killed, and gets what the others have.
+    drop(two);
+    let least = generation(&zero) + 2;
+    set_until(&[&zero, &one], least);
+    let two = start(2).unwrap();
+    has_all(&two, 0..count.get());
+    let is_there = |replica: usize, name: &str| places.directory(replica).join("generations").join(name).exists();
+    wait("a checkpoint", || {
+        set_more(&[&zero, &one, &two]);
+        !is_there(0, "1") && !is_there(1, "1")
+    });
+    let newest = generation(&zero);
+    assert!((2..=newest).any(|it| is_there(0, &format!("{it}/whole"))));
+    // All are killed, and start by the last checkpoint and the logs since.
+    drop([zero, one, two]);
+    let [Some(zero), Some(one), Some(two)] = [0, 1, 2].map(start) else { panic!() };
+    for store in [&zero, &one, &two] {
+        has_all(store, 0..count.get());
+    }
+    set_more(&[&zero, &one, &two]);
 }
 
 /// Starts a machine that is to be let in by these words, and waits until it has told its identity.

@@ -293,11 +293,11 @@ fn what_drivers_do_wrong_is_found() {
 }
 
 /// Its logs are the store's to keep.
-fn play_hosted(name: &str, core: &epaxos::Core) {
+fn play_hosted(name: &str, core: &epaxos::Core, checkpoint: u64) {
     let folder = folder(name);
     let it = Play { folder: &folder, plant: None, commands: 150, generations: 3 };
     let notes = play(&it, |place, directory, _| {
-        let hosting = Hosting { place, folder: directory.generations(), core: core.clone() };
+        let hosting = Hosting { place, folder: directory.generations(), core: core.clone(), checkpoint };
         let mut hosted = Hosted::start(hosting, &Begin::New, 0).unwrap();
         let state = hosted.state().unwrap();
         (hosted, state)
@@ -309,14 +309,22 @@ fn play_hosted(name: &str, core: &epaxos::Core) {
 #[test]
 fn over_the_library_too() {
     if epaxos::Core::has_library() {
-        play_hosted("library", &epaxos::Core::Library);
+        play_hosted("library", &epaxos::Core::Library, 0);
+    }
+}
+
+/// No opening is written but those that a replica which lags wants.
+#[test]
+fn over_the_library_without_checkpoints_too() {
+    if epaxos::Core::has_library() {
+        play_hosted("unwritten", &epaxos::Core::Library, u64::MAX);
     }
 }
 
 #[test]
 fn over_a_process_without_a_log_too() {
     if let Some(program) = real_node() {
-        play_hosted("hosted", &epaxos::Core::Process(program));
+        play_hosted("hosted", &epaxos::Core::Process(program), 0);
     }
 }
 

@@ -1,7 +1,7 @@
 //! What a replica stands on.
 #![forbid(unsafe_code)]
 
-use crate::{CloseFault, Cluster, Event, Fault, State};
+use crate::{CloseFault, Cluster, Event, Fault, State, SucceedFault, Succession};
 use std::path::PathBuf;
 
 /// Where the core of a replica runs.
@@ -100,6 +100,17 @@ pub(crate) trait Host: Send {
         false
     }
 
+    /// Goes on in the next generation, of which it gives the opening file. At `Memory` and `Log` it is gone.
+    fn succeed(&mut self, _: &Succession) -> Result<Box<dyn Pieces>, SucceedFault> {
+        Err(SucceedFault::NoLibrary)
+    }
+
     /// What the core told people on its fault output.
     fn said(&self) -> String;
+}
+
+/// A file in pieces.
+pub(crate) trait Pieces: Send {
+    /// Lends the next one, of some `most` bytes. None: all was given.
+    fn next(&mut self, most: usize) -> Result<Option<&[u8]>, Fault>;
 }

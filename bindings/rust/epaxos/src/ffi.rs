@@ -1,11 +1,11 @@
 //! The calls of the library, as bindings/c/epaxos.h has them. All of the crate's unsafe code is here.
 #![allow(unsafe_code)]
 
-use crate::{Call, Command, Instance, Waits};
+use crate::{Call, Command, Instance, Reference, Succession, Waits};
 use std::{ptr, slice};
 
 /// What the header is of.
-pub(crate) const VERSION: u32 = 5;
+pub(crate) const VERSION: u32 = 6;
 
 /// `struct ep_replica`
 #[repr(C)]
@@ -42,6 +42,32 @@ struct Setup {
     replicas: u8,
     replica: u8,
     is_new: u8,
+}
+
+/// `struct ep_succession`
+#[repr(C)]
+struct Next {
+    digest: Bytes,
+    log: Bytes,
+    replicas: u8,
+    replica: u8,
+    is_new: u8,
+}
+
+impl Next {
+    /// The replica of this number; new, or with this log.
+    fn of(reference: &Reference, digest: &[u8; 32], replica: u8, log: Option<&[u8]>) -> Next {
+        let (log, is_old) = Bytes::of_any(log);
+        let replicas = reference.cluster().replicas();
+        Next { digest: Bytes::of(digest), log, replicas, replica, is_new: 1 - is_old }
+    }
+}
+
+/// `struct ep_checkpoint`
+#[repr(C)]
+#[derive(Debug)]
+struct Given {
+    at: *mut u8,
 }
 
 /// `struct ep_place`: where bytes are refused.
@@ -150,6 +176,10 @@ unsafe extern "C" {
     fn ep_handled(replica: *mut Held, peer: u8, entries: *mut u32) -> u8;
     fn ep_leads(replica: *mut Held, instance: Named, leading: *mut Leading) -> u8;
     fn ep_close(replica: *mut Held, replicas: u8, opening: *mut Bytes) -> u8;
+    fn ep_succeed(replica: *mut Held, checkpoint: *mut Given, succession: *const Next, place: *mut Place) -> u8;
+    fn ep_checkpoint_next(checkpoint: *mut Given, most: usize, piece: *mut Bytes) -> u8;
+    fn ep_checkpoint_free(checkpoint: *mut Given) -> u8;
+    fn ep_open_bound(replica: *mut Held, opening: *const u8, opening_len: usize, succession: *const Next, place: *mut Place) -> u8;
     fn ep_patience_begin(patience: *mut Begun, waits: *const Spans) -> u8;
     fn ep_patience_free(patience: *mut Begun) -> u8;
     fn ep_patience_measure(patience: *mut Begun, peer: u8, took: u32) -> u8;
@@ -198,6 +228,40 @@ impl Handle {
             0 => Ok(handle),
             status => Err((status, place)),
         }
+    }
+
+    /// The same, of a replica whose log names the reference that stood for the opening.
+    pub(crate) fn open_bound(
+        opening: &[u8],
+        reference: &Reference,
+        me: u8,
+        log: Option<&[u8]>,
+    ) -> Result<Handle, (u8, Place)> {
+        let digest = reference.digest();
+        let next = Next::of(reference, &digest, me, log);
+        let (mut handle, mut place) =
+            (Handle { held: Held { at: ptr::null_mut() }, lent: Bytes::EMPTY }, Place::default());
+        match unsafe { ep_open_bound(&mut handle.held, opening.as_ptr(), opening.len(), &next, &mut place) } {
+            0 => Ok(handle),
+            status => Err((status, place)),
+        }
+    }
+
+    /// Goes on in the next generation, with the file that that opens with; or the status, and where the log is refused.
+    pub(crate) fn succeed(&mut self, succession: &Succession) -> Result<CheckpointHandle, (u8, Place)> {
+        let digest = succession.reference.digest();
+        let next = Next::of(&succession.reference, &digest, succession.me, succession.log);
+        let (mut checkpoint, mut place) =
+            (CheckpointHandle { held: Given { at: ptr::null_mut() }, lent: Bytes::EMPTY }, Place::default());
+        match unsafe { ep_succeed(self.held(), &mut checkpoint.held, &next, &mut place) } {
+            0 => Ok(checkpoint),
+            status => Err((status, place)),
+        }
+    }
+
+    /// Ends the replica: each call answers then that there is none.
+    pub(crate) fn free(&mut self) {
+        unsafe { ep_free(self.held()) };
     }
 
     /// The replica, of which nothing is lent any more.
@@ -350,7 +414,44 @@ impl Handle {
 
 impl Drop for Handle {
     fn drop(&mut self) {
-        unsafe { ep_free(self.held()) };
+        self.free();
+    }
+}
+
+/// A file that is given in pieces, and the piece that it lends.
+#[derive(Debug)]
+pub(crate) struct CheckpointHandle {
+    held: Given,
+    lent: Bytes,
+}
+
+// SAFETY: that it may go to another thread is proved (crates/ep_handle, `Send`); what it lends is its own.
+unsafe impl Send for CheckpointHandle {}
+
+// SAFETY, of each call below: as of `Handle`.
+impl CheckpointHandle {
+    /// Lends the next bytes.
+    pub(crate) fn next(&mut self, most: usize) -> u8 {
+        self.lent = Bytes::EMPTY;
+        let mut lent = Bytes::EMPTY;
+        let status = unsafe { ep_checkpoint_next(&mut self.held, most, &mut lent) };
+        self.lent = lent;
+        status
+    }
+
+    /// What the last call has lent.
+    pub(crate) fn piece(&self) -> &[u8] {
+        if self.lent.len == 0 {
+            return &[];
+        }
+        // SAFETY: what is lent stays until the next call, and each call takes `&mut self` and ends it.
+        unsafe { slice::from_raw_parts(self.lent.at, self.lent.len) }
+    }
+}
+
+impl Drop for CheckpointHandle {
+    fn drop(&mut self) {
+        unsafe { ep_checkpoint_free(&mut self.held) };
     }
 }
 

@@ -18,6 +18,9 @@ pub(crate) fn start(core: &Core, begin: &Begin) -> Result<Box<dyn Host>, OpenFau
 }
 
 fn process(program: &Path, begin: &Begin) -> Result<Box<dyn Host>, OpenFault> {
+    if begin.reference.is_some() {
+        return Err(OpenFault::NoCore("a process doesn't open a log that names a reference; take the library".into()));
+    }
     Ok(Box::new(Process::start(program, begin)?))
 }
 

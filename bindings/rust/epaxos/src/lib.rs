@@ -118,11 +118,15 @@
 //! A replica takes 8,990 commands in a generation. When [`State::used`] comes near, propose [`Command::Seal`]; once it is executed
 //! ([`Output::is_sealed`]), [`Replica::close`] hands out the opening of the next generation, with which each replica begins anew, of another number of replicas if you like.
 //! A command whose answer is [`Answer::Closed`] is asked again there. Keep the opening of generation 2 as `2/opening`, and its log as `2/log`.
+//!
+//! Over the library a replica goes on in memory, without a stop: [`Replica::succeed`] puts the next generation in its place, with the map as it is. The disk gets a
+//! [`Reference`] of 82 bytes, and the opening itself when there is time, by a [`Checkpoint`], in pieces. `examples/generations.rs` is such a host.
 #![deny(unsafe_code)]
 
 mod answer;
 mod bytes;
 mod call;
+mod checkpoint;
 mod close_fault;
 mod cluster;
 mod command;
@@ -147,6 +151,7 @@ mod open_instance;
 mod out_of_range;
 mod output;
 mod own_log;
+mod past;
 mod patience;
 mod place;
 mod process;
@@ -155,6 +160,7 @@ mod proposed;
 mod ready;
 mod receipt;
 mod records;
+mod reference;
 mod replica;
 mod running;
 mod scratch;
@@ -162,6 +168,9 @@ mod setup;
 mod state;
 #[cfg(has_library)]
 mod status;
+mod succeed_fault;
+mod succession;
+mod sum;
 #[cfg(test)]
 mod vectors;
 pub mod wire;
@@ -170,6 +179,7 @@ mod writing;
 pub use answer::{Answer, AnswerOf, OwnedAnswer};
 pub use bytes::Fields;
 pub use call::Call;
+pub use checkpoint::Checkpoint;
 pub use close_fault::CloseFault;
 pub use cluster::Cluster;
 pub use command::{Command, CommandOf, OwnedCommand};
@@ -192,10 +202,14 @@ pub use patience::{Patience, Waits};
 pub use proposed::Proposed;
 pub use ready::Ready;
 pub use receipt::Receipt;
+pub use reference::Reference;
 pub use replica::Replica;
 pub(crate) use setup::Begin;
 pub use setup::Setup;
 pub use state::State;
+pub use succeed_fault::SucceedFault;
+pub use succession::Succession;
+pub use sum::Sum;
 pub use writing::{Writing, Written};
 
 /// A replica proposes so many commands in a generation at most. Its numbers above are for seals.

@@ -2,11 +2,11 @@
 #![forbid(unsafe_code)]
 
 use crate::bytes::Fields;
-use crate::core::{Host, Lent};
-use crate::ffi::{self, Handle, Place};
+use crate::core::{Host, Lent, Pieces};
+use crate::ffi::{self, CheckpointHandle, Handle, Place};
 use crate::status::{self, DONE, NONE, NOT_COMMITTED, TOO_SHORT};
 use crate::wire::{self, Question};
-use crate::{Begin, CloseFault, Cluster, Event, Fault, Instance, OpenFault, State};
+use crate::{Begin, CloseFault, Cluster, Event, Fault, Instance, OpenFault, State, SucceedFault, Succession};
 use std::ops::Range;
 
 /// No entry has this number: behind it there is nothing to tell.
@@ -40,7 +40,10 @@ impl Library {
         if opening.is_empty() {
             return Err(open_fault(status::OPENING_SHORT, Place::default()));
         }
-        let opened = Handle::open(replicas, begin.me, opening, begin.log);
+        let opened = match &begin.reference {
+            None => Handle::open(replicas, begin.me, opening, begin.log),
+            Some(reference) => Handle::open_bound(opening, reference, begin.me, begin.log),
+        };
         let handle = opened.map_err(|(status, place)| open_fault(status, place))?;
         Ok(Library { handle, me: begin.me, lent: 0, is_anew: false, is_begun: false, told: 0..0, request: Vec::new() })
     }
@@ -186,8 +189,42 @@ impl Host for Library {
         true
     }
 
+    fn succeed(&mut self, succession: &Succession) -> Result<Box<dyn Pieces>, SucceedFault> {
+        if self.lent > 0 {
+            return Err(SucceedFault::Unsynced);
+        }
+        match self.handle.succeed(succession) {
+            Ok(checkpoint) => {
+                (self.me, self.is_anew, self.is_begun, self.told) = (succession.me, false, false, 0..0);
+                Ok(Box::new(checkpoint))
+            }
+            Err((status::MEMORY, _)) => {
+                // (it may be there without its file)
+                self.handle.free();
+                Err(SucceedFault::Memory)
+            }
+            Err((status::OUT_OF_RANGE, _)) => Err(SucceedFault::OutOfRange),
+            Err((status::LENT | status::UNSYNCED, _)) => Err(SucceedFault::Unsynced),
+            Err((status::NOT_SEALED, _)) => Err(SucceedFault::NotSealed),
+            Err((status::LAST_GENERATION, _)) => Err(SucceedFault::LastGeneration),
+            Err((status::NO_REPLICA, _)) => Err(SucceedFault::NoReplica),
+            Err((status @ status::NO_LOG.., place)) => Err(SucceedFault::Log(open_fault(status, place))),
+            Err((status, _)) => Err(SucceedFault::Ended(unknown(status))),
+        }
+    }
+
     fn said(&self) -> String {
         SAID.into()
+    }
+}
+
+impl Pieces for CheckpointHandle {
+    fn next(&mut self, most: usize) -> Result<Option<&[u8]>, Fault> {
+        match CheckpointHandle::next(self, most) {
+            DONE => Ok(Some(self.piece())),
+            NONE => Ok(None),
+            status => Err(fault(status)),
+        }
     }
 }
 

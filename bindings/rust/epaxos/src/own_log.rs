@@ -22,9 +22,14 @@ pub(crate) struct OwnLog {
 impl OwnLog {
     /// That of a replica which begins so, before anything is written.
     pub(crate) fn of(begin: &Begin) -> OwnLog {
+        OwnLog::begun(begin.me, begin.generation())
+    }
+
+    /// That of a replica of this number, in this generation.
+    pub(crate) fn begun(replica: u8, generation: u32) -> OwnLog {
         static OPENED: AtomicU64 = AtomicU64::new(0);
         let opened = OPENED.fetch_add(1, Ordering::Relaxed);
-        OwnLog { replica: begin.me, generation: begin.generation(), header: Vec::new(), bytes: 0, opened }
+        OwnLog { replica, generation, header: Vec::new(), bytes: 0, opened }
     }
 
     /// This is lent to be written.

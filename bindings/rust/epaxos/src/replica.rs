@@ -3,11 +3,12 @@
 
 use crate::core::{Host, Lent};
 use crate::own_log::OwnLog;
-use crate::records::{self, Follower, HEADER};
+use crate::past::Past;
+use crate::records::Follower;
 use crate::wire::Told;
 use crate::{
-    Begin, Call, CloseFault, Cluster, Command, Contents, Event, Fault, Instance, OpenFault, Output, Ready, Setup,
-    State, Written, found,
+    Begin, Call, Checkpoint, CloseFault, Cluster, Command, Contents, Event, Fault, Instance, OpenFault, OutOfRange,
+    Output, Ready, Reference, Setup, State, SucceedFault, Succession, Written, found,
 };
 use std::cell::Cell;
 use std::fmt;
@@ -105,25 +106,16 @@ impl Replica {
     }
 
     pub(crate) fn begun(setup: &Setup, log: Option<&[u8]>) -> Result<Replica, OpenFault> {
-        let Setup { cluster, me, opening, .. } = *setup;
+        let Setup { cluster, me, opening, reference, .. } = *setup;
         if me >= cluster.replicas() {
             return Err(OpenFault::OutOfRange);
         }
-        let begin = Begin { cluster, me, opening, log };
+        let begin = Begin { cluster, me, opening, reference, log };
+        if let Some(reference) = reference {
+            begin.check(&reference)?;
+        }
         let host = found::start(&setup.core, &begin)?;
-        let (mut follower, mut cut, mut passed) = (Follower::default(), 0, HEADER);
-        if let Some(log) = log {
-            passed = records::whole(log);
-            cut = (log.len() - passed) as u64;
-            let records = log.get(HEADER..passed).unwrap_or_default();
-            follower.follow(records).ok_or_else(|| OpenFault::BadLog("it can't be followed".into()))?;
-        }
-        let entries = follower.entries();
-        let told = setup.told.unwrap_or(entries);
-        if told > entries {
-            return Err(OpenFault::Forgotten { entries, told });
-        }
-        follower.pass(told);
+        let Past { follower, passed, told, cut } = Past::of(log, setup.told)?;
         Ok(Replica {
             host,
             follower,
@@ -149,6 +141,100 @@ impl Replica {
     /// ```
     pub fn cut(&self) -> u64 {
         self.cut
+    }
+
+    /// The reference to this replica's log as it is, with this SHA-256, by which the next generation, of this cluster, begins: for [`succeed`](Replica::succeed). Its bytes
+    /// have to be on the disk before the log of the next generation is.
+    ///
+    /// # Errors
+    ///
+    /// [`OutOfRange`]: no generation is left, or the log isn't on the disk yet.
+    ///
+    /// ```
+    /// use epaxos::{Cluster, Replica, Sum};
+    ///
+    /// let mut log = Vec::new();
+    /// let mut replica = Replica::new(Cluster::Three, 0)?;
+    /// replica.ready()?.commit(&mut log)?;
+    /// let reference = replica.reference(Cluster::Five, Sum::of(&log))?;
+    /// assert_eq!((reference.generation(), reference.length()), (2, 43));
+    /// assert!(reference.is_to(&log));
+    /// # Ok::<(), Box<dyn std::error::Error>>(())
+    /// ```
+    pub fn reference(&self, next: Cluster, sum: [u8; 32]) -> Result<Reference, OutOfRange> {
+        let generation = self.own_log.generation.checked_add(1).ok_or(OutOfRange)?;
+        Reference::new(next, generation, self.own_log.bytes, sum)
+    }
+
+    /// Goes on in the next generation, once a seal was executed here and all that was taken is on the disk and told: the replica is then that of the next one, with the map
+    /// as it is, of which nothing is copied. As after [`new`](Replica::new) its log comes first, a log of its own, whose header names the reference's digest.
+    /// So the map is on the disk by the reference; write the file when there is time: the [`Checkpoint`] gives it in pieces, to any thread.
+    ///
+    /// The order on the disk, for generation G + 1: [`Reference::bytes`] as `G+1/reference`, synced, with its folder; then this call, whose [`ready`](Replica::ready) lends the
+    /// header of `G+1/log`; then the mark `G/left`, which says G + 1; and only then [`commit`](Ready::commit), or [`written`](Replica::written), by which the new
+    /// generation tells anything. The file comes later: `G+1/opening`, and once that is synced, [`Reference::binding`] as `G+1/whole`. Then what is older may go.
+    ///
+    /// After a start the same call leads from the last whole opening through the generations since, each with its log: the replica of the first is opened with as many bytes of
+    /// its log as the next reference names, which have its SHA-256 ([`Reference::is_to`]), is said to have them on the disk
+    /// ([`assume_synced`](Ready::assume_synced)), and goes on with the log of the next ([`Succession::log`]).
+    ///
+    /// # Errors
+    ///
+    /// [`SucceedFault`]: but for [`Memory`](SucceedFault::Memory) and [`Log`](SucceedFault::Log), by which the replica is gone, it is as it was.
+    ///
+    /// ```
+    /// use epaxos::{Call, Cluster, Command, Core, Instance, Replica, Succession, SucceedFault, Sum};
+    ///
+    /// # fn main() -> Result<(), Box<dyn std::error::Error>> {
+    /// # if !Core::has_library() || std::env::var_os("EPAXOS").is_some() { return Ok(()) }
+    /// # let (mut log, mut log_of_one) = (Vec::new(), Vec::new());
+    /// let mut zero = Replica::new(Cluster::Three, 0)?;
+    /// let mut one = Replica::new(Cluster::Three, 1)?;
+    /// zero.ready()?.commit(&mut log)?;
+    /// one.ready()?.commit(&mut log_of_one)?;
+    /// let reference = zero.reference(Cluster::Three, Sum::of(&log))?;
+    /// assert_eq!(zero.succeed(&Succession::new(reference, 0)).unwrap_err(), SucceedFault::NotSealed);
+    ///
+    /// zero.propose(Call::new(1, 1), Command::Seal { value: b"" })?;
+    /// # for frame in zero.ready()?.commit(&mut log)?.frames() { one.handle(frame.bytes)?; }
+    /// # for frame in one.ready()?.commit(&mut log_of_one)?.frames() { zero.handle(frame.bytes)?; }
+    /// // .. once it is committed:
+    /// zero.execute_all()?;
+    /// assert!(zero.ready()?.commit(&mut log)?.is_sealed());
+    ///
+    /// let reference = zero.reference(Cluster::Three, Sum::of(&log))?;         // (a host adds to a Sum what it writes)
+    /// // .. reference.bytes() is on the disk:
+    /// let checkpoint = zero.succeed(&Succession::new(reference, 0))?;
+    /// let mut log = Vec::new();                                               // that of generation 2
+    /// zero.ready()?.commit(&mut log)?;
+    /// assert_eq!(zero.state()?.generation, 2);
+    ///
+    /// // and when there is time, in another thread:
+    /// let mut opening = Vec::new();
+    /// let digest = checkpoint.write(&mut opening)?;
+    /// assert!(opening.ends_with(&digest));
+    /// # Ok(()) }
+    /// ```
+    pub fn succeed(&mut self, succession: &Succession) -> Result<Checkpoint, SucceedFault> {
+        let Succession { reference, me, log, told } = *succession;
+        let cluster = reference.cluster();
+        if self.is_begun {
+            return Err(SucceedFault::Unsynced);
+        }
+        if me >= cluster.replicas() {
+            return Err(SucceedFault::OutOfRange);
+        }
+        let own = &self.own_log;
+        if Some(reference.generation()) != own.generation.checked_add(1) || reference.length() != own.bytes {
+            return Err(SucceedFault::OtherReference);
+        }
+        let past = Past::of(log, told).map_err(SucceedFault::Log)?;
+        let checkpoint = Checkpoint::of(self.host.succeed(succession)?);
+        let Past { follower, passed, told, cut } = past;
+        (self.follower, self.passed, self.told, self.cut) = (follower, passed, told, cut);
+        (self.own_log, self.end) = (OwnLog::begun(me, reference.generation()), 0);
+        (self.is_told, self.replicas) = (false, cluster.replicas());
+        Ok(checkpoint)
     }
 
     /// What the core has told people: lines, mostly none. A program that isn't proved says so here.

@@ -1,7 +1,7 @@
 //! How a replica is begun.
 #![forbid(unsafe_code)]
 
-use crate::{Cluster, Core, OpenFault, Replica};
+use crate::{Cluster, Core, OpenFault, Reference, Replica};
 
 /// How a replica is begun, or gone on with, where [`Replica::new`] and [`Replica::open`] don't say enough.
 ///
@@ -24,6 +24,9 @@ pub struct Setup<'a> {
     /// What the generation opens with: the bytes that [`close`](Replica::close) handed out, here or at another replica. None: generation 1, whose map
     /// has nothing.
     pub opening: Option<&'a [u8]>,
+    /// The reference that stood for the opening before that was written, where the generation was begun by one ([`Replica::succeed`]): its log names the
+    /// reference's digest, and not the opening's. Only the [binding](Reference::binding) on the disk says that the two stand for one another: look there before.
+    pub reference: Option<Reference>,
     /// How many entries of the log were told before: behind them the first [`Output`](crate::Output) begins. None: all that the log has. More than the log
     /// has are [`OpenFault::Forgotten`].
     pub told: Option<u32>,
@@ -39,7 +42,7 @@ impl<'a> Setup<'a> {
     /// assert_eq!(Setup::new(Cluster::Five, 4).opening, None);
     /// ```
     pub fn new(cluster: Cluster, me: u8) -> Setup<'a> {
-        Setup { cluster, me, opening: None, told: None, core: Core::Found }
+        Setup { cluster, me, opening: None, reference: None, told: None, core: Core::Found }
     }
 
     /// A replica before any event. Once in the generation: a replica that was lost must not be begun again under its number.
@@ -83,6 +86,7 @@ pub(crate) struct Begin<'a> {
     pub(crate) cluster: Cluster,
     pub(crate) me: u8,
     pub(crate) opening: Option<&'a [u8]>,
+    pub(crate) reference: Option<Reference>,
     /// None: it is new.
     pub(crate) log: Option<&'a [u8]>,
 }
@@ -92,5 +96,13 @@ impl Begin<'_> {
     pub(crate) fn generation(&self) -> u32 {
         let told = self.opening.and_then(|opening| opening.get(6..10)?.first_chunk());
         told.map_or(1, |bytes| u32::from_be_bytes(*bytes))
+    }
+
+    /// Whether the opening may be what this reference stood for.
+    pub(crate) fn check(&self, reference: &Reference) -> Result<(), OpenFault> {
+        if (reference.generation(), reference.cluster()) != (self.generation(), self.cluster) {
+            return Err(OpenFault::BadOpening("the reference is that of another generation".into()));
+        }
+        Ok(())
     }
 }

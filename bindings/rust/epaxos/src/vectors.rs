@@ -3,7 +3,8 @@
 
 use crate::wire::{self, Done, Entry, Question, Told};
 use crate::{
-    Answer, Call, Cluster, Command, Event, Fault, Fields, Frame, Instance, Leading, OpenInstance, Phase, Receipt, State,
+    Answer, Call, Cluster, Command, Event, Fault, Fields, Frame, Instance, Leading, OpenInstance, Phase, Receipt,
+    Reference, State, Sum,
 };
 
 const WIRE: &str = include_str!("../../../../examples/wire.txt");
@@ -38,6 +39,36 @@ fn answer(name: &str) -> Vec<u8> {
 fn the_first_opening() {
     let lines: String = OPENINGS.lines().filter_map(|line| line.strip_prefix("    ")).take(2).collect();
     assert_eq!(Cluster::Three.first_opening(), hex(&lines));
+}
+
+/// The indented lines of examples/openings.txt, so many from the one on that begins so.
+fn opening_lines(begin: &str, count: usize) -> Vec<u8> {
+    let lines = OPENINGS.lines().filter_map(|line| line.strip_prefix("    "));
+    hex(&lines.skip_while(|line| !line.starts_with(begin)).take(count).collect::<String>())
+}
+
+#[test]
+fn a_reference_word_for_word() {
+    let bytes = opening_lines("45504f52", 3);
+    let sum = std::array::from_fn(|at| at as u8);
+    let reference = Reference::new(Cluster::Three, 2, 321, sum).unwrap();
+    assert_eq!(reference.bytes(), bytes);
+    assert_eq!(Reference::read(&bytes), Some(reference));
+    assert_eq!(reference.binding(&[9; 32]), [b"EPOB\x03", &bytes[50..], &[9; 32]].concat());
+    for at in 0..bytes.len() {
+        assert_eq!(Reference::read(&bytes[..at]), None, "cut at {at}");
+        let mut changed = bytes.clone();
+        changed[at] ^= 1;
+        assert_eq!(Reference::read(&changed), None, "changed at {at}");
+    }
+    assert_eq!(Reference::read(&[&bytes[..], &[0]].concat()), None);
+    for (at, field) in [(5, &[4][..]), (6, &[0; 4]), (6, &[0, 0, 0, 1]), (10, &[0, 0, 0, 0, 0, 0, 0, 42])] {
+        let mut front = bytes[..50].to_vec();
+        front[at..at + field.len()].copy_from_slice(field);
+        let digest = Sum::of(&front);
+        front.extend(digest);
+        assert_eq!(Reference::read(&front), None, "{field:?} at {at}");
+    }
 }
 
 const ONE: Instance = Instance { replica: 1, number: 258 };

@@ -6,8 +6,9 @@ mod common;
 use common::{Owned, World, cores, program};
 use epaxos::{Call, Cluster, Command, Core, Event, Fault, Instance, Log, LogFile, OpenFault, Replica, Setup};
 use std::fs;
-use std::io::ErrorKind;
-use std::os::unix::fs::PermissionsExt;
+use std::io::{ErrorKind, Write};
+use std::path::Path;
+use std::process::{self, Stdio};
 
 const PUT: Command = Command::Put { key: b"x", value: b"1" };
 const OWN: Instance = Instance { replica: 0, number: 1 };
@@ -205,14 +206,21 @@ fn a_program_that_is_none() {
     assert!(matches!(open("/bin/false").unwrap_err(), OpenFault::Ended(_)));
 }
 
+/// Writes a program, by a process of its own: a file that this one has open for writing is open in what other tests start meanwhile, too, and then
+/// the system doesn't run it.
+fn write_program(file: &Path, text: &str) {
+    let mut writer = process::Command::new("sh").args(["-c", "cat > \"$0\" && chmod 755 \"$0\""]).arg(file).stdin(Stdio::piped()).spawn().unwrap();
+    writer.stdin.take().unwrap().write_all(text.as_bytes()).unwrap();
+    assert!(writer.wait().unwrap().success());
+}
+
 /// A process that ends is told of, by each call from then on, and its replica comes back from its log.
 #[test]
 fn a_process_that_ends() {
     let script = std::env::temp_dir().join(format!("epaxos-ends-{}", std::process::id()));
     // (`head` would keep what has come until there is more)
     let text = format!("#!/bin/sh\ndd bs=1 count=200 2>/dev/null | {} \"$@\"\n", program().display());
-    fs::write(&script, text).unwrap();
-    fs::set_permissions(&script, fs::Permissions::from_mode(0o755)).unwrap();
+    write_program(&script, &text);
     let setup = Setup { core: Core::Process(script.clone()), ..Setup::new(Cluster::Three, 0) };
     let mut replica = setup.begin().unwrap();
     let mut log = replica.ready().unwrap().log().to_vec();

@@ -1,5 +1,5 @@
 //! A start of a core whose folder the store keeps, by the words of `epaxos node --dir`, which .ci/folders.py compares it with: it tells in which generation
-//! the replica is then, or why there is none.
+//! the replica is then, or why there is none. What a generation opens with is written before it ends, as a node writes it at once.
 use std::path::PathBuf;
 use std::process::ExitCode;
 use store::core::{Begin, Core};
@@ -11,7 +11,12 @@ fn main() -> ExitCode {
         eprintln!("usage: folder node --replicas N --replica R --dir FOLDER [--new | --take FILE]");
         return ExitCode::from(1);
     };
-    match Hosted::start(hosting, &begin, 0).and_then(|mut core| core.state()) {
+    let told = Hosted::start(hosting, &begin, 0).and_then(|mut core| {
+        let state = core.state();
+        core.end();
+        state
+    });
+    match told {
         Ok(state) => {
             println!("{}", state.generation);
             ExitCode::SUCCESS
@@ -36,5 +41,5 @@ fn read(mut words: impl Iterator<Item = String>) -> Option<(Hosting, Begin)> {
             _ => return None,
         }
     }
-    Some((Hosting { place, folder, core: epaxos::Core::Found }, begin))
+    Some((Hosting { place, folder, core: epaxos::Core::Found, checkpoint: 0 }, begin))
 }

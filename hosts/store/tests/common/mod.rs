@@ -6,7 +6,7 @@ pub mod memory;
 pub mod plain;
 
 use std::fs;
-use std::os::unix::fs::PermissionsExt;
+use std::io::Write;
 use std::path::{Path, PathBuf};
 use std::process::{Child, Command, Stdio};
 use std::sync::{Mutex, MutexGuard};
@@ -26,11 +26,13 @@ const PATIENCE: Duration = Duration::from_secs(300);
 const PORT_PATIENCE: Duration = Duration::from_secs(10);
 const STORE_PATIENCE: &str = "60";
 
-/// A node of this script.
+/// A node of this script. A process of its own writes it: a file that this one has open for writing is open in what other tests start meanwhile, too,
+/// and then the system doesn't run it.
 pub fn script(folder: &Path, script: &str) -> PathBuf {
     let node = folder.join("node");
-    fs::write(&node, script).unwrap();
-    fs::set_permissions(&node, fs::Permissions::from_mode(0o755)).unwrap();
+    let mut writer = Command::new("sh").args(["-c", "cat > \"$0\" && chmod 755 \"$0\""]).arg(&node).stdin(Stdio::piped()).spawn().unwrap();
+    writer.stdin.take().unwrap().write_all(script.as_bytes()).unwrap();
+    assert!(writer.wait().unwrap().success());
     node
 }
 

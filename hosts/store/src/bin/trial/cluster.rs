@@ -541,7 +541,7 @@ fn bytes_of(path: &Path) -> u64 {
 
 /// The newest generation that a store's folder has.
 fn newest(folder: &Path) -> Option<u32> {
-    generations(folder, "opening")
+    generations(folder, "opening").max(generations(folder, "reference"))
 }
 
 /// The newest one in which it may have promised something.

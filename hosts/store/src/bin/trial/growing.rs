@@ -8,12 +8,15 @@ use std::sync::atomic::{AtomicBool, AtomicUsize, Ordering};
 use std::thread;
 use std::time::{Duration, Instant};
 use store::client::{Client, Refusal, Reply};
-use store::processes::processor_time;
+use store::processes::{processor_time, written};
 
 /// How long a value is.
 const LENGTH: usize = 100;
-/// So many commands that were told make a slice, whose rate is told.
+/// So many commands that were told make a slice, whose rate is told; more, where there would be more slices than so many.
 const SLICE: usize = 2_000;
+const SLICES: usize = 50;
+/// Between two looks at what processor time the stores took.
+const BETWEEN_TIMES: Duration = Duration::from_millis(50);
 /// Between two looks at which generations the replicas have begun.
 const LOOKS: Duration = Duration::from_millis(5);
 /// A command belongs to a change of generation if it was under way within so long of it.
@@ -56,8 +59,8 @@ pub fn run(cluster: &Cluster, options: &Options) -> Result<Vec<String>, String> 
         doubtful: AtomicUsize::new(0),
         is_over: AtomicBool::new(false),
     };
-    let before = processor_times(cluster);
-    let changes = thread::scope(|scope| {
+    let (before, bytes) = (processor_times(cluster), written_bytes(cluster));
+    let (changes, times) = thread::scope(|scope| {
         let looks = scope.spawn(|| play.look());
         let set = |place: usize| {
             let play = &play;
@@ -69,6 +72,7 @@ pub fn run(cluster: &Cluster, options: &Options) -> Result<Vec<String>, String> 
         looks.join().unwrap_or_default()
     });
     let processor = processor_times(cluster) - before;
+    let bytes = written_bytes(cluster) - bytes;
     let mut told = play.told.into_inner().map_err(|_| "a client has failed")?;
     told.sort_unstable_by_key(|it| it.to);
     let (undone, doubtful) = (play.undone.into_inner(), play.doubtful.into_inner());
@@ -77,7 +81,9 @@ pub fn run(cluster: &Cluster, options: &Options) -> Result<Vec<String>, String> 
         told.len(),
         changes.len()
     );
-    println!("commands a second, by slices of {SLICE}: {}", rates(&told));
+    let slice = SLICE.max(wanted.div_ceil(SLICES));
+    println!("commands a second, by slices of {slice}: {}", rates(&told, slice));
+    println!("processor time of all stores by these slices, µs a command: {}", shares(&told, &times, slice));
     println!(
         "stretches without an answer, the longest of all and those at changes, ms: {}",
         stretches(&told, &changes)
@@ -86,6 +92,13 @@ pub fn run(cluster: &Cluster, options: &Options) -> Result<Vec<String>, String> 
     println!("waits within {} ms of a change: {}", NEAR.as_millis(), figures(told.iter().filter(near)));
     println!("others: {}", figures(told.iter().filter(|it| !near(it))));
     println!("processor time of all stores: {:.0} µs a command", processor.as_secs_f64() * 1e6 / told.len() as f64);
+    let own = told.len() * (key(0).len() + LENGTH);
+    println!(
+        "written to the disk by all stores: {} bytes a command, {:.1} times what the keys and values have at {} replicas",
+        bytes / told.len().max(1) as u64,
+        bytes as f64 / (own * cluster.replicas) as f64,
+        cluster.replicas
+    );
     let mut faults = Vec::new();
     if doubtful > 0 {
         faults.push(format!("{doubtful} commands may still be done"));
@@ -148,18 +161,24 @@ impl Play<'_> {
         }
     }
 
-    /// When a majority had begun each later generation.
-    fn look(&self) -> Vec<Duration> {
+    /// When a majority had begun each later generation, and what processor time the stores had taken now and then.
+    fn look(&self) -> (Vec<Duration>, Vec<(Duration, Duration)>) {
         let (mut changes, mut last) = (Vec::new(), self.begun());
+        let mut times = vec![(self.start.elapsed(), processor_times(self.cluster))];
         while !self.is_over.load(Ordering::Relaxed) {
             thread::sleep(LOOKS);
+            let now = self.start.elapsed();
+            if times.last().is_none_or(|(at, _)| now > *at + BETWEEN_TIMES) {
+                times.push((now, processor_times(self.cluster)));
+            }
             let begun = self.begun();
             if begun > last {
                 changes.push(self.start.elapsed());
                 last = begun;
             }
         }
-        changes
+        times.push((self.start.elapsed(), processor_times(self.cluster)));
+        (changes, times)
     }
 
     /// The generation that a majority has begun.
@@ -182,9 +201,32 @@ fn processor_times(cluster: &Cluster) -> Duration {
     (0..cluster.replicas).filter_map(|replica| cluster.group(replica)).map(processor_time).sum()
 }
 
-fn rates(told: &[Told]) -> String {
+fn written_bytes(cluster: &Cluster) -> u64 {
+    (0..cluster.replicas).filter_map(|replica| cluster.group(replica)).map(written).sum()
+}
+
+/// The processor time of a command in each slice, by what the stores had taken when.
+fn shares(told: &[Told], times: &[(Duration, Duration)], slice: usize) -> String {
+    let at = |moment: Duration| {
+        let behind = times.partition_point(|(at, _)| *at < moment).min(times.len().saturating_sub(1));
+        let (Some(before), Some(after)) = (times.get(behind.saturating_sub(1)), times.get(behind)) else { return 0.0 };
+        let length = (after.0.saturating_sub(before.0)).as_secs_f64();
+        let part = moment.saturating_sub(before.0).as_secs_f64() / length.max(1e-9);
+        before.1.as_secs_f64() + (after.1.saturating_sub(before.1)).as_secs_f64() * part.min(1.0)
+    };
     let mut begin = Duration::ZERO;
-    let rates = told.chunks(SLICE).map(|slice| {
+    let shares = told.chunks(slice).map(|slice| {
+        let end = slice.last().map_or(begin, |it| it.to);
+        let share = (at(end) - at(begin)) * 1e6 / slice.len() as f64;
+        begin = end;
+        format!("{share:.0}")
+    });
+    shares.collect::<Vec<_>>().join(", ")
+}
+
+fn rates(told: &[Told], slice: usize) -> String {
+    let mut begin = Duration::ZERO;
+    let rates = told.chunks(slice).map(|slice| {
         let end = slice.last().map_or(begin, |it| it.to);
         let rate = slice.len() as f64 / (end - begin).as_secs_f64();
         begin = end;

@@ -7,9 +7,15 @@ use std::fs::File;
 use std::ops::RangeInclusive;
 use std::path::PathBuf;
 use std::process::{Command, Stdio};
+use store::generations::reference;
+use store::hosted::Hosting;
 use store::linearizable::{self, Action, Operation, Verdict};
 use store::opening::Opening;
 use store::outcome;
+use store::peers::Place;
+
+/// A log's header.
+const LOG_HEADER: u64 = 43;
 
 /// The faults of a round.
 pub fn judge(options: &Options, cluster: &Cluster, notes: &[Note]) -> Vec<String> {
@@ -92,8 +98,7 @@ fn audit(options: &Options, cluster: &Cluster) -> Result<(), String> {
         let file = File::create(&bundle).map_err(|error| format!("{}: {error}", bundle.display()))?;
         let mut command = Command::new(&options.node);
         command.args(["collect", "--generation", &generation.to_string()]);
-        let opening = an_opening(cluster, generation)?;
-        let count = Opening::read(&opening).map_err(|error| format!("{}: {error}", opening.display()))?.replicas;
+        let count = count(cluster, generation)?;
         for replica in 0..count.into() {
             for path in receipts(cluster, replica, generation..=generation) {
                 command.arg("--receipts").arg(path);
@@ -153,11 +158,41 @@ fn view(
     Ok(folder)
 }
 
-/// An opening of this generation, of one that took part in it. (Who left may have closed the one before for too many.)
-fn an_opening(cluster: &Cluster, generation: u32) -> Result<PathBuf, String> {
+/// How many replicas a generation has.
+fn count(cluster: &Cluster, generation: u32) -> Result<u8, String> {
     let all = cluster.machines().flat_map(|replica| cluster.folders(replica));
-    let openings = all.map(|folder| folder.join(format!("generations/{generation}/opening")));
-    let is_served = |path: &PathBuf| Opening::read(path).is_ok_and(|opening| opening.wanted() == opening.replicas);
-    let served: Vec<PathBuf> = openings.filter(is_served).collect();
-    served.into_iter().next().ok_or(format!("no opening of generation {generation}"))
+    let folders = all.map(|folder| folder.join("generations"));
+    // (who left may have closed the one before for too many, and has taken nothing since)
+    let count = |folder: PathBuf| {
+        let log = folder.join(format!("{generation}/log"));
+        let is_served = std::fs::metadata(log).is_ok_and(|log| log.len() > LOG_HEADER);
+        let opening = Opening::read_front_of(&folder.join(format!("{generation}/opening"))).ok();
+        match opening {
+            Some(opening) => (opening.wanted() == opening.replicas).then_some(opening.replicas),
+            None if is_served => Some(reference(&folder, generation).ok()?.cluster().replicas()),
+            None => None,
+        }
+    };
+    folders.filter_map(count).next().ok_or(format!("no opening of generation {generation}"))
+}
+
+/// An opening of this generation, of one that took part in it: a file that has it, or one that is made of its logs.
+fn an_opening(cluster: &Cluster, generation: u32) -> Result<PathBuf, String> {
+    let count = count(cluster, generation)?;
+    let all = cluster.machines().flat_map(|replica| cluster.folders(replica).into_iter().map(move |it| (replica, it)));
+    for (replica, folder) in all {
+        let folder = folder.join("generations");
+        let path = folder.join(format!("{generation}/opening"));
+        if Opening::read_front_of(&path).is_ok_and(|opening| opening.wanted() == count && opening.replicas == count) {
+            return Ok(path);
+        }
+        if reference(&folder, generation).is_ok_and(|reference| reference.cluster().replicas() == count) {
+            let place = Place { replicas: count.into(), replica: replica as u8 };
+            let hosting = Hosting { place, folder, core: epaxos::Core::Library, checkpoint: u64::MAX };
+            let path = cluster.directory().join(format!("{generation}.opening"));
+            let bytes = hosting.opening(generation).map_err(|fault| fault.to_string())?.bytes;
+            return std::fs::write(&path, bytes).map(|()| path).map_err(|error| error.to_string());
+        }
+    }
+    Err(format!("no opening of generation {generation}"))
 }

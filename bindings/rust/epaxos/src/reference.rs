@@ -1,0 +1,153 @@
+//! What a generation opens with, by the log that leaves it.
+#![forbid(unsafe_code)]
+
+use crate::bytes::Fields;
+use crate::records::HEADER;
+use crate::{Cluster, OutOfRange, Sum};
+
+const MAGIC: &[u8; 4] = b"EPOR";
+const BINDING: &[u8; 4] = b"EPOB";
+const VERSION: u8 = 3;
+/// How many bytes stand before the digest.
+const BODY: usize = 50;
+
+/// A reference: a generation opens with what the log of the generation before, of so many bytes and with this SHA-256, leaves.
+///
+/// A replica that goes on in the same process ([`Replica::succeed`](crate::Replica::succeed)) has its map in memory, and need not write it at once: the disk
+/// first gets the 82 bytes of the reference, as `G/reference`. The digest that they end in is what the log of generation G names.
+/// [`Replica::reference`](crate::Replica::reference) makes it.
+///
+/// ```
+/// use epaxos::{Cluster, Reference, Sum};
+///
+/// let log = [7; 321];
+/// let reference = Reference::new(Cluster::Three, 2, log.len() as u64, Sum::of(&log))?;
+/// assert_eq!(Reference::read(&reference.bytes()), Some(reference));
+/// assert_eq!(reference.bytes()[50..], reference.digest());
+/// # Ok::<(), epaxos::OutOfRange>(())
+/// ```
+#[derive(Clone, Copy, PartialEq, Eq, Hash, Debug)]
+pub struct Reference {
+    cluster: Cluster,
+    generation: u32,
+    length: u64,
+    sum: [u8; 32],
+}
+
+impl Reference {
+    /// How many bytes a reference has.
+    pub const BYTES: usize = BODY + 32;
+
+    /// That of a generation of this cluster, to a log of so many bytes.
+    ///
+    /// # Errors
+    ///
+    /// [`OutOfRange`]: the first generation has none; and no log has less than its header, 43 bytes.
+    ///
+    /// ```
+    /// use epaxos::{Cluster, Reference};
+    ///
+    /// assert!(Reference::new(Cluster::Three, 1, 43, [0; 32]).is_err());
+    /// ```
+    pub fn new(cluster: Cluster, generation: u32, length: u64, sum: [u8; 32]) -> Result<Reference, OutOfRange> {
+        if generation < 2 || length < HEADER as u64 {
+            return Err(OutOfRange);
+        }
+        Ok(Reference { cluster, generation, length, sum })
+    }
+
+    /// How many replicas the generation has.
+    pub fn cluster(&self) -> Cluster {
+        self.cluster
+    }
+
+    /// The generation that opens so, from 2.
+    pub fn generation(&self) -> u32 {
+        self.generation
+    }
+
+    /// How many bytes the log of the generation before has, from its first: what stands behind them doesn't count.
+    pub fn length(&self) -> u64 {
+        self.length
+    }
+
+    /// Their SHA-256.
+    pub fn sum(&self) -> [u8; 32] {
+        self.sum
+    }
+
+    fn body(&self) -> Vec<u8> {
+        let mut body = [&MAGIC[..], &[VERSION, self.cluster.replicas()]].concat();
+        body.extend(self.generation.to_be_bytes());
+        body.extend(self.length.to_be_bytes());
+        body.extend(self.sum);
+        body
+    }
+
+    /// The digest that the generation's log names.
+    pub fn digest(&self) -> [u8; 32] {
+        Sum::of(&self.body())
+    }
+
+    /// The bytes of the file.
+    ///
+    /// ```
+    /// # use epaxos::{Cluster, Reference};
+    /// # let reference = Reference::new(Cluster::Three, 2, 43, [0; 32])?;
+    /// assert_eq!(reference.bytes().len(), Reference::BYTES);
+    /// # Ok::<(), epaxos::OutOfRange>(())
+    /// ```
+    pub fn bytes(&self) -> Vec<u8> {
+        let mut bytes = self.body();
+        bytes.extend(self.digest());
+        bytes
+    }
+
+    /// Reads a file. None where the bytes aren't those of a reference, as where one of them was changed.
+    ///
+    /// ```
+    /// assert_eq!(epaxos::Reference::read(b"EPOR"), None);
+    /// ```
+    pub fn read(bytes: &[u8]) -> Option<Reference> {
+        let mut fields = Fields::new(bytes);
+        if fields.run(MAGIC.len())? != MAGIC || fields.u8()? != VERSION {
+            return None;
+        }
+        let cluster = Cluster::try_from(fields.u8()?).ok()?;
+        let (generation, length) = (fields.u32()?, fields.u64()?);
+        let sum = *fields.run(32)?.first_chunk()?;
+        let reference = Reference::new(cluster, generation, length, sum).ok()?;
+        (bytes == reference.bytes()).then_some(reference)
+    }
+
+    /// Whether these are the bytes of the log that it names, from its first: as many, with its sum.
+    ///
+    /// ```
+    /// use epaxos::{Cluster, Reference, Sum};
+    ///
+    /// let mut log = vec![7; 321];
+    /// let reference = Reference::new(Cluster::Three, 2, 321, Sum::of(&log))?;
+    /// assert!(reference.is_to(&log));
+    /// log[320] = 8;
+    /// assert!(!reference.is_to(&log));
+    /// # Ok::<(), epaxos::OutOfRange>(())
+    /// ```
+    pub fn is_to(&self, log: &[u8]) -> bool {
+        log.len() as u64 == self.length && Sum::of(log) == self.sum
+    }
+
+    /// The binding: the bytes of `G/whole`, which say that `G/opening`, a file with this digest (its last 32 bytes), is what the reference stood for. Written once the
+    /// opening is on the disk, it makes what is older superfluous.
+    ///
+    /// ```
+    /// # use epaxos::{Cluster, Reference};
+    /// let reference = Reference::new(Cluster::Three, 2, 43, [0; 32])?;
+    /// let binding = reference.binding(&[9; 32]);
+    /// assert_eq!((binding.len(), &binding[..5], &binding[37..]), (69, &b"EPOB\x03"[..], &[9; 32][..]));
+    /// assert_eq!(binding[5..37], reference.digest());
+    /// # Ok::<(), epaxos::OutOfRange>(())
+    /// ```
+    pub fn binding(&self, opening: &[u8; 32]) -> Vec<u8> {
+        [&BINDING[..], &[VERSION], &self.digest(), opening].concat()
+    }
+}

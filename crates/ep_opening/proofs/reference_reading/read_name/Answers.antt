@@ -1,0 +1,14 @@
+use Rattle.ep_bundle.proofs.Readings.{fails, goes_on}
+use Rattle.ep_opening.proofs.reference_reading.read_name.Goals as goal
+
+pub returns-in_err-size : goal.returns-in_err-size
+returns-in_err-size g c = λ y0 e0. fails _ _ _ _ _ _ _ _ (c.in_err-size.ensures.bytes y0 e0) c.from_residual.ensures.1
+
+pub returns-in_err-generation : goal.returns-in_err-generation
+returns-in_err-generation g c = λ y0 e0. goes_on _ _ _ _ _ _ _ _ (c.in_ok-size.ensures.bytes y0 e0) (λ y1 e1. fails _ _ _ _ _ _ _ _ (c.in_err-generation.ensures y1 e1) c.from_residual-in_err-generation.ensures.1)
+
+pub returns-in_err-length : goal.returns-in_err-length
+returns-in_err-length g c = λ y0 e0. goes_on _ _ _ _ _ _ _ _ (c.in_ok-size.ensures.bytes y0 e0) (λ y1 e1. goes_on _ _ _ _ _ _ _ _ (c.in_ok-generation.ensures y1 e1) (λ y2 e2. fails _ _ _ _ _ _ _ _ (c.in_err-length.ensures.bytes y2 e2) c.from_residual-in_err-length.ensures.1))
+
+pub returns-in_err-sum : goal.returns-in_err-sum
+returns-in_err-sum g c = λ y0 e0. goes_on _ _ _ _ _ _ _ _ (c.in_ok-size.ensures.bytes y0 e0) (λ y1 e1. goes_on _ _ _ _ _ _ _ _ (c.in_ok-generation.ensures y1 e1) (λ y2 e2. goes_on _ _ _ _ _ _ _ _ (c.in_ok-length.ensures.bytes y2 e2) (λ y3 e3. fails _ _ _ _ _ _ _ _ (c.in_err-sum.ensures y3 e3) c.from_residual-in_err-sum.ensures.1)))

@@ -1,0 +1,357 @@
+//! Cores in this process that go from generation to generation in memory: what their folders have at each moment of a change and of a checkpoint, and what
+//! a start makes of it.
+use epaxos::{Call, Command, Core as Place_, Event, OwnedCommand, Reference};
+use std::collections::BTreeMap;
+use std::fs;
+use std::path::{Path, PathBuf};
+use store::core::{Begin, Core};
+use store::hosted::{Hosted, Hosting};
+use store::opening::Opening;
+use store::outcome::Asked;
+use store::peers::Place;
+
+const NEVER: u64 = u64::MAX;
+
+/// Three cores, whose frames all come.
+struct Three {
+    folder: PathBuf,
+    cores: Vec<Hosted>,
+    map: BTreeMap<Vec<u8>, Vec<u8>>,
+    requests: u32,
+}
+
+fn hosting(folder: &Path, replica: u8, checkpoint: u64) -> Hosting {
+    let place = Place { replicas: 3, replica };
+    Hosting { place, folder: folder.to_path_buf(), core: Place_::Library, checkpoint }
+}
+
+impl Three {
+    /// None without the library.
+    fn begin(name: &str, checkpoint: u64) -> Option<Three> {
+        if !Place_::has_library() {
+            return None;
+        }
+        let folder = std::env::temp_dir().join(format!("store-checkpoints-{name}-{}", std::process::id()));
+        let _ = fs::remove_dir_all(&folder);
+        let begin = |replica: u8| {
+            let folder = folder.join(replica.to_string());
+            fs::create_dir_all(&folder).unwrap();
+            Hosted::start(hosting(&folder, replica, checkpoint), &Begin::New, 0).unwrap()
+        };
+        let cores = (0..3).map(begin).collect();
+        Some(Three { folder, cores, map: BTreeMap::new(), requests: 0 })
+    }
+
+    fn of(&self, replica: usize) -> PathBuf {
+        self.folder.join(replica.to_string())
+    }
+
+    /// Has a replica propose this, and all execute it.
+    fn propose(&mut self, replica: usize, command: Command) {
+        self.requests += 1;
+        let call = Call::new(1 + replica as u32, self.requests);
+        let propose = Asked { events: vec![Event::Propose { call, command }], ..Asked::default() };
+        let mut under_way = self.cores[replica].carry_out(&propose).unwrap().frames;
+        while let Some(outgoing) = under_way.pop() {
+            let handle = Asked { events: vec![Event::Handle(&outgoing.frame)], ..Asked::default() };
+            under_way.extend(self.cores[usize::from(outgoing.to)].carry_out(&handle).unwrap().frames);
+        }
+        for core in &mut self.cores {
+            core.carry_out(&Asked { executes_all: true, ..Asked::default() }).unwrap();
+        }
+    }
+
+    fn put(&mut self, key: &str, value: &str) {
+        let replica = self.requests as usize % 3;
+        self.propose(replica, Command::Put { key: key.as_bytes(), value: value.as_bytes() });
+        self.map.insert(key.into(), value.into());
+    }
+
+    fn seal(&mut self) {
+        self.propose(0, Command::Seal { value: b"sealed" });
+        self.propose(1, Command::Put { key: b"late", value: b"it comes behind the seal" });
+    }
+
+    fn go_on(&mut self) {
+        self.cores.iter_mut().for_each(|core| _ = core.start_again(&Begin::Again).unwrap());
+    }
+
+    /// Some keys, and a seal behind them.
+    fn generation(&mut self, number: u32) {
+        for at in 0..20 {
+            self.put(&format!("key-{}", at * number), &format!("{number} {}", "x".repeat(at as usize)));
+        }
+        let gone = OwnedCommand::Del { key: format!("key-{number}").into() };
+        self.propose(2, gone.lent());
+        self.map.remove(format!("key-{number}").as_bytes());
+        self.seal();
+    }
+
+    fn wait(&mut self) {
+        for core in &mut self.cores {
+            while core.is_writing() {
+                std::thread::yield_now();
+            }
+        }
+    }
+
+    /// Starts replica 0 over a copy of its folder that was changed so, and tells its generation, or why it doesn't start; its map has to be that of now.
+    fn start(&self, change: impl FnOnce(&Path)) -> Result<u32, String> {
+        let copy = self.folder.join("copy");
+        let _ = fs::remove_dir_all(&copy);
+        copy_all(&self.of(0), &copy);
+        change(&copy);
+        let hosted = Hosted::start(hosting(&copy, 0, NEVER), &Begin::Again, 0);
+        let mut hosted = hosted.map_err(|fault| fault.to_string())?;
+        hosted.carry_out(&Asked { executes_all: true, ..Asked::default() }).unwrap();
+        assert_eq!(contents(&mut hosted), self.map);
+        let state = hosted.state().unwrap();
+        drop(hosted);
+        // And once more, over what that start has made of it.
+        let mut hosted = Hosted::start(hosting(&copy, 0, NEVER), &Begin::Again, 0).unwrap();
+        assert_eq!((hosted.state().unwrap().generation, contents(&mut hosted)), (state.generation, self.map.clone()));
+        Ok(state.generation)
+    }
+}
+
+impl Drop for Three {
+    fn drop(&mut self) {
+        self.cores.clear();
+        let _ = fs::remove_dir_all(&self.folder);
+    }
+}
+
+/// (in this process: a child of it would have the locks of all tests for a moment)
+fn copy_all(from: &Path, to: &Path) {
+    fs::create_dir_all(to).unwrap();
+    for entry in fs::read_dir(from).unwrap() {
+        let (path, to) = (entry.as_ref().unwrap().path(), to.join(entry.unwrap().file_name()));
+        if path.is_dir() {
+            copy_all(&path, &to);
+        } else {
+            fs::copy(&path, &to).unwrap();
+        }
+    }
+}
+
+fn contents(core: &mut Hosted) -> BTreeMap<Vec<u8>, Vec<u8>> {
+    core.contents().unwrap().unwrap().into_iter().collect()
+}
+
+/// What a generation opened with is what its file then has.
+#[test]
+fn what_is_told_is_what_is_written() {
+    let Some(mut three) = Three::begin("told", 0) else { return };
+    for number in 1..6 {
+        three.generation(number);
+        three.go_on();
+        three.wait();
+        for replica in 0..3 {
+            let folder = three.of(replica).join((number + 1).to_string());
+            let written = Opening::read(&folder.join("opening")).unwrap();
+            assert_eq!(three.cores[replica].opening(), Some(written));
+            let reference = Reference::read(&fs::read(folder.join("reference")).unwrap()).unwrap();
+            let opening = fs::read(folder.join("opening")).unwrap();
+            assert_eq!(fs::read(folder.join("whole")).unwrap(), reference.binding(opening.last_chunk().unwrap()));
+            let log = fs::read(three.of(replica).join(format!("{number}/log"))).unwrap();
+            assert!(reference.is_to(&log));
+        }
+        let map = three.map.clone();
+        three.cores.iter_mut().for_each(|core| assert_eq!(contents(core), map));
+    }
+    // A start goes by the last one.
+    assert_eq!(three.start(|_| ()), Ok(6));
+    assert_eq!(
+        three.start(|folder| (1..6).for_each(|it| fs::remove_dir_all(folder.join(it.to_string())).unwrap())),
+        Ok(6)
+    );
+}
+
+/// Without a checkpoint a start goes through all logs since the last one.
+#[test]
+fn a_start_replays_what_was_not_written() {
+    let Some(mut three) = Three::begin("replayed", NEVER) else { return };
+    for number in 1..5 {
+        three.generation(number);
+        three.go_on();
+        assert_eq!(three.start(|_| ()), Ok(number + 1));
+    }
+    three.put("last", "one");
+    assert_eq!(three.start(|_| ()), Ok(5));
+    // What a replica that started so tells of its opening, and writes, is what the others do.
+    let opening = three.cores[0].opening();
+    drop(three.cores.remove(0));
+    three.cores.insert(0, Hosted::start(hosting(&three.of(0), 0, NEVER), &Begin::Again, 1).unwrap());
+    assert_eq!(three.cores[0].opening(), opening);
+    assert!(!three.cores[0].put_opening().unwrap());
+    three.wait();
+    assert!(three.cores[0].put_opening().unwrap());
+    assert_eq!(Some(Opening::read(&three.of(0).join("5/opening")).unwrap()), opening);
+    assert_eq!(three.start(|_| ()), Ok(5));
+    three.generation(5);
+    three.go_on();
+    assert_eq!(three.start(|_| ()), Ok(6));
+}
+
+/// What a crash leaves at each moment of a change.
+#[test]
+fn a_crash_in_a_change() {
+    let Some(mut three) = Three::begin("change", NEVER) else { return };
+    three.generation(1);
+    three.go_on();
+    three.generation(2);
+    // The seal was executed, and nothing else was done.
+    assert_eq!(three.start(|_| ()), Ok(3));
+    let next = |folder: &Path| fs::create_dir(folder.join("3")).unwrap();
+    assert_eq!(three.start(next), Ok(3));
+    let half = |folder: &Path| {
+        next(folder);
+        fs::write(folder.join("3/reference.new"), b"EPOR\x03").unwrap();
+    };
+    assert_eq!(three.start(half), Ok(3));
+    three.go_on();
+    let unmarked = |folder: &Path| fs::remove_file(folder.join("2/left")).unwrap();
+    let no_log = |folder: &Path| {
+        unmarked(folder);
+        fs::remove_file(folder.join("3/log")).unwrap();
+    };
+    assert_eq!(three.start(no_log), Ok(3));
+    let half_a_log = |folder: &Path| {
+        no_log(folder);
+        fs::write(folder.join("3/log.new"), b"EPLG").unwrap();
+    };
+    assert_eq!(three.start(half_a_log), Ok(3));
+    assert_eq!(three.start(unmarked), Ok(3));
+    // A log that was begun isn't begun again.
+    let told = three.start(|folder| fs::remove_file(folder.join("3/log")).unwrap());
+    assert_eq!(told, Err("folder refused: generation 3 has no log; take the opening of a later generation".into()));
+}
+
+/// What a crash leaves at each moment of a checkpoint.
+#[test]
+fn a_crash_in_a_checkpoint() {
+    let Some(mut three) = Three::begin("checkpoint", NEVER) else { return };
+    for number in 1..4 {
+        three.generation(number);
+        three.go_on();
+    }
+    three.put("more", "of it");
+    assert_eq!(three.start(|folder| fs::write(folder.join("4/opening.new"), b"EPOP\x03").unwrap()), Ok(4));
+    // (another replica's file of the same generation has another stamp)
+    three.cores[0].put_opening().unwrap();
+    three.wait();
+    assert_eq!(three.start(|_| ()), Ok(4));
+    let unbound = |folder: &Path| fs::remove_file(folder.join("4/whole")).unwrap();
+    assert_eq!(three.start(unbound), Ok(4));
+    let half_bound = |folder: &Path| {
+        let bytes = fs::read(folder.join("4/whole")).unwrap();
+        fs::write(folder.join("4/whole"), &bytes[..50]).unwrap();
+    };
+    assert_eq!(three.start(half_bound), Ok(4));
+    // Of another opening nothing is taken.
+    let other = |folder: &Path| {
+        let mut bytes = fs::read(folder.join("4/opening")).unwrap();
+        bytes.extend([0; 32]);
+        fs::write(folder.join("4/opening"), bytes).unwrap();
+    };
+    assert_eq!(three.start(other), Ok(4));
+    // What is older goes in any order, marks last.
+    let mut gone: Vec<PathBuf> = Vec::new();
+    for generation in 1..4 {
+        for name in ["reference", "log", "opening", "log.lock", "left", ""] {
+            gone.push(format!("{generation}/{name}").into());
+        }
+    }
+    for count in 0..=gone.len() {
+        let drop_some = |folder: &Path| {
+            for name in &gone[..count] {
+                let path = folder.join(name);
+                let _ = fs::remove_file(&path).or_else(|_| fs::remove_dir(&path));
+            }
+        };
+        assert_eq!(three.start(drop_some), Ok(4), "{:?}", &gone[..count]);
+    }
+    // Without the binding nothing of it may have gone.
+    let told = three.start(|folder| {
+        unbound(folder);
+        fs::remove_file(folder.join("1/opening")).unwrap();
+    });
+    let broken = "folder refused: what generation 1 opens with is gone, and a later one rests on it; take the opening of a later one";
+    assert_eq!(told, Err(broken.into()));
+}
+
+/// A log that isn't the one is refused by name.
+#[test]
+fn another_log_is_refused() {
+    let Some(mut three) = Three::begin("other-log", NEVER) else { return };
+    for number in 1..4 {
+        three.generation(number);
+        three.go_on();
+    }
+    for generation in 1..4 {
+        let other = format!(
+            "folder refused: the log of generation {generation} isn't the one that generation {} opens with",
+            generation + 1
+        );
+        let path = |folder: &Path| folder.join(format!("{generation}/log"));
+        let length = fs::metadata(path(&three.of(0))).unwrap().len() as usize;
+        for at in (0..length).step_by(length / 7) {
+            let told = three.start(|folder| {
+                let mut bytes = fs::read(path(folder)).unwrap();
+                bytes[at] ^= 0x10;
+                fs::write(path(folder), bytes).unwrap();
+            });
+            assert_eq!(told, Err(other.clone()), "byte {at}");
+        }
+        let short = format!(
+            "folder refused: the log of generation {generation} is gone or cut short, and what it leaves opens generation {}",
+            generation + 1
+        );
+        let told = three.start(|folder| {
+            let bytes = fs::read(path(folder)).unwrap();
+            fs::write(path(folder), &bytes[..length - 1]).unwrap();
+        });
+        assert_eq!(told, Err(short.clone()));
+        assert_eq!(three.start(|folder| fs::remove_file(path(folder)).unwrap()), Err(short));
+        // Swapped for another replica's.
+        let swapped = three.start(|folder| {
+            fs::copy(path(&three.of(1)), path(folder)).unwrap();
+        });
+        assert!(swapped.is_err(), "{swapped:?}");
+    }
+    // The log of the generation itself names what it rests on.
+    let told = three.start(|folder| {
+        let mut bytes = fs::read(folder.join("4/log")).unwrap();
+        bytes[20] ^= 1;
+        fs::write(folder.join("4/log"), bytes).unwrap();
+    });
+    assert_eq!(told, Err("the log of another replica, cluster or generation".into()));
+}
+
+/// A folder that a node has made, of openings alone, starts, and goes on by references.
+#[test]
+fn an_older_folder_starts() {
+    let Some(mut three) = Three::begin("older", 0) else { return };
+    three.generation(1);
+    three.go_on();
+    three.wait();
+    // (the reference's digest stands in the log's header, behind magic, version, size, replica and generation)
+    for replica in 0..3 {
+        drop(three.cores.remove(replica));
+        let folder = three.of(replica).join("2");
+        let opening = fs::read(folder.join("opening")).unwrap();
+        let mut log = fs::read(folder.join("log")).unwrap();
+        log[11..43].copy_from_slice(opening.last_chunk::<32>().unwrap());
+        fs::write(folder.join("log"), log).unwrap();
+        fs::remove_file(folder.join("reference")).unwrap();
+        fs::remove_file(folder.join("whole")).unwrap();
+        let it = hosting(&three.of(replica), replica as u8, NEVER);
+        three.cores.insert(replica, Hosted::start(it, &Begin::Again, 1).unwrap());
+    }
+    three.put("a", "b");
+    assert_eq!(three.start(|_| ()), Ok(2));
+    three.generation(2);
+    three.go_on();
+    assert_eq!(three.start(|_| ()), Ok(3));
+    assert!(three.of(0).join("3/reference").exists() && !three.of(0).join("3/opening").exists());
+}
