@@ -16,6 +16,11 @@ LONG = Generation("put k %-", "get k", "put k " + "w" * 60_000, "get k", generat
 NAMED = Generation("put x 1", "swap x y", "seal n", generation=5, size=5, spared=2)
 
 
+# replica 0, which alone has executed all, goes on by references; its clock from its own last stamp
+SECOND = ONE.next("get a", "cas b %- %!", "del c", "seal %-", "get a", size=5, since=ONE.stamps[0])
+THIRD = SECOND.next("put d 4", "swap a d", since=SECOND.stamps[0])
+
+
 def sealed(body):
     """The bytes with their digest behind them."""
     return body + hashlib.sha256(body).digest()
@@ -64,6 +69,31 @@ def folders(it, *sinces):
     return files
 
 
+def reference(it, before):
+    """The reference of a generation to the log before it."""
+    return sealed(b"EPOR" + bytes([3, it.size]) + number(it.generation, 4) + number(len(before), 8) + hashlib.sha256(before).digest())
+
+
+def binding(named, written):
+    """What binds an opening to a reference."""
+    return b"EPOB\3" + named[-32:] + written[-32:]
+
+
+def referred(*generations):
+    """What the folder of replica 0 has that goes from the first of these generations to each next one by a reference."""
+    files = folder(generations[0], 0)
+    for before, it in zip(generations, generations[1:]):
+        named = reference(it, files[f"zero/{before.generation}/log"])
+        files |= {f"zero/{it.generation}/reference": named, f"zero/{it.generation}/log": log(it, 0, named)}
+    return files
+
+
+def by_references(*generations):
+    """The folders of all replicas in the last of these generations, of which replica 0 has it by references."""
+    it = generations[-1]
+    return {name: held for name, held in folders(it).items() if not name.startswith("zero/")} | referred(*generations)
+
+
 def collect(it, *names, receipts=True):
     """The words of a collection."""
     return ["collect", "--generation", str(it.generation), *(["--receipts", "told"] if receipts else []), *(names or NAMES[: it.size])]
@@ -103,6 +133,64 @@ def collections():
         yield dict(name=f"collect of {name}", words=collect(ONE), files=files | {where: files[where] + tail}, wanted=ONE.bundle(), told=line)
 
 
+def collections_by_references():
+    """Folders of which one goes by references, of which a bundle is made and whose map is shown."""
+    for name, them in (("a reference", (ONE, SECOND)), ("two references", (ONE, SECOND, THIRD))):
+        it, files = them[-1], by_references(*them)
+        yield dict(name=f"collect by {name}", words=collect(it), files=files | receipts(it), wanted=it.bundle())
+        turned = [*reversed(NAMES[: it.size])]
+        yield dict(name=f"collect by {name}, in another order", words=collect(it, *turned), files=files | receipts(it), wanted=it.bundle())
+        yield dict(name=f"contents by {name}", words=["contents", "zero"], files=files, wanted=shown(it, 0, it.held))
+        bare = Generation(generation=it.generation, opening={worded(key): worded(value) for key, value in it.opening.items()})
+        for what, held in (("no log", without(files, f"zero/{it.generation}/log")), ("an empty log", files | {f"zero/{it.generation}/log": b""})):
+            yield dict(name=f"contents by {name} and {what}", words=["contents", "zero"], files=held, wanted=shown(bare, 0, bare.opening))
+        # the opening is written behind its reference
+        named, written = files[f"zero/{it.generation}/reference"], opening(it)
+        more = {f"zero/{it.generation}/opening": written}
+        bound = more | {f"zero/{it.generation}/whole": binding(named, written)}
+        alone = {at: held for at, held in files.items() if not at.startswith("zero/") or at.startswith(f"zero/{it.generation}/")}
+        for what, held in (("an opening that nothing binds", files | more), ("an opening that is bound", files | bound), ("an opening that is bound, alone", alone | bound)):
+            yield dict(name=f"collect by {name} and {what}", words=collect(it), files=held | receipts(it), wanted=it.bundle())
+            yield dict(name=f"contents by {name} and {what}", words=["contents", "zero"], files=held, wanted=shown(it, 0, it.held))
+    files = by_references(ONE, SECOND)
+    line = f"torn end in zero/8/log after byte {len(files['zero/8/log'])}\n".encode()
+    torn = files | {"zero/8/log": files["zero/8/log"] + b"\0"}
+    yield dict(name="contents by a reference and a torn log", words=["contents", "zero"], files=torn, wanted=shown(SECOND, 0, SECOND.held), told=line)
+    yield dict(name="collect by a reference and a torn log", words=collect(SECOND), files=torn | receipts(SECOND), wanted=SECOND.bundle(), told=line)
+    longer = files | {"zero/7/log": files["zero/7/log"] + b"more"}
+    yield dict(name="collect by a reference to the first bytes of a log", words=collect(SECOND), files=longer | receipts(SECOND), wanted=SECOND.bundle())
+
+
+def refusals_by_references():
+    """Why a reference gives nothing; and what is wrong beside one."""
+    files = by_references(ONE, SECOND)
+    before, named, written = files["zero/7/log"], files["zero/8/reference"], opening(SECOND)
+    other = "zero: folder refused: the log of generation 7 isn't the one that generation 8 opens with"
+    short = "zero: folder refused: the log of generation 7 is gone or cut short, and what it leaves opens generation 8"
+    gone = "zero: folder refused: what generation 7 opens with is gone, and a later one rests on it; --take FILE goes on with the opening of a later one"
+    for name, held, line in (
+        ("a log that is turned before a reference", files | {"zero/7/log": before[:-1] + bytes([before[-1] ^ 1])}, other),
+        ("a log that is cut before a reference", files | {"zero/7/log": before[:-1]}, short),
+        ("no log before a reference", without(files, "zero/7/log"), short),
+        ("the log of another before a reference", files | {"zero/7/log": log(ONE, 1, files["zero/7/opening"]) + before}, other),
+        ("no opening before a reference", without(files, "zero/7/opening"), gone),
+        ("an opening that isn't bound, alone", without(files, "zero/7/opening") | {"zero/8/opening": written}, gone),
+        ("an opening that is bound to another reference", without(files, "zero/7/opening") | {"zero/8/opening": written, "zero/8/whole": binding(written, written)}, gone),
+        ("a cut reference", files | {"zero/8/reference": named[:81]}, "zero: folder refused: the reference of generation 8: cut short at byte 81"),
+        ("a turned reference", files | {"zero/8/reference": named[:9] + b"\1" + named[10:]}, "zero: folder refused: the reference of generation 8: damaged: no digest of the bytes before it at byte 50"),
+        ("the reference of another generation", files | {"zero/8/reference": reference(THIRD, before)}, "zero: folder refused: the reference of generation 8 is that of generation 9"),
+        ("a damaged opening before a reference", files | {"zero/7/opening": b"EPOP"}, "zero: folder refused: the opening of generation 7: cut short at byte 4"),
+        ("a log that names the opening in place of its reference", files | {"zero/8/log": log(SECOND, 0, written)}, "log refused zero/8/log: another generation"),
+    ):
+        yield refused(name, held | receipts(SECOND), line, collect(SECOND))
+        yield dict(name=f"contents of {name}", words=["contents", "zero"], files=held, told=f"{line}\n".encode(), status=2)
+    yield refused("a reference to a log that isn't there", without(files, "zero/8/log") | receipts(SECOND), f"zero/8/log {MISSING}", collect(SECOND))
+    odd = Generation(generation=8, since=SECOND.since, opening={"c": "1"}, size=5)
+    yield refused("another map than a reference stands for", files | folder(odd, 1) | receipts(SECOND), "one/8/opening has another map than the first opening", collect(SECOND))
+    five = Generation(generation=8, since=SECOND.since, opening={"c": "0"}, size=3)
+    yield refused("another size than a reference says", files | folder(five, 1) | receipts(SECOND), "one/8/opening is of another cluster", collect(SECOND))
+
+
 def refused(name, files, line, words=None, status=2):
     return dict(name=f"collect of {name}", words=words or collect(ONE), files=receipts(ONE) | files, told=f"{line}\n".encode(), status=status)
 
@@ -137,10 +225,10 @@ def refusals():
         ("a cut opening", held[:58], "cut short at byte 58"),
         ("a cut opening with 59 bytes", held[:59], "damaged, by the digest at byte 27"),
         ("a turned byte", held[:20] + b"\xff" + held[21:], f"damaged, by the digest at byte {len(body)}"),
-        ("no opening", b"EPLG" + held[4:], "the word EPOP is wrong at byte 0"),
+        ("no opening", b"EPLG" + held[4:], "the word in front is wrong at byte 0"),
         ("version 4", held[:4] + b"\4" + held[5:], "the version is wrong at byte 4"),
         ("four replicas", sealed(body[:5] + b"\4" + body[6:]), "the number of replicas is wrong at byte 5"),
-        ("a byte too many", sealed(body + b"\0"), f"what stands behind the last instance is wrong at byte {len(body)}"),
+        ("a byte too many", sealed(body + b"\0"), f"what stands behind the last field is wrong at byte {len(body)}"),
     ):
         yield refused(f"an opening: {name}", files | {"one/7/opening": changed}, f"opening refused one/7/opening: {line}")
     eight = opening(Generation(generation=8, since=40, opening={"c": "0"}))
@@ -242,6 +330,8 @@ def words():
 
 def every():
     yield from collections()
+    yield from collections_by_references()
+    yield from refusals_by_references()
     yield from refusals()
     yield from maps()
     yield from words()

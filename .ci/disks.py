@@ -195,7 +195,8 @@ LIVES = shim.STATE + shim.request(7, b"x") + shim.propose_in(1, 9, 3, b"w", b"9"
 
 def sealed(node, folder):
     """Replica 0 of three, which has executed a seal and isn't closed; the same before it handles the frames that commit the seal, and those; and the
-    opening of the next generation that replica 1 has. By starts without the shim."""
+    opening of the next generation that replica 1 has; and the replica in the next generation, which has a reference, and has executed a seal there. By starts
+    without the shim."""
     it = folders.Cluster(node, folder)
     it.begin()
     it.settle(folders.put(1, b"x", b"1"), 0, 1)
@@ -209,13 +210,30 @@ def sealed(node, folder):
     it.start(1)
     it.start(1, shim.ALL)
     it.start(1)
-    return before, frames, after, it.opening(1, 2)
+    taken = it.opening(1, 2)
+    # the same of generation 2, which has a reference in both
+    for replica, tree in ((0, after), (1, None)):
+        place = it.place(replica)
+        tree = tree or shim.tree_of(place)
+        shutil.rmtree(f"{place}/2", ignore_errors=True)
+        os.mkdir(f"{place}/2")
+        if os.path.exists(f"{place}/1/left"):
+            os.remove(f"{place}/1/left")
+        with open(f"{place}/2/reference", "wb") as file:
+            file.write(folders.reference(tree["1/log"]))
+    it.frames = [[] for _ in range(7)]
+    it.start(0)
+    it.start(1)
+    it.start(0, folders.seal(3))
+    it.start(1)
+    it.start(0, shim.ADVANCE)
+    return before, frames, after, taken, shim.tree_of(it.place(0))
 
 
-def goes_on(case, seed, told, words=()):
+def goes_on(case, seed, told, words=(), to=2):
     """A start after a power loss: it serves, and has all that was told; and it doesn't act in a generation that was left."""
     generation = case.generation
-    is_left = os.path.exists(f"{case.place}/1/left")
+    is_left = os.path.exists(f"{case.place}/{to - 1}/left")
     case.start(LIVES, words=words)
     case.wants(case.status == 0, f"(chance {seed}) status {case.status}, {case.errors.strip()}")
     if case.status:
@@ -223,14 +241,14 @@ def goes_on(case, seed, told, words=()):
     served, entries = case.state()
     value = next(it.body[3:] for it in case.answers if it.kind == 3)
     case.wants(value == b"1", f"(chance {seed}) x is {value!r} in generation {served}")
-    case.wants(served == 2 or not is_left, f"(chance {seed}) generation {served} is served, and was left")
+    case.wants(served == to or not is_left, f"(chance {seed}) generation {served} is served, and was left")
     case.wants(served > generation or entries >= told, f"(chance {seed}) {told} entries were told in generation {generation}, and {entries} came back")
 
 
-def lost_after_each_call(case, words=(), retried=(), rules=()):
+def lost_after_each_call(case, words=(), retried=(), rules=(), to=2):
     """A start that begins the next generation, and the power is lost after each of its calls; and then a start again."""
     case.start(LIVES, *rules, words=words)
-    case.wants(case.status == 0 and case.state()[0] == 2, f"the start: status {case.status}, {case.errors.strip()}")
+    case.wants(case.status == 0 and case.state()[0] == to, f"the start: status {case.status}, {case.errors.strip()}")
     lines, before = case.lines, case.saved
     for moment in range(len(lines)):
         if lines[moment].startswith(("read ", "lock ", "err ", "end ")):
@@ -240,7 +258,7 @@ def lost_after_each_call(case, words=(), retried=(), rules=()):
             case.follow(lines[: moment + 1])
             told = case.told
             case.lose_power(random.Random(f"{moment} {seed}") if seed else None)
-            goes_on(case, f"{moment} {seed}", told, retried)
+            goes_on(case, f"{moment} {seed}", told, retried, to)
             if case.faults:
                 case.faults[-1] += f", after: {lines[moment][:80]}"
                 return
@@ -250,6 +268,19 @@ def closes(case):
     """The generation is closed at a start, and the next one begun."""
     case.put(case.trees[2])
     lost_after_each_call(case)
+
+
+def goes_by_a_reference(case, rules=()):
+    """The next generation has a reference: its log is begun by what the log before it leaves."""
+    case.put(case.trees[2] | {"2": None, "2/reference": folders.reference(case.trees[2]["1/log"])})
+    lost_after_each_call(case, rules=rules)
+
+
+def closes_one_that_has_a_reference(case):
+    """A generation that opens by a reference is closed, and the next one begun by a file."""
+    case.put(case.trees[4])
+    case.serves(2)
+    lost_after_each_call(case, to=3)
 
 
 def takes(case):
@@ -301,14 +332,23 @@ def makes_a_folder(case):
     begins_a_folder(case)
 
 
-def failed_in_a_folder(kind, place, error, is_taken):
-    """The place-th call of a kind fails in a start that closes or takes; then a start again, and then a power loss."""
+def begun_by(case, how):
+    """Has the folder hold what a start of this kind begins with; the words of such a start."""
+    case.put(case.trees[0 if how == "take" else 2])
+    if how == "refer":
+        case.put({"2": None, "2/reference": folders.reference(case.trees[2]["1/log"])})
+    if how != "take":
+        return ()
+    with open(f"{case.folder}/taken", "wb") as it:
+        it.write(case.trees[3])
+    return "--take", f"{case.folder}/taken"
+
+
+def failed_in_a_folder(kind, place, error, how):
+    """The place-th call of a kind fails in a start that closes, takes or goes by a reference; then a start again, and then a power loss."""
 
     def row(case):
-        words = ("--take", f"{case.folder}/taken") if is_taken else ()
-        case.put(case.trees[0 if is_taken else 2])
-        with open(f"{case.folder}/taken", "wb") as it:
-            it.write(case.trees[3])
+        words = begun_by(case, how)
         case.start(LIVES, f"fail={kind}:{place}:{place}:{error}", words=words)
         wanted = CAUSES[error]
         case.wants(case.status == 4, f"status {case.status}, and 4 was wanted")
@@ -324,17 +364,14 @@ def failed_in_a_folder(kind, place, error, is_taken):
 
 
 def failed_in_folders(make):
-    """A row for each call of a start that closes, and of one that takes."""
-    for is_taken in (False, True):
+    """A row for each call of a start that closes, of one that takes, and of one that goes by a reference."""
+    for how in ("close", "take", "refer"):
         case = make()
-        case.put(case.trees[0 if is_taken else 2])
-        with open(f"{case.folder}/taken", "wb") as it:
-            it.write(case.trees[3])
-        case.start(LIVES, words=("--take", f"{case.folder}/taken") if is_taken else ())
+        case.start(LIVES, words=begun_by(case, how))
         for kind, errors in (*ERRORS.items(), ("mkdir", (SPACE,))):
             for place in range(1, case.calls(kind) + 1):
                 # (a lock file is made and never written: whether that fails is the folder's matter)
-                yield f"{'take' if is_taken else 'close'}, {kind} {place}: {CAUSES[errors[0]]}", failed_in_a_folder(kind, place, errors[0], is_taken)
+                yield f"{how}, {kind} {place}: {CAUSES[errors[0]]}", failed_in_a_folder(kind, place, errors[0], how)
 
 
 def is_renewed(case, rules=()):
@@ -420,6 +457,17 @@ def a_disk_that_lies_to_a_folder(case):
     for place in range(1, len(synced) + 1):
         notices(case, made_here, "folder", place, "")
     lost = "would outlast a power loss"
+    # (a reference that was read may not be on the disk)
+    case.forget()
+    goes_by_a_reference(case)
+    case.forget()
+    case.put(case.trees[2] | {"2": None, "2/reference": folders.reference(case.trees[2]["1/log"])})
+    case.start(LIVES)
+    synced, files = folders_synced(case), case.calls("fsync")
+    case.wants(files == 3 and synced == ["2", "2", "1"], f"by a reference, {files} files and these folders were synced: {synced}")
+    for kind, count in (("fsync", files), ("folder", len(synced))):
+        for place in range(1, count + 1):
+            notices(case, goes_by_a_reference, kind, place, "")
     # (the names in FOLDER and in 2, of the opening and the log together)
     notices(case, closes_here, "folder", 2, lost)
     notices(case, closes_here, "folder", 5, lost)
@@ -431,7 +479,7 @@ def a_disk_that_lies_to_a_folder(case):
     notices(case, is_in_a_new_folder, "folder", folders_synced(case).index("..") + 1, lost)
 
 
-FOLDER_ROWS = (closes, takes, executes_the_seal, begins_a_folder, makes_a_folder, is_renewed, is_marked, is_in_a_new_folder, a_disk_that_lies_to_a_folder)
+FOLDER_ROWS = (closes, goes_by_a_reference, closes_one_that_has_a_reference, takes, executes_the_seal, begins_a_folder, makes_a_folder, is_renewed, is_marked, is_in_a_new_folder, a_disk_that_lies_to_a_folder)
 
 
 def tried(node=NODE, word=""):

@@ -38,6 +38,16 @@ def opening(size=3, generation=2, since=5, seal=b"x", held=(), executed=()):
     return digested(front)
 
 
+def reference(log, size=3, generation=2):
+    """A reference to a log that has these bytes."""
+    return digested(b"EPOR" + struct.pack(">BBIQ", 3, size, generation, len(log)) + hashlib.sha256(log).digest())
+
+
+def binding(named, written):
+    """What binds an opening to a reference."""
+    return b"EPOB\3" + named[-32:] + written[-32:]
+
+
 def parts_of(bytes_):
     """Of an opening: N, generation, since, the seal's value, the map, and the executed instances."""
     assert bytes_[:5] == b"EPOP\3" and bytes_ == digested(bytes_[:-32])
@@ -445,6 +455,238 @@ def larger(it, folder):
     yield "with three again", differs(told(it, 0), (2, None, size))
 
 
+def broken_line(generation):
+    return line(f"folder refused: what generation {generation} opens with is gone, and a later one rests on it; --take FILE goes on with the opening of a later one")
+
+
+def short_log_line(generation):
+    return line(f"folder refused: the log of generation {generation} is gone or cut short, and what it leaves opens generation {generation + 1}")
+
+
+def other_log_line(generation):
+    return line(f"folder refused: the log of generation {generation} isn't the one that generation {generation + 1} opens with")
+
+
+class Kept:
+    """A replica's folder as it was, and what it has in other files."""
+
+    def __init__(self, cluster, replica=0):
+        self.cluster, self.place, self.tree = cluster, cluster.place(replica), shim.tree_of(cluster.place(replica))
+
+    def lay(self, files=None, without=()):
+        """Has the folder hold what it held, with these files by their names in it, and without what has these names or stands below them."""
+        shutil.rmtree(self.place)
+        os.makedirs(self.place)
+        tree = {name: held for name, held in (self.tree | (files or {})).items() if not any(name == it or name.startswith(f"{it}/") for it in without)}
+        for name, held in sorted(tree.items()):
+            if held is None:
+                os.makedirs(f"{self.place}/{name}", exist_ok=True)
+                continue
+            os.makedirs(os.path.dirname(f"{self.place}/{name}"), exist_ok=True)
+            with open(f"{self.place}/{name}", "wb") as file:
+                file.write(held)
+
+
+def told_there(cluster, *keys):
+    """Status, generation, the stamp, the values of these keys, and the fault output of a start."""
+    status, answers, words = cluster.start(0, STATE + b"".join(map(get, keys)))
+    state = next((it.body for it in answers if it.kind == 8), None)
+    values = [it.body[3:] if it.body[0] else None for it in answers if it.kind == 3]
+    return status, generation_of(answers), state and struct.unpack_from(">Q", state, 13)[0], values, words
+
+
+def by_references(it, folder):
+    """A generation that opens with what the log before it leaves, by a reference: the same as by its file."""
+    it.begin()
+    it.settle(put(1, b"x", b"1") + put(2, b"y", b"2"), 0, 1)
+    it.settle(seal(3, b"next"), 0, 1)
+    it.start(0, ADVANCE)
+    kept = Kept(it)
+    log = kept.tree["1/log"]
+    # (what it is by its file)
+    by_file = told_there(it, b"x", b"y", b"z")
+    full = it.opening(0, 2)
+    yield "by its file", differs((by_file[:2], by_file[3:]), ((0, 2), ([b"1", b"2", None], "")))
+    named = reference(log)
+    whole = {"2": None, "2/reference": named}
+    # before the reference has its name
+    kept.lay({"2": None, "2/reference.new": named[:40]})
+    yield "half a reference", differs((told_there(it, b"x", b"y", b"z"), it.has(0, "2/opening")), (by_file, True))
+    # between the reference and the log
+    kept.lay(whole)
+    yield "a reference", differs((told_there(it, b"x", b"y", b"z"), it.has(0, "2/opening")), (by_file, False))
+    with open(f"{it.place(0)}/2/log", "rb") as file:
+        header = file.read(43)
+    yield "its log names it", differs(header, b"EPLG\3\3\0" + struct.pack(">I", 2) + named[-32:])
+    with open(f"{it.place(0)}/1/left", "rb") as file:
+        yield "the generation before is left", differs(file.read(), b"2")
+    yield "again", differs(told_there(it, b"x", b"y", b"z"), by_file)
+    # between the log and the mark
+    kept.lay(whole | {"2/log": header})
+    yield "a log without an entry", differs((told_there(it, b"x", b"y", b"z"), it.has(0, "1/left")), (by_file, True))
+    it.frames = [[] for _ in range(7)]
+    it.start(0, put(4, b"x", b"5"))
+    yield "it goes on", differs(told_there(it)[:2], (0, 2))
+    begun = Kept(it)
+    yield from wrong_logs(it, kept, whole, begun)
+    yield from wrong_references(it, kept, log, begun)
+    yield from checkpoints(it, begun, named, full, by_file)
+    yield from taken_over(it, folder, kept, whole, full)
+    yield from in_a_chain(it, kept, whole)
+
+
+def wrong_logs(it, kept, whole, begun):
+    """The log that a reference names is cut, changed, another one or gone, before the next one is begun or after it."""
+    log = kept.tree["1/log"]
+    it.start(1)
+    with open(f"{it.place(1)}/1/log", "rb") as file:
+        others = file.read()
+    for name, held, wanted in (
+        ("with more behind it", log + b"torn!", None),
+        ("cut by a byte", log[:-1], short_log_line(1)),
+        ("without a byte", b"", short_log_line(1)),
+        ("with its last byte turned", log[:-1] + bytes([log[-1] ^ 1]), other_log_line(1)),
+        ("with a byte of its header turned", log[:20] + bytes([log[20] ^ 1]) + log[21:], other_log_line(1)),
+        ("of another replica", others + log[len(others) :], other_log_line(1)),
+    ):
+        for when, there in (("new", kept), ("begun", begun)):
+            there.lay((whole if there is kept else {}) | {"1/log": held})
+            got = told(it, 0)
+            yield f"{when}, a log {name}", differs(got, (2, None, wanted) if wanted else (0, 2, ""))
+    for when, there in (("new", kept), ("begun", begun)):
+        there.lay(whole if there is kept else {}, ("1/log",))
+        yield f"{when}, no log", differs(told(it, 0), (2, None, short_log_line(1)))
+    # what a reference names is a log to its end, and closed
+    entries = [43]
+    while entries[-1] < len(log):
+        entries.append(entries[-1] + 24 + struct.unpack_from(">I", log, entries[-1])[0])
+    yield "the log has whole records", differs(entries[-1], len(log))
+    for name, part in (("cut in a record", log[: entries[2] - 3]), ("without a seal", log[: entries[2]]), ("without an entry", log[:43])):
+        kept.lay({"2": None, "2/reference": reference(part)})
+        yield f"a reference to a log {name}", differs(told(it, 0), (2, None, other_log_line(1)))
+    # of another cluster
+    kept.lay({"2": None, "2/reference": reference(log[:5] + b"\5" + log[6:]), "1/log": log[:5] + b"\5" + log[6:]})
+    yield "a log of another cluster", differs(told(it, 0), (2, None, other_log_line(1)))
+
+
+def wrong_references(it, kept, log, begun):
+    """References that aren't those of the generation."""
+    good = reference(log)
+    for name, held, wanted in (
+        ("cut", good[:-1], "cut short at byte 81"),
+        ("without a byte", b"", "cut short at byte 0"),
+        ("turned", good[:20] + bytes([good[20] ^ 1]) + good[21:], "damaged: no digest of the bytes before it at byte 50"),
+        ("an opening", opening(seal=b"s" * 20), "wrong field at byte 0"),
+        ("of four replicas", digested(good[:5] + b"\4" + good[6:50]), "wrong field at byte 5"),
+        ("of generation 1", digested(good[:6] + struct.pack(">I", 1) + good[10:50]), "wrong field at byte 6"),
+        ("to no log", digested(good[:10] + struct.pack(">Q", 42) + good[18:50]), "wrong field at byte 10"),
+    ):
+        kept.lay({"2": None, "2/reference": held})
+        yield f"a reference that is {name}", differs(told(it, 0), (2, None, line(f"folder refused: the reference of generation 2: {wanted}")))
+    kept.lay({"2": None, "2/reference": reference(log, generation=3)})
+    yield "the reference of another generation", differs(told(it, 0), (2, None, line("folder refused: the reference of generation 2 is that of generation 3")))
+    kept.lay({"2": None, "2/reference": reference(log, size=5)})
+    yield "the reference of another size", differs(told(it, 0), (2, None, line("folder refused: generation 2 has another size and isn't closed; go on with --replicas 5")))
+    # one that the log of the generation doesn't name
+    begun.lay({"2/reference": reference(log + b"!"), "1/log": log + b"!"})
+    yield "a reference to more than the log", differs(told(it, 0), (2, None, other_log_line(1)))
+    begun.lay({"2": None, "2/reference": good}, ("2/log",))
+    yield "the log is lost", differs(told(it, 0), (2, None, no_log_line(2)))
+    begun.lay(without=("2/reference",))
+    yield "the reference is lost", differs(told(it, 0), (2, None, left_line(2)))
+
+
+def checkpoints(it, begun, named, full, by_file):
+    """The opening is written behind its reference, then bound to it, and then what is older goes."""
+
+    def there(bound=None, held=full, without=()):
+        begun.lay({"2/opening": held} | ({"2/whole": bound} if bound is not None else {}), without)
+        status, generation, _, values, words = told_there(it, b"y")
+        return status, generation, values, words
+
+    served = 0, 2, [b"2"], ""
+    gone = 2, None, [], broken_line(1)
+    other = opening(held=((b"y", b"9"),))
+    begun.lay({"2/opening.new": full[:50]})
+    yield "half an opening", differs(told(it, 0), (0, 2, ""))
+    yield "an opening that nothing binds", differs(there(), served)
+    yield "another opening that nothing binds", differs(there(held=other), served)
+    yield "no opening at all that nothing binds", differs(there(held=b""), served)
+    yield "bound", differs(there(binding(named, full)), served)
+    yield "bound, and what is older is gone", differs(there(binding(named, full), without=("1",)), served)
+    for names in (("1/opening",), ("1/log",), ("1/opening", "1/log")):
+        yield f"bound, and {' '.join(names)} is gone", differs(there(binding(named, full), without=names), served)
+    yield "not bound, and what is older is gone", differs(there(without=("1",)), gone)
+    yield "not bound, and the opening before is gone", differs(there(without=("1/opening",)), gone)
+    for name, bound in (
+        ("another file", binding(named, other)),
+        ("another reference", binding(reference(b"x" * 50), full)),
+        ("in another version", b"EPOB\4" + binding(named, full)[5:]),
+        ("in another word", b"EPOX" + binding(named, full)[4:]),
+        ("with a byte more", binding(named, full) + b"\0"),
+        ("with a byte less", binding(named, full)[:-1]),
+        ("by nothing", b""),
+    ):
+        yield f"bound to {name}", differs(there(bound), served)
+        yield f"bound to {name}, and what is older is gone", differs(there(bound, without=("1",)), gone)
+    yield "bound, and another opening in its place", differs(there(binding(named, full), held=other), served)
+    yield "bound, and another opening in its place, and what is older is gone", differs(there(binding(named, full), held=other, without=("1",)), gone)
+    turned = full[:40] + bytes([full[40] ^ 1]) + full[41:]
+    damaged = line(f"folder refused: the opening of generation 2: damaged: no digest of the bytes before it at byte {len(full) - 32}")
+    yield "bound, and turned", differs(there(binding(named, full), held=turned), (2, None, [], damaged))
+    yield "bound, and cut", differs(there(binding(named, full), held=full[:-1]), served)
+
+
+def taken_over(it, folder, kept, whole, full):
+    """Openings that are taken where a generation has a reference."""
+    taken = f"{folder}/taken"
+
+    def take(content):
+        kept.lay(whole)
+        with open(taken, "wb") as file:
+            file.write(content)
+        return told(it, 0, "--take", taken)
+
+    yield "its own opening is taken", differs(take(full), (2, None, line("opening refused: generation 2 has another one here; start without --take")))
+    yield "an earlier one is taken", differs(take(EMPTY[3]), (2, None, line("opening refused: it is of an earlier generation than 2, which is here; start without --take")))
+    yield "a later one is taken", differs(take(opening(generation=3)), (0, 3, ""))
+    yield "and gone on with", differs(told(it, 0), (0, 3, ""))
+
+
+def in_a_chain(it, kept, whole):
+    """A second reference rests on the first one."""
+    kept.lay(whole)
+    it.frames = [[] for _ in range(7)]
+    # (replica 1 closes by a file, and its log names that: what the two answer each other is of one generation)
+    it.start(1, ALL)
+    it.start(1)
+    it.start(0)
+    it.settle(put(5, b"x", b"5") + seal(6, b"more"), 0, 1)
+    it.start(0, ADVANCE)
+    second = Kept(it)
+    by_file = told_there(it, b"x", b"y")
+    full = it.opening(0, 3)
+    yield "a second change, by its file", differs((by_file[:2], by_file[3:]), ((0, 3), ([b"5", b"2"], "")))
+    log, named = second.tree["2/log"], reference(second.tree["2/log"], generation=3)
+    chained = {"3": None, "3/reference": named}
+    second.lay(chained)
+    yield "two references", differs((told_there(it, b"x", b"y"), it.has(0, "2/opening"), it.has(0, "3/opening")), (by_file, False, False))
+    third = Kept(it)
+    first = second.tree["1/log"]
+    third.lay({"1/log": first[:-1] + bytes([first[-1] ^ 1])})
+    yield "the first log is another", differs(told(it, 0), (2, None, other_log_line(1)))
+    third.lay({"2/log": log[:-1] + bytes([log[-1] ^ 1])})
+    yield "the second log is another", differs(told(it, 0), (2, None, other_log_line(2)))
+    # (a log that names another reference than the one beside it)
+    more = first + b"!"
+    third.lay({"1/log": more, "2/reference": reference(more)})
+    yield "the first reference is another", differs(told(it, 0), (2, None, other_log_line(1)))
+    third.lay(without=("2/reference",))
+    yield "the first reference is gone", differs(told(it, 0), (2, None, broken_line(2)))
+    third.lay({"3/opening": full, "3/whole": binding(named, full)}, ("1", "2"))
+    yield "the second one is whole, and nothing else is there", differs(told_there(it, b"x", b"y"), by_file)
+
+
 def words_refused(cluster, folder):
     """Words that don't go together."""
     for words, why in (
@@ -461,7 +703,7 @@ def words_refused(cluster, folder):
 def every(program, starter=None):
     """The name of each run, and what is wrong with it, or nothing."""
     with tempfile.TemporaryDirectory(dir="/dev/shm" if os.path.isdir("/dev/shm") else None) as folder:
-        for rows in (first_starts, one_at_a_time, a_life, *[who_is_spared, words_refused] * (not starter)):
+        for rows in (first_starts, one_at_a_time, a_life, *[who_is_spared, words_refused, by_references] * (not starter)):
             place = f"{folder}/{rows.__name__}"
             os.mkdir(place)
             try:

@@ -1,5 +1,5 @@
 -- The logs of a generation, each beside its opening file, read one after the other.
-use Rattle.std.proofs.Common.{◌≡◌, ◌≢◌, ◌<◌, ◌+◌, ℕ, ltb, zero, suc, List, [], ◌∷◌, ◌++◌, Some, take, length, get_or, slice_get, refl, sym, ap, subst, ◌∙◌, arith}
+use Rattle.std.proofs.Common.{◌≡◌, ◌≢◌, ◌<◌, ◌+◌, ℕ, ltb, List, [], ◌∷◌, ◌++◌, Some, take, length, get_or, slice_get, refl, sym, ap, subst, ◌∙◌, arith}
 use Rattle.std.proofs.lemmas.List.Elements.{All-head}
 use Rattle.ep_base.specs.Quorums.{size}
 use Rattle.ep_base.specs.declared.version.Version.{Version}
@@ -7,13 +7,11 @@ use Rattle.ep_base.specs.declared.version_kind.VersionKind.TheVariants.{V3}
 use Rattle.ep_assemble.specs.Clusters.{Collects, IsMember, count_of}
 use Rattle.ep_assemble.specs.declared.collect_fault.CollectFault.{CollectFault}
 use Rattle.ep_journal.specs.Entries.{Collected, Log as Journal}
-use Rattle.ep_opening.specs.Bytes.{file_digest, opening_bytes}
-use Rattle.ep_opening.specs.Files.{File}
 use Rattle.ep_assemble.specs.Clusters.{IsRefused as IsUncollected}
 use Rattle.ep_log.specs.Origins.{Origin}
 use Rattle.ep_log.specs.Reading.{IsRead}
 use Rattle.ep_log.specs.declared.log_version.LogVersion.{LogVersion}
-use Rattle.ep_assemble.specs.Generations.{AreFiles, AreKept, AreNotKept, HaveOpened, IsFirstAt, IsKept, IsNotKept, IsOfOtherSize, IsRefusedIn, IsUnassembled, AreUnopened, origin_in}
+use Rattle.ep_assemble.specs.Generations.{AreKept, AreNotKept, HaveOpened, IsFirstAt, IsKept, IsNotKept, IsOfOtherSize, IsRefusedIn, IsUnassembled, AreUnopened, origin_in}
 use Rattle.ep_assemble.specs.Logs.{IsReadTo}
 use Rattle.ep_assemble.specs.Receipts.{AreUnheld}
 use Rattle.ep_assemble.specs.declared.assemble_fault.AssembleFault.{AssembleFault}
@@ -24,19 +22,6 @@ use Rattle.ep_assemble.specs.declared.generation_fault.GenerationFault.{Generati
 use Rattle.ep_assemble.specs.declared.generation_fault.GenerationFault.TheVariants.{NoLog, Opening, Other, LogSize, Assemble}
 use Rattle.ep_assemble.specs.declared.opened_log.OpenedLog.{OpenedLog}
 use Rattle.ep_assemble.proofs.Opened.{at_place, taken}
-
--- the file of the machine at a place
-record HasFile (one : OpenedLog) : Type 0 where
-  pub file : File
-  pub is : one.opening.items ≡ opening_bytes file
-
-file_at : (k : ℕ) (kept : List OpenedLog) (files : List File) (one : OpenedLog) → AreFiles kept files → slice_get kept k ≡ Some one → HasFile one
-file_at k [] files one all is = absurd (cc)
-file_at k (x ∷ kept) [] one all is = absurd all
-file_at zero (x ∷ kept) (f ∷ files) one all is =
-    let same : x ≡ one = (let s : Some x ≡ Some one = is in cc) in
-    record { file = f; is = ap (λ (o : OpenedLog). o.opening.items) (sym same) ∙ all.0 }
-file_at (suc k) (x ∷ kept) (f ∷ files) one all is = file_at k kept files one all.1 is
 
 one_more : (c : OpenedCluster) (kept : List OpenedLog) (js : List Journal) (ends : List End) (one : OpenedLog) (j : Journal) (end : End) → AreKept c kept js ends → IsKept c one j end →
     AreKept c (kept ++ one ∷ []) (js ++ j ∷ []) (ends ++ end ∷ [])
@@ -49,81 +34,55 @@ one_more c (k ∷ kept) [] (e ∷ ends) one j end all is = absurd all
 one_more c (k ∷ kept) (x ∷ js) [] one j end all is = absurd all
 one_more c (k ∷ kept) (x ∷ js) (e ∷ ends) one j end all is = (all.0, one_more c kept js ends one j end all.1 is)
 
--- as a log beside any file that its machine has
-pub record IsReadBeside (c : OpenedCluster) (one : OpenedLog) (j : Journal) (end : End) : Type 0 where
-  pub read : (file : File) → one.opening.items ≡ opening_bytes file → IsReadTo (origin_in c file) one.log.items j end
-  pub size : j.faults ≡ c.size
-
 pub one_read :
-    (c : OpenedCluster) (i : ℕ) (kept : List OpenedLog) (files : List File) (one d : OpenedLog) (js js' : List Journal) (ends ends' : List End) (j : Journal) (end : End) → i < length kept → one ≡ get_or kept i d →
-    AreFiles kept files → AreKept c (take i kept) js ends → IsReadBeside c one j end → js' ≡ js ++ j ∷ [] → ends' ≡ ends ++ end ∷ [] → AreKept c (take (i + 1) kept) js' ends'
-one_read c i kept files one d js js' ends ends' j end less is are all read js_is ends_is =
-    let has : HasFile one = file_at i kept files one are (at_place kept i one d less is) in
-    let this : IsKept c one j end = record { file = has.file; is = has.is; read = read.read has.file has.is; size = read.size } in
+    (c : OpenedCluster) (i : ℕ) (kept : List OpenedLog) (one d : OpenedLog) (js js' : List Journal) (ends ends' : List End) (j : Journal) (end : End) → i < length kept → one ≡ get_or kept i d →
+    AreKept c (take i kept) js ends → IsKept c one j end → js' ≡ js ++ j ∷ [] → ends' ≡ ends ++ end ∷ [] → AreKept c (take (i + 1) kept) js' ends'
+one_read c i kept one d js js' ends ends' j end less is all this js_is ends_is =
     subst (λ (ks : List OpenedLog). AreKept c ks js' ends') (sym (taken kept i one d less is))
     (subst (λ (xs : List Journal). AreKept c (take i kept ++ one ∷ []) xs ends') (sym js_is)
     (subst (λ (es : List End). AreKept c (take i kept ++ one ∷ []) (js ++ j ∷ []) es) (sym ends_is) (one_more c (take i kept) js ends one j end all this)))
 
 first_at :
-    (c : OpenedCluster) (at place : ℕ) (kept : List OpenedLog) (files : List File) (one d : OpenedLog) (js : List Journal) (ends : List End) (P : File → List ℕ → Type 0) → place < length kept → one ≡ get_or kept place d →
-    AreFiles kept files → AreKept c (take place kept) js ends → at ≡ place → ((file : File) → one.opening.items ≡ opening_bytes file → P file one.log.items) → IsFirstAt c at kept P
-first_at c at place kept files one d js ends P less is are all here holds =
-    let has : HasFile one = file_at place kept files one are (at_place kept place one d less is) in
+    (c : OpenedCluster) (at place : ℕ) (kept : List OpenedLog) (one d : OpenedLog) (js : List Journal) (ends : List End) (P : OpenedLog → Type 0) → place < length kept → one ≡ get_or kept place d →
+    AreKept c (take place kept) js ends → at ≡ place → P one → IsFirstAt c at kept P
+first_at c at place kept one d js ends P less is all here holds =
     record {
       journals = js;
       ends = ends;
       before = subst (λ n. AreKept c (take n kept) js ends) (sym here) all;
       one = one;
       stands = ap (λ n. slice_get kept n) here ∙ at_place kept place one d less is;
-      file = has.file;
-      is = has.is;
-      holds = holds has.file has.is;
+      holds = holds;
     }
 
 pub one_refused :
-    (c : OpenedCluster) (e : GenerationFault) (place : ℕ) (kept : List OpenedLog) (files : List File) (one d : OpenedLog) (js : List Journal) (ends : List End) → place < length kept → one ≡ get_or kept place d →
-    AreFiles kept files → AreKept c (take place kept) js ends → ((file : File) → one.opening.items ≡ opening_bytes file → IsNotKept c file place one.log.items e) → AreNotKept c kept e
-one_refused c NoLog place kept files one d js ends less is are all h =
-    let has : HasFile one = file_at place kept files one are (at_place kept place one d less is) in
-    absurd (h has.file has.is)
-one_refused c (Opening at fault) place kept files one d js ends less is are all h =
-    let has : HasFile one = file_at place kept files one are (at_place kept place one d less is) in
-    absurd (h has.file has.is)
-one_refused c (Other at how) place kept files one d js ends less is are all h =
-    let has : HasFile one = file_at place kept files one are (at_place kept place one d less is) in
-    absurd (h has.file has.is)
-one_refused c (LogSize at) place kept files one d js ends less is are all h =
-    let has : HasFile one = file_at place kept files one are (at_place kept place one d less is) in
-    first_at c at place kept files one d js ends (IsOfOtherSize c) less is are all (h has.file has.is).0 (λ file same. (h file same).1)
-one_refused c (Assemble Memory) place kept files one d js ends less is are all h = tt
-one_refused c (Assemble (Log at fault)) place kept files one d js ends less is are all h =
-    let has : HasFile one = file_at place kept files one are (at_place kept place one d less is) in
-    first_at c at place kept files one d js ends _ less is are all (h has.file has.is).0 (λ file same. ((h file same).1, (h file same).2))
-one_refused c (Assemble (Collect fault)) place kept files one d js ends less is are all h =
-    let has : HasFile one = file_at place kept files one are (at_place kept place one d less is) in
-    absurd (h has.file has.is)
-one_refused c (Assemble (Receipts p at)) place kept files one d js ends less is are all h =
-    let has : HasFile one = file_at place kept files one are (at_place kept place one d less is) in
-    absurd (h has.file has.is)
-one_refused c (Assemble TooManyReceipts) place kept files one d js ends less is are all h =
-    let has : HasFile one = file_at place kept files one are (at_place kept place one d less is) in
-    absurd (h has.file has.is)
+    (c : OpenedCluster) (e : GenerationFault) (place : ℕ) (kept : List OpenedLog) (one d : OpenedLog) (js : List Journal) (ends : List End) → place < length kept → one ≡ get_or kept place d →
+    AreKept c (take place kept) js ends → IsNotKept c place one e → AreNotKept c kept e
+one_refused c NoLog place kept one d js ends less is all h = absurd h
+one_refused c (Opening at fault) place kept one d js ends less is all h = absurd h
+one_refused c (Other at how) place kept one d js ends less is all h = absurd h
+one_refused c (LogSize at) place kept one d js ends less is all h = first_at c at place kept one d js ends (IsOfOtherSize c) less is all h.0 h.1
+one_refused c (Assemble Memory) place kept one d js ends less is all h = tt
+one_refused c (Assemble (Log at fault)) place kept one d js ends less is all h = first_at c at place kept one d js ends _ less is all h.0 (h.1, h.2)
+one_refused c (Assemble (Collect fault)) place kept one d js ends less is all h = absurd h
+one_refused c (Assemble (Receipts p at)) place kept one d js ends less is all h = absurd h
+one_refused c (Assemble TooManyReceipts) place kept one d js ends less is all h = absurd h
 
--- as the log was read from what its own file tells
+-- as the log was read from what it names
 pub read_beside :
-    (c : OpenedCluster) (opening opening' log log' : List ℕ) (o : Origin) (v : LogVersion) (j : Journal) (whole behind : ℕ) → opening' ≡ opening → log' ≡ log →
-    ((file : File) → opening' ≡ opening_bytes file → o ≡ origin_in c file) → IsRead o log' v j whole behind → (file : File) → opening ≡ opening_bytes file → IsRead (origin_in c file) log v j whole behind
-read_beside c opening opening' log log' o v j whole behind same_opening same_log origin read file is =
-    subst (λ (p : Origin). IsRead p log v j whole behind) (origin file (same_opening ∙ is)) (subst (λ (bs : List ℕ). IsRead o bs v j whole behind) same_log read)
+    (c : OpenedCluster) (one : OpenedLog) (log : List ℕ) (o : Origin) (v : LogVersion) (j : Journal) (whole behind : ℕ) → log ≡ one.log.items → o ≡ origin_in c one → IsRead o log v j whole behind →
+    IsRead (origin_in c one) one.log.items v j whole behind
+read_beside c one log o v j whole behind same origin read =
+    subst (λ (p : Origin). IsRead p one.log.items v j whole behind) origin (subst (λ (bs : List ℕ). IsRead o bs v j whole behind) same read)
 
 pub other_beside :
-    (c : OpenedCluster) (opening opening' log log' : List ℕ) (o : Origin) (v : LogVersion) (j : Journal) (whole behind : ℕ) → opening' ≡ opening → log' ≡ log →
-    ((file : File) → opening' ≡ opening_bytes file → o ≡ origin_in c file) → IsRead o log' v j whole behind → j.faults ≢ c.size → (file : File) → opening ≡ opening_bytes file → IsOfOtherSize c file log
-other_beside c opening opening' log log' o v j whole behind same_opening same_log origin read other file is =
+    (c : OpenedCluster) (one : OpenedLog) (log : List ℕ) (o : Origin) (v : LogVersion) (j : Journal) (whole behind : ℕ) → log ≡ one.log.items → o ≡ origin_in c one → IsRead o log v j whole behind → j.faults ≢ c.size →
+    IsOfOtherSize c one
+other_beside c one log o v j whole behind same origin read other =
     record {
       journal = j;
       end = record { whole = whole; is_torn = ltb 0 behind };
-      read = record { version = v; behind = behind; read = read_beside c opening opening' log log' o v j whole behind same_opening same_log origin read file is; torn = refl };
+      read = record { version = v; behind = behind; read = read_beside c one log o v j whole behind same origin read; torn = refl };
       other = other;
     }
 
@@ -204,9 +163,3 @@ unassembled g kept files c (Assemble (Log place fault)) opened h = (c, opened, h
 unassembled g kept files c (Assemble (Collect fault)) opened h = (c, opened, h)
 unassembled g kept files c (Assemble (Receipts place at)) opened h = (c, opened, h)
 unassembled g kept files c (Assemble TooManyReceipts) opened h = (c, opened, h)
-
--- the digest of a file's bytes
-pub origin_is : (c : OpenedCluster) (file : File) (digest : List ℕ) (o : Origin) → Some digest ≡ Some (file_digest file) → o ≡ record { version = V3 c.generation; opening = c.opening; digest = digest } → o ≡ origin_in c file
-origin_is c file digest o is built =
-    let same : digest ≡ file_digest file = (let s : Some digest ≡ Some (file_digest file) = is in cc) in
-    built ∙ ap (λ d. record { version = V3 c.generation; opening = c.opening; digest = d }) same

@@ -1,4 +1,4 @@
--- Of a pair of files, one of which isn't read or is missing, it is one of those that are named.
+-- A file that isn't read or is missing is one of those that are named.
 use Rattle.std.proofs.Common.{◌≡◌, ◌⊎◌, ◌<◌, inl, inr, ℕ, List, Some, length, get_or, map, sym, ap, ◌∙◌, arith}
 use Rattle.std.proofs.lemmas.Option.{slice_get-get_or}
 use Rattle.ep_cli.proofs.NotRead.{IsAt, at}
@@ -15,9 +15,3 @@ not_file_of f (files.ReadFailed line) i names name d less is h =
 not_file_of f (files.Refused line) i names name d less is h =
     let there : IsAt i (map f names) (f name) (f name) = at f i names name (f name) (slice_get-get_or names i d less ∙ ap Some (sym is)) in
     (f name, (i, there.less, there.is), h)
-
-pub neither_file :
-    {S : Type 0} (f : S → List ℕ) (e : FilesFault) (i : ℕ) (openings logs : List S) (opening log d d' : S) → length logs ≡ length openings → i < length openings → opening ≡ get_or openings i d → log ≡ get_or logs i d' →
-    IsOfLacking (f opening) e ⊎ IsOfLacking (f log) e → IsLacking (map f openings) e ⊎ IsLacking (map f logs) e
-neither_file f e i openings logs opening log d d' long less is is' (inl h) = inl (not_file_of f e i openings opening d less is h)
-neither_file f e i openings logs opening log d d' long less is is' (inr h) = inr (not_file_of f e i logs log d' (omega arith) is' h)

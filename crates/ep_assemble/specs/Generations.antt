@@ -25,6 +25,10 @@ use Rattle.ep_assemble.specs.declared.generation_fault.GenerationFault.{Generati
 use Rattle.ep_assemble.specs.declared.generation_fault.GenerationFault.TheVariants.{NoLog, Opening, Other, LogSize, Assemble}
 use Rattle.ep_assemble.specs.declared.opened_log.OpenedLog.{OpenedLog}
 
+-- where the opening is a file, the log names its digest
+abbrev pub NamesItsFile : OpenedLog → Type 0
+NamesItsFile kept = (file : File) → kept.opening.items ≡ opening_bytes file → kept.digest ≡ file_digest file
+
 -- Opening files.
 
 -- each opening is the bytes of this file
@@ -69,15 +73,13 @@ OfCluster g kept P = (c : OpenedCluster) × HaveOpened g kept c × P c
 
 -- Logs.
 
--- the replica of this file's machine begins with what all journals open with, and its log names its own file
-abbrev pub origin_in : OpenedCluster → File → Origin
-origin_in c file = record { version = V3 c.generation; opening = c.opening; digest = file_digest file }
+-- the replica of a machine begins with what all journals open with, and its log names what this one opened with, by its digest
+abbrev pub origin_in : OpenedCluster → OpenedLog → Origin
+origin_in c kept = record { version = V3 c.generation; opening = c.opening; digest = kept.digest }
 
--- the log is one of a replica that opened with the file beside it, in a cluster of this size, and has this journal, up to its torn end where it has one
+-- the log is one of a replica that opened with what stands beside it, in a cluster of this size, and has this journal, up to its torn end where it has one
 pub record IsKept (c : OpenedCluster) (kept : OpenedLog) (j : Journal) (end : End) : Type 0 where
-  pub file : File
-  pub is : kept.opening.items ≡ opening_bytes file
-  pub read : IsReadTo (origin_in c file) kept.log.items j end
+  pub read : IsReadTo (origin_in c kept) kept.log.items j end
   pub size : j.faults ≡ c.size
 
 abbrev pub AreKept : OpenedCluster → List OpenedLog → List Journal → List End → Type 0
@@ -152,22 +154,20 @@ AreUnopened g kept (Assemble TooManyReceipts) = ⊥
 
 -- Faults of logs, and of receipts.
 
--- those before the place are logs of the cluster, and this is said of the log at the place and of the file beside it
-pub record IsFirstAt (c : OpenedCluster) (place : ℕ) (kept : List OpenedLog) (P : File → List ℕ → Type 0) : Type 0 where
+-- those before the place are logs of the cluster, and this is said of the one at the place
+pub record IsFirstAt (c : OpenedCluster) (place : ℕ) (kept : List OpenedLog) (P : OpenedLog → Type 0) : Type 0 where
   pub journals : List Journal
   pub ends : List End
   pub before : AreKept c (take place kept) journals ends
   pub one : OpenedLog
   pub stands : slice_get kept place ≡ Some one
-  pub file : File
-  pub is : one.opening.items ≡ opening_bytes file
-  pub holds : P file one.log.items
+  pub holds : P one
 
 -- a log of a cluster of another size
-pub record IsOfOtherSize (c : OpenedCluster) (file : File) (bytes : List ℕ) : Type 0 where
+pub record IsOfOtherSize (c : OpenedCluster) (kept : OpenedLog) : Type 0 where
   pub journal : Journal
   pub end : End
-  pub read : IsReadTo (origin_in c file) bytes journal end
+  pub read : IsReadTo (origin_in c kept) kept.log.items journal end
   pub other : journal.faults ≢ c.size
 
 -- all logs are the cluster's, and their journals aren't one for each replica, for this reason
@@ -193,7 +193,7 @@ IsUnassembled c kept files (Opening place fault) = ⊥
 IsUnassembled c kept files (Other place how) = ⊥
 IsUnassembled c kept files (LogSize place) = IsFirstAt c place kept (IsOfOtherSize c)
 IsUnassembled c kept files (Assemble Memory) = Unit {0}
-IsUnassembled c kept files (Assemble (Log place fault)) = IsFirstAt c place kept (λ file bytes. IsOfLog fault × IsNoLog (origin_in c file) fault bytes)
+IsUnassembled c kept files (Assemble (Log place fault)) = IsFirstAt c place kept (λ one. IsOfLog fault × IsNoLog (origin_in c one) fault one.log.items)
 IsUnassembled c kept files (Assemble (Collect fault)) = AreNoCluster c kept fault
 IsUnassembled c kept files (Assemble (Receipts place at)) = AreOneEach c kept (IsFirstSpoiled (V3 c.generation) (size c.size) place at files)
 IsUnassembled c kept files (Assemble TooManyReceipts) = AreOneEach c kept (AreTooMany (V3 c.generation) (size c.size) files)
@@ -254,13 +254,13 @@ AreOfNone g files (Assemble (Collect fault)) = ⊥
 AreOfNone g files (Assemble (Receipts place at)) = ⊥
 AreOfNone g files (Assemble TooManyReceipts) = ⊥
 
--- why these bytes, at this place, are no log of the cluster beside this file
-abbrev pub IsNotKept : OpenedCluster → File → ℕ → List ℕ → GenerationFault → Type 0
-IsNotKept c file place bytes NoLog = ⊥
-IsNotKept c file place bytes (Opening at fault) = ⊥
-IsNotKept c file place bytes (Other at how) = ⊥
-IsNotKept c file place bytes (LogSize at) = (at ≡ place) × IsOfOtherSize c file bytes
-IsNotKept c file place bytes (Assemble fault) = IsNotRead (origin_in c file) place bytes fault
+-- why this, at this place, has no log of the cluster
+abbrev pub IsNotKept : OpenedCluster → ℕ → OpenedLog → GenerationFault → Type 0
+IsNotKept c place kept NoLog = ⊥
+IsNotKept c place kept (Opening at fault) = ⊥
+IsNotKept c place kept (Other at how) = ⊥
+IsNotKept c place kept (LogSize at) = (at ≡ place) × IsOfOtherSize c kept
+IsNotKept c place kept (Assemble fault) = IsNotRead (origin_in c kept) place kept.log.items fault
 
 -- why the logs are not those of the cluster
 abbrev pub AreNotKept : OpenedCluster → List OpenedLog → GenerationFault → Type 0
@@ -269,7 +269,7 @@ AreNotKept c kept (Opening place fault) = ⊥
 AreNotKept c kept (Other place how) = ⊥
 AreNotKept c kept (LogSize place) = IsFirstAt c place kept (IsOfOtherSize c)
 AreNotKept c kept (Assemble Memory) = Unit {0}
-AreNotKept c kept (Assemble (Log place fault)) = IsFirstAt c place kept (λ file bytes. IsOfLog fault × IsNoLog (origin_in c file) fault bytes)
+AreNotKept c kept (Assemble (Log place fault)) = IsFirstAt c place kept (λ one. IsOfLog fault × IsNoLog (origin_in c one) fault one.log.items)
 AreNotKept c kept (Assemble (Collect fault)) = ⊥
 AreNotKept c kept (Assemble (Receipts place at)) = ⊥
 AreNotKept c kept (Assemble TooManyReceipts) = ⊥

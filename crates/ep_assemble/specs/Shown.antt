@@ -11,7 +11,7 @@ use Rattle.ep_log.specs.Origins.{Origin}
 use Rattle.ep_log.specs.Refusing.{IsRefused as IsNoLog}
 use Rattle.ep_log.specs.declared.log_fault.LogFault.{LogFault}
 use Rattle.ep_log.specs.declared.log_fault.LogFault.TheVariants as log_
-use Rattle.ep_opening.specs.Bytes.{file_digest, opening_bytes}
+use Rattle.ep_opening.specs.Bytes.{opening_bytes}
 use Rattle.ep_opening.specs.Files.{File}
 use Rattle.ep_opening.specs.Reading.{IsRefused as IsNoFile}
 use Rattle.ep_opening.specs.declared.opening_fault.OpeningFault.{OpeningFault}
@@ -37,32 +37,32 @@ head_line g n m = codes "generation " ++ decimal g ++ codes " entries " ++ decim
 abbrev pub map_text : ℕ → ℕ → Contents → List ℕ
 map_text g n m = head_line g n m ++ pair_lines (entries m)
 
--- what the replica with this file began with
-abbrev pub origin_of : File → Origin
-origin_of file = record { version = V3 file.generation; opening = file.opening; digest = file_digest file }
+-- what the replica with this file began with, whose log names this digest
+abbrev pub origin_of : File → List ℕ → Origin
+origin_of file digest = record { version = V3 file.generation; opening = file.opening; digest = digest }
 
 -- behind no byte of a log
 abbrev pub no_end : End
 no_end = record { whole = 0; is_torn = false }
 
 -- a log has n entries, which leave this map, up to its torn end where it has one; one that isn't begun has no byte
-abbrev pub Leaves : File → List ℕ → ℕ → Contents → End → Type 0
-Leaves file [] n m end = (n ≡ 0) × (m ≡ file.opening.contents) × (end ≡ no_end)
-Leaves file (b ∷ bs) n m end = (j : Journal) × IsReadTo (origin_of file) (b ∷ bs) j end × (n ≡ length j.entries) × (m ≡ (standing j).state.store.contents)
+abbrev pub Leaves : File → List ℕ → List ℕ → ℕ → Contents → End → Type 0
+Leaves file digest [] n m end = (n ≡ 0) × (m ≡ file.opening.contents) × (end ≡ no_end)
+Leaves file digest (b ∷ bs) n m end = (j : Journal) × IsReadTo (origin_of file digest) (b ∷ bs) j end × (n ≡ length j.entries) × (m ≡ (standing j).state.store.contents)
 
--- the text is that of the map that the log leaves beside this file
-pub record IsTextOf (file : File) (log text : List ℕ) (end : End) : Type 0 where
+-- the text is that of the map that the log leaves beside this file, by this digest
+pub record IsTextOf (file : File) (digest log text : List ℕ) (end : End) : Type 0 where
   pub count : ℕ
   pub map : Contents
-  pub leaves : Leaves file log count map end
+  pub leaves : Leaves file digest log count map end
   pub told : text ≡ map_text file.generation count map
 
--- the text is that of the map that the log leaves, beside the opening file with these bytes, in generation g
-pub record IsShown (g : ℕ) (opening log text : List ℕ) (end : End) : Type 0 where
+-- the text is that of the map that the log leaves, beside the opening file with these bytes, which it names by this digest, in generation g
+pub record IsShown (g : ℕ) (opening digest log text : List ℕ) (end : End) : Type 0 where
   pub file : File
   pub is : opening ≡ opening_bytes file
   pub generation : file.generation ≡ g
-  pub text_of : IsTextOf file log text end
+  pub text_of : IsTextOf file digest log text end
 
 -- the opening file is one, and this is said of it
 pub record OfFile (opening : List ℕ) (P : File → Type 0) : Type 0 where
@@ -71,11 +71,11 @@ pub record OfFile (opening : List ℕ) (P : File → Type 0) : Type 0 where
   pub holds : P file
 
 -- why these bytes show no map of generation g: the first fault
-abbrev pub IsNotShown : ℕ → List ℕ → List ℕ → ShowFault → Type 0
-IsNotShown g opening log Memory = Unit {0}
-IsNotShown g opening log (Opening fault) = IsOfOpening fault × IsNoFile fault opening
-IsNotShown g opening log OtherGeneration = OfFile opening (λ file. file.generation ≢ g)
-IsNotShown g opening log (Log fault) = OfFile opening (λ file. (file.generation ≡ g) × IsOfLog fault × IsNoLog (origin_of file) fault log)
+abbrev pub IsNotShown : ℕ → List ℕ → List ℕ → List ℕ → ShowFault → Type 0
+IsNotShown g opening digest log Memory = Unit {0}
+IsNotShown g opening digest log (Opening fault) = IsOfOpening fault × IsNoFile fault opening
+IsNotShown g opening digest log OtherGeneration = OfFile opening (λ file. file.generation ≢ g)
+IsNotShown g opening digest log (Log fault) = OfFile opening (λ file. (file.generation ≡ g) × IsOfLog fault × IsNoLog (origin_of file digest) fault log)
 
 -- why these bytes are no opening file of generation g
 abbrev pub IsNotOpened : ℕ → List ℕ → ShowFault → Type 0
@@ -85,11 +85,11 @@ IsNotOpened g opening OtherGeneration = OfFile opening (λ file. file.generation
 IsNotOpened g opening (Log fault) = ⊥
 
 -- why these bytes are no log of the replica with this file
-abbrev pub IsNotLogged : File → List ℕ → ShowFault → Type 0
-IsNotLogged file log Memory = Unit {0}
-IsNotLogged file log (Opening fault) = ⊥
-IsNotLogged file log OtherGeneration = ⊥
-IsNotLogged file log (Log fault) = IsOfLog fault × IsNoLog (origin_of file) fault log
+abbrev pub IsNotLogged : File → List ℕ → List ℕ → ShowFault → Type 0
+IsNotLogged file digest log Memory = Unit {0}
+IsNotLogged file digest log (Opening fault) = ⊥
+IsNotLogged file digest log OtherGeneration = ⊥
+IsNotLogged file digest log (Log fault) = IsOfLog fault × IsNoLog (origin_of file digest) fault log
 
 abbrev pub of_opening : OpeningFault → ShowFault
 of_opening opening_.Memory = Memory

@@ -15,9 +15,9 @@ fault_line opening_name log_name OtherGeneration = opening_name ++ codes " is of
 fault_line opening_name log_name (Log fault) = log_line log_name fault
 
 -- the text is that of the map that the log leaves beside the opening file, and a line is told where its end is torn
-pub record AreShown (g : ℕ) (log_name opening log text lines : List ℕ) : Type 0 where
+pub record AreShown (g : ℕ) (log_name opening digest log text lines : List ℕ) : Type 0 where
   pub end : End
-  pub shown : IsShown g opening log text end
+  pub shown : IsShown g opening digest log text end
   pub told : lines ≡ end_line log_name end
 
 -- other than want of memory
@@ -28,8 +28,8 @@ IsOfFiles OtherGeneration = Unit {0}
 IsOfFiles (Log fault) = Unit {0}
 
 -- these bytes show no map of generation g, and the line is that of the first fault
-pub record AreNotShown (g : ℕ) (opening_name log_name opening log line : List ℕ) : Type 0 where
+pub record AreNotShown (g : ℕ) (opening_name log_name opening digest log line : List ℕ) : Type 0 where
   pub fault : ShowFault
   pub of : IsOfFiles fault
-  pub refused : IsNotShown g opening log fault
+  pub refused : IsNotShown g opening digest log fault
   pub told : line ≡ fault_line opening_name log_name fault

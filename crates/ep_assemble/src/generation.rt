@@ -1,8 +1,7 @@
 //! The logs of a generation and receipts, assembled to a bundle.
 
-ghost use Rattle.std.specs.Prelude.{◌≡◌, List, IfOk, IfErr};
-ghost use Rattle.ep_opening.specs.Files.{File};
-ghost use Rattle.ep_assemble.specs.Generations.{AreFiles, IsAssembledIn, IsAssembledOf, IsRefusedIn, IsUnassembled};
+ghost use Rattle.std.specs.Prelude.{◌≡◌, IfOk, IfErr};
+ghost use Rattle.ep_assemble.specs.Generations.{IsAssembledIn, IsAssembledOf, IsRefusedIn, IsUnassembled};
 ghost use Rattle.ep_assemble.specs.Logs.{contents};
 
 use crate::assembled::Assembled;
@@ -44,7 +43,6 @@ fn assemble_kept(
     kept: &[OpenedLog],
     receipts: &[Vec<u8>],
 ) -> Result<Assembled, GenerationFault>
-    requires opened { (files : List File) × AreFiles kept.now files }
     ensures ok { IfOk result (λ a. IsAssembledIn cluster.now kept.now (contents receipts.now) a.bundle.items a.ends.items a.receipt_ends.items) }
     ensures err { IfErr result (IsUnassembled cluster.now kept.now (contents receipts.now)) }
 {

@@ -1,8 +1,9 @@
 //! The files of a generation, collected.
 
 ghost use Rattle.std.specs.Prelude.{◌≡◌, ◌⊎◌, length, map, string_bytes, IfOk, IfErr, IsErr};
-ghost use Rattle.ep_assemble.specs.GenerationFiles.{IsCollectedOf, IsLacking, IsNotCollectedOf, IsOfLacking};
+ghost use Rattle.ep_assemble.specs.GenerationFiles.{IsCollectedOf, IsNotCollectedOf, IsOfLacking};
 ghost use Rattle.ep_assemble.specs.GenerationLines.{generation_line};
+ghost use Rattle.ep_assemble.specs.Generations.{NamesItsFile};
 ghost use Rattle.ep_assemble.specs.Logs.{contents};
 ghost use Rattle.ep_cli.specs.Files.{IsReason};
 ghost use Rattle.ep_cli.specs.declared.files_fault.FilesFault.TheVariants.{Memory};
@@ -23,36 +24,16 @@ use std::io::ErrorKind;
 use std::rt::Files;
 use std::{fs, io};
 
-/// The bytes of the opening files and logs of a generation with these names, where none is missing. Where an opening file of generation 1 is
-/// missing, its bytes are what each of that generation is.
-pub fn read_opened_logs<R: Files + AllocGlobal>(
-    rt: &R,
-    generation: Generation,
-    openings: &[String],
-    logs: &[String],
-) -> Result<Vec<OpenedLog>, FilesFault>
-    requires { length logs.now ≡ length openings.now }
-    ensures count { IfOk result (λ kept. length kept.items ≡ length openings.now) }
-    ensures err { IfErr result (λ e. IsLacking (map string_bytes openings.now) e ⊎ IsLacking (map string_bytes logs.now) e) }
-{
-    let mut kept = Vec::new(rt.alloc());
-    for (place, opening) in openings.iter().enumerate() {
-        let one = read_opened_log(rt, generation, opening, &logs[place])?;
-        if kept.push(one).is_err() {
-            return Err(FilesFault::Memory);
-        }
-    }
-    Ok(kept)
-}
-
-/// The bytes of an opening file and of the log beside it.
-fn read_opened_log<R: Files + AllocGlobal>(
+/// The bytes of the files of these names, of which none is missing: of the opening file of a generation, and of the log beside it, which names it by its own
+/// digest. Where the opening file is missing, and it is generation 1, its bytes are what each of that generation is.
+pub fn read_opened_log<R: Files + AllocGlobal>(
     rt: &R,
     generation: Generation,
     opening: &str,
     log: &str,
 ) -> Result<OpenedLog, FilesFault>
-    ensures { IfErr result (λ e. IsOfLacking opening.now e ⊎ IsOfLacking log.now e) }
+    ensures ok { IfOk result NamesItsFile }
+    ensures err { IfErr result (λ e. IsOfLacking opening.now e ⊎ IsOfLacking log.now e) }
 {
     let opening = read_opening_file(rt, generation, opening)?;
     let log = read_present(rt, log)?;
@@ -65,12 +46,13 @@ fn opened_log(
     opening: Option<Vec<u8>>,
     log: Vec<u8>,
 ) -> Result<OpenedLog, FilesFault>
-    ensures { IfErr result (λ e. e ≡ Memory) }
+    ensures ok { IfOk result NamesItsFile }
+    ensures err { IfErr result (λ e. e ≡ Memory) }
 {
     match opening {
-        Some(opening) => Ok(OpenedLog { opening, log }),
+        Some(opening) => Ok(OpenedLog::of(opening, log)),
         None => match first_opening(alloc, &log) {
-            Ok(opening) => Ok(OpenedLog { opening, log }),
+            Ok(opening) => Ok(OpenedLog::of(opening, log)),
             Err(_) => Err(FilesFault::Memory),
         },
     }
@@ -96,7 +78,7 @@ fn read_opening_file<R: Files + AllocGlobal>(
 }
 
 /// The bytes of a file, where it isn't missing.
-fn read_present<R: Files + AllocGlobal>(rt: &R, name: &str) -> Result<Vec<u8>, FilesFault>
+pub fn read_present<R: Files + AllocGlobal>(rt: &R, name: &str) -> Result<Vec<u8>, FilesFault>
     ensures { IfErr result (IsOfLacking name.now) }
 {
     match fs::read(rt, name) {

@@ -1,11 +1,9 @@
 //! The logs of a generation, read one after the other.
 
-ghost use Rattle.std.specs.Prelude.{◌≡◌, ◌↔◌, true, List, IfOk, IfErr};
+ghost use Rattle.std.specs.Prelude.{◌≡◌, ◌↔◌, true, IfOk, IfErr};
 ghost use Rattle.ep_base.specs.declared.version_kind.VersionKind.TheVariants.{V3};
 ghost use Rattle.ep_log.specs.Reading.{IsRead};
-ghost use Rattle.ep_opening.specs.Bytes.{opening_bytes};
-ghost use Rattle.ep_opening.specs.Files.{File};
-ghost use Rattle.ep_assemble.specs.Generations.{AreFiles, AreKept, AreNotKept, IsNotKept, origin_in};
+ghost use Rattle.ep_assemble.specs.Generations.{AreKept, AreNotKept, IsNotKept, origin_in};
 
 use crate::assembled::End;
 use crate::generation_fault::GenerationFault;
@@ -13,16 +11,14 @@ use crate::logs::{Logs, read_one};
 use crate::opened_cluster::OpenedCluster;
 use crate::opened_log::OpenedLog;
 use ep_log::{Beginning, ReadLog};
-use ep_opening::digest_in;
 use std::alloc::{AllocError, Global};
 
-/// Reads the logs of the cluster, each beside its opening file.
+/// Reads the logs of the cluster, each of which names what its machine opened with.
 pub(crate) fn read_kept(
     alloc: Global,
     cluster: &OpenedCluster,
     kept: &[OpenedLog],
 ) -> Result<Logs, GenerationFault>
-    requires opened { (files : List File) × AreFiles kept.now files }
     ensures ok { IfOk result (λ r. AreKept cluster.now kept.now r.journals.items r.ends.items) }
     ensures err { IfErr result (AreNotKept cluster.now kept.now) }
 {
@@ -47,11 +43,11 @@ fn read_opened(
     place: usize,
     one: &OpenedLog,
 ) -> Result<ReadLog, GenerationFault>
-    ensures ok { IfOk result (λ log. (file : File) → one.now.opening.items ≡ opening_bytes file → IsRead (origin_in cluster.now file) one.now.log.items log.version log.journal log.whole log.behind) }
+    ensures ok { IfOk result (λ log. IsRead (origin_in cluster.now one.now) one.now.log.items log.version log.journal log.whole log.behind) }
     ensures size { IfOk result (λ log. log.journal.faults ≡ cluster.now.size) }
-    ensures err { IfErr result (λ e. (file : File) → one.now.opening.items ≡ opening_bytes file → IsNotKept cluster.now file place one.now.log.items e) }
+    ensures err { IfErr result (IsNotKept cluster.now place one.now) }
 {
-    let origin = origin_beside(alloc, cluster, &one.opening)?;
+    let origin = origin_of(alloc, cluster, one.digest)?;
     let log = read_one(alloc, place, &one.log, &origin)?;
     if !is_of_size(cluster, &log) {
         drop(log);
@@ -67,21 +63,7 @@ fn is_of_size(cluster: &OpenedCluster, log: &ReadLog) -> bool
     log.journal.size() == cluster.size
 }
 
-/// What the replica begins with whose opening file has these bytes. Each file has a digest, so `Err` is want of memory.
-fn origin_beside(
-    alloc: Global,
-    cluster: &OpenedCluster,
-    opening: &[u8],
-) -> Result<Beginning, AllocError>
-    ensures { IfOk result (λ o. (file : File) → opening.now ≡ opening_bytes file → o ≡ origin_in cluster.now file) }
-{
-    match digest_in(opening) {
-        Some(digest) => origin_of(alloc, cluster, digest),
-        None => Err(AllocError),
-    }
-}
-
-/// What the replica begins with whose opening file has this digest.
+/// What the replica begins with whose log names what it opened with by this digest.
 fn origin_of(
     alloc: Global,
     cluster: &OpenedCluster,

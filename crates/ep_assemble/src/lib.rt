@@ -51,7 +51,7 @@ pub use files::collect_files;
 pub use firsts::first_file;
 pub use generation::assemble_generation;
 pub use generation_fault::GenerationFault;
-pub use generation_files::{collect_generation, read_opened_logs};
+pub use generation_files::{collect_generation, read_opened_log, read_present};
 pub use generation_lines::push_named;
 pub use generation_names::GenerationNames;
 pub use lines::{push_refusal, push_torn};

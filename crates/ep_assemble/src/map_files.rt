@@ -21,10 +21,10 @@ pub fn show_files(
     names: &OpenedNames,
     kept: &OpenedLog,
 ) -> Result<Printout, FilesFault>
-    ensures ok { IfOk result (λ s. AreShown generation (string_bytes names.now.log) kept.now.opening.items kept.now.log.items s.text.items s.lines.items) }
-    ensures err { IfErr result (IsReason (AreNotShown generation (string_bytes names.now.opening) (string_bytes names.now.log) kept.now.opening.items kept.now.log.items)) }
+    ensures ok { IfOk result (λ s. AreShown generation (string_bytes names.now.log) kept.now.opening.items kept.now.digest kept.now.log.items s.text.items s.lines.items) }
+    ensures err { IfErr result (IsReason (AreNotShown generation (string_bytes names.now.opening) (string_bytes names.now.log) kept.now.opening.items kept.now.digest kept.now.log.items)) }
 {
-    match show_map(alloc, generation, &kept.opening, &kept.log) {
+    match show_map(alloc, generation, kept) {
         Ok(shown) => {
             let mut lines = Vec::new(alloc);
             push_end(names.log.as_str(), &shown.end, &mut lines)?;

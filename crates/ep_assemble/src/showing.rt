@@ -1,7 +1,6 @@
 //! The map of a log, shown.
 
 ghost use Rattle.std.specs.Prelude.{◌≡◌, ◌↔◌, true, ltb, length, IfOk, IfErr};
-ghost use Rattle.ep_base.specs.declared.version_kind.VersionKind.TheVariants.{V3};
 ghost use Rattle.ep_journal.specs.Leaving.{standing};
 ghost use Rattle.ep_opening.specs.Bytes.{opening_bytes};
 ghost use Rattle.ep_assemble.specs.Shown.{IsNotLogged, IsNotOpened, IsNotShown, IsShown, IsTextOf, map_text, no_end, of_log, of_opening, origin_of};
@@ -9,28 +8,24 @@ ghost use Rattle.ep_assemble.specs.declared.show_fault.ShowFault.TheVariants.{Me
 
 use crate::assembled::End;
 use crate::map_lines::text_of;
+use crate::opened_log::OpenedLog;
 use crate::show_fault::ShowFault;
 use crate::shown::Shown;
 use ep_base::Generation;
 use ep_journal::{Journal, Opening};
 use ep_log::{Beginning, LogFault, ReadLog, read_log};
-use ep_opening::{OpeningFault, OpeningFile, digest_in, read_opening};
+use ep_opening::{OpeningFault, OpeningFile, read_opening};
 use std::alloc::{AllocError, Global};
 
-/// The map of a replica in a generation, of the bytes of its opening file and of the log beside it, as far as its records are whole; of a log
+/// The map of a replica in a generation, of what its folder has: of the bytes of its opening file and of the log beside it, as far as its records are whole; of a log
 /// without a byte, which isn't begun yet, the map of the file.
 #[tactic(auto, using(crate::proofs::MapsOfLogs::not_logged, crate::proofs::MapsOfLogs::not_opened))]
-pub fn show_map(
-    alloc: Global,
-    generation: Generation,
-    opening: &[u8],
-    log: &[u8],
-) -> Result<Shown, ShowFault>
-    ensures ok { IfOk result (λ s. IsShown generation opening.now log.now s.text.items s.end) }
-    ensures err { IfErr result (IsNotShown generation opening.now log.now) }
+pub fn show_map(alloc: Global, generation: Generation, kept: &OpenedLog) -> Result<Shown, ShowFault>
+    ensures ok { IfOk result (λ s. IsShown generation kept.now.opening.items kept.now.digest kept.now.log.items s.text.items s.end) }
+    ensures err { IfErr result (IsNotShown generation kept.now.opening.items kept.now.digest kept.now.log.items) }
 {
-    match read_file(alloc, generation, opening) {
-        Ok(file) => match show_log(alloc, &file, opening, log) {
+    match read_file(alloc, generation, &kept.opening) {
+        Ok(file) => match show_log(alloc, &file, kept.digest, &kept.log) {
             Ok(shown) => Ok(shown),
             Err(fault) => Err(fault),
         },
@@ -86,23 +81,22 @@ fn opening_fault(fault: OpeningFault) -> ShowFault
     }
 }
 
-/// The map of the log beside this file, which has these bytes.
+/// The map of the log beside this file, which it names by this digest.
 #[tactic(auto, using(crate::proofs::MapsOfLogs::empty_shown, crate::proofs::MapsOfLogs::memory_alone))]
 fn show_log(
     alloc: Global,
     file: &OpeningFile,
-    opening: &[u8],
+    digest: [u8; 32],
     log: &[u8],
 ) -> Result<Shown, ShowFault>
-    requires { opening.now ≡ opening_bytes file.now }
-    ensures ok { IfOk result (λ s. IsTextOf file.now log.now s.text.items s.end) }
-    ensures err { IfErr result (IsNotLogged file.now log.now) }
+    ensures ok { IfOk result (λ s. IsTextOf file.now digest log.now s.text.items s.end) }
+    ensures err { IfErr result (IsNotLogged file.now digest log.now) }
 {
     let Some(first) = log.first() else {
         return show_file(alloc, file);
     };
     let _ = first;
-    let origin = origin_beside(alloc, file, opening)?;
+    let origin = origin_with(alloc, file, digest)?;
     match read_log(alloc, log, &origin) {
         Ok(read) => show_read(alloc, file.generation(), &read),
         Err(fault) => Err(log_fault(fault)),
@@ -118,21 +112,9 @@ fn log_fault(fault: LogFault) -> ShowFault
     }
 }
 
-/// What the replica with this file began with, which has these bytes. Each file has a digest, so `Err` is want of memory.
-#[tactic(auto, using(crate::proofs::MapsOfLogs::origin_is))]
-fn origin_beside(alloc: Global, file: &OpeningFile, opening: &[u8]) -> Result<Beginning, AllocError>
-    requires { opening.now ≡ opening_bytes file.now }
-    ensures { IfOk result (λ o. o ≡ origin_of file.now) }
-{
-    match digest_in(opening) {
-        Some(digest) => origin_with(alloc, file, digest),
-        None => Err(AllocError),
-    }
-}
-
-/// What the replica with this file, of this digest, began with.
+/// What the replica with this file, which its log names by this digest, began with.
 fn origin_with(alloc: Global, file: &OpeningFile, digest: [u8; 32]) -> Result<Beginning, AllocError>
-    ensures { IfOk result (λ o. o ≡ record { version = V3 file.now.generation; opening = file.now.opening; digest = digest }) }
+    ensures { IfOk result (λ o. o ≡ origin_of file.now digest) }
 {
     let opening = file.opening().copy(alloc)?;
     Ok(Beginning::of(file.generation(), opening, digest))

@@ -1,1 +1,2 @@
 mod Planned
+pub mod Referred

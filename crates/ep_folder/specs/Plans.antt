@@ -1,20 +1,28 @@
 -- How a replica that lives through generations starts, by what its folder has.
-use Rattle.std.specs.Prelude.{◌≡◌, ℕ, ◌-◌, ◌<◌, ◌≤◌, max, Bool, true, false, not, cond, ◌&&◌, eqb, ltb, List, [], ◌∷◌, Result, Ok, Err}
+use Rattle.std.specs.Prelude.{◌≡◌, ℕ, zero, suc, ◌-◌, ◌<◌, ◌≤◌, max, Bool, true, false, not, cond, ◌&&◌, ◌||◌, eqb, ltb, List, [], ◌∷◌, Result, Ok, Err}
 use Rattle.std.specs.List.{AllByRecursion, list_any}
 use Rattle.ep_folder.specs.declared.generation_folder.GenerationFolder.{GenerationFolder}
 use Rattle.ep_folder.specs.declared.log_start.LogStart.{LogStart}
 use Rattle.ep_folder.specs.declared.log_start.LogStart.TheVariants as log
 use Rattle.ep_folder.specs.declared.plan.Plan.{Plan}
 use Rattle.ep_folder.specs.declared.start_fault.StartFault.{StartFault}
-use Rattle.ep_folder.specs.declared.start_fault.StartFault.TheVariants.{Empty, There, Left, Older, Other}
+use Rattle.ep_folder.specs.declared.start_fault.StartFault.TheVariants.{Empty, There, Left, Older, Other, Broken}
 use Rattle.ep_folder.specs.declared.wish.Wish.{Wish}
 use Rattle.ep_folder.specs.declared.wish.Wish.TheVariants as wish
 
--- the generation, where it has an opening
-abbrev pub opened_number : GenerationFolder → ℕ
-opened_number h = cond h.has_opening h.number 0
+-- the generation is here: it has an opening, or a reference to the log whose replay leaves one
+abbrev pub is_here : GenerationFolder → Bool
+is_here h = h.has_opening || h.has_reference
 
--- the greatest generation that has an opening; 0 where none has
+-- its opening can be read: it is there, and no reference is, or what binds it to the reference
+abbrev pub is_whole : GenerationFolder → Bool
+is_whole h = h.has_opening && (not h.has_reference || h.is_bound)
+
+-- the generation, where it is here
+abbrev pub opened_number : GenerationFolder → ℕ
+opened_number h = cond (is_here h) h.number 0
+
+-- the greatest generation that is here; 0 where none is
 abbrev pub newest : List GenerationFolder → ℕ
 newest [] = 0
 newest (h ∷ hs) = max (opened_number h) (newest hs)
@@ -25,11 +33,33 @@ left_for [] = 0
 left_for (h ∷ hs) = max h.left_for (left_for hs)
 
 abbrev pub is_opening_of : ℕ → GenerationFolder → Bool
-is_opening_of g h = h.has_opening && eqb h.number g
+is_opening_of g h = is_here h && eqb h.number g
 
--- whether the generation has an opening
+-- whether the generation is here
 abbrev pub has_opening : ℕ → List GenerationFolder → Bool
 has_opening g hs = list_any (is_opening_of g) hs
+
+-- From where on a start replays.
+
+abbrev pub is_whole_of : ℕ → GenerationFolder → Bool
+is_whole_of g h = is_whole h && eqb h.number g
+
+-- whether the opening of the generation can be read
+abbrev pub can_read : ℕ → List GenerationFolder → Bool
+can_read g hs = list_any (is_whole_of g) hs
+
+abbrev pub is_referred_of : ℕ → GenerationFolder → Bool
+is_referred_of g h = h.has_reference && eqb h.number g
+
+-- whether its opening is left by the log of the generation before
+abbrev pub is_referred : ℕ → List GenerationFolder → Bool
+is_referred g hs = list_any (is_referred_of g) hs
+
+-- The greatest generation, up to this one, whose opening can be read, where those above it, up to this one, have references. The logs from there on are replayed. Else
+-- the generation is broken that has neither.
+abbrev pub first_of : ℕ → List GenerationFolder → Result ℕ StartFault
+first_of zero hs = Err (Broken 0)
+first_of (suc g) hs = cond (can_read (suc g) hs) (Ok (suc g)) (cond (is_referred (suc g) hs) (first_of g hs) (Err (Broken (suc g))))
 
 abbrev pub start : ℕ → Bool → LogStart → Plan
 start g writes log = record { generation = g; writes = writes; log = log }

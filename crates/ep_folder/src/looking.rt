@@ -2,16 +2,21 @@
 
 use crate::generation_folder::GenerationFolder;
 use crate::named::{generation_in, left_in};
-use crate::paths::{log_path, mark_path, opening_path};
+use crate::paths::{binding_path, log_path, mark_path, opening_path, reference_path};
 use ep_base::Generation;
 use ep_device::{DeviceFault, fault_of};
+use ep_opening::write_binding;
 use std::alloc::AllocError;
-use std::io::ErrorKind;
+use std::fs::File;
+use std::io::{ErrorKind, Read, Seek, SeekFrom};
 use std::rt::Files;
 use std::{fs, io};
 
+/// How many bytes a digest has.
+const DIGEST_LEN: usize = 32;
+
 /// What the folder has of each generation. Names that spell none are passed over.
-pub fn look<R: Files + AllocGlobal>(
+pub fn look<R: Files<File = File> + AllocGlobal>(
     rt: &R,
     folder: &str,
 ) -> Result<Vec<GenerationFolder>, DeviceFault> {
@@ -40,7 +45,7 @@ fn append(all: &mut Vec<GenerationFolder>, held: GenerationFolder) -> Result<(),
 }
 
 /// What it has of the generation of this number, where that is one.
-fn held_of<R: Files + AllocGlobal>(
+fn held_of<R: Files<File = File> + AllocGlobal>(
     rt: &R,
     folder: &str,
     number: Option<u32>,
@@ -54,18 +59,87 @@ fn held_of<R: Files + AllocGlobal>(
     }
 }
 
-fn held_in<R: Files + AllocGlobal>(
+fn held_in<R: Files<File = File> + AllocGlobal>(
     rt: &R,
     folder: &str,
     generation: Generation,
 ) -> Result<GenerationFolder, DeviceFault> {
     let opening = opening_path(rt.alloc(), folder, generation)?;
+    let reference = reference_path(rt.alloc(), folder, generation)?;
     let mark = mark_path(rt.alloc(), folder, generation)?;
     Ok(GenerationFolder {
         number: generation.number(),
         has_opening: is_there(rt, opening.as_str())?,
+        has_reference: is_there(rt, reference.as_str())?,
+        is_bound: is_bound(rt, folder, generation)?,
         left_for: left_for(rt, mark.as_str(), generation.number())?,
     })
+}
+
+/// Whether what is there says that the opening is the one that the reference stood for: by the digests that the two end with. (Whether each is the digest of
+/// the bytes before it is seen when they are read.)
+fn is_bound<R: Files<File = File> + AllocGlobal>(
+    rt: &R,
+    folder: &str,
+    generation: Generation,
+) -> Result<bool, DeviceFault> {
+    let path = binding_path(rt.alloc(), folder, generation)?;
+    if !is_there(rt, path.as_str())? {
+        return Ok(false);
+    }
+    let bytes = read_bytes(rt, path.as_str())?;
+    binds(rt, folder, generation, &bytes)
+}
+
+/// Whether the bytes bind the opening to the reference.
+fn binds<R: Files<File = File> + AllocGlobal>(
+    rt: &R,
+    folder: &str,
+    generation: Generation,
+    bytes: &[u8],
+) -> Result<bool, DeviceFault> {
+    let reference = reference_path(rt.alloc(), folder, generation)?;
+    let opening = opening_path(rt.alloc(), folder, generation)?;
+    let Some(named) = digest_at(rt, reference.as_str())? else {
+        return Ok(false);
+    };
+    let Some(written) = digest_at(rt, opening.as_str())? else {
+        return Ok(false);
+    };
+    let wanted = write_binding(rt.alloc(), named, written)?;
+    Ok(wanted.as_slice() == bytes)
+}
+
+/// The last 32 bytes of a file; none where it isn't there, or has fewer.
+fn digest_at<R: Files<File = File>>(
+    rt: &R,
+    path: &str,
+) -> Result<Option<[u8; DIGEST_LEN]>, DeviceFault> {
+    match fs::metadata(rt, path) {
+        Ok(found) if found.len() < DIGEST_LEN as u64 => Ok(None),
+        Ok(_) => last_of(rt, path),
+        Err(error) if is_missing(&error) => Ok(None),
+        Err(error) => Err(fault_of(&error)),
+    }
+}
+
+fn last_of<R: Files<File = File>>(
+    rt: &R,
+    path: &str,
+) -> Result<Option<[u8; DIGEST_LEN]>, DeviceFault> {
+    match read_last(rt, path) {
+        Ok(digest) => Ok(Some(digest)),
+        Err(error) => Err(fault_of(&error)),
+    }
+}
+
+/// The last 32 bytes of a file that has as many.
+fn read_last<R: Files<File = File>>(rt: &R, path: &str) -> io::Result<[u8; DIGEST_LEN]> {
+    let mut digest = [0; DIGEST_LEN];
+    let mut file = File::open(rt, path)?;
+    file.seek(SeekFrom::End(-32))?;
+    file.read_exact(&mut digest)?;
+    Ok(digest)
 }
 
 /// Whether something has this name.

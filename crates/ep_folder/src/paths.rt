@@ -61,3 +61,25 @@ pub fn mark_path(alloc: Global, folder: &str, generation: Generation) -> Result<
 {
     file_path(alloc, folder, generation, "left")
 }
+
+/// FOLDER/G/reference
+pub fn reference_path(
+    alloc: Global,
+    folder: &str,
+    generation: Generation,
+) -> Result<String, AllocError>
+    ensures { IfOk result (λ path. string_bytes path ≡ file_path folder.now generation (codes "reference")) }
+{
+    file_path(alloc, folder, generation, "reference")
+}
+
+/// FOLDER/G/whole
+pub fn binding_path(
+    alloc: Global,
+    folder: &str,
+    generation: Generation,
+) -> Result<String, AllocError>
+    ensures { IfOk result (λ path. string_bytes path ≡ file_path folder.now generation (codes "whole")) }
+{
+    file_path(alloc, folder, generation, "whole")
+}

@@ -1,7 +1,7 @@
 //! How a replica starts, by what its folder has.
 
-ghost use Rattle.std.specs.Prelude.{◌≡◌, ◌-◌, ◌≤◌, ◌<◌, ◌&&◌, max, ltb, IfOk};
-ghost use Rattle.ep_folder.specs.Plans.{begin, go_on, has_opening, is_opening_of, left_for, newest, opened_number, plan, start, take, take_again, take_later, where_unmarked, NeverGoesBack};
+ghost use Rattle.std.specs.Prelude.{◌≡◌, ◌-◌, ◌≤◌, ◌<◌, ◌&&◌, max, not, ltb, IfOk};
+ghost use Rattle.ep_folder.specs.Plans.{begin, can_read, first_of, go_on, has_opening, is_here, is_opening_of, is_referred, is_referred_of, is_whole, is_whole_of, left_for, newest, opened_number, plan, start, take, take_again, take_later, where_unmarked, NeverGoesBack};
 
 use crate::generation_folder::GenerationFolder;
 use crate::log_start::LogStart;
@@ -16,14 +16,28 @@ fn more(one: u32, other: u32) -> u32
     if one < other { other } else { one }
 }
 
-/// The generation, where it has an opening; else 0.
+/// Whether the generation is here.
+fn is_here(held: &GenerationFolder) -> bool
+    ensures { result ≡ is_here held.now }
+{
+    held.has_opening || held.has_reference
+}
+
+/// Whether its opening can be read.
+fn is_whole(held: &GenerationFolder) -> bool
+    ensures { result ≡ is_whole held.now }
+{
+    held.has_opening && (!held.has_reference || held.is_bound)
+}
+
+/// The generation, where it is here; else 0.
 fn opened_number(held: &GenerationFolder) -> u32
     ensures { result ≡ opened_number held.now }
 {
-    if held.has_opening { held.number } else { 0 }
+    if is_here(held) { held.number } else { 0 }
 }
 
-/// The greatest generation that has an opening; 0 where none has.
+/// The greatest generation that is here; 0 where none is.
 pub fn newest_in(held: &[GenerationFolder]) -> u32
     ensures { result ≡ newest held.now }
 {
@@ -48,10 +62,60 @@ fn left_for(held: &[GenerationFolder]) -> u32
 fn is_opening_of(generation: u32, held: &GenerationFolder) -> bool
     ensures { result ≡ is_opening_of generation held.now }
 {
-    held.has_opening && held.number == generation
+    is_here(held) && held.number == generation
 }
 
-/// Whether the generation has an opening.
+fn is_whole_of(generation: u32, held: &GenerationFolder) -> bool
+    ensures { result ≡ is_whole_of generation held.now }
+{
+    is_whole(held) && held.number == generation
+}
+
+fn is_referred_of(generation: u32, held: &GenerationFolder) -> bool
+    ensures { result ≡ is_referred_of generation held.now }
+{
+    held.has_reference && held.number == generation
+}
+
+/// Whether the opening of the generation can be read.
+fn can_read(generation: u32, held: &[GenerationFolder]) -> bool
+    ensures { result ≡ can_read generation held.now }
+{
+    held.iter().any(|one| is_whole_of(generation, one))
+}
+
+/// Whether the generation has a reference here: its opening is left by the log of the generation before.
+pub fn is_referred(generation: u32, held: &[GenerationFolder]) -> bool
+    ensures { result ≡ is_referred generation held.now }
+{
+    held.iter().any(|one| is_referred_of(generation, one))
+}
+
+/// Whether the search for an opening that can be read goes on below this generation.
+fn goes_below(generation: u32, held: &[GenerationFolder]) -> bool
+    ensures { result ≡ (ltb 0 generation && not (can_read generation held.now) && is_referred generation held.now) }
+{
+    generation > 0 && !can_read(generation, held) && is_referred(generation, held)
+}
+
+/// From which generation on the logs are replayed to open this one: the greatest up to it whose opening can be read.
+#[tactic(auto, using(crate::proofs::Referred::goes_on, crate::proofs::Referred::is_read, crate::proofs::Referred::is_broken))]
+pub fn first_of(held: &[GenerationFolder], generation: u32) -> Result<u32, StartFault>
+    ensures value { result ≡ first_of generation held.now }
+    ensures reached { IfOk result (λ first. (1 ≤ first) × (first ≤ generation)) }
+{
+    let mut first = generation;
+    while goes_below(first, held) {
+        first -= 1;
+    }
+    if first > 0 && can_read(first, held) {
+        Ok(first)
+    } else {
+        Err(StartFault::Broken(first))
+    }
+}
+
+/// Whether the generation is here.
 fn has_opening(generation: u32, held: &[GenerationFolder]) -> bool
     ensures { result ≡ has_opening generation held.now }
 {

@@ -13,4 +13,6 @@ pub enum StartFault {
     Older(u32),
     /// This generation has another opening here.
     Other(u32),
+    /// Of this generation neither an opening nor a reference is here that can be read, and a later one rests on it.
+    Broken(u32),
 }

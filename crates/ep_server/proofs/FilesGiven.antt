@@ -1,5 +1,5 @@
 -- What becomes of the files that a command names.
-use Rattle.std.proofs.Common.{◌≡◌, ◌<◌, ◌≤◌, ◌+◌, inl, ℕ, List, [], ◌∷◌, ◌++◌, Result, length, length-append, map, take, get_or, IfOk, IfErr, sym, ap, ◌∙◌, arith}
+use Rattle.std.proofs.Common.{◌≡◌, ◌<◌, ◌≤◌, ◌+◌, inl, ℕ, List, [], ◌∷◌, ◌++◌, All, Result, length, length-append, map, take, get_or, IfOk, IfErr, sym, ap, ◌∙◌, arith}
 use Rattle.std.proofs.lemmas.List.{length-map, map-append, take_all, take_more}
 use Rattle.std.specs.Global.{Vec}
 use Rattle.ep_assemble.specs.Files.{IsCollected, IsNotCollected}
@@ -15,7 +15,7 @@ use Rattle.ep_cli.specs.declared.printout.Printout.{Printout}
 use Rattle.ep_cli.specs.declared.status.Status.{Status}
 use Rattle.ep_assemble.specs.ShownFiles.{AreNotShown, AreShown}
 use Rattle.ep_moving.specs.MovedFiles.{IsNotUpgraded, IsUpgraded}
-use Rattle.ep_server.specs.NamedFiles.{CollectsFiles, CollectsGeneration, ShowsFiles, UpgradesFiles}
+use Rattle.ep_server.specs.NamedFiles.{CollectsFiles, CollectsGeneration, IsNamedLog, ShowsFiles, UpgradesFiles}
 
 -- one name more, each by its folder
 pub one_more : {S : Type 0} (f : S → List ℕ) (k : List ℕ → List ℕ) (i : ℕ) (xs : List S) (x d : S) (ys ys' : List S) (y : S) → i < length xs → x ≡ get_or xs i d → map f ys ≡ map k (map f (take i xs)) →
@@ -56,27 +56,29 @@ are_collected f logs receipts log_bytes receipt_bytes made status out fault all 
     })
 
 pub are_collected_of :
-    {S : Type 0} (f : S → List ℕ) (g : ℕ) (openings logs receipts : List S) (kept : List OpenedLog) (receipt_bytes : List (Vec ℕ)) (made : Result Printout FilesFault) (status : Status) (out fault : Output) →
-    length kept ≡ length logs → length receipt_bytes ≡ length receipts →
+    {S : Type 0} (f : S → List ℕ) (g : ℕ) (folders openings logs receipts : List S) (kept : List OpenedLog) (receipt_bytes : List (Vec ℕ)) (made : Result Printout FilesFault) (status : Status) (out fault : Output) →
+    length kept ≡ length logs → All IsNamedLog kept → length receipt_bytes ≡ length receipts →
     IfOk made (λ p. IsCollectedOf g (map f logs) (map f receipts) kept (contents receipt_bytes) p.text.items p.lines.items) →
     IfErr made (IsReason (IsNotCollectedOf g (map f openings) (map f logs) (map f receipts) kept (contents receipt_bytes))) → Prints made status out fault →
-    CollectsGeneration g (map f openings) (map f logs) (map f receipts) status out fault
-are_collected_of f g openings logs receipts kept receipt_bytes made status out fault all every ok err puts =
+    CollectsGeneration g (map f folders) (map f openings) (map f logs) (map f receipts) status out fault
+are_collected_of f g folders openings logs receipts kept receipt_bytes made status out fault all named every ok err puts =
     inl
     (record {
       kept = kept;
       kept_count = all ∙ sym (length-map logs f);
+      named = named;
       receipt_bytes = contents receipt_bytes;
       receipt_count = as_many f receipts receipt_bytes every;
       gives = gives (IsCollectedOf g (map f logs) (map f receipts) kept (contents receipt_bytes)) (IsNotCollectedOf g (map f openings) (map f logs) (map f receipts) kept (contents receipt_bytes)) made status out fault ok err puts;
     })
 
 pub are_shown :
-    (g : ℕ) (opening_name log_name opening log : List ℕ) (made : Result Printout FilesFault) (status : Status) (out fault : Output) →
-    IfOk made (λ p. AreShown g log_name opening log p.text.items p.lines.items) → IfErr made (IsReason (AreNotShown g opening_name log_name opening log)) → Prints made status out fault →
-    ShowsFiles g opening_name log_name status out fault
-are_shown g opening_name log_name opening log made status out fault ok err puts =
-    inl (opening, log, gives (AreShown g log_name opening log) (AreNotShown g opening_name log_name opening log) made status out fault ok err puts)
+    (g : ℕ) (folder opening_name log_name : List ℕ) (kept : OpenedLog) (made : Result Printout FilesFault) (status : Status) (out fault : Output) →
+    IsNamedLog kept → IfOk made (λ p. AreShown g log_name kept.opening.items kept.digest kept.log.items p.text.items p.lines.items) →
+    IfErr made (IsReason (AreNotShown g opening_name log_name kept.opening.items kept.digest kept.log.items)) → Prints made status out fault → ShowsFiles g folder opening_name log_name status out fault
+are_shown g folder opening_name log_name kept made status out fault named ok err puts =
+    inl
+    (kept, named, gives (AreShown g log_name kept.opening.items kept.digest kept.log.items) (AreNotShown g opening_name log_name kept.opening.items kept.digest kept.log.items) made status out fault ok err puts)
 
 pub are_upgraded :
     {S : Type 0} (f : S → List ℕ) (names : List S) (logs : List (Vec ℕ)) (made : Result Printout FilesFault) (status : Status) (out fault : Output) → length logs ≡ length names →

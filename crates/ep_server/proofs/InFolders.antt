@@ -1,10 +1,11 @@
 -- What a node in a folder has told, and that it has served.
-use Rattle.std.proofs.Common.{◌≡◌, inl, inr, ℕ, Bool, true, List, [], ◌++◌, Option, Some, None, Result, Ok, Err, IfOk, refl, append-nil, sym, subst, ◌∙◌}
+use Rattle.std.proofs.Common.{◌≡◌, inl, inr, ℕ, Bool, true, List, [], ◌++◌, Option, Some, None, Result, Ok, Err, IfOk, refl, append-nil, ap, sym, subst, ◌∙◌}
 use Rattle.std.proofs.KnownBytes.{Appends-nil}
 use Rattle.ep_base.specs.Devices.{Puts}
 use Rattle.ep_log.specs.Origins.{Origin}
 use Rattle.ep_node.specs.Nodes.{IsQuiet, Logged, origin_of}
 use Rattle.ep_node.specs.declared.cut.Cut.{Cut}
+use Rattle.ep_opening.specs.Bytes.{file_digest}
 use Rattle.ep_opening.specs.Files.{File}
 use Rattle.ep_serve.specs.Lasting.{crashes}
 use Rattle.ep_serve.specs.Serving.{dialect_of, Ends}
@@ -12,7 +13,9 @@ use Rattle.ep_serve.specs.declared.mode.Mode.{Mode}
 use Rattle.ep_serve.specs.declared.serve_fault.ServeFault.{ServeFault}
 use Rattle.ep_server.proofs.Serving.{told_by, told_twice}
 use Rattle.ep_cli.specs.Outputs.{Input, Output, output, Told, WroteNothing}
-use Rattle.ep_server.specs.Served.{origin_from, told_first, of_serve, Fails, HappensThere, HasServedThere, IsOfFile, IsOver, IsUnready, Shown, TellsCut, TellsCuts}
+use Rattle.ep_server.specs.Served.{told_first, of_serve, Fails, HappensThere, HasServedThere, IsOfFile, IsOver, IsUnready, Shown, TellsCut, TellsCuts}
+use Rattle.ep_server.specs.Replays.{HasOpened, origin_from}
+use Rattle.ep_server.specs.declared.named_file.NamedFile.{NamedFile}
 use Rattle.ep_server.specs.declared.server_fault.ServerFault.{ServerFault}
 use Rattle.ep_server.specs.declared.server_fault.ServerFault.TheVariants.{Open, Serve, Folder}
 
@@ -67,15 +70,22 @@ has_served_there {D = D} shown mode faults me start zs outcome reader out of ove
 
 -- a node that is opened with the origin that a file has
 pub of_file :
-    {D : Type 0} (file : File) (faults me who : ℕ) (o : Origin) (node : Logged D) → faults ≡ file.faults → who ≡ me → o ≡ origin_from file → node.replica.faults ≡ faults → node.replica.me ≡ who →
+    {D : Type 0} (file : NamedFile) (faults me who : ℕ) (o : Origin) (node : Logged D) → HasOpened file → faults ≡ file.file.faults → who ≡ me → o ≡ origin_from file → node.replica.faults ≡ faults → node.replica.me ≡ who →
     origin_of node ≡ o → IsOfFile node.replica.faults me node
-of_file file faults me who o node size mine from cluster replica origin = record {
+of_file file faults me who o node opened size mine from cluster replica origin = record {
   file = file;
+  opened = opened;
   size = sym (cluster ∙ size);
   origin = origin ∙ from;
   cluster = refl;
   replica = replica ∙ mine;
 }
+
+-- the file of a closed generation, which its log names by its own digest
+pub begins_with :
+    {D : Type 0} (node it : Logged D) (n : NamedFile) (file : File) → n.file ≡ file → n.digest ≡ file_digest file → origin_of node ≡ origin_from n → it ≡ node →
+    origin_of it ≡ origin_from (record { file = file; digest = file_digest file })
+begins_with {D = D} node it n file same digest is one = ap (λ (x : Logged D). origin_of x) one ∙ is ∙ ap (λ (f : File). origin_from (record { file = f; digest = n.digest })) same ∙ ap (λ (d : List ℕ). origin_from (record { file = file; digest = d })) digest
 
 -- it is for a cluster of this size
 pub of_this_size : {D : Type 0} (size me : ℕ) (node it : Logged D) → IsOfFile node.replica.faults me node → it ≡ node → node.replica.faults ≡ size → IsOfFile size me it

@@ -2,3 +2,5 @@ mod FilesGiven
 mod InFolders
 mod Named
 mod Serving
+mod Replayed
+mod Gathered

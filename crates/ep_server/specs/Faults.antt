@@ -1,5 +1,5 @@
 -- How the program ends at a fault, and the line that it then tells.
-use Rattle.std.specs.Prelude.{ℕ, List, [], ◌++◌, codes, decimal}
+use Rattle.std.specs.Prelude.{ℕ, ◌+◌, List, [], ◌++◌, codes, decimal}
 use Rattle.ep_cli.specs.Causes.{cause_text}
 use Rattle.ep_cli.specs.Lines.{numbered, out_of_memory, reading_failed, writing_failed}
 use Rattle.ep_cli.specs.declared.status.Status.{Status}
@@ -8,7 +8,7 @@ use Rattle.ep_device.specs.declared.system_fault.SystemFault.{SystemFault}
 use Rattle.ep_device.specs.declared.device_fault.DeviceFault.{DeviceFault}
 use Rattle.ep_device.specs.declared.device_fault.DeviceFault.TheVariants as device
 use Rattle.ep_folder.specs.declared.start_fault.StartFault.{StartFault}
-use Rattle.ep_folder.specs.declared.start_fault.StartFault.TheVariants.{Empty, There, Left, Older, Other}
+use Rattle.ep_folder.specs.declared.start_fault.StartFault.TheVariants.{Empty, There, Left, Older, Other, Broken}
 use Rattle.ep_log.specs.declared.log_fault.LogFault.{LogFault}
 use Rattle.ep_log.specs.declared.log_fault.LogFault.TheVariants as log
 use Rattle.ep_node.specs.declared.cut.Cut.{Cut}
@@ -76,6 +76,7 @@ line_of_refusal (There g) = numbered (codes "folder refused: generation ") g (co
 line_of_refusal (Left g) = numbered (codes "folder refused: the replica has been in generation ") g (codes ", which is gone; --take FILE goes on with the opening of a later one\n")
 line_of_refusal (Older g) = numbered (codes "opening refused: it is of an earlier generation than ") g (codes ", which is here; start without --take\n")
 line_of_refusal (Other g) = numbered (codes "opening refused: generation ") g (codes " has another one here; start without --take\n")
+line_of_refusal (Broken g) = numbered (codes "folder refused: what generation ") g (codes " opens with is gone, and a later one rests on it; --take FILE goes on with the opening of a later one\n")
 
 abbrev pub line_of_folder : FolderFault → List ℕ
 line_of_folder folder.Memory = out_of_memory
@@ -85,6 +86,10 @@ line_of_folder (folder.Refused why) = line_of_refusal why
 line_of_folder (folder.NoLog g) = numbered (codes "folder refused: generation ") g (codes " has no log; repeat the --take that was broken off, or go on with the opening of a later one by --take FILE\n")
 line_of_folder (folder.Opening g why) = numbered (codes "folder refused: the opening of generation ") g (codes ": ") ++ line_of_opening why
 line_of_folder (folder.OtherGeneration g h) = numbered (codes "folder refused: the opening of generation ") g (codes " is that of generation ") ++ (decimal h ++ codes "\n")
+line_of_folder (folder.Reference g why) = numbered (codes "folder refused: the reference of generation ") g (codes ": ") ++ line_of_opening why
+line_of_folder (folder.OtherReference g h) = numbered (codes "folder refused: the reference of generation ") g (codes " is that of generation ") ++ (decimal h ++ codes "\n")
+line_of_folder (folder.ShortLog g) = numbered (codes "folder refused: the log of generation ") g (codes " is gone or cut short, and what it leaves opens generation ") ++ (decimal (g + 1) ++ codes "\n")
+line_of_folder (folder.OtherLog g) = numbered (codes "folder refused: the log of generation ") g (codes " isn't the one that generation ") ++ (decimal (g + 1) ++ codes " opens with\n")
 line_of_folder (folder.OtherSize g n) = numbered (codes "folder refused: generation ") g (codes " has another size and isn't closed; go on with --replicas ") ++ (decimal n ++ codes "\n")
 line_of_folder (folder.NoOpening why) = codes "opening refused: " ++ line_of_opening why
 line_of_folder (folder.OtherCluster n) = numbered (codes "opening refused: it is for --replicas ") n (codes "\n")
@@ -129,6 +134,10 @@ status_of_folder (folder.Refused why) = Refused
 status_of_folder (folder.NoLog g) = Refused
 status_of_folder (folder.Opening g why) = Refused
 status_of_folder (folder.OtherGeneration g h) = Refused
+status_of_folder (folder.Reference g why) = Refused
+status_of_folder (folder.OtherReference g h) = Refused
+status_of_folder (folder.ShortLog g) = Refused
+status_of_folder (folder.OtherLog g) = Refused
 status_of_folder (folder.OtherSize g n) = Refused
 status_of_folder (folder.NoOpening why) = Refused
 status_of_folder (folder.OtherCluster n) = Refused

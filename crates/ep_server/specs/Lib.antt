@@ -1,4 +1,5 @@
 pub mod Absent
 pub mod Faults
 pub mod NamedFiles
+pub mod Replays
 pub mod Served

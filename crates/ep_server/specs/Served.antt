@@ -5,7 +5,6 @@ use Rattle.ep_device.specs.declared.system_fault.SystemFault.{SystemFault}
 use Rattle.ep_cli.specs.Outputs.{Input, Output, Told, WroteNothing}
 use Rattle.ep_cli.specs.declared.status.Status.{Status}
 use Rattle.ep_cli.specs.declared.status.Status.TheVariants.{Done}
-use Rattle.ep_base.specs.declared.version_kind.VersionKind.TheVariants.{V3}
 use Rattle.ep_log.specs.Origins.{Origin, second}
 use Rattle.ep_node.specs.Nodes.{Logged, origin_of}
 use Rattle.ep_node.specs.Opening.{IsOpened, IsUnopened, IsWrittenAnew}
@@ -14,7 +13,6 @@ use Rattle.ep_node.specs.declared.cut.Cut.{Cut}
 use Rattle.ep_node.specs.declared.open_fault.OpenFault.{OpenFault}
 use Rattle.ep_node.specs.declared.open_fault.OpenFault.TheVariants as open_
 use Rattle.ep_journal.specs.Entries.{Log}
-use Rattle.ep_opening.specs.Bytes.{file_digest}
 use Rattle.ep_opening.specs.Closing.{store_of, IsClosing}
 use Rattle.ep_opening.specs.Files.{File}
 use Rattle.ep_rules.specs.OneMap.{is_closed}
@@ -23,6 +21,8 @@ use Rattle.ep_serve.specs.Serving.{dialect_of, Ends, IsReadTo, Names, is_log_fai
 use Rattle.ep_serve.specs.declared.mode.Mode.{Mode}
 use Rattle.ep_serve.specs.declared.serve_fault.ServeFault.{ServeFault}
 use Rattle.ep_server.specs.Faults.{line_of, line_of_cut, status_of}
+use Rattle.ep_server.specs.Replays.{HasOpened, origin_from}
+use Rattle.ep_server.specs.declared.named_file.NamedFile.{NamedFile}
 use Rattle.ep_server.specs.declared.server_fault.ServerFault.{ServerFault}
 use Rattle.ep_server.specs.declared.server_fault.ServerFault.TheVariants.{Open, Serve, Folder}
 
@@ -113,19 +113,17 @@ pub record IsNode {D : Type 0} (shown : Shown D) (role : Role) (bytes zs : List 
 
 -- A node in the folder of a replica that lives through generations.
 
--- what the replica of a generation begins with, by the file that the generation opens with
-abbrev pub origin_from : File → Origin
-origin_from f = record { version = V3 f.generation; opening = f.opening; digest = file_digest f }
-
 -- what a journal is gone on with, in a next generation of which `next` replicas may fail: nothing, where no seal was executed; else the file that closes it
 abbrev pub IsNextOf : Log → ℕ → Option File → Type 0
 IsNextOf j next None = is_closed (store_of j) ≡ false
 IsNextOf j next (Some f) = IsClosing j next f
 
--- The node's replica is of the generation that a file opens, for a cluster of this size, and began with what that file has: its log names the file's digest.
+-- The node's replica is of the generation that a file opens, for a cluster of this size, and began with what that file has, which is kept or which logs lead to: its log
+-- names the digest of the file, or of the reference that stood for it.
 pub record IsOfFile {D : Type 0} (faults me : ℕ) (node : Logged D) : Type 0 where
-  pub file : File
-  pub size : file.faults ≡ faults
+  pub file : NamedFile
+  pub opened : HasOpened file
+  pub size : file.file.faults ≡ faults
   pub origin : origin_of node ≡ origin_from file
   pub cluster : node.replica.faults ≡ faults
   pub replica : node.replica.me ≡ me

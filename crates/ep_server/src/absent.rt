@@ -1,19 +1,24 @@
 //! Folders that lack a generation.
 
-ghost use Rattle.std.specs.Prelude.{◌≡◌, ◌++◌, IfOk, OnOk};
+ghost use Rattle.std.specs.Prelude.{◌≡◌, ◌++◌, IfErr, IfOk, OnOk};
 ghost use Rattle.ep_server.specs.Absent.{absent_line, beside_text, empty_line};
+ghost use Rattle.ep_server.specs.NamedFiles.{IsUnopened};
 
 use ep_base::Generation;
 use ep_cli::{FilesFault, push_number, unread};
 use ep_folder::{GenerationFolder, has_generations, look};
 use std::alloc::{AllocError, Global};
+use std::fs::File;
 use std::rt::Files;
 
 /// What the folder has of each generation; or why it isn't read.
-pub(crate) fn held_in<R: Files + AllocGlobal>(
+#[tactic(auto, using(crate::proofs::Gathered::unread_folder))]
+pub(crate) fn held_in<R: Files<File = File> + AllocGlobal>(
     rt: &R,
     folder: &str,
-) -> Result<Vec<GenerationFolder>, FilesFault> {
+) -> Result<Vec<GenerationFolder>, FilesFault>
+    ensures { IfErr result (IsUnopened folder.now) }
+{
     match look(rt, folder) {
         Ok(held) => Ok(held),
         Err(why) => Err(unread(rt.alloc(), folder, why)),
@@ -21,7 +26,7 @@ pub(crate) fn held_in<R: Files + AllocGlobal>(
 }
 
 /// Passes where each of the folders has the generation; the first that lacks it is told.
-pub(crate) fn check_all<R: Files + AllocGlobal>(
+pub(crate) fn check_all<R: Files<File = File> + AllocGlobal>(
     rt: &R,
     folders: &[String],
     generation: Generation,
@@ -32,7 +37,7 @@ pub(crate) fn check_all<R: Files + AllocGlobal>(
     Ok(())
 }
 
-fn check<R: Files + AllocGlobal>(
+fn check<R: Files<File = File> + AllocGlobal>(
     rt: &R,
     folder: &str,
     generation: Generation,

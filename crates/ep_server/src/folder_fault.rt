@@ -27,6 +27,14 @@ pub enum FolderFault {
     Opening(u32, OpeningFault),
     /// The opening that stands in the place of that of the first of these generations is of the second.
     OtherGeneration(u32, u32),
+    /// The reference of this generation isn't one.
+    Reference(u32, OpeningFault),
+    /// The reference that stands in the place of that of the first of these generations is of the second.
+    OtherReference(u32, u32),
+    /// The log of this generation has fewer bytes than the next generation opens with.
+    ShortLog(u32),
+    /// The log of this generation isn't the one that the next generation opens with.
+    OtherLog(u32),
     /// This generation has so many replicas, and another number was told.
     OtherSize(u32, u32),
     /// What is to be taken is no opening.
@@ -49,6 +57,10 @@ impl FolderFault {
             | FolderFault::NoLog(_)
             | FolderFault::Opening(_, _)
             | FolderFault::OtherGeneration(_, _)
+            | FolderFault::Reference(_, _)
+            | FolderFault::OtherReference(_, _)
+            | FolderFault::ShortLog(_)
+            | FolderFault::OtherLog(_)
             | FolderFault::OtherSize(_, _)
             | FolderFault::NoOpening(_)
             | FolderFault::OtherCluster(_)

@@ -1,13 +1,14 @@
 //! A generation that is about to be opened.
 
+use crate::named_file::NamedFile;
 use ep_folder::GenerationFolder;
 use ep_node::Begin;
-use ep_opening::SpelledFile;
 
 /// A generation that is about to be opened.
 #[derive(Drop)]
 pub(crate) struct GenerationStart {
-    pub(crate) file: SpelledFile,
+    /// What it opens with, and the digest that its log names.
+    pub(crate) named: NamedFile,
     /// Whether its log is begun.
     pub(crate) begin: Begin,
     /// What the folder had before it was opened.

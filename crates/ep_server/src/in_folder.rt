@@ -4,11 +4,14 @@ ghost use Rattle.std.specs.Prelude.{◌≡◌, ◌++◌, ℕ, List, Option, None
 ghost use Rattle.ep_cli.specs.Outputs.{became, turned};
 ghost use Rattle.ep_node.specs.Nodes.{IsQuiet, origin_of};
 ghost use Rattle.ep_node.specs.declared.cut.Cut.{Cut as CutOff};
-ghost use Rattle.ep_server.specs.Served.{origin_from, told_first, IsFolderNode, IsNextOf, IsOfFile, IsUnready, TellsCut, TellsCuts};
+ghost use Rattle.ep_opening.specs.Bytes.{file_digest};
+ghost use Rattle.ep_server.specs.Replays.{origin_from, HasOpened};
+ghost use Rattle.ep_server.specs.Served.{told_first, IsFolderNode, IsNextOf, IsOfFile, IsUnready, TellsCut, TellsCuts};
 
 use crate::folder_fault::FolderFault;
 use crate::folder_options::FolderOptions;
 use crate::generation_start::GenerationStart;
+use crate::named_file::NamedFile;
 use crate::program::{concluded, opened_as, served, tell_first};
 use crate::server_fault::ServerFault;
 use crate::staging::{check_stage, first_stage, handed_stage};
@@ -16,7 +19,6 @@ use ep_base::{Generation, ReplicaId, Sink, Size, Source};
 use ep_cli::{Status, Streams};
 use ep_device::{Device, FileDevice};
 use ep_folder::{GenerationFolder, leave_earlier, log_path};
-use ep_log::Beginning;
 use ep_node::{CloseFault, Node, OpenFault, Whose};
 use ep_opening::{OpeningFile, SpelledFile};
 use std::alloc::Global;
@@ -57,7 +59,7 @@ fn ready<'a, R: Files<File = File> + AllocGlobal, F: Sink>(
 {
     let stage = first_stage(rt, options)?;
     check_stage(options.size, &stage)?;
-    let generation = stage.file.file().generation();
+    let generation = stage.named.file.generation();
     let node = open_stage(rt, options, stage, fault_writer)?;
     match closing(rt.alloc(), options.size, &node) {
         Ok(Some(file)) => {
@@ -73,7 +75,7 @@ fn ready<'a, R: Files<File = File> + AllocGlobal, F: Sink>(
 }
 
 /// The node of the generation that this file opens, which closes the one before.
-#[tactic(auto, using(crate::proofs::InFolders::tells_nothing, crate::proofs::InFolders::of_this_size))]
+#[tactic(auto, using(crate::proofs::InFolders::tells_nothing, crate::proofs::InFolders::of_this_size, crate::proofs::InFolders::begins_with))]
 fn ready_next<'a, R: Files<File = File> + AllocGlobal, F: Sink>(
     rt: &'a R,
     options: &FolderOptions<'_>,
@@ -81,13 +83,13 @@ fn ready_next<'a, R: Files<File = File> + AllocGlobal, F: Sink>(
     fault_writer: &mut F,
 ) -> Result<Node<FileDevice<'a, R>>, ServerFault>
     ensures ok { IfOk result (λ node. IsQuiet node × IsOfFile options.now.size options.now.me node) }
-    ensures origin { IfOk result (λ node. origin_of node ≡ origin_from file) }
+    ensures origin { IfOk result (λ node. origin_of node ≡ origin_from (record { file = file; digest = file_digest file })) }
     ensures err { IfErr result IsUnready }
     ensures told { TellsCut (became F.held F.has_failed fault_writer.old fault_writer.new) }
 {
     let stage = closed_stage(rt, options.folder, file)?;
     check_stage(options.size, &stage)?;
-    let generation = stage.file.file().generation();
+    let generation = stage.named.file.generation();
     let node = open_stage(rt, options, stage, fault_writer)?;
     of_size(options.size, generation, node)
 }
@@ -98,7 +100,9 @@ fn closed_stage<R: Files<File = File> + AllocGlobal>(
     folder: &str,
     file: OpeningFile,
 ) -> Result<GenerationStart, FolderFault>
-    ensures { IfOk result (λ s. s.file ≡ file) }
+    ensures file { IfOk result (λ s. s.named.file ≡ file) }
+    ensures digest { IfOk result (λ s. s.named.digest ≡ file_digest file) }
+    ensures opened { IfOk result (λ s. HasOpened s.named) }
 {
     let file = SpelledFile::write(rt.alloc(), file)?;
     handed_stage(rt, folder, file, false)
@@ -143,19 +147,16 @@ fn closing<D: Device>(
 }
 
 /// Whose log is that of this generation.
-fn whose_of(file: SpelledFile, me: ReplicaId) -> Whose
-    ensures cluster { result.cluster ≡ file.faults }
+fn whose_of(named: NamedFile, me: ReplicaId) -> Whose
+    ensures cluster { result.cluster ≡ named.file.faults }
     ensures me { result.me ≡ me }
-    ensures origin { result.origin ≡ origin_from file }
+    ensures origin { result.origin ≡ origin_from named }
 {
-    let digest = file.digest();
-    let file = file.into_file();
-    let cluster = file.size();
-    let generation = file.generation();
+    let cluster = named.file.size();
     Whose {
         cluster,
         me,
-        origin: Beginning::of(generation, file.into_opening(), digest),
+        origin: named.into_origin(),
     }
 }
 
@@ -185,15 +186,16 @@ fn open_stage<'a, R: Files<File = File> + AllocGlobal, F: Sink>(
     stage: GenerationStart,
     fault_writer: &mut F,
 ) -> Result<Node<FileDevice<'a, R>>, ServerFault>
+    requires { HasOpened stage.named }
     ensures ok { IfOk result (λ node. IsQuiet node × IsOfFile node.replica.faults options.now.me node) }
-    ensures origin { IfOk result (λ node. origin_of node ≡ origin_from stage.file) }
+    ensures origin { IfOk result (λ node. origin_of node ≡ origin_from stage.named) }
     ensures err { IfErr result IsUnready }
     ensures told { TellsCut (became F.held F.has_failed fault_writer.old fault_writer.new) }
 {
-    let GenerationStart { file, begin, held } = stage;
-    let generation = file.file().generation();
+    let GenerationStart { named, begin, held } = stage;
+    let generation = named.file.generation();
     let device = device_of(rt, options.folder, generation)?;
-    let whose = whose_of(file, options.me);
+    let whose = whose_of(named, options.me);
     match opened_as(rt.alloc(), device, whose, begin) {
         Ok(node) => {
             let _ = tell_first(node.cut(), fault_writer);

@@ -5,7 +5,8 @@
 //! log, and hands it and the standard streams to `serve_log`, in `program.rt`, which is all of the node: over any device, source and sinks, so
 //! that its contract can say what the bytes and the status mean. It does no more than call `Node::opened` and `ep_serve`'s `serve`.
 //! `serve_folder`, in `in_folder.rt`, does the same in the folder of a replica that lives through generations: `staging.rt` says which generation
-//! is opened, by `ep_folder`'s plan, and a generation that is closed is gone on from at once. `collect_named`, in `collecting.rt`, reads the files
+//! is opened, by `ep_folder`'s plan, and a generation that is closed is gone on from at once. `replaying.rt` reads what a generation opens
+//! with, for all commands alike: its file, or the logs before it that references name. `collect_named`, in `collecting.rt`, reads the files
 //! of `epaxos collect`, and prints what `ep_assemble`'s `collect_files` makes of them; so do `collect_of`, `show_named` and `upgrade_named` of the
 //! files that their commands name.
 //!
@@ -28,12 +29,18 @@ mod generation_collecting;
 mod generation_gathered;
 mod generation_start;
 mod in_folder;
+mod named_file;
+mod named_log;
+mod named_reference;
+mod opened_logs;
 mod options;
 mod program;
+mod replaying;
 mod server_asked;
 mod server_fault;
 mod staging;
 mod telling;
+mod unopened;
 mod upgrading;
 
 use crate::asks::Asks;

@@ -2,33 +2,27 @@
 
 ghost use Rattle.std.specs.Prelude.{◌≡◌, IfOk};
 ghost use Rattle.ep_assemble.specs.Firsts.{first_file};
-ghost use Rattle.ep_opening.specs.Bytes.{opening_bytes};
+ghost use Rattle.ep_opening.specs.Bytes.{file_digest, opening_bytes};
+ghost use Rattle.ep_server.specs.Replays.{HasOpened};
 
 use crate::asks::Asks;
 use crate::folder_fault::FolderFault;
 use crate::folder_options::FolderOptions;
 use crate::generation_start::GenerationStart;
+use crate::named_file::NamedFile;
+use crate::replaying::{generation_of, opened};
 use ep_assemble::first_file;
 use ep_base::{Generation, Size};
 use ep_device::DeviceFault;
 use ep_folder::{
-    GenerationFolder, Plan, Wish, has_log, look, make_folder, newest_in, opening_path, plan_for,
-    read_bytes, write_whole,
+    GenerationFolder, Plan, Wish, has_log, is_referred, look, make_folder, newest_in, opening_path,
+    plan_for, read_bytes, reference_path, write_whole,
 };
 use ep_node::Begin;
 use ep_opening::{OpeningFault, SpelledFile};
 use std::alloc::Global;
 use std::fs::File;
 use std::rt::Files;
-
-/// The generation of this number.
-fn generation_of(number: u32) -> Result<Generation, FolderFault> {
-    match Generation::new(number) {
-        Ok(generation) => Ok(generation),
-        // (no plan and no folder is of generation 0)
-        Err(_) => Err(FolderFault::Last),
-    }
-}
 
 /// What a new replica begins with.
 fn first_opening(alloc: Global, size: Size) -> Result<SpelledFile, FolderFault>
@@ -81,7 +75,7 @@ fn taken<R: Files + AllocGlobal>(rt: &R, name: &str, size: Size) -> Result<Spell
     taken_file(rt.alloc(), bytes, size)
 }
 
-/// Whether the newest opening here has these bytes.
+/// Whether the newest generation here opens with a file of these bytes. One that has a reference opens with what the log before it leaves.
 fn is_newest<R: Files + AllocGlobal>(
     rt: &R,
     folder: &str,
@@ -89,7 +83,7 @@ fn is_newest<R: Files + AllocGlobal>(
     file: &SpelledFile,
 ) -> Result<bool, FolderFault> {
     let generation = file.file().generation();
-    if newest_in(held) != generation.number() {
+    if newest_in(held) != generation.number() || is_referred(generation.number(), held) {
         return Ok(false);
     }
     let path = opening_path(rt.alloc(), folder, generation)?;
@@ -116,49 +110,6 @@ fn put_file<R: Files<File = File> + AllocGlobal>(
 ) -> Result<(), FolderFault> {
     make_folder(rt, folder, file.file().generation())?;
     write_file(rt, folder, file)
-}
-
-/// The opening of a generation, which has its place here.
-fn kept_file<R: Files + AllocGlobal>(
-    rt: &R,
-    folder: &str,
-    generation: Generation,
-) -> Result<SpelledFile, FolderFault>
-    ensures { IfOk result (λ f. f.generation ≡ generation) }
-{
-    let path = opening_path(rt.alloc(), folder, generation)?;
-    let bytes = read_bytes(rt, path.as_str())?;
-    file_of(rt.alloc(), generation, bytes)
-}
-
-/// The file that these bytes are, of this generation.
-fn file_of(
-    alloc: Global,
-    generation: Generation,
-    bytes: Vec<u8>,
-) -> Result<SpelledFile, FolderFault>
-    ensures bytes { IfOk result (λ f. bytes.items ≡ opening_bytes f) }
-    ensures generation { IfOk result (λ f. f.generation ≡ generation) }
-{
-    match SpelledFile::read(alloc, bytes) {
-        Ok(file) => of_generation(generation, file),
-        Err(OpeningFault::Memory) => Err(FolderFault::Memory),
-        Err(fault) => Err(FolderFault::Opening(generation.number(), fault)),
-    }
-}
-
-/// The file, where it is of this generation.
-fn of_generation(generation: Generation, file: SpelledFile) -> Result<SpelledFile, FolderFault>
-    ensures same { IfOk result (λ f. f ≡ file) }
-    ensures generation { IfOk result (λ f. f.generation ≡ generation) }
-{
-    let found = file.file().generation();
-    if found == generation {
-        Ok(file)
-    } else {
-        drop(file);
-        Err(FolderFault::OtherGeneration(generation.number(), found.number()))
-    }
 }
 
 /// Whether the log of the plan's generation is begun; there must be one where it may not be.
@@ -194,25 +145,60 @@ fn settle<R: Files<File = File> + AllocGlobal>(
     Ok(())
 }
 
-/// The generation of a plan, whose opening is in its place.
+/// Writes a file anew, whole.
+fn write_again<R: Files<File = File> + AllocGlobal>(rt: &R, path: &str) -> Result<(), FolderFault> {
+    let bytes = read_bytes(rt, path)?;
+    write_whole(rt, path, &bytes)?;
+    Ok(())
+}
+
+/// Has on the disk what the log of a generation names, where that is to be begun: the reference where there is one, and else the opening.
+fn settle_kept<R: Files<File = File> + AllocGlobal>(
+    rt: &R,
+    folder: &str,
+    held: &[GenerationFolder],
+    generation: Generation,
+    begin: Begin,
+) -> Result<(), FolderFault> {
+    if begin != Begin::New {
+        return Ok(());
+    }
+    let path = if is_referred(generation.number(), held) {
+        reference_path(rt.alloc(), folder, generation)?
+    } else {
+        opening_path(rt.alloc(), folder, generation)?
+    };
+    write_again(rt, path.as_str())
+}
+
+/// The generation of a plan, which is here.
 fn kept_stage<R: Files<File = File> + AllocGlobal>(
     rt: &R,
     folder: &str,
     plan: Plan,
     held: Vec<GenerationFolder>,
-) -> Result<GenerationStart, FolderFault> {
+) -> Result<GenerationStart, FolderFault>
+    ensures { IfOk result (λ s. HasOpened s.named) }
+{
     let generation = generation_of(plan.generation)?;
     let begin = begin_of(rt, folder, plan, generation)?;
-    let file = kept_file(rt, folder, generation)?;
-    settle(rt, folder, &file, begin, false)?;
-    Ok(GenerationStart { file, begin, held })
+    let named = opened(rt, folder, &held, generation)?;
+    match settle_kept(rt, folder, &held, generation, begin) {
+        Ok(()) => Ok(GenerationStart { named, begin, held }),
+        Err(fault) => {
+            drop(named);
+            Err(fault)
+        }
+    }
 }
 
 /// The generation that the replica goes on with, of those that are here.
 fn next_stage<R: Files<File = File> + AllocGlobal>(
     rt: &R,
     folder: &str,
-) -> Result<GenerationStart, FolderFault> {
+) -> Result<GenerationStart, FolderFault>
+    ensures { IfOk result (λ s. HasOpened s.named) }
+{
     let held = look(rt, folder)?;
     let plan = plan_for(&held, Wish::GoOn)?;
     kept_stage(rt, folder, plan, held)
@@ -265,19 +251,27 @@ pub(crate) fn handed_stage<R: Files<File = File> + AllocGlobal>(
     file: SpelledFile,
     is_new: bool,
 ) -> Result<GenerationStart, FolderFault>
-    ensures { IfOk result (λ s. s.file ≡ file) }
+    ensures file { IfOk result (λ s. s.named.file ≡ file) }
+    ensures digest { IfOk result (λ s. s.named.digest ≡ file_digest file) }
+    ensures opened { IfOk result (λ s. HasOpened s.named) }
 {
     let held = look(rt, folder)?;
     let plan = plan_with(rt, folder, &held, &file, is_new)?;
     let begin = placed(rt, folder, plan, &file)?;
-    Ok(GenerationStart { file, begin, held })
+    Ok(GenerationStart {
+        named: NamedFile::of(file),
+        begin,
+        held,
+    })
 }
 
 /// The generation that a start begins with.
 pub(crate) fn first_stage<R: Files<File = File> + AllocGlobal>(
     rt: &R,
     options: &FolderOptions<'_>,
-) -> Result<GenerationStart, FolderFault> {
+) -> Result<GenerationStart, FolderFault>
+    ensures { IfOk result (λ s. HasOpened s.named) }
+{
     let folder = options.folder;
     match &options.asks {
         Asks::GoOn => next_stage(rt, folder),
@@ -294,7 +288,7 @@ pub(crate) fn first_stage<R: Files<File = File> + AllocGlobal>(
 
 /// Whether the opening is for a cluster of this size, where its log is begun: it can't be closed then.
 pub(crate) fn check_stage(size: Size, stage: &GenerationStart) -> Result<(), FolderFault> {
-    let file = stage.file.file();
+    let file = &stage.named.file;
     let found = file.size();
     if stage.begin == Begin::New && found != size {
         return Err(FolderFault::OtherSize(file.generation().number(), u32::from(found.count())));

@@ -6,7 +6,7 @@ ghost use Rattle.ep_log.specs.declared.log_fault.LogFault.TheVariants.{Turned};
 ghost use Rattle.ep_server.specs.Faults.{line_of, line_of_cut, line_of_folder, line_of_log, line_of_open, line_of_opening, line_of_place, line_of_refusal, line_of_serve, log_failed, status_of_place};
 ghost use Rattle.ep_cli.specs.Causes.{cause_text};
 ghost use Rattle.ep_cli.specs.Outputs.{became, Told};
-ghost use Rattle.ep_server.specs.declared.folder_fault.FolderFault.TheVariants.{NoOpening, Opening, OtherGeneration, OtherSize};
+ghost use Rattle.ep_server.specs.declared.folder_fault.FolderFault.TheVariants.{NoOpening, Opening, OtherGeneration, OtherLog, OtherReference, OtherSize, Reference, ShortLog};
 
 use crate::folder_fault::FolderFault;
 use crate::server_fault::ServerFault;
@@ -98,7 +98,8 @@ fn tell_unserved<F: Sink>(why: ServeFault, sink: &mut F) -> Result<(), WriteFail
     }
 }
 
-fn tell_folder<F: Sink>(why: FolderFault, sink: &mut F) -> Result<(), WriteFailed>
+/// Writes the line of a folder's fault.
+pub(crate) fn tell_folder<F: Sink>(why: FolderFault, sink: &mut F) -> Result<(), WriteFailed>
     ensures { Puts (F.held sink.old) (F.held sink.new) (F.has_failed sink.old) (F.has_failed sink.new) result (line_of_folder why) }
 {
     match why {
@@ -116,6 +117,12 @@ fn tell_folder<F: Sink>(why: FolderFault, sink: &mut F) -> Result<(), WriteFaile
         FolderFault::OtherGeneration(generation, found) => {
             tell_other_generation(generation, found, sink)
         }
+        FolderFault::Reference(generation, fault) => tell_bad_reference(generation, fault, sink),
+        FolderFault::OtherReference(generation, found) => {
+            tell_other_reference(generation, found, sink)
+        }
+        FolderFault::ShortLog(generation) => tell_short_log(generation, sink),
+        FolderFault::OtherLog(generation) => tell_other_log(generation, sink),
         FolderFault::OtherSize(generation, count) => tell_other_size(generation, count, sink),
         FolderFault::NoOpening(fault) => tell_no_opening(fault, sink),
         FolderFault::OtherCluster(count) => tell_number(
@@ -159,6 +166,12 @@ fn tell_refusal<F: Sink>(why: StartFault, sink: &mut F) -> Result<(), WriteFaile
             b"opening refused: generation ",
             generation as u64,
             b" has another one here; start without --take\n",
+            sink,
+        ),
+        StartFault::Broken(generation) => tell_number(
+            b"folder refused: what generation ",
+            generation as u64,
+            b" opens with is gone, and a later one rests on it; --take FILE goes on with the opening of a later one\n",
             sink,
         ),
     }
@@ -220,6 +233,66 @@ fn tell_other_generation<F: Sink>(
         sink,
     )?;
     tell_number(b"", found as u64, b"\n", sink)
+}
+
+/// Writes that the reference of a generation is refused, and why.
+fn tell_bad_reference<F: Sink>(
+    generation: u32,
+    why: OpeningFault,
+    sink: &mut F,
+) -> Result<(), WriteFailed>
+    ensures { Puts (F.held sink.old) (F.held sink.new) (F.has_failed sink.old) (F.has_failed sink.new) result (line_of_folder (Reference generation why)) }
+{
+    tell_number(
+        b"folder refused: the reference of generation ",
+        generation as u64,
+        b": ",
+        sink,
+    )?;
+    tell_opening(why, sink)
+}
+
+/// Writes that one generation's reference stands in the place of another's.
+fn tell_other_reference<F: Sink>(
+    generation: u32,
+    found: u32,
+    sink: &mut F,
+) -> Result<(), WriteFailed>
+    ensures { Puts (F.held sink.old) (F.held sink.new) (F.has_failed sink.old) (F.has_failed sink.new) result (line_of_folder (OtherReference generation found)) }
+{
+    tell_number(
+        b"folder refused: the reference of generation ",
+        generation as u64,
+        b" is that of generation ",
+        sink,
+    )?;
+    tell_number(b"", found as u64, b"\n", sink)
+}
+
+/// Writes that the log of a generation has too few bytes.
+fn tell_short_log<F: Sink>(generation: u32, sink: &mut F) -> Result<(), WriteFailed>
+    ensures { Puts (F.held sink.old) (F.held sink.new) (F.has_failed sink.old) (F.has_failed sink.new) result (line_of_folder (ShortLog generation)) }
+{
+    tell_number(
+        b"folder refused: the log of generation ",
+        generation as u64,
+        b" is gone or cut short, and what it leaves opens generation ",
+        sink,
+    )?;
+    tell_number(b"", generation as u64 + 1, b"\n", sink)
+}
+
+/// Writes that the log of a generation is another one.
+fn tell_other_log<F: Sink>(generation: u32, sink: &mut F) -> Result<(), WriteFailed>
+    ensures { Puts (F.held sink.old) (F.held sink.new) (F.has_failed sink.old) (F.has_failed sink.new) result (line_of_folder (OtherLog generation)) }
+{
+    tell_number(
+        b"folder refused: the log of generation ",
+        generation as u64,
+        b" isn't the one that generation ",
+        sink,
+    )?;
+    tell_number(b"", generation as u64 + 1, b" opens with\n", sink)
 }
 
 /// Writes that a generation has another size.
