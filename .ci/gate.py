@@ -31,6 +31,7 @@ import launcher
 import library
 import moved
 import page
+import release
 import rows
 import store
 
@@ -287,6 +288,7 @@ PARTS = (
     Part("library", library.tried),
     Part("hosts/store", store.tried),
     Part("bindings", bindings.tried),
+    Part("release", release.of_gate),
 )
 
 

@@ -15,8 +15,8 @@
         replica.advance()                                # executes what can be executed
 
 The core is a library, libepaxos.so, or a process of each replica, `epaxos node`. `./epaxos --build` proves and builds both, and `./epaxos --build --unproved`
-builds both in minutes. It is a process of the program that EPAXOS names, if it names one; else the library in the folder that EPAXOS_LIBRARY names, or in
-the repository that this file is in; else a process of the program of that repository, or of the one on the PATH. What is proved, and what you owe, stands in
+builds both in minutes. It is a process of the program that EPAXOS names, if it names one; else the library in the folder that EPAXOS_LIBRARY names, beside this file, or in
+the repository that it is in; else a process of the program of that repository, or of the one on the PATH. What is proved, and what you owe, stands in
 bindings/rust/epaxos/src/lib.rs; the bytes in docs/FORMATS.md, section 10. Nothing here is proved.
 """
 
@@ -28,11 +28,13 @@ import re
 import shutil
 import struct
 import subprocess
+import sys
 import tempfile
 import threading
 from typing import NamedTuple, Optional
 
-TOP = os.path.dirname(os.path.dirname(os.path.dirname(os.path.realpath(__file__))))
+HERE = os.path.dirname(os.path.realpath(__file__))
+TOP = os.path.dirname(os.path.dirname(HERE))
 LONGEST_KEY, LONGEST_VALUE = 255, 65_535
 # the numbers of the faults' names (docs/FORMATS.md, section 7)
 FAULTS = {
@@ -1092,9 +1094,9 @@ def _core(named):
 
 
 def _library():
-    """Where the library is: in the folder that is named, or where a build puts it, the proved one first. None where it isn't."""
+    """Where the library is: in the folder that is named, or beside this file, as in a release, or where a build puts it, the proved one first. None where it isn't."""
     named = os.environ.get("EPAXOS_LIBRARY")
-    places = [named] if named else [f"{TOP}/out", f"{TOP}/out/unproved"]
+    places = [named] if named else [HERE, f"{TOP}/out", f"{TOP}/out/unproved", f"{sys.prefix}/lib"]
     return next((f"{it}/libepaxos.so" for it in places if os.path.isfile(f"{it}/libepaxos.so")), None)
 
 

@@ -8,6 +8,8 @@ use std::{env, fs};
 const NAMED: &str = "EPAXOS_LIBRARY";
 /// Where builds put it, below the top of the repository: first the proved one. All is in the first folder.
 const PLACES: [&str; 2] = ["out", "out/unproved"];
+/// Where a release has it, in the crate's folder.
+const RELEASED: &str = "lib";
 const FILE: &str = "libepaxos.a";
 /// What a library that isn't proved has.
 const UNPROVED: &[u8] = b"ep_unproved";
@@ -17,7 +19,12 @@ fn find() -> Option<PathBuf> {
     if let Some(named) = env::var_os(NAMED).filter(|it| !it.is_empty()) {
         return Some(Path::new(&named).join(FILE));
     }
-    let top = Path::new(env!("CARGO_MANIFEST_DIR")).join("../../..");
+    let here = Path::new(env!("CARGO_MANIFEST_DIR"));
+    let released = here.join(RELEASED).join(FILE);
+    if released.is_file() {
+        return Some(released);
+    }
+    let top = here.join("../../..");
     println!("cargo:rerun-if-changed={}", top.join(PLACES[0]).display());
     PLACES.map(|place| top.join(place).join(FILE)).into_iter().find(|it| it.is_file())
 }

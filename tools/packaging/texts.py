@@ -1,0 +1,142 @@
+"""The man page and the completions of a release, made of the help that `epaxos` prints (tools/help)."""
+
+import os
+import re
+import sys
+
+sys.path.insert(0, os.path.dirname(os.path.dirname(os.path.realpath(__file__))))
+import words
+
+
+class Told:
+    """What the help of a command tells: what it does, and each option with what its value is called, the values that it takes, and what it means."""
+
+    def __init__(self, name):
+        self.name, self.text = name, words.help_of(name)
+        self.does = self.text.partition("\n")[0]
+        values = {option: said for option, _, said in words.VALUES.get(name, ())}
+        self.options = []
+        for option, value, means in re.findall(r"^  (?:    |-\w, )--([\w-]+)(?: <([^>]+)>)?(?:\.\.\.)?  +(.*)$", self.text, re.M):
+            known = re.search(r"possible values: (.*)\]", values.get(option, ""))
+            self.options.append((option, value, known[1].split(", ") if known else [], means))
+        self.takes_files = bool(re.search(r"^Usage: .*[<[](FILE|LOG|FOLDER)", self.text, re.M))
+
+
+def commands():
+    """What the help tells of each command, with the options of `upgrade --log` among those of `upgrade`."""
+    found = [Told(it) for it in words.commands()]
+    for it in found:
+        if it.name == "upgrade":
+            it.options = list({option[0]: option for option in (*it.options, *Told(words.OF_LOGS).options)}.values())
+            it.takes_files = True
+    return found
+
+
+def escaped(text):
+    """A text for troff."""
+    lines = text.replace("\\", "\\e").replace("-", "\\-").split("\n")
+    return "\n".join("\\&" + it if it[:1] in (".", "'") else it for it in lines)
+
+
+def man(version, date):
+    """The page of section 1."""
+    first, _, rest = words.help_of("epaxos").partition("\n")
+    parts = [f'.TH EPAXOS 1 "{date}" "epaxos {version}"\n.SH NAME\nepaxos \\- {escaped(first[0].lower() + first[1:])}']
+    parts.append(".SH SYNOPSIS\n.B epaxos\n[\\-\\-quiet] COMMAND ..")
+    parts.append(f".SH DESCRIPTION\n.nf\n{escaped(rest.strip())}\n.fi")
+    parts.append(".SH COMMANDS")
+    for name in [*words.commands(), words.OF_LOGS]:
+        shown = "upgrade --log" if name == words.OF_LOGS else name
+        parts.append(f".SS epaxos {escaped(shown)}\n.nf\n{escaped(words.help_of(name).strip())}\n.fi")
+    parts.append(".SH ENVIRONMENT\n.TP\n.B EPAXOS_QUIET\nWhere it is 1, no line says that what answers isn't proved.")
+    parts.append(".SH SEE ALSO\n.BR epaxos\\-store (1)")
+    return "\n".join(parts) + "\n"
+
+
+def man_of_store(version, date, help_text):
+    """The page of the store."""
+    first, _, rest = help_text.strip().partition("\n")
+    name = f'.TH EPAXOS\\-STORE 1 "{date}" "epaxos {version}"\n.SH NAME\nepaxos\\-store \\- a replica of a replicated store, for clients of the Redis protocol\n'
+    return f"{name}.SH DESCRIPTION\n.nf\n{escaped(first)}\n{escaped(rest)}\n.fi\n.SH SEE ALSO\n.BR epaxos (1)\n"
+
+
+def bash():
+    """What completes words in bash."""
+    rows, values = [], []
+    for it in commands():
+        rows.append(f"        {it.name}) options='{' '.join('--' + option for option, *_ in it.options)}' ;;")
+        values += [f"        '{it.name} --{option}') COMPREPLY=($(compgen -W '{' '.join(known)}' -- \"$word\")); return ;;" for option, _, known, _ in it.options if known]
+    every = " ".join([*words.commands(), "help"])
+    return f"""# completes the words of epaxos, in bash
+_epaxos() {{
+    local word=${{COMP_WORDS[COMP_CWORD]}} before=${{COMP_WORDS[COMP_CWORD-1]}} command=${{COMP_WORDS[1]}} options=
+    if [[ $COMP_CWORD == 1 ]]; then
+        COMPREPLY=($(compgen -W '{every} --quiet --help --version' -- "$word"))
+        return
+    fi
+    case "$command $before" in
+{chr(10).join(values)}
+    esac
+    case $command in
+{chr(10).join(rows)}
+        help) COMPREPLY=($(compgen -W '{every}' -- "$word")); return ;;
+    esac
+    if [[ $word == -* ]]; then
+        COMPREPLY=($(compgen -W "$options" -- "$word"))
+    else
+        COMPREPLY=($(compgen -f -- "$word"))
+    fi
+}}
+complete -o filenames -F _epaxos epaxos
+"""
+
+
+def zsh():
+    """What completes words in zsh."""
+    plain = lambda text: re.sub(r"([\[\]:\\'])", lambda it: "" if it[1] == "'" else "\\" + it[1], text)
+    listed = "\n".join(f"        '{it.name}:{plain(it.does)}'" for it in commands())
+    rows = []
+    for it in commands():
+        said = []
+        for option, value, known, means in it.options:
+            action = f":{value}:({' '.join(known)})" if known else f":{value}:_files" if value in ("FILE", "FOLDER") else f":{value}:" if value else ""
+            said.append(f"'--{option}[{plain(means)}]{action}'")
+        said += ["'*:file:_files'"] * it.takes_files
+        rows.append(f"        {it.name}) _arguments {' '.join(said)} ;;")
+    return f"""#compdef epaxos
+# completes the words of epaxos, in zsh
+_epaxos() {{
+    local -a commands
+    commands=(
+{listed}
+        'help:all of a command'
+    )
+    if (( CURRENT == 2 )); then
+        _describe command commands
+        return
+    fi
+    local command=$words[2]
+    shift words
+    (( CURRENT-- ))
+    case $command in
+{chr(10).join(rows)}
+        help) _describe command commands ;;
+    esac
+}}
+_epaxos "$@"
+"""
+
+
+def fish():
+    """What completes words in fish."""
+    plain = lambda text: text.replace("\\", "\\\\").replace("'", "\\'")
+    lines = ["# completes the words of epaxos, in fish", "complete -c epaxos -f"]
+    for it in commands():
+        lines.append(f"complete -c epaxos -n __fish_use_subcommand -a {it.name} -d '{plain(it.does)}'")
+        own = f"complete -c epaxos -n '__fish_seen_subcommand_from {it.name}'"
+        for option, value, known, means in it.options:
+            takes = f" -x -a '{' '.join(known)}'" if known else " -r -F" if value in ("FILE", "FOLDER") else " -x" if value else ""
+            lines.append(f"{own} -l {option}{takes} -d '{plain(means)}'")
+        lines += [f"{own} -F"] * it.takes_files
+    lines.append(f"complete -c epaxos -n '__fish_seen_subcommand_from help' -a '{' '.join(words.commands())}'")
+    return "\n".join(lines) + "\n"
