@@ -49,6 +49,11 @@ pub trait Core {
         Ok(true)
     }
 
+    /// The core that goes through the logs of a peer. None where openings have to come whole.
+    fn follower(&self) -> Option<epaxos::Core> {
+        None
+    }
+
     /// Whether a file is being written that a generation opened with. Meanwhile a change of generation costs more.
     fn is_writing(&mut self) -> bool {
         false
@@ -123,6 +128,10 @@ impl<C: Core + ?Sized> Core for Box<C> {
 
     fn put_opening(&mut self) -> Result<bool, NodeFault> {
         (**self).put_opening()
+    }
+
+    fn follower(&self) -> Option<epaxos::Core> {
+        (**self).follower()
     }
 
     fn is_writing(&mut self) -> bool {

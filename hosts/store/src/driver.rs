@@ -3,14 +3,15 @@ use crate::commits::{Commits, Committed, Lacking};
 use crate::core::{Core, Pairs};
 use crate::directory::Directory;
 use crate::distances::Distances;
+use crate::following::Following;
 use crate::frames::Head;
 use crate::generation::{Generation, Limits, Stage};
+use crate::lead::Lead;
 use crate::manage_fault::ManageFault;
 use crate::members::{Member, Members};
 use crate::messages::Message;
 use crate::metrics::Metrics;
 use crate::node_fault::NodeFault;
-use crate::openings::Fetch;
 use crate::others::Others;
 use crate::outcome::{Asked, Outcome, Outgoing, Report, receipts};
 use crate::peers::{Membership, Peers, Place};
@@ -273,13 +274,17 @@ pub struct Driver<C> {
     /// How many Commits were sent again since the start.
     pub(crate) sent_again: u64,
     /// An opening that is on its way, or has come whole, with its generation.
-    pub(crate) fetch: Option<Fetch>,
+    pub(crate) following: Option<Following>,
     pub(crate) taken: Option<(u32, PathBuf)>,
     /// Since when a peer is in a later generation.
     pub(crate) behind_since: Option<Instant>,
+    /// What leads peers that lag to this generation.
+    pub(crate) lead: Lead,
     /// The peers that want an opening which isn't written yet, and when a piece was wanted last.
     pub(crate) wanting: BTreeSet<u8>,
     pub(crate) handed: Option<Instant>,
+    /// Whether something is to be dropped of generations that were left, once nothing is handed.
+    pub(crate) is_drop_due: bool,
     /// Whether an opening was being written when it was looked at last.
     pub(crate) is_writing: bool,
     pub(crate) members: Members,
@@ -353,11 +358,13 @@ impl<C: Core> Driver<C> {
             others,
             commits: Commits::new(place.replicas),
             sent_again: 0,
-            fetch: None,
+            following: None,
             taken: None,
             behind_since: None,
+            lead: Lead::default(),
             wanting: BTreeSet::new(),
             handed: None,
+            is_drop_due: false,
             is_writing: false,
             members: Members(vec![Member::default(); place.replicas]),
             wishes: Vec::new(),

@@ -161,14 +161,11 @@ impl Generations {
     /// The first bytes of this generation's log, which the reference of the next one names.
     pub fn log_of(&self, generation: u32, reference: &Reference) -> Result<Vec<u8>, GenerationsFault> {
         let path = self.log(generation);
-        let mut log = match fs::read(&path) {
+        let log = match fs::read(&path) {
             Err(error) if error.kind() == io::ErrorKind::NotFound => Vec::new(),
             read => read.map_err(unusable(&path))?,
         };
-        let length = usize::try_from(reference.length()).ok().filter(|length| *length <= log.len());
-        log.truncate(length.ok_or(GenerationsFault::ShortLog(generation))?);
-        let is_it = Sha256::digest(&log)[..] == reference.sum();
-        if is_it { Ok(log) } else { Err(GenerationsFault::OtherLog(generation)) }
+        named(log, generation, reference)
     }
 
     /// How many bytes there are of the opening from which on logs lead to this generation, and of these logs.
@@ -253,6 +250,14 @@ impl Generations {
         let above = self.folder.parent().filter(|above| !above.as_os_str().is_empty()).unwrap_or(Path::new("."));
         [&self.folder, above].into_iter().try_for_each(|folder: &Path| File::open(folder)?.sync_all())
     }
+}
+
+/// The first of a log's bytes, which the reference of the generation behind its own names.
+pub(crate) fn named(mut log: Vec<u8>, generation: u32, next: &Reference) -> Result<Vec<u8>, GenerationsFault> {
+    let length = usize::try_from(next.length()).ok().filter(|length| *length <= log.len());
+    log.truncate(length.ok_or(GenerationsFault::ShortLog(generation))?);
+    let is_it = Sha256::digest(&log)[..] == next.sum();
+    if is_it { Ok(log) } else { Err(GenerationsFault::OtherLog(generation)) }
 }
 
 /// What a folder has of each generation.

@@ -2,6 +2,7 @@
 use crate::checkpoint::{Unwritten, Writing};
 use crate::core::{Begin, Core, Pairs};
 use crate::file_fault::FileFault;
+use crate::follower::{Follower, cluster, open_fault, succeed_fault};
 use crate::generations::{Generations, Opened, Started, opened};
 use crate::generations_fault::GenerationsFault;
 use crate::node_fault::NodeFault;
@@ -10,10 +11,7 @@ use crate::outcome::{Asked, Outcome, Outgoing, Report};
 use crate::peers::Place;
 use crate::summed_log::SummedLog;
 use crate::tally::Tally;
-use epaxos::{
-    Cluster, CommitFault, Fault, Instance, LogFile, OpenFault, Output, Reference, Replica, Setup, State, SucceedFault,
-    Succession,
-};
+use epaxos::{Cluster, CommitFault, Fault, Instance, LogFile, Output, Reference, Replica, Setup, State, SucceedFault};
 use std::fs;
 use std::panic::resume_unwind;
 use std::path::{Path, PathBuf};
@@ -188,14 +186,9 @@ impl Hosting {
         if usize::from(replicas) == self.place.replicas { Ok(()) } else { Err(NodeFault::Generations(fault)) }
     }
 
-    /// Whether the core goes on in the next generation by itself.
-    fn succeeds(&self) -> bool {
-        match &self.core {
-            epaxos::Core::Library => true,
-            // (as the crate finds it)
-            epaxos::Core::Found => epaxos::Core::has_library() && std::env::var_os("EPAXOS").is_none(),
-            epaxos::Core::Process(_) => false,
-        }
+    /// How this replica's logs are gone through.
+    fn follower(&self) -> Follower {
+        Follower { core: self.core.clone(), replica: self.place.replica }
     }
 
     /// The generation with which the folder is gone on with.
@@ -226,53 +219,25 @@ impl Hosting {
         Ok(taken)
     }
 
-    /// How a replica begins with this opening, or goes on.
-    fn setup<'a>(&self, opening: &'a Opened) -> Result<Setup<'a>, NodeFault> {
-        let new = Setup::new(cluster(opening.replicas)?, self.place.replica);
-        let (opening, reference) = (Some(&opening.bytes[..]), opening.reference);
-        Ok(Setup { opening, reference, told: Some(0), core: self.core.clone(), ..new })
-    }
-
     /// The replica of a generation that is begun, or gone on with: by its opening's file, or by the logs from an earlier one on.
     fn begin(&self, generations: &Generations, started: &Started) -> Result<Begun, NodeFault> {
         let (first, is_new) = (&started.first, started.is_new);
         let Some(reference) = started.references.last().copied() else {
             let (file, log) = log_of(&generations.log(first.generation), is_new)?;
-            let setup = self.setup(first)?;
+            let setup = self.follower().setup(first)?;
             let replica = log.map_or_else(|| setup.begin(), |log| setup.open(&log));
             let replica = replica.map_err(|fault| open_fault(fault, Some(first.generation)))?;
             let opening = Opening::of(&first.bytes).unwrap_or_default();
             let (generation, replicas) = (first.generation, first.replicas);
             return Ok(Begun { generation, replicas, replica, file, opening, unwritten: None });
         };
-        let (mut replica, tally) = self.lead(generations, started)?;
+        let follower = self.follower();
+        let (mut replica, tally) = follower.lead(started, |generation, next| generations.log_of(generation, next))?;
         let (file, log) = log_of(&generations.log(reference.generation()), is_new)?;
-        let succession = self.succession(reference, log.as_deref());
+        let succession = follower.succession(reference, log.as_deref());
         let checkpoint = replica.succeed(&succession).map_err(|fault| succeed_fault(fault, reference))?;
         let (unwritten, front) = Unwritten::read(checkpoint)?;
         Ok(Begun::by(reference, replica, file, (unwritten, front), tally))
-    }
-
-    /// The replica that the logs of earlier generations lead to, which has executed the seal of the last of these.
-    fn lead(&self, generations: &Generations, started: &Started) -> Result<(Replica, Tally), NodeFault> {
-        let Started { first, references, .. } = started;
-        if !self.succeeds() {
-            return Err(NodeFault::NoLibrary);
-        }
-        let read = |generation, next| generations.log_of(generation, next).map_err(NodeFault::Generations);
-        let log = read(first.generation, &references[0])?;
-        let replica = self.setup(first)?.open(&log);
-        let mut replica = replica.map_err(|fault| open_fault(fault, Some(first.generation)))?;
-        let mut tally = Tally::of(Opening::of(&first.bytes).map_or(0, |opening| opening.map));
-        replay(&mut replica, &log, first.generation, &mut tally)?;
-        for two in references.windows(2) {
-            let (reference, log) = (two[0], read(two[0].generation(), &two[1])?);
-            let succession = self.succession(reference, Some(&log));
-            drop(replica.succeed(&succession).map_err(|fault| succeed_fault(fault, reference))?);
-            tally = Tally::of(tally.map);
-            replay(&mut replica, &log, reference.generation(), &mut tally)?;
-        }
-        Ok((replica, tally))
     }
 
     /// What a generation of this folder opens with, of which nothing is changed: as its file has it, or as logs lead to it.
@@ -280,17 +245,12 @@ impl Hosting {
         let generations = Generations::look(&self.folder);
         let started = generations.started(generation).map_err(NodeFault::Generations)?;
         let Some(reference) = started.references.last().copied() else { return Ok(started.first) };
-        let (mut replica, _) = self.lead(&generations, &started)?;
-        let checkpoint = replica.succeed(&self.succession(reference, None));
+        let log_of = |generation, next: &Reference| generations.log_of(generation, next);
         let mut bytes = Vec::new();
-        for piece in checkpoint.map_err(|fault| succeed_fault(fault, reference))? {
+        for piece in self.follower().opening_of(&started, reference, log_of)? {
             bytes.extend(piece.map_err(NodeFault::Core)?);
         }
         Ok(Opened { generation, replicas: reference.cluster().replicas(), bytes, reference: Some(reference) })
-    }
-
-    fn succession<'a>(&self, reference: Reference, log: Option<&'a [u8]>) -> Succession<'a> {
-        Succession { log, told: Some(0), ..Succession::new(reference, self.place.replica) }
     }
 
     /// The next generation of a replica that has executed a seal: with the map as it is, which only a reference names at first; or, where the core is a
@@ -302,8 +262,8 @@ impl Hosting {
         ahead: Option<Result<(), GenerationsFault>>,
     ) -> Result<Begun, NodeFault> {
         let Acting { mut replica, file, tally, .. } = acting;
-        let cluster = self.cluster()?;
-        if !self.succeeds() {
+        let (cluster, follower) = (self.cluster()?, self.follower());
+        if !follower.succeeds() {
             drop(file);
             let bytes = replica.close(cluster).map_err(|(_, fault)| NodeFault::Close(fault))?;
             let closed =
@@ -321,7 +281,7 @@ impl Hosting {
         }
         let (put, checkpoint) = thread::scope(|scope| {
             let put = scope.spawn(|| generations.put_reference(&reference));
-            let checkpoint = replica.succeed(&self.succession(reference, None));
+            let checkpoint = replica.succeed(&follower.succession(reference, None));
             (put.join().unwrap_or_else(|panic| resume_unwind(panic)), checkpoint)
         });
         put.map_err(NodeFault::Generations)?;
@@ -360,40 +320,6 @@ fn log_of(path: &Path, is_new: bool) -> Result<(SummedLog, Option<Vec<u8>>), Nod
     }
     let (file, log) = LogFile::open(path).map_err(failed)?;
     Ok((SummedLog::of(file), Some(log)))
-}
-
-/// Has a replica take its log for what is on the disk, all of which is its own.
-fn replay(replica: &mut Replica, log: &[u8], generation: u32, tally: &mut Tally) -> Result<(), NodeFault> {
-    let ready = replica.ready().map_err(NodeFault::Core)?;
-    if ready.log() != log {
-        return Err(NodeFault::Generations(GenerationsFault::OtherLog(generation)));
-    }
-    let output = ready.assume_synced().map_err(NodeFault::Core)?;
-    output.executed().for_each(|executed| tally.add(&executed));
-    Ok(())
-}
-
-/// Why the logs don't lead to the generation of this reference.
-fn succeed_fault(fault: SucceedFault, reference: Reference) -> NodeFault {
-    match fault {
-        SucceedFault::NotSealed => {
-            NodeFault::Generations(GenerationsFault::OtherLog(reference.generation().saturating_sub(1)))
-        }
-        SucceedFault::Log(fault) => NodeFault::Open(fault),
-        fault => NodeFault::Succeed(fault),
-    }
-}
-
-fn cluster(replicas: u8) -> Result<Cluster, NodeFault> {
-    Cluster::try_from(replicas).map_err(|_| NodeFault::Open(OpenFault::OutOfRange))
-}
-
-/// Why a core isn't opened: by this generation's opening, or by one that is to be taken.
-fn open_fault(fault: OpenFault, generation: Option<u32>) -> NodeFault {
-    match fault {
-        OpenFault::BadOpening(why) => NodeFault::Generations(GenerationsFault::BadOpening(generation, why)),
-        fault => NodeFault::Open(fault),
-    }
 }
 
 /// Why what is ready isn't on the disk, in this log.
@@ -457,7 +383,8 @@ impl Core for Hosted {
     }
 
     fn prepare(&mut self) -> Result<(), NodeFault> {
-        let Some(acting) = self.acting.as_ref().filter(|_| self.ahead.is_none() && self.hosting.succeeds()) else {
+        let Some(acting) = self.acting.as_ref().filter(|_| self.ahead.is_none() && self.hosting.follower().succeeds())
+        else {
             return Ok(());
         };
         let (generations, next) = (self.generations.clone(), acting.state.generation.saturating_add(1));
@@ -476,6 +403,10 @@ impl Core for Hosted {
 
     fn put_opening(&mut self) -> Result<bool, NodeFault> {
         self.write()
+    }
+
+    fn follower(&self) -> Option<epaxos::Core> {
+        Some(self.hosting.core.clone()).filter(|_| self.hosting.follower().succeeds())
     }
 
     fn is_writing(&mut self) -> bool {

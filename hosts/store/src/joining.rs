@@ -2,14 +2,15 @@
 use crate::core::Begin;
 use crate::directory::Directory;
 use crate::driver::{Ask, Event, Told, What};
+use crate::following::{Came, Following};
 use crate::identities::{Identity, digits};
 use crate::manage_fault::ManageFault;
 use crate::messages::Message;
+use crate::node_fault::NodeFault;
 use crate::notify;
 use crate::opening::Opening;
-use crate::openings::{Fetch, Step};
 use crate::peers::{Membership, Peers};
-use crate::say::say;
+use crate::say::{say, warn};
 use crate::stop_fault::StopFault;
 use std::path::Path;
 use std::sync::mpsc::{Receiver, RecvTimeoutError};
@@ -23,6 +24,8 @@ pub struct Joining<'a> {
     pub directory: &'a Directory,
     pub peers: &'a Peers,
     pub events: &'a Receiver<Event>,
+    /// The core that goes through a peer's logs, where it can.
+    pub follower: Option<epaxos::Core>,
 }
 
 impl Joining<'_> {
@@ -37,17 +40,17 @@ impl Joining<'_> {
         notify::ready("waits to be let in");
         // The last generation that was looked at and doesn't name this machine.
         let mut looked = 0;
-        let mut fetch: Option<Fetch> = None;
+        let mut following: Option<Following> = None;
         let path = self.directory.taken();
         let failed = |error| StopFault::File(path.clone(), error);
         loop {
-            let event = self.events.recv_timeout(PAUSE);
             let now = Instant::now();
-            if let Some(it) = fetch.as_mut().filter(|it| it.due() <= now) {
-                let from = it.from();
-                it.again(now).iter().for_each(|want| self.peers.send(from, want.write()));
+            let came = following.as_mut().map(|it| (it.from(), it.look(now)));
+            if let Some(begin) = came.and_then(|(from, came)| self.come(from, came, (&mut following, &mut looked))) {
+                return Ok(begin);
             }
-            let event = match event {
+            let pause = following.as_ref().map_or(PAUSE, |it| it.due(now).saturating_duration_since(now).min(PAUSE));
+            let event = match self.events.recv_timeout(pause) {
                 Ok(event) => event,
                 Err(RecvTimeoutError::Timeout) => continue,
                 Err(RecvTimeoutError::Disconnected) => return Err(StopFault::Alone),
@@ -70,31 +73,55 @@ impl Joining<'_> {
                 }
                 Event::NodeEnded(_) | Event::PeerLost(_) => continue,
             };
+            let now = Instant::now();
             match message {
                 Some(Message::Hello { generation, .. })
-                    if generation > looked && fetch.as_ref().is_none_or(|fetch| fetch.is_over(now)) =>
+                    if generation > looked && following.as_ref().is_none_or(|it| it.is_over(now)) =>
                 {
-                    let (begun, want) = Fetch::begin(&path, from, now).map_err(failed)?;
-                    fetch = Some(begun);
+                    let (begun, want) = Following::begin(&path, self.follower.clone(), from, now).map_err(failed)?;
+                    following = Some(begun);
                     self.peers.send(from, want.write());
                 }
-                Some(piece @ Message::Piece { .. }) => {
-                    let Some(it) = &mut fetch else { continue };
-                    match it.take(from, piece, now).map_err(failed)? {
-                        Step::Ask(next) => next.iter().for_each(|want| self.peers.send(from, want.write())),
-                        Step::Ignored => {}
-                        Step::Done(generation) => {
-                            fetch = None;
-                            looked = looked.max(generation);
-                            if self.is_named(&path) {
-                                self.membership.waiting.end();
-                                say(&format!("generation {generation} names this machine, and it comes in"));
-                                return Ok(Begin::Take(path));
-                            }
-                        }
+                Some(piece @ (Message::Piece { .. } | Message::Part { .. })) => {
+                    let came = following.as_mut().map(|it| it.take(from, piece, now));
+                    let begin = came.and_then(|came| self.come(from, came, (&mut following, &mut looked)));
+                    if let Some(begin) = begin {
+                        return Ok(begin);
                     }
                 }
                 _ => {}
+            }
+        }
+    }
+
+    /// Something has come of what this machine asked a replica for: how it begins, where its generation names it.
+    fn come(
+        &self,
+        from: u8,
+        came: Result<Came, NodeFault>,
+        (following, looked): (&mut Option<Following>, &mut u32),
+    ) -> Option<Begin> {
+        match came {
+            Ok(Came::Nothing) => None,
+            Ok(Came::Ask(wants)) => {
+                wants.iter().for_each(|want| self.peers.send(from, want.write()));
+                None
+            }
+            Ok(Came::Done(generation)) => {
+                *following = None;
+                *looked = generation.max(*looked);
+                let path = self.directory.taken();
+                if !self.is_named(&path) {
+                    return None;
+                }
+                self.membership.waiting.end();
+                say(&format!("generation {generation} names this machine, and it comes in"));
+                Some(Begin::Take(path))
+            }
+            Err(fault) => {
+                warn(&format!("what replica {from} has handed isn't taken: {fault}"));
+                *following = None;
+                None
             }
         }
     }

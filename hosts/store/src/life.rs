@@ -1,6 +1,7 @@
 //! How a driver goes from generation to generation: seals, openings, and who takes part.
 use crate::core::{Begin, Core};
 use crate::driver::{Driver, Told, Waiting};
+use crate::following::{Came, Following};
 use crate::generation::{Generation, Stage};
 use crate::identities::{Identity, digits};
 use crate::manage_fault::ManageFault;
@@ -8,7 +9,7 @@ use crate::members::{Member, Members};
 use crate::messages::Message;
 use crate::node_fault::NodeFault;
 use crate::opening::Opening;
-use crate::openings::{Fetch, Step, piece};
+use crate::openings::piece;
 use crate::plants::{Plant, lacking};
 use crate::random::Random;
 use crate::receipts::Receipts;
@@ -53,8 +54,9 @@ impl<C: Core> Driver<C> {
         self.others.save(self.generation.number);
         self.generation.log = self.directory.log_length(self.generation.number);
         self.tell_lines();
-        if self.is_writing && !self.node.is_writing() {
-            // (what is older than the opening that was written may go)
+        // (what is older than the opening that was written may go)
+        let is_written = self.is_writing && !self.node.is_writing();
+        if is_written || self.is_drop_due {
             self.drop_left();
         }
         self.is_writing = self.node.is_writing();
@@ -68,9 +70,9 @@ impl<C: Core> Driver<C> {
             Stage::Sealed(_) => Some(Instant::now() + LOOK),
             _ => None,
         };
-        let behind = match (&self.fetch, self.behind_since) {
+        let behind = match (&self.following, self.behind_since) {
             _ if self.generation.is_sealed() => None,
-            (Some(fetch), _) => Some(fetch.due()),
+            (Some(following), _) => Some(following.due(Instant::now())),
             (None, since) => since.map(|since| since + BEHIND),
         };
         let held = self.held.front().map(|held| held.since + self.patience);
@@ -123,7 +125,8 @@ impl<C: Core> Driver<C> {
                 self.hear_hello(from, generation, is_sealed, seen)?
             }
             Some(Message::Want { generation, offset }) => self.hand_piece(from, generation, offset)?,
-            Some(piece @ Message::Piece { .. }) => self.take_piece(from, piece)?,
+            Some(Message::Follow { first, generation, offset }) => self.hand_part(from, (first, generation), offset),
+            Some(piece @ (Message::Piece { .. } | Message::Part { .. })) => self.take_piece(from, piece)?,
             Some(Message::Ping(number)) => self.peers.send(from, Message::Pong(number).write()),
             Some(Message::Pong(number)) => self.hear_pong(from, number),
             Some(Message::Committed { generation, committed }) => {
@@ -174,6 +177,16 @@ impl<C: Core> Driver<C> {
         Ok(())
     }
 
+    /// Hands a peer the piece that it wants of what leads to this generation. Nothing is written for it.
+    fn hand_part(&mut self, to: u8, ends: (u32, u32), offset: u64) {
+        self.handed = Some(Instant::now());
+        let (folder, newest) = (self.directory.generations(), self.generation.number);
+        // (where it can't be read, somebody else has it)
+        if let Ok(part) = self.lead.part(&folder, newest, to, (ends, offset)) {
+            self.peers.send(to, part.write());
+        }
+    }
+
     /// Hands openings that were wanted before they were written.
     pub(crate) fn hand_wanted(&mut self) -> Result<(), StopFault> {
         if self.wanting.is_empty() || self.node.is_writing() {
@@ -184,7 +197,11 @@ impl<C: Core> Driver<C> {
 
     /// Whether an opening is being written, or handed to a peer: then the generation is to last.
     pub(crate) fn is_opening_used(&mut self, now: Instant) -> bool {
-        self.handed.is_some_and(|handed| now < handed + HANDING) || self.node.is_writing()
+        self.is_handing(now) || self.node.is_writing()
+    }
+
+    fn is_handing(&self, now: Instant) -> bool {
+        self.handed.is_some_and(|handed| now < handed + HANDING)
     }
 
     /// Tells what the core tells people.
@@ -192,32 +209,50 @@ impl<C: Core> Driver<C> {
         self.node.told().iter().for_each(|line| warn(&format!("the node tells: {line}")));
     }
 
-    /// Drops what isn't needed any more of generations that were left.
+    /// Drops what isn't needed any more of generations that were left, once no peer is handed any of it.
     fn drop_left(&mut self) {
+        self.is_drop_due = self.is_handing(Instant::now());
+        if self.is_drop_due {
+            return;
+        }
+        self.lead.end();
         // (while files are dropped nothing else looks at the folder)
         self.dropping.take().map(JoinHandle::join);
         self.dropping = self.directory.drop_left_beside(self.kept);
     }
 
     fn take_piece(&mut self, from: u8, piece: Message) -> Result<(), StopFault> {
-        let Some(fetch) = &mut self.fetch else { return Ok(()) };
-        let path = fetch.path().to_path_buf();
-        match fetch.take(from, piece, Instant::now()).map_err(|error| StopFault::File(path.clone(), error))? {
-            Step::Ask(next) => next.iter().for_each(|want| self.peers.send(from, want.write())),
-            Step::Done(generation) => {
-                self.fetch = None;
+        let Some(following) = &mut self.following else { return Ok(()) };
+        let came = following.take(from, piece, Instant::now()).map_err(StopFault::Node)?;
+        self.come(from, came)
+    }
+
+    /// Something has come of what this replica asked a peer for, to come to a later generation.
+    fn come(&mut self, from: u8, came: Came) -> Result<(), StopFault> {
+        match came {
+            Came::Nothing => {}
+            Came::Ask(wants) => wants.iter().for_each(|want| self.peers.send(from, want.write())),
+            Came::Done(generation) => {
+                self.following = None;
                 if generation > self.generation.number {
-                    if self.plant == Some(Plant::Lacking)
-                        && let Some(bytes) = std::fs::read(&path).ok().as_deref().and_then(lacking)
-                    {
-                        std::fs::write(&path, bytes).map_err(|error| StopFault::File(path.clone(), error))?;
-                    }
-                    let whole = self.directory.keep_taken().map_err(|error| StopFault::File(path, error))?;
-                    self.taken = Some((generation, whole));
+                    self.keep_taken(generation)?;
                 }
             }
-            Step::Ignored => {}
         }
+        Ok(())
+    }
+
+    /// The opening of this generation has come whole.
+    fn keep_taken(&mut self, generation: u32) -> Result<(), StopFault> {
+        let path = self.directory.taken();
+        let failed = |error| StopFault::File(path.clone(), error);
+        if self.plant == Some(Plant::Lacking)
+            && let Some(bytes) = std::fs::read(&path).ok().as_deref().and_then(lacking)
+        {
+            std::fs::write(&path, bytes).map_err(failed)?;
+        }
+        let whole = self.directory.keep_taken().map_err(failed)?;
+        self.taken = Some((generation, whole));
         Ok(())
     }
 
@@ -278,18 +313,27 @@ impl<C: Core> Driver<C> {
     /// Asks for an opening, where peers are in a later generation and this replica doesn't close its own.
     fn catch_up(&mut self, now: Instant) -> Result<(), StopFault> {
         // (a peer that is lost may be back soon, and what came of it counts)
-        if let Some(fetch) = self.fetch.as_mut().filter(|fetch| !fetch.is_over(now)) {
-            if fetch.due() <= now {
-                let (from, wants) = (fetch.from(), fetch.again(now));
-                wants.iter().for_each(|want| self.peers.send(from, want.write()));
-            }
-            return Ok(());
+        if let Some(following) = self.following.as_mut().filter(|following| !following.is_over(now)) {
+            let (from, is_ended) = (following.from(), following.is_ended());
+            return match following.look(now) {
+                Ok(Came::Done(_)) | Err(_) if is_ended => {
+                    self.following = None;
+                    Ok(())
+                }
+                Ok(_) if is_ended => Ok(()),
+                Ok(came) => self.come(from, came),
+                Err(fault) => {
+                    warn(&format!("what replica {from} has handed isn't taken: {fault}"));
+                    (self.following, self.behind_since) = (None, None);
+                    Ok(())
+                }
+            };
         }
         let own = self.generation.number;
         let later = |peer: &u8| self.is_reached(*peer) && self.others.generation(*peer) > own;
         let later: Vec<u8> = self.peer_numbers().filter(later).collect();
         if later.is_empty() {
-            (self.behind_since, self.fetch) = (None, None);
+            (self.behind_since, self.following) = (None, None);
             return Ok(());
         }
         let since = *self.behind_since.get_or_insert(now);
@@ -298,8 +342,9 @@ impl<C: Core> Driver<C> {
         }
         let peer = later[Random::new().below(later.len() as u64) as usize];
         let path = self.directory.taken();
-        let (fetch, want) = Fetch::begin(&path, peer, now).map_err(|error| StopFault::File(path, error))?;
-        self.fetch = Some(fetch);
+        let begun = Following::begin(&path, self.node.follower(), peer, now);
+        let (following, want) = begun.map_err(|error| StopFault::File(path, error))?;
+        self.following = Some(following);
         self.peers.send(peer, want.write());
         Ok(())
     }
@@ -323,7 +368,7 @@ impl<C: Core> Driver<C> {
         let state = state.map_err(StopFault::Node)?;
         self.tell_lines();
         if state.generation == before && matches!(begin, Begin::Take(_)) {
-            (self.fetch, self.behind_since) = (None, None);
+            (self.following, self.behind_since) = (None, None);
             return Ok(());
         }
         if state.generation <= before {
@@ -347,7 +392,8 @@ impl<C: Core> Driver<C> {
         self.generation = Generation::new(state, now - start, now);
         self.others.begin();
         self.delayed = Default::default();
-        (self.fetch, self.taken, self.behind_since, self.is_unexecuted) = (None, None, None, true);
+        self.following = self.following.take().and_then(Following::end);
+        (self.taken, self.behind_since, self.is_unexecuted) = (None, None, true);
         self.recollect()?;
         self.meet(&opening)?;
         self.greet_all();

@@ -256,7 +256,9 @@ fn start(options: Options, due: Arc<Due>) -> Result<Driver<AnyCore>, StoreFault>
     if joins {
         (membership, peers) = open(place, &options.peers, for_peers)?;
         serve(for_clients, shared, &membership)?;
-        let joining = Joining { membership: &membership, directory: &directory, peers: &peers, events: &events };
+        let follower = is_hosted(&options).then_some(epaxos::Core::Library);
+        let (membership, directory, peers, events) = (&membership, &directory, &peers, &events);
+        let joining = Joining { membership, directory, peers, events, follower };
         let begin = joining.wait().map_err(StoreFault::Stop)?;
         let opening = match &begin {
             Begin::Take(path) => {
@@ -431,6 +433,11 @@ fn program(options: &Options) -> PathBuf {
     options.node.clone().unwrap_or_else(|| "epaxos".into())
 }
 
+/// Whether the core runs in this process.
+fn is_hosted(options: &Options) -> bool {
+    options.node.is_none() && epaxos::Core::has_library()
+}
+
 /// Starts the core, and waits until it has read its log: what it is then. It runs in the program that is named; else in this process, where the store
 /// was built with the library; else in the program on the `PATH`.
 fn start_node(
@@ -441,7 +448,7 @@ fn start_node(
     events: &SyncSender<Event>,
 ) -> Result<(AnyCore, State), StoreFault> {
     let folder = directory.generations();
-    if options.node.is_none() && epaxos::Core::has_library() {
+    if is_hosted(options) {
         let hosting = Hosting { place, folder, core: epaxos::Core::Library, checkpoint: options.checkpoint };
         let hosted = Hosted::start(hosting, begin, run).map_err(StoreFault::Node)?;
         return tell_of(Box::new(hosted));

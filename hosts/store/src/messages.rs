@@ -1,4 +1,5 @@
-//! What hosts tell one another, on the connections of frames: how far each is, what is committed there, and openings, in pieces.
+//! What hosts tell one another, on the connections of frames: how far each is, what is committed there, and openings, or what
+//! leads to them, in pieces.
 use crate::commits::Committed;
 use epaxos::Fields;
 
@@ -21,6 +22,10 @@ pub enum Message {
     Want { generation: u32, offset: u64 },
     /// A piece of an opening, which has so many bytes in all.
     Piece { generation: u32, total: u64, offset: u64, bytes: Vec<u8> },
+    /// It wants what is behind this place of the bytes that lead from the first of these generations to the second, or to the newest one, by 0.
+    Follow { first: u32, generation: u32, offset: u64 },
+    /// A piece of these bytes, of which there are so many.
+    Part { first: u32, generation: u32, total: u64, offset: u64, bytes: Vec<u8> },
     /// What is committed at the sender in this generation.
     Committed { generation: u32, committed: Committed },
     /// It is to be answered at once: so the sender learns how far the receiver is.
@@ -51,6 +56,20 @@ impl Message {
             }
             Message::Piece { generation, total, offset, bytes } => {
                 out.push(3);
+                out.extend(generation.to_be_bytes());
+                out.extend(total.to_be_bytes());
+                out.extend(offset.to_be_bytes());
+                out.extend(bytes);
+            }
+            Message::Follow { first, generation, offset } => {
+                out.push(9);
+                out.extend(first.to_be_bytes());
+                out.extend(generation.to_be_bytes());
+                out.extend(offset.to_be_bytes());
+            }
+            Message::Part { first, generation, total, offset, bytes } => {
+                out.push(10);
+                out.extend(first.to_be_bytes());
                 out.extend(generation.to_be_bytes());
                 out.extend(total.to_be_bytes());
                 out.extend(offset.to_be_bytes());
@@ -89,6 +108,12 @@ impl Message {
             6 => Message::Committed { generation: fields.u32()?, committed: Committed::read(&mut fields)? },
             7 => Message::Ping(fields.u64()?),
             8 => Message::Pong(fields.u64()?),
+            9 => Message::Follow { first: fields.u32()?, generation: fields.u32()?, offset: fields.u64()? },
+            10 => {
+                let (first, generation) = (fields.u32()?, fields.u32()?);
+                let (total, offset) = (fields.u64()?, fields.u64()?);
+                Message::Part { first, generation, total, offset, bytes: take_rest(&mut fields).to_vec() }
+            }
             _ => return None,
         };
         fields.is_over().then_some(message)
@@ -123,7 +148,12 @@ mod tests {
         let piece = Message::Piece { generation: 1, total: 9, offset: 2, bytes: vec![7, 8] };
         let head = [b'E', b'S', 3, 0, 0, 0, 1, 0, 0, 0, 0, 0, 0, 0, 9, 0, 0, 0, 0, 0, 0, 0, 2, 7, 8];
         assert_eq!(piece.write(), head);
-        for message in [hello, want, piece] {
+        let follow = Message::Follow { first: 1, generation: 2, offset: 3 };
+        assert_eq!(follow.write(), [b'E', b'S', 9, 0, 0, 0, 1, 0, 0, 0, 2, 0, 0, 0, 0, 0, 0, 0, 3]);
+        let part = Message::Part { first: 1, generation: 2, total: 9, offset: 3, bytes: vec![7, 8] };
+        let head = [b'E', b'S', 10, 0, 0, 0, 1, 0, 0, 0, 2, 0, 0, 0, 0, 0, 0, 0, 9, 0, 0, 0, 0, 0, 0, 0, 3, 7, 8];
+        assert_eq!(part.write(), head);
+        for message in [hello, want, piece, follow, part] {
             let bytes = message.write();
             assert!(Message::is_one(&bytes));
             assert_eq!(Message::read(&bytes), Some(message));
@@ -142,7 +172,7 @@ mod tests {
             assert_eq!(Message::read(&bytes), Some(message));
         }
         assert_eq!(Message::read(&[&spelled[..], &[0]].concat()), None);
-        assert!([4, 5, 9].iter().all(|kind| Message::read(&[b'E', b'S', *kind, 0, 0, 0, 0, 0, 0, 0, 0]).is_none()));
+        assert!([4, 5, 11].iter().all(|kind| Message::read(&[b'E', b'S', *kind, 0, 0, 0, 0, 0, 0, 0, 0]).is_none()));
         let mut committed = Committed::new(2);
         committed.insert(Instance { replica: 1, number: 1 });
         let committed = Message::Committed { generation: 258, committed };

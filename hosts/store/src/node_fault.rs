@@ -37,6 +37,8 @@ pub enum NodeFault {
     NoOpening,
     /// The folder's openings are read by the library alone.
     NoLibrary,
+    /// What a peer has handed leads to no generation: why.
+    BadWay(&'static str),
     /// There is no thread.
     Thread(io::Error),
 }
@@ -97,6 +99,7 @@ impl fmt::Display for NodeFault {
             NodeFault::NoLibrary => f.write_str(
                 "the folder is one of a store that was built with the library, and this one is built without it",
             ),
+            NodeFault::BadWay(why) => write!(f, "what leads to the generation is damaged: {why}"),
             NodeFault::Thread(error) => write!(f, "a thread can't be started: {error}"),
             NodeFault::NotFurther(generation) => write!(f, "the node doesn't go on from generation {generation}"),
         }

@@ -1,4 +1,4 @@
-//! Openings that are handed from one replica to another, in pieces that the receiver asks for, several at a time.
+//! Openings, and what leads to them, as they are handed from one replica to another: in pieces that the receiver asks for, several at a time.
 use crate::directory::Directory;
 use crate::messages::{LONGEST_PIECE, Message};
 use std::collections::BTreeMap;
@@ -28,11 +28,20 @@ pub fn piece(directory: &Directory, generation: u32, offset: u64) -> io::Result<
     Ok(Message::Piece { generation, total, offset, bytes })
 }
 
-/// An opening that is on its way to this replica. All of it comes from one peer: another one's file of the same generation may have another stamp.
+/// What comes: an opening, or the bytes that lead to one ([`Way`](crate::way::Way)).
+#[derive(Clone, Copy, PartialEq, Eq, Debug)]
+pub enum Form {
+    Opening,
+    Way,
+}
+
+/// An opening that is on its way to this replica, or what leads to it. All of it comes from one peer: another one's file of the same generation may have
+/// another stamp, and its logs are others.
 pub struct Fetch {
     from: u8,
-    /// 0 before the first piece.
-    generation: u32,
+    form: Form,
+    /// The generations from which and to which the bytes lead: of an opening the second one alone. 0 before the first piece.
+    ends: (u32, u32),
     total: u64,
     /// Where the next piece begins that wasn't asked for yet.
     next: u64,
@@ -62,7 +71,7 @@ struct Wanted {
 pub enum Step {
     /// This is to be asked of the replica that the piece is of.
     Ask(Vec<Message>),
-    /// All of it is here, in the file; it is of this generation.
+    /// All of it is here, in the file; it is of this generation, or leads to it.
     Done(u32),
     /// It wasn't waited for.
     Ignored,
@@ -70,10 +79,11 @@ pub enum Step {
 
 impl Fetch {
     /// Begins, with what is to be asked of a replica.
-    pub fn begin(path: &Path, from: u8, now: Instant) -> io::Result<(Fetch, Message)> {
+    pub fn begin(path: &Path, form: Form, from: u8, now: Instant) -> io::Result<(Fetch, Message)> {
         let mut fetch = Fetch {
             from,
-            generation: 0,
+            form,
+            ends: (0, 0),
             total: 0,
             next: 0,
             under_way: BTreeMap::new(),
@@ -125,24 +135,45 @@ impl Fetch {
         self.count += 1;
         self.under_way.insert(offset, Wanted { number: self.count, asked: now, is_again, passed: 0 });
         self.next = self.next.max(offset + LONGEST_PIECE);
-        Message::Want { generation: self.generation, offset }
+        self.ask(offset)
+    }
+
+    fn ask(&self, offset: u64) -> Message {
+        let (first, generation) = self.ends;
+        match self.form {
+            Form::Opening => Message::Want { generation, offset },
+            Form::Way => Message::Follow { first, generation, offset },
+        }
+    }
+
+    /// A question whose answer has nothing: by it the replica learns that what it handed is still needed.
+    pub fn word(&self) -> Message {
+        self.ask(self.total)
     }
 
     /// Takes a piece of `total` bytes.
     pub fn take(&mut self, from: u8, piece: Message, now: Instant) -> io::Result<Step> {
-        let Message::Piece { generation, total, offset, bytes } = piece else { return Ok(Step::Ignored) };
+        let (ends, total, offset, bytes) = match (self.form, piece) {
+            (Form::Opening, Message::Piece { generation, total, offset, bytes }) => {
+                ((0, generation), total, offset, bytes)
+            }
+            (Form::Way, Message::Part { first, generation, total, offset, bytes }) => {
+                ((first, generation), total, offset, bytes)
+            }
+            _ => return Ok(Step::Ignored),
+        };
         if from != self.from {
             return Ok(Step::Ignored);
         }
-        if generation != self.generation && offset == 0 {
+        if ends != self.ends && offset == 0 {
             // (the one before isn't there any more)
-            (self.generation, self.total, self.next) = (generation, total, 0);
+            (self.ends, self.total, self.next) = (ends, total, 0);
             self.under_way.clear();
             self.want(0, now);
             self.file.set_len(0)?;
         }
         let length = total.saturating_sub(offset).min(LONGEST_PIECE);
-        let is_of_it = (generation, total, bytes.len() as u64) == (self.generation, self.total, length);
+        let is_of_it = (ends, total, bytes.len() as u64) == (self.ends, self.total, length);
         let Some(wanted) = self.under_way.remove(&offset).filter(|_| is_of_it) else { return Ok(Step::Ignored) };
         self.file.seek(SeekFrom::Start(offset))?;
         self.file.write_all(&bytes)?;
@@ -156,7 +187,7 @@ impl Fetch {
         while self.under_way.len() < WINDOW && self.next < total {
             asked.push(self.want(self.next, now));
         }
-        Ok(if self.under_way.is_empty() { Step::Done(generation) } else { Step::Ask(asked) })
+        Ok(if self.under_way.is_empty() { Step::Done(ends.1) } else { Step::Ask(asked) })
     }
 }
 
@@ -190,7 +221,7 @@ mod tests {
     fn an_opening_is_handed_in_a_window() {
         let (directory, bytes, folder) = folder("window", &[(3, LENGTH)]);
         let (path, now) = (folder.join("taken"), Instant::now());
-        let (mut fetch, first) = Fetch::begin(&path, 1, now).unwrap();
+        let (mut fetch, first) = Fetch::begin(&path, Form::Opening, 1, now).unwrap();
         // All that is asked for in a round trip is answered together.
         let (mut asked, mut trips) = (vec![first], 0);
         let told = 'trips: loop {
@@ -218,7 +249,7 @@ mod tests {
     fn what_is_lost_is_asked_for_again_and_nothing_else() {
         let (directory, bytes, folder) = folder("lost", &[(3, LENGTH)]);
         let (path, start) = (folder.join("taken"), Instant::now());
-        let (mut fetch, first) = Fetch::begin(&path, 1, start).unwrap();
+        let (mut fetch, first) = Fetch::begin(&path, Form::Opening, 1, start).unwrap();
         let (mut asked, mut count, mut lost) = (VecDeque::from([first]), 0, 0);
         let mut now = start;
         loop {
@@ -244,7 +275,7 @@ mod tests {
         assert_eq!(count, 23 + lost);
         assert!(std::fs::read(&path).unwrap() == bytes);
         // A gap is seen by what comes behind it, without a wait.
-        let (mut fetch, first) = Fetch::begin(&path, 1, start).unwrap();
+        let (mut fetch, first) = Fetch::begin(&path, Form::Opening, 1, start).unwrap();
         let Step::Ask(asked) = fetch.take(1, answer(&directory, &first, 3), start).unwrap() else { panic!() };
         let steps: Vec<_> = asked[1..4].iter().map(|ask| fetch.take(1, answer(&directory, ask, 3), start)).collect();
         let Ok(Step::Ask(more)) = &steps[2] else { panic!() };
@@ -261,7 +292,7 @@ mod tests {
     fn a_generation_that_is_gone_is_begun_anew() {
         let (directory, bytes, folder) = folder("gone", &[(3, LENGTH), (4, 10)]);
         let (path, now) = (folder.join("taken"), Instant::now());
-        let (mut fetch, first) = Fetch::begin(&path, 1, now).unwrap();
+        let (mut fetch, first) = Fetch::begin(&path, Form::Opening, 1, now).unwrap();
         let Step::Ask(asked) = fetch.take(1, answer(&directory, &first, 3), now).unwrap() else { panic!() };
         assert_eq!(asked.len(), WINDOW);
         // What was begun is gone at the peer: the newest one is handed from its beginning.

@@ -4,6 +4,7 @@ pub mod drivers;
 pub mod map;
 pub mod memory;
 pub mod plain;
+pub mod three;
 
 use std::fs;
 use std::io::Write;
@@ -30,7 +31,12 @@ const STORE_PATIENCE: &str = "60";
 /// and then the system doesn't run it.
 pub fn script(folder: &Path, script: &str) -> PathBuf {
     let node = folder.join("node");
-    let mut writer = Command::new("sh").args(["-c", "cat > \"$0\" && chmod 755 \"$0\""]).arg(&node).stdin(Stdio::piped()).spawn().unwrap();
+    let mut writer = Command::new("sh")
+        .args(["-c", "cat > \"$0\" && chmod 755 \"$0\""])
+        .arg(&node)
+        .stdin(Stdio::piped())
+        .spawn()
+        .unwrap();
     writer.stdin.take().unwrap().write_all(script.as_bytes()).unwrap();
     assert!(writer.wait().unwrap().success());
     node

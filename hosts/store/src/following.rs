@@ -1,0 +1,167 @@
+//! How a replica that lags, or a new one, comes to a later generation: by an opening that a peer hands it, or by the last whole one and the logs since, which a
+//! thread goes through.
+use crate::file_fault::FileFault;
+use crate::follower::Follower;
+use crate::generations::unusable;
+use crate::messages::Message;
+use crate::node_fault::NodeFault;
+use crate::openings::{Fetch, Form, Step};
+use crate::way::Handed;
+use epaxos::{Core, Reference};
+use std::fs::File;
+use std::io::{self, BufWriter, Write};
+use std::panic::resume_unwind;
+use std::path::{Path, PathBuf};
+use std::sync::Arc;
+use std::sync::atomic::{AtomicBool, Ordering};
+use std::thread::{self, JoinHandle};
+use std::time::{Duration, Instant};
+
+/// The peer is told that what it handed is still needed, so often,
+const BETWEEN_WORDS: Duration = Duration::from_millis(250);
+/// and it is looked that often whether all of it was gone through.
+const LOOK: Duration = Duration::from_millis(5);
+
+/// An opening that is on its way to this replica.
+pub struct Following {
+    fetch: Fetch,
+    /// The core that goes through logs; none where the opening comes whole.
+    core: Option<Core>,
+    /// Where the opening comes together.
+    path: PathBuf,
+    going: Option<Going>,
+}
+
+/// What is being gone through.
+struct Going {
+    thread: JoinHandle<Result<u32, NodeFault>>,
+    is_wanted: Arc<AtomicBool>,
+    /// When the peer was told last.
+    told: Instant,
+}
+
+/// What comes of a look.
+#[derive(Debug)]
+pub enum Came {
+    /// This is to be asked of the peer.
+    Ask(Vec<Message>),
+    /// The opening of this generation is here, in its file.
+    Done(u32),
+    Nothing,
+}
+
+impl Following {
+    /// Begins, with what is to be asked of a replica. The opening is to come together in the file of this path.
+    pub fn begin(path: &Path, core: Option<Core>, from: u8, now: Instant) -> io::Result<(Following, Message)> {
+        let form = if core.is_some() { Form::Way } else { Form::Opening };
+        let (fetch, first) = Fetch::begin(&fetched(path, form), form, from, now)?;
+        Ok((Following { fetch, core, path: path.to_path_buf(), going: None }, first))
+    }
+
+    /// Whom it is asked of.
+    pub fn from(&self) -> u8 {
+        self.fetch.from()
+    }
+
+    /// Whether it is to be asked of another one, from the beginning.
+    pub fn is_over(&self, now: Instant) -> bool {
+        self.going.is_none() && self.fetch.is_over(now)
+    }
+
+    /// It isn't wanted any more. What is left of it: a thread that ends soon, before which no other one may begin.
+    pub fn end(self) -> Option<Following> {
+        self.going.as_ref()?.is_wanted.store(false, Ordering::Relaxed);
+        Some(self)
+    }
+
+    /// Whether it was ended.
+    pub fn is_ended(&self) -> bool {
+        self.going.as_ref().is_some_and(|going| !going.is_wanted.load(Ordering::Relaxed))
+    }
+
+    /// When it is to be looked at.
+    pub fn due(&self, now: Instant) -> Instant {
+        if self.going.is_some() { now + LOOK } else { self.fetch.due() }
+    }
+
+    /// Takes a piece.
+    pub fn take(&mut self, from: u8, piece: Message, now: Instant) -> Result<Came, NodeFault> {
+        if self.going.is_some() {
+            return Ok(Came::Nothing);
+        }
+        let path = self.fetch.path().to_path_buf();
+        let step = self.fetch.take(from, piece, now).map_err(unusable(&path)).map_err(failed)?;
+        match (step, self.core.clone()) {
+            (Step::Ask(more), _) => Ok(Came::Ask(more)),
+            (Step::Ignored, _) => Ok(Came::Nothing),
+            (Step::Done(generation), None) => Ok(Came::Done(generation)),
+            (Step::Done(_), Some(core)) => {
+                let is_wanted = Arc::new(AtomicBool::new(true));
+                let (follower, to, wanted) = (Follower { core, replica: from }, self.path.clone(), is_wanted.clone());
+                let go = move || go_through(&follower, &path, &to, &wanted);
+                let thread = thread::Builder::new().name("following".into()).spawn(go).map_err(NodeFault::Thread)?;
+                self.going = Some(Going { thread, is_wanted, told: now });
+                Ok(Came::Ask(vec![self.fetch.word()]))
+            }
+        }
+    }
+
+    /// Looks whether it is here, and what is to be asked again. Where what has come leads to no opening, why.
+    pub fn look(&mut self, now: Instant) -> Result<Came, NodeFault> {
+        let Some(going) = &mut self.going else {
+            return Ok(if self.fetch.due() <= now { Came::Ask(self.fetch.again(now)) } else { Came::Nothing });
+        };
+        if going.thread.is_finished() {
+            let going = self.going.take();
+            let told = going.map(|going| going.thread.join().unwrap_or_else(|panic| resume_unwind(panic)));
+            return told.unwrap_or(Ok(0)).map(Came::Done);
+        }
+        if now < going.told + BETWEEN_WORDS {
+            return Ok(Came::Nothing);
+        }
+        going.told = now;
+        Ok(Came::Ask(vec![self.fetch.word()]))
+    }
+}
+
+/// Where what is handed comes together: an opening in its place, and what leads to one beside it.
+fn fetched(path: &Path, form: Form) -> PathBuf {
+    match form {
+        Form::Opening => path.to_path_buf(),
+        Form::Way => path.with_extension("logs"),
+    }
+}
+
+/// Goes through what a peer has handed, and writes the opening that it leads to: its generation.
+fn go_through(follower: &Follower, from: &Path, to: &Path, is_wanted: &AtomicBool) -> Result<u32, NodeFault> {
+    let handed = Handed::open(from)?;
+    let started = handed.started()?;
+    let write = |pieces: &mut dyn Iterator<Item = Result<Vec<u8>, NodeFault>>| {
+        let mut out = BufWriter::new(File::create(to).map_err(unusable(to)).map_err(failed)?);
+        for piece in pieces {
+            out.write_all(&piece?).map_err(unusable(to)).map_err(failed)?;
+        }
+        out.flush().map_err(unusable(to)).map_err(failed)
+    };
+    let log_of = |generation, next: &Reference| {
+        if is_wanted.load(Ordering::Relaxed) {
+            handed.log_of(generation, next)
+        } else {
+            Err(FileFault::Unusable(from.to_path_buf(), io::ErrorKind::Interrupted.into()).into())
+        }
+    };
+    match started.references.last() {
+        None => write(&mut std::iter::once(Ok(started.first.bytes.clone())))?,
+        Some(last) => {
+            let opening = follower.opening_of(&started, *last, log_of)?;
+            write(&mut opening.map(|piece| piece.map_err(NodeFault::Core)))?;
+        }
+    }
+    // (all of it is in the opening; a crash leaves what the next one overwrites)
+    let _ = std::fs::remove_file(from);
+    Ok(started.generation())
+}
+
+fn failed(fault: FileFault) -> NodeFault {
+    NodeFault::Generations(fault.into())
+}
