@@ -186,7 +186,7 @@ def generation(program, life):
     if os.path.isfile(viewer):
         for words in LOOKS:
             require(called(viewer, words, bundle), words, "writes nothing")
-        called(viewer, ["replay", "--emit", "trace"], script)
+        called(viewer, ["trace"], script)
     for host in ("lock", "ring"):
         Report(life, called(program, ["run", "--host", host], life.agenda()), True)
     return report, bundle

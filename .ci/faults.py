@@ -170,7 +170,7 @@ def endless():
 def texts():
     """Text that is given for a bundle, and what it is."""
     yield "a report", b"verdict accepted\ncommitted 0\nhistory 0\nreceipts 0\nrefused 0\n", "a report, as replay, run and audit print it\n"
-    yield "a trace", b"line 2  stamp 1  replica 0 entry 1  propose put x 1 (client 1 request 1 seen 0); took 0.1\n", "a trace, as replay --emit trace prints it\n"
+    yield "a trace", b"line 2  stamp 1  replica 0 entry 1  propose put x 1 (client 1 request 1 seen 0); took 0.1\n", "a trace, as trace prints it\n"
     yield "what is shown", b"stamp 1  replica 0 entry 1  execute 0.1\n", "entries in words, as show prints them\n"
     yield "nothing", b"", "nothing, as the input is empty\n"
     for order in ("le", "be"):

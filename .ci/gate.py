@@ -65,7 +65,7 @@ LONG = b"replicas 3\n" + b"propose 0 1 put x 1\nflush\nflush\n" * 40
 LOOKS = (["tools/make-rows", "check"], ["tools/pages"], ["tools/history"], ["tools/make-page", "--check"], ["tools/c-header", "--check"], ["tools/wrong-bodies", "--look"])
 # how ep_viewer looks at a bundle
 VIEWS = (["show"], ["show", "--columns"], ["explain"], ["draw"], ["draw", "--mermaid"], ["draw", "--dot"])
-TRACE = ["replay", "--emit", "trace"]
+TRACE = ["trace"]
 # the script that is traced, and whose bundle is looked at, with allocations refused; and rows of bundles that an audit refuses, or doesn't read
 VIEWED = "examples/crossing_puts.script"
 ROWS_VIEWED = ("audit-of-another-value", "audit-of-another-entry", "audit-cut", "audit-not-a-run")
@@ -185,7 +185,7 @@ def refused_memory():
             for log, held in moved.kept(it).items():
                 with open(f"{folder}/{name}-{log}", "wb") as file:
                     file.write(held)
-            yield swept("refused-memory", ["ep_server", MOST, "--", "upgrade", "--log", *(f"{folder}/{name}-{log}" for log in moved.kept(it))], b"")
+            yield swept("refused-memory", ["ep_server", MOST, "--", "move-logs", *(f"{folder}/{name}-{log}" for log in moved.kept(it))], b"")
 
 
 def refused_starts():
@@ -278,7 +278,6 @@ PARTS = (
     Part("tests/", tests, is_of_built=False),
     Part("rows", both_programs),
     Part("launcher", launcher.tried),
-    Part("help", lambda: counted("tools/help-texts", "check")),
     Part("disks", disks.tried),
     Part("page", lambda: page.tried(PROGRAM)),
     Part("refused memory", lambda: sweeps(refused_memory, refused_starts, refused_views)),

@@ -889,7 +889,7 @@ def every():
             "not committed  0.1 at replica 0, which leads it: PreAccepts are out, answers of others so far: 0",
         ]
     )
-    yield dict(name="a trace of proposals that name whom they spare", words=["replay", "--emit", "trace"], given=script.encode(), wanted=traced.encode())
+    yield dict(name="a trace of proposals that name whom they spare", words=["trace"], given=script.encode(), wanted=traced.encode())
     yield from bundles()
     yield from upgrades()
     yield from chains()

@@ -5,11 +5,14 @@ They are made in a folder of their own, which has the launcher, its tools and th
 
 import os
 import pty
+import re
 import shutil
 import subprocess
 import sys
 import tempfile
 import time
+
+import rows
 
 TOP = os.path.dirname(os.path.dirname(os.path.abspath(__file__)))
 PROGRAMS = ("ep_main", "ep_viewer", "ep_server")
@@ -23,8 +26,8 @@ FOUR = "replicas 4\n"
 CUT = b"EPJB\2\3"
 # a bundle in which replica 1 handled a frame that nobody sent: .ci/rows/audit-unsent-frame
 UNSENT = f"{TOP}/.ci/rows/audit-unsent-frame/stdin.hex"
-COMMANDS = ("replay", "run", "audit", "show", "explain", "draw", "trace-events", "upgrade", "node", "collect", "contents")
-
+COMMANDS = rows.commands()
+OLD = "epaxos {}: it is `epaxos {}` now, and these words go with the next version\n"
 
 # In the place of the build: leaves the program that is asked for, and notes the words.
 BUILDS_ONE = """#!/bin/bash
@@ -38,7 +41,7 @@ class Room:
 
     def __init__(self, top):
         self.top, self.places = top, {}
-        for name in ("epaxos", "crates.txt"):
+        for name in ("epaxos", "crates.txt", "commands.txt"):
             shutil.copy2(f"{TOP}/{name}", f"{top}/{name}")
         shutil.copytree(f"{TOP}/tools", f"{top}/tools", ignore=shutil.ignore_patterns("target", "__pycache__"))
         for name in os.listdir(f"{TOP}/crates"):
@@ -75,6 +78,10 @@ class Room:
     def write(self, name, text):
         with open(f"{self.top}/{name}", "w", encoding="utf-8") as file:
             file.write(text)
+
+    def text(self, name):
+        with open(f"{self.top}/{name}", encoding="utf-8") as file:
+            return file.read()
 
     def edit(self, name):
         """Has this file be newer than all that is built."""
@@ -117,47 +124,33 @@ class Room:
         return status, shown.decode(errors="replace").replace("\r\n", "\n")
 
 
-def text(name):
-    with open(f"{TOP}/tools/help/{name}", encoding="utf-8") as file:
-        return file.read()
-
-
 def refused(reason, tip=""):
     """A refusal of the first word."""
-    return 2, "", f"{REFUSED}{reason}\n" + (f"\n  tip: {tip}\n" if tip else "") + f"\nUsage: epaxos <COMMAND>{MORE}"
+    more = f"\n  tip: {tip}" if tip else f"  [subcommands: {', '.join(COMMANDS)}, help]"
+    return 2, "", f"{REFUSED}{reason}\n{more}\n\nUsage: epaxos <COMMAND>{MORE}"
 
 
 def fixed(room):
     """Where nothing is built: the words, what came of them, and what is wanted."""
     room.place()
     for words in ("--help", "-h", "help", "help help"):
-        yield words, room.run(words), (0, text("epaxos"), "")
-    for command in COMMANDS:
-        for words in (f"help {command}", f"{command} --help", f"{command} -h"):
-            yield words, room.run(words), (0, text(command), "")
-    listed = f"'epaxos' requires a subcommand but one was not provided\n  [subcommands: {', '.join(COMMANDS)}, help]"
+        status, wrote, told = room.run(words)
+        yield words, (status, re.findall(r"(?m)^  ([a-z][\w-]+)  ", wrote), told), (0, [*COMMANDS, "help"], "")
     for words, wanted in (
-        ("", refused(listed)),
+        ("", refused("'epaxos' requires a subcommand but one was not provided")),
         ("frob", refused("unrecognized subcommand 'frob'")),
-        ("replya", refused("unrecognized subcommand 'replya'", "a similar subcommand exists: 'replay'")),
         ("help frob", refused("unrecognized subcommand 'frob'")),
-        ("help shwo", refused("unrecognized subcommand 'shwo'", "a similar subcommand exists: 'show'")),
-        ("help show now", (2, "", f"{REFUSED}unexpected argument 'now' found\n\nUsage: epaxos help [COMMAND]{MORE}")),
-        ("--biuld", refused("unexpected argument '--biuld' found", "a similar argument exists: '--build'")),
-        ("-build", refused("unexpected argument '-build' found", "a similar argument exists: '--build'")),
-        ("build --unproved", refused("unrecognized subcommand 'build'", "a similar argument exists: '--build'")),
+        ("--biuld", refused("unexpected argument '--biuld' found")),
+        ("build --unproved", refused("unrecognized subcommand 'build'")),
         ("--build now", (2, "", "epaxos: --build takes at most --unproved and --jobs N, with N from 1 to 99\n")),
         ("--build --unproved now", (2, "", "epaxos: --build --unproved takes at most --library and --jobs N, with N from 1 to 99\n")),
         ("put.script", refused("unrecognized subcommand 'put.script'", "epaxos reads standard input: epaxos replay < put.script")),
         ("no.run", refused("unrecognized subcommand 'no.run'", "epaxos reads standard input: epaxos run < no.run")),
         ("cut.bundle", refused("unrecognized subcommand 'cut.bundle'", "epaxos reads standard input: epaxos audit < cut.bundle")),
-        ("node --replicas 3", (2, "", f"{REFUSED}the following required arguments were not provided:\n  --replica <R>\n\nUsage: epaxos node --replicas <N> --replica <R>{MORE}")),
-        ("node --replicas 3 --replica 0", (2, "", f"{REFUSED}'--log' or '--dir' is missing{MORE}")),
     ):
         yield words, room.run(words), wanted
-    for words in ("--help", "help node"):
-        yield f"{words} to a full device", room.run(words, redirect="> /dev/full"), (4, "", "writing failed\n")
-        yield f"{words} with the output closed", room.run(words, redirect=">&-"), (4, "", "writing failed\n")
+    yield "--help to a full device", room.run("--help", redirect="> /dev/full"), (4, "", "writing failed\n")
+    yield "--help with the output closed", room.run("--help", redirect=">&-"), (4, "", "writing failed\n")
     # (in the place of the build stands what leaves the program that it would, or fails)
     os.rename(f"{room.top}/tools/unproved", f"{room.top}/tools/unproved.kept")
     room.write("tools/unproved", "#!/bin/bash\necho \"$@\" >> it.built\nexit 70\n")
@@ -169,12 +162,12 @@ def fixed(room):
     for name in PROGRAMS:
         shutil.copy2(f"{TOP}/crates/{name}/out/{name}", f"{room.top}/built")
     room.write("tools/unproved", BUILDS_ONE.format(top=room.top))
-    for words, built in (("replay", "ep_main"), ("collect one.log", "ep_server")):
+    for words, built in (("replay", "ep_main"), ("collect one.log", "ep_server"), ("trace --help", "ep_viewer")):
         for turn in ("first", "second"):
             status, wrote, told = room.run(words, SCRIPT)
-            wanted = (0, REPORT, UNPROVED) if built == "ep_main" else (4, "", f"{UNPROVED}reading one.log failed: no such file or directory\n")
+            wanted = {"ep_main": (0, REPORT, UNPROVED), "ep_server": (4, "", f"{UNPROVED}reading one.log failed: no such file or directory\n"), "ep_viewer": (0, wrote, UNPROVED)}[built]
             yield f"{words}, not built, {turn} call", (status, wrote, told[-len(wanted[2]) :], ("is built now" in told) == (turn == "first")), (*wanted, True)
-    yield "each program is built once, alone", open(f"{room.top}/it.built").read(), "--program ep_main\n--program ep_server\n"
+    yield "each program is built once, alone", room.text("it.built"), "--program ep_main\n--program ep_server\n--program ep_viewer\n"
     os.rename(f"{room.top}/tools/unproved.kept", f"{room.top}/tools/unproved")
     room.place()
     yield "--version, not built", room.run("--version")[1].splitlines()[0::2], ["epaxos 0.1.0", "nothing is built: ./epaxos --build --unproved, or --build"]
@@ -186,17 +179,16 @@ def chosen(room):
     yield "unproved", room.run("replay", SCRIPT), (0, REPORT, UNPROVED)
     yield "--quiet", room.run("--quiet replay", SCRIPT), (0, REPORT, "")
     yield "EPAXOS_QUIET=1", room.run("replay", SCRIPT, quiet="1"), (0, REPORT, "")
-    yield "unproved, no words", room.run(""), refused(f"'epaxos' requires a subcommand but one was not provided\n  [subcommands: {', '.join(COMMANDS)}, help]")
+    yield "unproved, no words", room.run(""), refused("'epaxos' requires a subcommand but one was not provided")
     yield "unproved, --version", room.run("--version"), (0, "epaxos 0.1.0\nthe kit of the unproved\nnot proved: built with --unproved\n", "")
-    yield "unproved, a trace", room.run("--quiet replay --emit trace", FOUR), (2, "", "script refused at line 1\n")
-    yield "unproved, a file as a word", room.run("replay put.script"), (2, "", f"{REFUSED}unexpected argument 'put.script' found\n\n  tip: epaxos reads standard input: epaxos replay < put.script\n\nUsage: epaxos replay [OPTIONS]{MORE}")
-    yield "unproved, a file without --chain", room.run("audit cut.bundle"), (2, "", f"{REFUSED}a FILE stands with '--chain' alone\n\n  tip: epaxos reads standard input: epaxos audit < cut.bundle{MORE}")
+    yield "unproved, a trace", room.run("--quiet trace", FOUR), (2, "", "script refused at line 1\n")
+    yield "unproved, a file as a word", room.run("--quiet replay put.script"), (2, "", f"{REFUSED}unexpected argument 'put.script' found\n\nUsage: epaxos replay [OPTIONS]{MORE}")
+    yield "unproved, a file without --chain", room.run("--quiet audit cut.bundle"), (2, "", f"{REFUSED}a FILE stands with '--chain' alone{MORE}")
     for words in ("frob", "", "cut.bundle"):
         yield f"unproved, {words or 'no words'}, from a folder", room.run(words, redirect="< .")[0], 2
     yield "unproved, a chain, from a folder", room.run("--quiet audit --chain cut.bundle", redirect="< ."), (2, "", "bundle refused E12 at byte 4 in cut.bundle\n")
     yield "unproved, a file as a word, from a folder", room.run("--quiet audit cut.bundle", redirect="< .")[0], 2
     yield "unproved, a chain", room.run("--quiet audit --chain cut.bundle"), (2, "", "bundle refused E12 at byte 4 in cut.bundle\n")
-    yield "unproved, an option's value", room.run("--quiet replay --emit trace --emit trace", SCRIPT)[0], 2
     yield "unproved, a node", room.run("--quiet node --replicas 3 --replica 0 --log it.log --new"), (0, "", "")
     room.edit("crates/ep_base/src/lib.rt")
     yield "unproved, a source is newer", room.run("replay", SCRIPT), (0, REPORT, STALE)
@@ -216,6 +208,33 @@ def chosen(room):
     room.edit("crates.txt")
     yield "both, crates.txt is newer", room.run("replay", SCRIPT), (0, REPORT, STALE)
     room.restore("crates.txt")
+
+
+def belonging(room):
+    """Each command belongs to one program, which has its help; words of an earlier version are put into those of this one."""
+    room.place("unproved")
+    for program in PROGRAMS:
+        listed = subprocess.run([f"{room.top}/out/unproved/{program}", "--help"], stdout=subprocess.PIPE, text=True).stdout.partition("\nOptions:")[0]
+        own = {it for it, name in COMMANDS.items() if name == program}
+        yield f"the commands of {program}", {*re.findall(r"(?m)^  ([a-z][\w-]+)  ", listed)} - {"help"}, own
+    for command in COMMANDS:
+        helped = room.run(f"--quiet {command} --help")
+        yield f"{command} --help", (helped[0], bool(re.search(rf"(?m)^Usage: epaxos {command}( |$)", helped[1])), helped[2]), (0, True, "")
+        for words in (f"help {command}", f"{command} -h"):
+            yield words, room.run(f"--quiet {words}"), helped
+    yield "help show now", room.run("--quiet help show now")[:2], (2, "")
+    yield "--version of the launcher", {subprocess.run([f"{room.top}/out/unproved/{it}", "--version"], stdout=subprocess.PIPE, text=True).stdout for it in PROGRAMS}, {room.run("--version")[1].partition("\n")[0] + "\n"}
+    for old, new, said in (
+        ("replay --emit trace", "trace", ("replay --emit trace", "trace")),
+        ("replay --emit=trace", "trace", ("replay --emit=trace", "trace")),
+        ("replay --emit trace --help", "trace --help", ("replay --emit trace", "trace")),
+        ("upgrade --log one.log", "move-logs one.log", ("upgrade --log", "move-logs")),
+        ("upgrade one.log --log two.log", "move-logs one.log two.log", ("upgrade --log", "move-logs")),
+    ):
+        status, wrote, told = room.run(f"--quiet {new}", SCRIPT)
+        yield f"{old}, of an earlier version", room.run(f"--quiet {old}", SCRIPT), (status, wrote, OLD.format(*said) + told)
+    for words in ("replay --emit report", "replay --emit bundle", "upgrade --to 3"):
+        yield f"{words}, of this version", "goes with" in room.run(f"--quiet {words}", SCRIPT)[2], False
 
 
 def cheap(room):
@@ -239,12 +258,13 @@ def shown(room):
         ("replay", "four.script", 2, "script refused at line 1\nsee: epaxos explain < four.script\n"),
         ("audit", "cut.bundle", 2, "bundle refused E12 at byte 6\nsee: epaxos explain < cut.bundle\n"),
         ("show", "cut.bundle", 2, "bundle refused E12 at byte 6\nsee: epaxos explain < cut.bundle\n"),
+        ("replay put.script", "put.script", 2, f"{REFUSED}unexpected argument 'put.script' found\n\nUsage: epaxos replay [OPTIONS]{MORE}epaxos reads standard input: epaxos replay < put.script\n"),
         ("audit", "unsent.bundle", 1, "see: epaxos explain < unsent.bundle\n"),
         ("replay", "put.script", 0, ""),
     ):
         yield f"{words} {given}, on a terminal", room.seen(f"./epaxos {words} < {given} > it.out"), (status, said)
         status_elsewhere, _, told = room.run(words, redirect=f"< {given}")
-        yield f"{words} {given}, not on a terminal", (status_elsewhere, told), (status, "".join(line for line in said.splitlines(True) if not line.startswith("see: ")))
+        yield f"{words} {given}, not on a terminal", (status_elsewhere, told), (status, "".join(line for line in said.splitlines(True) if not line.startswith(("see: ", "epaxos reads "))))
     yield "a chain, on a terminal", room.seen("./epaxos audit --chain cut.bundle"), (2, "bundle refused E12 at byte 4 in cut.bundle\n")
     yield "from a pipe, on a terminal", room.seen("cat four.script | ./epaxos replay"), (2, "script refused at line 1\nsee: epaxos explain < FILE\n")
     status, seen = room.seen("./epaxos replay > it.out", (SCRIPT + "\4").encode())
@@ -253,7 +273,7 @@ def shown(room):
     room.write("many.script", many)
     # (the reader is gone before anything is written)
     closed = "(sleep 0.2; ./epaxos {} < {}; echo $? > it.status) | (exec <&-; sleep 0.3); cat it.status"
-    for words, given in (("replay", "put.script"), ("show", "unsent.bundle"), ("help replay", "/dev/null")):
+    for words, given in (("replay", "put.script"), ("show", "unsent.bundle"), ("help replay", "/dev/null"), ("help", "/dev/null")):
         yield f"{words}, its pipe closed, on a terminal", room.seen(closed.format(words, given)), (0, "4\n")
         told = subprocess.run(["bash", "-c", closed.format(words, given)], cwd=room.top, stdout=subprocess.PIPE, stderr=subprocess.PIPE)
         yield f"{words}, its pipe closed", (told.stdout, told.stderr), (b"4\n", b"writing failed\n")
@@ -289,7 +309,7 @@ def tried():
     passed = failed = 0
     with tempfile.TemporaryDirectory() as top:
         room = Room(top)
-        for part in (fixed, chosen, cheap, shown, builds):
+        for part in (fixed, chosen, belonging, cheap, shown, builds):
             for name, found, wanted in part(room):
                 is_well = found == wanted
                 passed, failed = passed + is_well, failed + (not is_well)

@@ -122,7 +122,7 @@ def explained():
     line, entries = b"bundle refused E12 at byte 0\n", ["\n  found: entries in words, as show prints them\n"]
     yield dict(name="version 3: what is shown, explained", words=["explain"], given=one.shown(), wanted=line, is_begun=True, says=entries, status=2)
     traced = f"{edition}\nline 3  stamp 41  replica 0 entry 1  propose get x (client 1 request 1 seen 40); took 0.1\n"
-    says = ["\n  found: a trace, as replay --emit trace prints it\n"]
+    says = ["\n  found: a trace, as trace prints it\n"]
     yield dict(name="version 3: a trace, explained", words=["explain"], given=traced.encode(), wanted=line, is_begun=True, says=says, status=2)
     says = ["\n  found: a report, as replay, run and audit print it\n"]
     link = b"verdict accepted\ngeneration 1 since 0 committed 0 history 0 open contents 0 df3f\n"

@@ -1,4 +1,4 @@
-"""Rows of `epaxos upgrade --log`: the logs of clusters of version 2 that have stopped, as dictionaries of a row's parts.
+"""Rows of `epaxos move-logs`: the logs of clusters of version 2 that have stopped, as dictionaries of a row's parts.
 
 Logs are written out from docs/FORMATS.md, sections 1, 2 and 9, and the openings that are wanted of them from sections 6.4 and 12."""
 
@@ -81,7 +81,7 @@ def kept(it, **changed):
 
 def upgrade(*places, size=3):
     """The words, with the logs of these replicas, or of all."""
-    return ["upgrade", "--log", *(f"{NAMES[it]}.log" for it in places or range(size))]
+    return ["move-logs", *(f"{NAMES[it]}.log" for it in places or range(size))]
 
 
 def opening(size, since, held, executed):
@@ -102,35 +102,35 @@ def moves():
     """Logs of which an opening is made."""
     for size in (3, 5, 7):
         it = Stopped(*MANY, size=size)
-        yield dict(name=f"upgrade --log of {size} replicas", words=upgrade(size=size), files=kept(it), wanted=made(it, size - 1))
+        yield dict(name=f"move-logs of {size} replicas", words=upgrade(size=size), files=kept(it), wanted=made(it, size - 1))
         turned = upgrade(*reversed(range(size)))
-        yield dict(name=f"upgrade --log of {size} replicas, the first one last", words=turned, files=kept(it), wanted=made(it, 0))
+        yield dict(name=f"move-logs of {size} replicas, the first one last", words=turned, files=kept(it), wanted=made(it, 0))
     it = Stopped("put x 1")
-    yield dict(name="upgrade --log of one command", words=upgrade(), files=kept(it), wanted=made(it, 2))
+    yield dict(name="move-logs of one command", words=upgrade(), files=kept(it), wanted=made(it, 2))
     files = kept(it, zero=log(it, 0, bytes(32), it.entries[0][:-1]))
-    yield dict(name="upgrade --log of a command that nobody has executed", words=upgrade(), files=files, wanted=made(it, 2))
+    yield dict(name="move-logs of a command that nobody has executed", words=upgrade(), files=files, wanted=made(it, 2))
     # (replica 0 executes it anew)
-    yield dict(name="upgrade --log of the same, the first one last", words=upgrade(2, 1, 0), files=files, wanted=made(it, 0))
+    yield dict(name="move-logs of the same, the first one last", words=upgrade(2, 1, 0), files=files, wanted=made(it, 0))
     files = kept(it, zero=log(it, 0, bytes(32), it.entries[0][:1]))
     voted = opening(3, 2, {}, [])
-    yield dict(name="upgrade --log of a command that isn't committed", words=upgrade(), files=files, wanted=voted)
+    yield dict(name="move-logs of a command that isn't committed", words=upgrade(), files=files, wanted=voted)
     none = Stopped()
-    yield dict(name="upgrade --log of nothing", words=upgrade(), files=kept(none), wanted=opening(3, 0, {}, []))
+    yield dict(name="move-logs of nothing", words=upgrade(), files=kept(none), wanted=opening(3, 0, {}, []))
     # (a log of version 2, without a record)
     old = {NAMES[at]: b"EPLG" + bytes([2, 3, at]) for at in range(3)}
-    yield dict(name="upgrade --log of logs of version 2", words=upgrade(), files=kept(none, **old), wanted=opening(3, 0, {}, []))
+    yield dict(name="move-logs of logs of version 2", words=upgrade(), files=kept(none, **old), wanted=opening(3, 0, {}, []))
     files = kept(it)
     line = f"torn end in two.log after byte {len(files['two.log'])}\n".encode()
-    yield dict(name="upgrade --log of a torn log", words=upgrade(), files=files | {"two.log": files["two.log"] + b"torn!"}, wanted=made(it, 2), told=line)
+    yield dict(name="move-logs of a torn log", words=upgrade(), files=files | {"two.log": files["two.log"] + b"torn!"}, wanted=made(it, 2), told=line)
     both = Apart(True)
     # replica 2 has stamp 4; it is told of two commits, and executes both
-    yield dict(name="upgrade --log of commands that two have committed", words=upgrade(), files=kept(both), wanted=opening(3, 8, {b"x": b"2"}, [(0, 1), (1, 1)]))
+    yield dict(name="move-logs of commands that two have committed", words=upgrade(), files=kept(both), wanted=opening(3, 8, {b"x": b"2"}, [(0, 1), (1, 1)]))
     # replica 0 has stamp 3; it is told of the other one's commit, by stamp 5
-    yield dict(name="upgrade --log of the same, the first one last", words=upgrade(1, 2, 0), files=kept(both), wanted=opening(3, 8, {b"x": b"2"}, [(0, 1), (1, 1)]))
+    yield dict(name="move-logs of the same, the first one last", words=upgrade(1, 2, 0), files=kept(both), wanted=opening(3, 8, {b"x": b"2"}, [(0, 1), (1, 1)]))
 
 
 def refused(name, files, line, words=None, status=2):
-    return dict(name=f"upgrade --log of {name}", words=words or upgrade(), files=files, told=f"{line}\n".encode(), status=status)
+    return dict(name=f"move-logs of {name}", words=words or upgrade(), files=files, told=f"{line}\n".encode(), status=status)
 
 
 def refusals():
@@ -170,10 +170,10 @@ def refusals():
 def words():
     """Words that are refused."""
     for given, why in (
-        ("--log", b"the following required arguments were not provided:\n  <LOG>...\n\nUsage: epaxos upgrade --log <LOG>...\n"),
-        ("--log --to 2 zero.log", b"unexpected argument '--to' found\n\n  tip: to pass '--to' as a value, use '-- --to'\n\nUsage: epaxos upgrade --log <LOG>...\n"),
+        ("", b"the following required arguments were not provided:\n  <LOG>...\n\nUsage: epaxos move-logs <LOG>...\n"),
+        ("--to 2 zero.log", b"unexpected argument '--to' found\n\n  tip: to pass '--to' as a value, use '-- --to'\n\nUsage: epaxos move-logs <LOG>...\n"),
     ):
-        yield dict(name=f"words refused: upgrade {given}", words=["upgrade", *given.split()], told=REFUSED + why + HELP, status=2)
+        yield dict(name=f"words refused: move-logs {given}", words=["move-logs", *given.split()], told=REFUSED + why + HELP, status=2)
 
 
 def every():

@@ -1,4 +1,4 @@
-"""Keys and values of odd bytes, as `show`, `explain`, `draw` and `replay --emit trace` tell them: as dictionaries of a row's parts.
+"""Keys and values of odd bytes, as `show`, `explain`, `draw` and `trace` tell them: as dictionaries of a row's parts.
 
 What is wanted is written out from docs/FORMATS.md: the bytes of bundles by section 2, words of bytes by section 3, entries and traces by section 11."""
 
@@ -87,7 +87,7 @@ def proposed():
 never given  #1 from 0 to 1: {ask}
 not committed  0.1 at replica 0, which leads it: PreAccepts are out, answers of others so far: 0
 """
-            yield dict(name=f"odd bytes, {what}: {op}, traced", words=["replay", "--emit", "trace"], given=spelled.encode(), wanted=traced.encode())
+            yield dict(name=f"odd bytes, {what}: {op}, traced", words=["trace"], given=spelled.encode(), wanted=traced.encode())
 
 
 # A put and a get of its key, each committed by all and executed by its leader
@@ -143,7 +143,7 @@ def played():
         yield dict(name=f"odd bytes, {what}: a run, explained", words=[*made, "explain"], given=script, wanted=b"verdict accepted\n")
         yield dict(name=f"odd bytes, {what}: a run, drawn", words=[*made, "draw", "--mermaid"], given=script, wanted=drawing.sequence(shown, 3).encode())
         yield dict(name=f"odd bytes, {what}: a run, drawn as a graph", words=[*made, "draw", "--dot"], given=script, wanted=drawing.graph(shown).encode())
-        yield dict(name=f"odd bytes, {what}: a run, traced", words=["replay", "--emit", "trace"], given=script, wanted=events(put, get, value_word).encode())
+        yield dict(name=f"odd bytes, {what}: a run, traced", words=["trace"], given=script, wanted=events(put, get, value_word).encode())
 
 
 def refused():

@@ -46,7 +46,7 @@ try "the sums" 'sha256sum -c --quiet SHA256SUMS'
 try "BUILT" 'grep -q ^commit: BUILT && grep -q ^again: BUILT'
 export EPAXOS_QUIET=1
 try "a script" './epaxos replay < examples/one_put.script | cmp - examples/one_put.report'
-try "a trace" './epaxos replay --emit trace < examples/slow_path.script | cmp - examples/slow_path.trace'
+try "a trace" './epaxos trace < examples/slow_path.script | cmp - examples/slow_path.trace'
 try "threads" './epaxos run --host ring < examples/lock.run | grep -qx "verdict accepted"'
 try "a bundle" './epaxos replay --emit bundle < examples/one_put.script > /tmp/one_put.bundle && ./epaxos audit < /tmp/one_put.bundle | grep -qx "verdict accepted"'
 try "a diagram" './epaxos draw --mermaid < /tmp/one_put.bundle | cmp - examples/one_put.mmd'
@@ -54,7 +54,7 @@ try "a page" './epaxos draw < /tmp/one_put.bundle | grep -q "</html>"'
 try "a reason" './epaxos explain < examples/one_put.script | grep -q "script read"'
 try "the tutorial: a receipt that was changed" './epaxos replay --emit bundle < examples/conflict.script > /tmp/conflict.bundle && LC_ALL=C sed "s/2\(\x00\x00\x00\x02\x00\x00\x00\x01\x01\)/3\1/" /tmp/conflict.bundle > /tmp/lied.bundle; ./epaxos audit < /tmp/lied.bundle | grep -qx "A4 unknown receipt 1"'
 try "the tutorial: a journal that was changed" 'sed s/x2/x3/ /tmp/conflict.bundle | ./epaxos audit 2> /tmp/error; grep -qx "bundle refused E11 at replica 0 entry 4" /tmp/error'
-try "the tutorial: an instance that stays open" 'head -n 5 examples/recovery.script | ./epaxos replay --emit trace | tail -n 3 > /tmp/open && [ -s /tmp/open ] && grep -qF "$(head -n 1 /tmp/open)" docs/TUTORIAL.md && grep -qF "$(tail -n 1 /tmp/open)" docs/TUTORIAL.md'
+try "the tutorial: an instance that stays open" 'head -n 5 examples/recovery.script | ./epaxos trace | tail -n 3 > /tmp/open && [ -s /tmp/open ] && grep -qF "$(head -n 1 /tmp/open)" docs/TUTORIAL.md && grep -qF "$(tail -n 1 /tmp/open)" docs/TUTORIAL.md'
 try "the tutorial: a chain" 'for it in first second; do ./epaxos replay --emit bundle < examples/${it}_life.script > /tmp/$it.bundle; done; ./epaxos audit --chain /tmp/first.bundle /tmp/second.bundle | tail -n 2 > /tmp/chain && [ -s /tmp/chain ] && grep -qF "$(head -n 1 /tmp/chain)" docs/TUTORIAL.md && grep -qF "$(tail -n 1 /tmp/chain)" docs/TUTORIAL.md'
 refused() { [ "$(./epaxos audit --chain "$1" "$2" | tail -n 1)" = "$3" ] && grep -qF "$3" docs/TUTORIAL.md; }
 second() { sed "$1" examples/second_life.script | ./epaxos replay --emit bundle > /tmp/other.bundle; }

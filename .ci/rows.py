@@ -10,14 +10,14 @@ A row is a folder .ci/rows/NAME with files, each of which may lack:
   redirect   the shell's redirections of the last run
   files      a folder: files that lie where the runs are; NAME.hex is NAME, in hexadecimal
   stdout stderr status     what is wanted: nothing, nothing and 0 where there is no such file; stdout.gz: packed
-PROGRAM is ep_main as it was built; what begins with `node`, `collect` or `contents` is run by ep_server, and what begins with `show`, `explain`,
-`draw` or `trace-events`, and traces, by ep_viewer, which were built as it was. Runs of `epaxos node`, and of `collect` on its logs, are in .ci/nodes.py.
+PROGRAM is ep_main as it was built; what begins with a command of another program (commands.txt) is run by that, which was built as it was. Runs of `epaxos node`, and of `collect` on its logs, are in .ci/nodes.py.
 More rows are made of the scripts and reports in examples/ and .ci/scripts/ (NAME.script is played, NAME.run is run
 by both hosts, and where there is a NAME.trace, a NAME.mmd or a NAME.dot, NAME.script is traced
 or drawn), and by .ci/made.py, .ci/words.py, .ci/cases.py, .ci/odd.py, .ci/faults.py, .ci/generations.py, .ci/collected.py, .ci/moved.py and .ci/looks.py. What .ci/drawn.py draws by
 chance is looked at too.
 """
 
+import functools
 import gzip
 import os
 import re
@@ -32,13 +32,15 @@ SECONDS = 120
 
 
 def program_of(program, words):
-    """The program that is run with these words: ep_server or ep_viewer for its own, as ep_main was built."""
-    own = {"node": "ep_server", "collect": "ep_server", "contents": "ep_server", "show": "ep_viewer", "explain": "ep_viewer", "draw": "ep_viewer", "trace-events": "ep_viewer"}
-    if words[:1] == ["replay"] and ("--emit=trace" in words or ["--emit", "trace"] in [words[at : at + 2] for at in range(len(words))]):
-        return program.replace("ep_main", "ep_viewer")
-    if words[:1] == ["upgrade"] and "--log" in words:
-        return program.replace("ep_main", "ep_server")
-    return program.replace("ep_main", own.get(words[0], "ep_main") if words else "ep_main")
+    """The program that is run with these words, as ep_main was built: that of the command; ep_main where there is none."""
+    return program.replace("ep_main", commands().get(words[0], "ep_main") if words else "ep_main")
+
+
+@functools.cache
+def commands():
+    """The commands, in the order of use, and the program of each."""
+    with open(f"{TOP}/commands.txt", encoding="utf-8") as lines:
+        return dict(re.findall(r"(?m)^([a-z-]+) (\w+): ", lines.read()))
 
 
 def runs_of(words):
@@ -189,7 +191,7 @@ def written():
                 name = f"{folder}/{name}"
                 yield from played(name, script, report) if kind == ".script" else hosted(name, [], script, [report])
                 if os.path.isfile(f"{TOP}/{folder}/{stem}.trace"):
-                    yield Row(f"{name}, traced", ["replay", "--emit", "trace"], script, text(f"{TOP}/{folder}", f"{stem}.trace"))
+                    yield Row(f"{name}, traced", ["trace"], script, text(f"{TOP}/{folder}", f"{stem}.trace"))
                 for ending, way in (("mmd", "--mermaid"), ("dot", "--dot")):
                     if os.path.isfile(f"{TOP}/{folder}/{stem}.{ending}"):
                         yield Row(f"{name}, drawn by {way}", ["replay", "--emit", "bundle", "|", "draw", way], script, text(f"{TOP}/{folder}", f"{stem}.{ending}"))

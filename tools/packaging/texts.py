@@ -1,35 +1,28 @@
-"""The man page and the completions of a release, made of the help that `epaxos` prints (tools/help)."""
+"""The man page and the completions of a release, made of the help that the programs print."""
 
-import os
 import re
-import sys
 
-sys.path.insert(0, os.path.dirname(os.path.dirname(os.path.realpath(__file__))))
-import words
+# options whose value is one of a few, which the help has in words
+VALUES = {
+    ("replay", "emit"): ("report", "bundle"),
+    ("run", "emit"): ("report", "bundle"),
+    ("run", "host"): ("lock", "ring"),
+    ("upgrade", "to"): ("2", "3"),
+    ("node", "replicas"): ("3", "5", "7"),
+    ("node", "sync"): ("each", "asked"),
+}
 
 
 class Told:
     """What the help of a command tells: what it does, and each option with what its value is called, the values that it takes, and what it means."""
 
-    def __init__(self, name):
-        self.name, self.text = name, words.help_of(name)
-        self.does = self.text.partition("\n")[0]
-        values = {option: said for option, _, said in words.VALUES.get(name, ())}
+    def __init__(self, name, text):
+        self.name, self.text = name, text
+        self.does = text.partition("\n")[0]
         self.options = []
-        for option, value, means in re.findall(r"^  (?:    |-\w, )--([\w-]+)(?: <([^>]+)>)?(?:\.\.\.)?  +(.*)$", self.text, re.M):
-            known = re.search(r"possible values: (.*)\]", values.get(option, ""))
-            self.options.append((option, value, known[1].split(", ") if known else [], means))
-        self.takes_files = bool(re.search(r"^Usage: .*[<[](FILE|LOG|FOLDER)", self.text, re.M))
-
-
-def commands():
-    """What the help tells of each command, with the options of `upgrade --log` among those of `upgrade`."""
-    found = [Told(it) for it in words.commands()]
-    for it in found:
-        if it.name == "upgrade":
-            it.options = list({option[0]: option for option in (*it.options, *Told(words.OF_LOGS).options)}.values())
-            it.takes_files = True
-    return found
+        for option, value, means in re.findall(r"^  (?:    |-\w, )--([\w-]+)(?: <([^>]+)>)?(?:\.\.\.)?  +(.*)$", text, re.M):
+            self.options.append((option, value, VALUES.get((name, option), ()), means))
+        self.takes_files = bool(re.search(r"^Usage: .*[<[](FILE|LOG|FOLDER)", text, re.M))
 
 
 def escaped(text):
@@ -38,16 +31,15 @@ def escaped(text):
     return "\n".join("\\&" + it if it[:1] in (".", "'") else it for it in lines)
 
 
-def man(version, date):
+def man(version, date, overview, commands):
     """The page of section 1."""
-    first, _, rest = words.help_of("epaxos").partition("\n")
+    first, _, rest = overview.partition("\n")
     parts = [f'.TH EPAXOS 1 "{date}" "epaxos {version}"\n.SH NAME\nepaxos \\- {escaped(first[0].lower() + first[1:])}']
     parts.append(".SH SYNOPSIS\n.B epaxos\n[\\-\\-quiet] COMMAND ..")
     parts.append(f".SH DESCRIPTION\n.nf\n{escaped(rest.strip())}\n.fi")
     parts.append(".SH COMMANDS")
-    for name in [*words.commands(), words.OF_LOGS]:
-        shown = "upgrade --log" if name == words.OF_LOGS else name
-        parts.append(f".SS epaxos {escaped(shown)}\n.nf\n{escaped(words.help_of(name).strip())}\n.fi")
+    for it in commands:
+        parts.append(f".SS epaxos {escaped(it.name)}\n.nf\n{escaped(it.text.strip())}\n.fi")
     parts.append(".SH ENVIRONMENT\n.TP\n.B EPAXOS_QUIET\nWhere it is 1, no line says that what answers isn't proved.")
     parts.append(".SH SEE ALSO\n.BR epaxos\\-store (1)")
     return "\n".join(parts) + "\n"
@@ -60,13 +52,13 @@ def man_of_store(version, date, help_text):
     return f"{name}.SH DESCRIPTION\n.nf\n{escaped(first)}\n{escaped(rest)}\n.fi\n.SH SEE ALSO\n.BR epaxos (1)\n"
 
 
-def bash():
+def bash(commands):
     """What completes words in bash."""
     rows, values = [], []
-    for it in commands():
+    for it in commands:
         rows.append(f"        {it.name}) options='{' '.join('--' + option for option, *_ in it.options)}' ;;")
         values += [f"        '{it.name} --{option}') COMPREPLY=($(compgen -W '{' '.join(known)}' -- \"$word\")); return ;;" for option, _, known, _ in it.options if known]
-    every = " ".join([*words.commands(), "help"])
+    every = " ".join([*(it.name for it in commands), "help"])
     return f"""# completes the words of epaxos, in bash
 _epaxos() {{
     local word=${{COMP_WORDS[COMP_CWORD]}} before=${{COMP_WORDS[COMP_CWORD-1]}} command=${{COMP_WORDS[1]}} options=
@@ -91,12 +83,12 @@ complete -o filenames -F _epaxos epaxos
 """
 
 
-def zsh():
+def zsh(commands):
     """What completes words in zsh."""
     plain = lambda text: re.sub(r"([\[\]:\\'])", lambda it: "" if it[1] == "'" else "\\" + it[1], text)
-    listed = "\n".join(f"        '{it.name}:{plain(it.does)}'" for it in commands())
+    listed = "\n".join(f"        '{it.name}:{plain(it.does)}'" for it in commands)
     rows = []
-    for it in commands():
+    for it in commands:
         said = []
         for option, value, known, means in it.options:
             action = f":{value}:({' '.join(known)})" if known else f":{value}:_files" if value in ("FILE", "FOLDER") else f":{value}:" if value else ""
@@ -127,16 +119,16 @@ _epaxos "$@"
 """
 
 
-def fish():
+def fish(commands):
     """What completes words in fish."""
     plain = lambda text: text.replace("\\", "\\\\").replace("'", "\\'")
     lines = ["# completes the words of epaxos, in fish", "complete -c epaxos -f"]
-    for it in commands():
+    for it in commands:
         lines.append(f"complete -c epaxos -n __fish_use_subcommand -a {it.name} -d '{plain(it.does)}'")
         own = f"complete -c epaxos -n '__fish_seen_subcommand_from {it.name}'"
         for option, value, known, means in it.options:
             takes = f" -x -a '{' '.join(known)}'" if known else " -r -F" if value in ("FILE", "FOLDER") else " -x" if value else ""
             lines.append(f"{own} -l {option}{takes} -d '{plain(means)}'")
         lines += [f"{own} -F"] * it.takes_files
-    lines.append(f"complete -c epaxos -n '__fish_seen_subcommand_from help' -a '{' '.join(words.commands())}'")
+    lines.append(f"complete -c epaxos -n '__fish_seen_subcommand_from help' -a '{' '.join(it.name for it in commands)}'")
     return "\n".join(lines) + "\n"

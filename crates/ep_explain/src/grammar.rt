@@ -14,10 +14,7 @@ const SORTS: [(&[u8], &[u8]); 5] = [
         b"found: a report, as replay, run and audit print it",
     ),
     (b"stamp ", b"found: entries in words, as show prints them"),
-    (
-        b"line ",
-        b"found: a trace, as replay --emit trace prints it",
-    ),
+    (b"line ", b"found: a trace, as trace prints it"),
     (b"<", b"found: a picture or a page, as draw prints it"),
     (
         b"{",

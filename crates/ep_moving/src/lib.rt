@@ -1,6 +1,6 @@
 //! The opening of generation 2, made of the logs of a cluster of version 2 that has stopped.
 //!
-//! `epaxos upgrade --log` calls it. A cluster that stops leaves commits that not every replica has, and commands that none has executed. So one
+//! `epaxos move-logs` calls it. A cluster that stops leaves commits that not every replica has, and commands that none has executed. So one
 //! replica goes on (`settling.rt`): it is handed each commit that another has sent it, and executes all that is committed. The journals then are those of
 //! a run that went on, which is audited, and the map after its one history is the opening (`opening.rt`). A command that is committed and that
 //! waits for one that no journal commits can't be executed, and the logs are refused by its name.

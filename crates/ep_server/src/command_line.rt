@@ -2,7 +2,7 @@
 
 use crate::asks::Asks;
 use crate::collect_names::CollectNames;
-use crate::commands::{collect, contents, node, upgrade};
+use crate::commands::{collect, contents, move_logs, node};
 use crate::folder_options::FolderOptions;
 use crate::generation_asked::GenerationAsked;
 use crate::options::Options;
@@ -23,7 +23,7 @@ pub(crate) fn read_words<'a, T: AsStr>(
     alloc: Global,
     words: &'a [T],
 ) -> Result<ServerAsked<'a>, WordsFault> {
-    let command = program(alloc, &[node(), collect(), contents(), upgrade()])?;
+    let command = program(alloc, &[node(), collect(), contents(), move_logs()])?;
     match command.try_get_matches_from(words) {
         Ok(matches) => asked_by(alloc, &matches),
         Err(error) => asked_instead(alloc, &error),
@@ -47,8 +47,8 @@ fn asked_by<'a>(alloc: Global, matches: &ArgMatches<'a>) -> Result<ServerAsked<'
     if let Some(options) = matches.subcommand_matches("collect") {
         return collect_by(alloc, options);
     }
-    if let Some(options) = matches.subcommand_matches("upgrade") {
-        return upgrade_by(alloc, options);
+    if let Some(options) = matches.subcommand_matches("move-logs") {
+        return Ok(ServerAsked::Upgrade(texts_of(alloc, options, "LOG")?));
     }
     match matches.subcommand_matches("contents") {
         Some(options) => Ok(ServerAsked::Contents(options.get_str("FOLDER").unwrap_or(""))),
@@ -151,15 +151,6 @@ fn generation_by<'a>(
 fn generation_named(word: &str) -> Option<Generation> {
     let number = generation_in(word.as_bytes())?;
     Generation::new(number).ok()
-}
-
-/// The logs that an opening is to be made of.
-fn upgrade_by<'a>(alloc: Global, options: &ArgMatches<'a>) -> Result<ServerAsked<'a>, WordsFault> {
-    if options.get_flag("log") {
-        Ok(ServerAsked::Upgrade(texts_of(alloc, options, "LOG")?))
-    } else {
-        Err(declined(alloc, "'--log' is missing"))
-    }
 }
 
 /// The files that are to be collected.

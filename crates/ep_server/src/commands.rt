@@ -61,8 +61,8 @@ Exit status:
   3  memory was refused
   4  a file could not be opened or read, or writing failed";
 
-/// What the help of `upgrade` says at its end.
-const AFTER_UPGRADE: &str = "\
+/// What the help of `move-logs` says at its end.
+const AFTER_MOVE: &str = "\
 Each LOG is the log of one replica of a cluster of version 2, as `epaxos node --log` keeps it, of all its replicas, in any order; the
 cluster has stopped. Standard output is the opening of generation 2 (docs/FORMATS.md, section 12) of as many replicas: its map after all
 that any of the logs commits. A command that is committed is executed where no replica has done it yet. A log whose end is torn is taken
@@ -71,7 +71,7 @@ up to it, which standard error says. The logs are not changed. Standard input is
 The file is the first opening of each replica's folder. Once a replica has taken it, the old cluster must not be started again.
 
 Example:
-  epaxos upgrade --log zero.log one.log two.log > 2.opening
+  epaxos move-logs zero.log one.log two.log > 2.opening
   epaxos node --replicas 3 --replica 0 --dir zero --take 2.opening
 
 Exit status:
@@ -168,23 +168,14 @@ const CONTENTS: &[ArgRow] = &[ArgRow {
     help: "The folder of a node",
 }];
 
-/// The words and the option of `upgrade`.
-const UPGRADE: &[ArgRow] = &[
-    ArgRow {
-        name: "log",
-        kind: ArgKind::Flag,
-        action: ArgAction::SetTrue,
-        is_required: false,
-        help: "Reads logs, and not a bundle on standard input",
-    },
-    ArgRow {
-        name: "LOG",
-        kind: ArgKind::Word,
-        action: ArgAction::Append,
-        is_required: true,
-        help: "The log of a replica",
-    },
-];
+/// The words of `move-logs`.
+const MOVE_LOGS: &[ArgRow] = &[ArgRow {
+    name: "LOG",
+    kind: ArgKind::Word,
+    action: ArgAction::Append,
+    is_required: true,
+    help: "The log of a replica",
+}];
 
 /// The command that serves.
 pub(crate) fn node() -> CommandRow {
@@ -220,12 +211,12 @@ pub(crate) fn contents() -> CommandRow {
 }
 
 /// The command that makes the opening of generation 2.
-pub(crate) fn upgrade() -> CommandRow {
+pub(crate) fn move_logs() -> CommandRow {
     CommandRow {
-        name: "upgrade",
+        name: "move-logs",
         about: "Makes the opening of generation 2 of the logs of a cluster of version 2",
-        after_help: AFTER_UPGRADE,
-        args: UPGRADE,
+        after_help: AFTER_MOVE,
+        args: MOVE_LOGS,
         more: &[],
     }
 }

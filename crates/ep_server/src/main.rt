@@ -1,5 +1,5 @@
 //! `epaxos node`: a replica with its log in a file, which serves requests on standard input. `epaxos collect`: the bundle of
-//! logs and receipts. `epaxos contents`: the map of a folder. `epaxos upgrade --log`: the opening that the logs of version 2 give.
+//! logs and receipts. `epaxos contents`: the map of a folder. `epaxos move-logs`: the opening that the logs of version 2 give.
 //!
 //! `main` hands the words to `read_words`, in `command_line.rt`; the commands are tables, in `commands.rt`. For a node of version 2 it opens the
 //! log, and hands it and the standard streams to `serve_log`, in `program.rt`, which is all of the node: over any device, source and sinks, so

@@ -1,6 +1,6 @@
 //! A script's replay as it is played, in words, so that the next script can be written from it.
 //!
-//! `ep_viewer` prints it for `epaxos replay --emit trace`: a line for each event that is tried, with the numbers of the messages
+//! `ep_viewer` prints it for `epaxos trace`: a line for each event that is tried, with the numbers of the messages
 //! that it handles and sends, or why it is refused; then each message that was never given, and each instance that a replica
 //! knows of and hasn't committed.
 //!

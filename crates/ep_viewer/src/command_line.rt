@@ -44,8 +44,8 @@ fn asked_by(alloc: Global, matches: &ArgMatches<'_>) -> Result<ViewerAsked, Word
     if let Some(options) = matches.subcommand_matches("trace-events") {
         return Ok(ViewerAsked::View(View::Events(wanted_by(alloc, options)?)));
     }
-    if let Some(options) = matches.subcommand_matches("replay") {
-        return traced_by(alloc, options);
+    if matches.subcommand_matches("trace").is_some() {
+        return Ok(ViewerAsked::Trace);
     }
     Err(WordsFault::Words(String::new(alloc)))
 }
@@ -66,22 +66,6 @@ fn drawn_by(alloc: Global, options: &ArgMatches<'_>) -> Result<ViewerAsked, Word
         Ok(ViewerAsked::View(View::Graph(wanted)))
     } else {
         Ok(ViewerAsked::View(View::Page(wanted)))
-    }
-}
-
-/// Of a replay only its trace is asked for here.
-fn traced_by(alloc: Global, options: &ArgMatches<'_>) -> Result<ViewerAsked, WordsFault> {
-    match options.get_str("emit") {
-        Some("trace") => Ok(ViewerAsked::Trace),
-        None | Some("report") | Some("bundle") => Err(refused(
-            alloc,
-            "of a replay, this program prints a trace alone",
-        )),
-        Some(word) => Err(invalid(
-            alloc,
-            word,
-            "emit <WHAT>'\n  [possible values: report, bundle, trace]",
-        )),
     }
 }
 

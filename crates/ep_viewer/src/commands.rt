@@ -74,8 +74,8 @@ Exit status:
   3  memory was refused
   4  reading or writing failed";
 
-/// What the help of `replay` says at its end.
-const AFTER_REPLAY: &str = "\
+/// What the help of `trace` says at its end.
+const AFTER_TRACE: &str = "\
 Standard input, to its end, is a script: lines as in the example; docs/FORMATS.md, section 4, has all of them.
 Nothing is printed before the end is read.
 
@@ -84,10 +84,10 @@ of each message that it sends and to whom, and what it executes; or why it is re
 and each instance that a replica knows of and hasn't committed. So it tells which numbers the next `deliver` may name.
 
 Example:
-  printf 'replicas 3\\npropose 0 1 put x 1\\nflush\\nflush\\nexecute 0 0.1\\n' | epaxos replay --emit trace
+  printf 'replicas 3\\npropose 0 1 put x 1\\nflush\\nflush\\nexecute 0 0.1\\n' | epaxos trace
 
 Exit status:
-  0  the script was played, the audit accepted what it left (a trace isn't audited), and what was asked for is printed
+  0  the script was played, and its trace is printed; it isn't audited
   2  the command line or the script is refused; standard error says where
   3  memory was refused
   4  reading or writing failed";
@@ -125,15 +125,6 @@ const DRAW: &[ArgRow] = &[
         help: "Prints the page, as without options; goes with the next version",
     },
 ];
-
-/// The option of `replay`.
-const REPLAY: &[ArgRow] = &[ArgRow {
-    name: "emit",
-    kind: ArgKind::Valued("WHAT"),
-    action: ArgAction::Set,
-    is_required: false,
-    help: "What to print: report (the default), bundle or trace",
-}];
 
 /// The options that keep a part.
 const PARTS: &[ArgRow] = &[
@@ -183,7 +174,7 @@ const PARTS: &[ArgRow] = &[
 
 /// The program, as its command line has it.
 pub(crate) fn program<'a>(alloc: Global) -> Result<Command<'a>, AllocError> {
-    ep_cli::program(alloc, &[show(), explain(), draw(), events(), replay()])
+    ep_cli::program(alloc, &[trace(), show(), explain(), draw(), events()])
 }
 
 fn show() -> CommandRow {
@@ -226,12 +217,12 @@ fn events() -> CommandRow {
     }
 }
 
-fn replay() -> CommandRow {
+fn trace() -> CommandRow {
     CommandRow {
-        name: "replay",
-        about: "Reads a script on standard input, plays it in one thread, audits what it leaves, and prints a report, a bundle or a trace",
-        after_help: AFTER_REPLAY,
-        args: REPLAY,
+        name: "trace",
+        about: "Reads a script on standard input, plays it in one thread, and prints what each of its events did",
+        after_help: AFTER_TRACE,
+        args: &[],
         more: &[],
     }
 }

@@ -1,4 +1,4 @@
-//! `epaxos show`, `explain`, `draw`, `trace-events` and `replay --emit trace`: runs in words and pictures, for people who look at them.
+//! `epaxos trace`, `show`, `explain`, `draw` and `trace-events`: runs in words and pictures, for people who look at them.
 //!
 //! `main` hands the words to `read_words`, in `command_line.rt` (the commands stand in `commands.rt`), and what they ask for with the standard
 //! streams to `perform`, in `program.rt`, which is all of the program: over any source and sinks, so that its contract can say what the bytes and the
