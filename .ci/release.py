@@ -202,7 +202,7 @@ def tried(make=None, store=None):
     with tempfile.TemporaryDirectory(prefix="epaxos-released-") as folder:
         try:
             made = make(release) if make else release.found(False)
-            store = store or release.build_store(made)
+            store = store or release.build_store(made, folder)
             first, second = (release.make(made, f"{folder}/{it}", store) for it in "12")
         except release.NotReleased as why:
             check(f"it is made: {why}", False)
