@@ -13,8 +13,8 @@ import struct
 import subprocess
 import tempfile
 
-import shim
-from shim import ADVANCE, ALL, STATE, SYNC
+from disks import shim
+from disks.shim import ADVANCE, ALL, STATE, SYNC
 
 SECONDS = 60
 PUT, GET, SEAL = 3, 2, 9

@@ -24,7 +24,6 @@ sys.path.insert(0, f"{TOP}/.ci")
 
 import bindings
 import clock
-import disks
 import generations
 import lanes
 import launcher
@@ -34,6 +33,7 @@ import page
 import release
 import rows
 import store
+from disks import runs as disks
 
 # the program by LLVM, and by Rattle's own compiler
 PROGRAM = f"{TOP}/crates/ep_main/out/ep_main"
@@ -62,7 +62,7 @@ PUT = b"replicas 3\npropose 0 1 put x 1\n"
 # a script whose bundle has over 16 KiB, so that it takes several reads, and is audited and upgraded, shown and drawn on devices that fail
 LONG = b"replicas 3\n" + b"propose 0 1 put x 1\nflush\nflush\n" * 40
 # what looks whether something that is written is up to date
-LOOKS = (["tools/make-rows", "check"], ["tools/pages"], ["tools/history"], ["tools/make-page", "--check"], ["tools/c-header", "--check"], ["tools/wrong-bodies", "--look"])
+LOOKS = (["tools/generate", "--check", "rows", "page", "header"], ["tools/tidy"], ["tools/wrong-bodies", "--look"])
 # how ep_viewer looks at a bundle
 VIEWS = (["show"], ["show", "--columns"], ["explain"], ["draw"], ["draw", "--mermaid"], ["draw", "--dot"])
 TRACE = ["trace"]
@@ -120,9 +120,9 @@ def wrong_bodies():
     return counted("tools/wrong-bodies", *(["--all"] if sys.argv[1:] == ["--all"] else ["--gate", commit or "none"]))
 
 
-def swept(tool, words, given=None):
-    """Whether the tool's runs all ended as they may."""
-    return not subprocess.run([f"{TOP}/tools/{tool}", *words], input=given).returncode
+def swept(kind, words, given=None):
+    """Whether the runs of a sweep of this kind all ended as they may."""
+    return not subprocess.run([f"{TOP}/tools/sweep", kind, *words], input=given).returncode
 
 
 def bundle_of(script):
@@ -157,12 +157,12 @@ def rows_named(name):
 def refused_memory():
     """Refuses allocations, and says of each of these sweeps whether it passed."""
     for word in TESTS:
-        yield swept("refused-memory", ["tests", word, MOST])
+        yield swept("memory", ["tests", word, MOST])
     for name in SCRIPTS:
         script = read(name)
         print(f"{name}, with each allocation refused:", flush=True)
         for words, given in ((["replay"], script), (["replay", "--emit", "bundle"], script), (["audit"], bundle_of(script))):
-            yield swept("refused-memory", ["ep_main", "--", *words], given)
+            yield swept("memory", ["ep_main", "--", *words], given)
     for name in ROWS:
         named = rows_named(name)
         if not named:
@@ -170,7 +170,7 @@ def refused_memory():
         for row in named:
             words, given = last_run(row)
             print(f"row {row.name}, with each allocation refused:", flush=True)
-            yield swept("refused-memory", ["ep_main", "--", *words], given)
+            yield swept("memory", ["ep_main", "--", *words], given)
 
     print("chains of two generations, in their order and the other way round, with each allocation refused:", flush=True)
     with tempfile.TemporaryDirectory() as folder:
@@ -179,19 +179,19 @@ def refused_memory():
             with open(name, "wb") as file:
                 file.write(it.bundle())
         for chain in (names, names[::-1]):
-            yield swept("refused-memory", ["ep_main", "--", "audit", "--chain", *chain], b"")
+            yield swept("memory", ["ep_main", "--", "audit", "--chain", *chain], b"")
         print("logs of version 2 whose opening is made, and logs that are refused, with each allocation refused:", flush=True)
         for name, it in (("both", moved.Apart(True)), ("waits", moved.Apart(False))):
             for log, held in moved.kept(it).items():
                 with open(f"{folder}/{name}-{log}", "wb") as file:
                     file.write(held)
-            yield swept("refused-memory", ["ep_server", MOST, "--", "move-logs", *(f"{folder}/{name}-{log}" for log in moved.kept(it))], b"")
+            yield swept("memory", ["ep_server", MOST, "--", "move-logs", *(f"{folder}/{name}-{log}" for log in moved.kept(it))], b"")
 
 
 def refused_starts():
     """Refuses allocations in starts of a node in a folder, and says whether they passed."""
     print("a node's starts in a folder, with each allocation refused:", flush=True)
-    yield swept("refused-memory", ["--dir", MOST])
+    yield swept("memory", ["--dir", MOST])
 
 
 def refused_views():
@@ -199,7 +199,7 @@ def refused_views():
     script = read(VIEWED)
     print(f"{VIEWED}, shown, explained, drawn and traced with each allocation refused:", flush=True)
     for words, given in (*((it, bundle_of(script)) for it in VIEWS), (TRACE, script)):
-        yield swept("refused-memory", ["ep_viewer", MOST, "--", *words], given)
+        yield swept("memory", ["ep_viewer", MOST, "--", *words], given)
     for name in ROWS_VIEWED:
         named = rows_named(name)
         if not named:
@@ -207,28 +207,28 @@ def refused_views():
         for row in named:
             print(f"row {row.name}, explained and drawn with each allocation refused:", flush=True)
             for words in (["explain"], ["draw"]):
-                yield swept("refused-memory", ["ep_viewer", MOST, "--", *words], last_run(row)[1])
+                yield swept("memory", ["ep_viewer", MOST, "--", *words], last_run(row)[1])
 
 
 def failing_devices():
     """Fails reads and writes, and says of each of these sweeps whether it passed."""
     print("with each read and each write failed:", flush=True)
     for words in DEVICES:
-        yield swept("failing-devices", ["ep_main", "--", *words], PUT)
+        yield swept("devices", ["ep_main", "--", *words], PUT)
     for words in (["audit"], ["upgrade"]):
-        yield swept("failing-devices", ["ep_main", "--", *words], bundle_of(LONG))
+        yield swept("devices", ["ep_main", "--", *words], bundle_of(LONG))
     # (a script that is refused, so that the fault output is written on)
-    yield swept("failing-devices", ["ep_main", "--", "replay"], b"replicas 4\n")
+    yield swept("devices", ["ep_main", "--", "replay"], b"replicas 4\n")
     bundle = bundle_of(LONG)
     for words in VIEWS:
-        yield swept("failing-devices", ["ep_viewer", "--", *words], bundle)
+        yield swept("devices", ["ep_viewer", "--", *words], bundle)
     # (and a bundle that isn't read, which `show` tells on the fault output, `explain` on standard output)
     for words in (["show"], ["explain"]):
-        yield swept("failing-devices", ["ep_viewer", "--", *words], bundle[:-1])
+        yield swept("devices", ["ep_viewer", "--", *words], bundle[:-1])
     # (a script that is shorter than what `explain` looks at first: after its end nothing is read again)
-    yield swept("failing-devices", ["ep_viewer", "--", "explain"], PUT)
-    yield swept("failing-devices", ["ep_viewer", "--", *TRACE], LONG + b"#\n" * 8192)
-    yield swept("failing-devices", ["ep_viewer", "--", *TRACE], b"replicas 4\n")
+    yield swept("devices", ["ep_viewer", "--", "explain"], PUT)
+    yield swept("devices", ["ep_viewer", "--", *TRACE], LONG + b"#\n" * 8192)
+    yield swept("devices", ["ep_viewer", "--", *TRACE], b"replicas 4\n")
 
 
 def both_programs():
@@ -282,7 +282,7 @@ PARTS = (
     Part("page", lambda: page.tried(PROGRAM)),
     Part("refused memory", lambda: sweeps(refused_memory, refused_starts, refused_views)),
     Part("failing devices", lambda: sweeps(failing_devices)),
-    Part("turned bundles", lambda: sweeps(lambda: [swept("turned-bundles", [])])),
+    Part("turned bundles", lambda: sweeps(lambda: [swept("bytes", [])])),
     Part("lives", lives),
     Part("library", library.tried),
     Part("hosts/store", store.tried),

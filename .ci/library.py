@@ -90,7 +90,7 @@ def tried(archive=None, node=BUILT[0], program=BUILT[1]):
         # (hosts/store and the other bindings take it too)
         archive = ARCHIVE
         well.append(is_well(["tools/unproved", "--library"], cwd=TOP))
-    well.append(is_well(["tools/c-header", "--check"], cwd=TOP))
+    well.append(is_well(["tools/generate", "--check", "header"], cwd=TOP))
     compilers = [it for it in COMPILERS if shutil.which(it)]
     if not compilers:
         print("the programs of bindings/c are not tried: there is no C compiler", flush=True)

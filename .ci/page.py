@@ -178,8 +178,8 @@ def graph_fault(told, made):
 
 
 def frames():
-    """tools/page-frames, which drives a browser."""
-    loader = importlib.machinery.SourceFileLoader("page_frames", f"{TOP}/tools/page-frames")
+    """tools/bench/page, which drives a browser."""
+    loader = importlib.machinery.SourceFileLoader("page_frames", f"{TOP}/tools/bench/page")
     made = importlib.util.module_from_spec(importlib.util.spec_from_loader("page_frames", loader))
     loader.exec_module(made)
     return made

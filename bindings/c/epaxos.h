@@ -35,7 +35,7 @@ extern "C" {
 #define EP_EMPTY { (const uint8_t *)"", 0 }
 #define EP_CLOSED { 0 }
 
-/* tools/c-header writes what follows, from crates/ep_library/src. */
+/* tools/generate writes what follows, from crates/ep_library/src. */
 
 /* A node on the heap, or none, as one pointer. C begins it with a null pointer, and changes nothing in it. So each
    call sees whether a handle has no node, was freed, or has one already, and none is undefined. */
@@ -656,7 +656,7 @@ uint8_t ep_sum(const uint8_t *bytes, size_t bytes_len, uint8_t *out, size_t out_
    EP_BAD_BUNDLE; EP_TOO_SHORT: nothing was copied; EP_MEMORY. */
 uint8_t ep_audit(const uint8_t *bundle, size_t bundle_len, uint8_t *out, size_t out_len, size_t *len);
 
-/* What tools/c-header writes ends here. */
+/* What tools/generate writes ends here. */
 
 /* As `free` does, ep_free takes NULL too, and then does nothing. (A call of the library's own, by its address, doesn't.) */
 static inline uint8_t ep_free_any(struct ep_replica *replica)

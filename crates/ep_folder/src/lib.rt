@@ -7,7 +7,7 @@
 //! log that was begun before.
 //!
 //! Start with `planning.rt` and specs/Plans.antt; then `making.rt`. What files do no contract can say; docs/FORMATS.md, section 13, and rows of
-//! .ci/disks.py do.
+//! .ci/disks/runs.py do.
 #![tactic(auto)]
 
 mod generation_folder;

@@ -1,6 +1,6 @@
 //! The core as a C library: one replica behind a handle.
 //!
-//! Each export is a call that `tools/c-header` writes into bindings/c/epaxos.h, with the comment that it has here. It is given the handle, and
+//! Each export is a call that `tools/generate` writes into bindings/c/epaxos.h, with the comment that it has here. It is given the handle, and
 //! answers a status of `status.rt`. Calls come in by arguments; answers go out as bytes of docs/FORMATS.md that lie in the replica until its next call.
 //!
 //! Nothing here decides anything: a call makes what its arguments say (`making.rt`), has the `Hosted` do it, and tells its fault by a number

@@ -1,3 +1,4 @@
+-- tools/generate writes this file, from crates/ep_rules/specs/Closing.antt.
 -- Closing: the operations up to a seal, the map that they leave, and who has it.
 use Rattle.std.specs.Prelude.{◌≡◌, ◌≢◌, ℕ, ◌<◌, ◌≤◌, Bool, true, false, ◌||◌, cond, List, [], ◌∷◌, ◌++◌, Option, None}
 use Rattle.ep_base.specs.Interference.{is_seal}

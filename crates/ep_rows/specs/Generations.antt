@@ -1,3 +1,4 @@
+-- tools/generate writes this file, from crates/ep_rules/specs/Generations.antt.
 -- The life of a cluster: generations, one after the other. Each is a world of its own. It opens with the map that the seal of the one before has left.
 use Rattle.std.specs.Prelude.{◌≡◌, ◌≢◌, ◌⊎◌, ◌↔◌, ℕ, zero, suc, ◌+◌, ◌<◌, ◌≤◌, max, eqb, Bool, true, false, ◌&&◌, ◌||◌, cond, length, List, [], ◌∷◌, ◌++◌, Option, Some, slice_index_or as get_or}
 use Rattle.ep_base.specs.Instances.{instance_of, leader_of}

@@ -1,3 +1,4 @@
+-- tools/generate writes this file, from crates/ep_rules/specs/InterferenceSet.antt.
 -- The interference set of a command at a replica (EPaxos, figure 2).
 use Rattle.std.specs.Prelude.{ℕ, ◌+◌, max, Bool, ◌&&◌, not, eqb, cond, false, List, [], ◌∷◌, Option, Some, None}
 use Rattle.ep_base.specs.Interference.{interfere}

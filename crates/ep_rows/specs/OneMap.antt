@@ -1,3 +1,4 @@
+-- tools/generate writes this file, from crates/ep_rules/specs/OneMap.antt.
 -- One map of bytes, until a seal closes it: what commands do to it, and what they are told.
 use Rattle.std.specs.Prelude.{ℕ, List, [], ◌∷◌, Option, Some, None, Bool, is_none, not, if◌then◌else◌}
 use Rattle.std.specs.Ordering.{nat_cmp}

@@ -1,3 +1,4 @@
+-- tools/generate writes this file, from crates/ep_rules/specs/Operations.antt.
 -- The history that acts make: the operations that they execute, in order.
 use Rattle.std.specs.Prelude.{ℕ, cond, List, [], ◌∷◌, ◌++◌, filter}
 use Rattle.ep_base.specs.Sameness.{is_noop}

@@ -1,3 +1,4 @@
+-- tools/generate writes this file, from crates/ep_looks/specs/Reads.antt.
 -- Reads that write nothing: F + 1 replicas are looked at, and one replica answers by its own map once it has executed all that was found.
 --
 -- A point of a run is how many of its acts are done. A read is no act: no replica changes, and nothing is sent or recorded.

@@ -1,3 +1,4 @@
+-- tools/generate writes this file, from crates/ep_rules/specs/States.antt.
 -- The state of a replica.
 use Rattle.std.specs.Prelude.{ℕ, ◌+◌, Bool, List, [], Option, Some, None, is_none}
 use Rattle.ep_base.specs.Instances.{instance_of, highest_number}

@@ -1,3 +1,4 @@
+-- tools/generate writes this file, from crates/ep_rules/specs/Steps.antt.
 -- The local step of a replica: its events, their refusals in order, what they change, send and execute.
 use Rattle.std.specs.Prelude.{◌≡◌, ◌⊎◌, ℕ, ◌+◌, Bool, true, ◌&&◌, not, eqb, ltb, cond, List, [], ◌∷◌, ◌++◌, Option, Some, None, Result, Ok, Err}
 use Rattle.ep_base.specs.Ballots.{owner_of}

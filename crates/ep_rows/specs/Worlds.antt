@@ -1,3 +1,4 @@
+-- tools/generate writes this file, from crates/ep_rules/specs/Worlds.antt.
 -- Worlds of 2f+1 replicas, and runs.
 use Rattle.std.specs.Prelude.{◌≡◌, ◌⊎◌, ℕ, ◌<◌, eqb, cond, List, [], ◌∷◌, ◌++◌, Some}
 use Rattle.ep_base.specs.Quorums.{size}

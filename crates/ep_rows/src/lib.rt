@@ -5,6 +5,6 @@
 //!
 //! Start with proofs/Rows.antt: each line is an event of a worked example and what has to come of it.
 //!
-//! Never edit specs/InterferenceSet.antt, States.antt, Steps.antt or Worlds.antt: tools/make-rows writes them from
+//! Never edit specs/InterferenceSet.antt, States.antt, Steps.antt or Worlds.antt: tools/generate writes them from
 //! `ep_rules`, and the gate refuses copies that differ. Rows may be added.
 #![tactic(auto)]

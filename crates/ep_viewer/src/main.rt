@@ -3,7 +3,7 @@
 //! `main` hands the words to `read_words`, in `command_line.rt` (the commands stand in `commands.rt`), and what they ask for with the standard
 //! streams to `perform`, in `program.rt`, which is all of the program: over any source and sinks, so that its contract can say what the bytes and the
 //! status mean. It does no more than read a bundle and call `ep_view` or `ep_explain`, or read a script and call `ep_trace`. The fixed parts of a
-//! page stand in page.html, beside src/; `tools/make-page` makes `parts.rt` of it.
+//! page stand in page.html, beside src/; `tools/generate` makes `parts.rt` of it.
 //!
 //! Start with `program.rt` and specs/Views.antt. A fault has one line on the fault output and one status (`viewer_fault.rt`,
 //! `telling.rt`, and `ep_cli`), as docs/FORMATS.md, section 6, lists them.

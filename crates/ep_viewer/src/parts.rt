@@ -1,4 +1,4 @@
-//! The fixed parts of a page, as `tools/make-page` writes them from page.html.
+//! The fixed parts of a page, as `tools/generate` writes them from page.html.
 
 /// What stands before the data.
 pub(crate) const HEAD: &[u8] = b"<!doctype html>

@@ -1,8 +1,7 @@
-#!/usr/bin/env python3
 """Turns one byte in each of 500 bundles, and looks whether `show`, `explain` and `draw` say of it what `audit` says.
 
-usage: tools/turned-bundles [SEED]          all of them; SEED is a number, 1 where there is none
-       tools/turned-bundles SEED NUMBER     writes that one of them, from 1, on standard output
+usage: tools/sweep bytes [SEED]          all of them; SEED is a number, 1 where there is none
+       tools/sweep bytes SEED NUMBER     writes that one of them, from 1, on standard output
 
 The bundles are of worked scripts, as ep_main plays them: of three, five and seven replicas, with slow paths, recoveries and swaps, one with values of
 1,024 bytes, and one of version 1. Which byte is turned, and into which one, a generator draws from the seed. The programs are those that `rt run` left
@@ -23,7 +22,6 @@ import re
 import sys
 from dataclasses import dataclass
 
-sys.dont_write_bytecode = True
 import sweep
 
 COUNT = 500
@@ -193,6 +191,3 @@ def main(words, room):
         return True
     return swept(seed, bundles)
 
-
-if __name__ == "__main__":
-    sweep.main(main, __doc__)

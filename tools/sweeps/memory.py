@@ -1,9 +1,8 @@
-#!/usr/bin/env python3
 """Runs a crate's tests, or its program, with each allocation refused in turn, and each start of a thread.
 
-usage: tools/refused-memory CRATE [WORD [MOST]]
-       tools/refused-memory CRATE [MOST] -- ARGUMENT..
-       tools/refused-memory --dir [MOST]
+usage: tools/sweep memory CRATE [WORD [MOST]]
+       tools/sweep memory CRATE [MOST] -- ARGUMENT..
+       tools/sweep memory --dir [MOST]
 
 The first takes the tests whose names have WORD: of those that `tools/tests` left, where CRATE is `tests`, or of those that `rt test`, or
 `tools/tests --prove --keep`, left in crates/CRATE/out. Each runs with ample memory, which counts what it asks for, and then once for each of these times, or for MOST of them, spread evenly, with that one refused. A run has to end
@@ -24,7 +23,6 @@ import struct
 import sys
 from dataclasses import dataclass
 
-sys.dont_write_bytecode = True
 import sweep
 
 # how often what is asked for is counted: where threads run, it may differ
@@ -127,7 +125,7 @@ class Starts:
     def __init__(self, program, room):
         sys.path.insert(0, f"{sweep.TOP}/.ci")
         import folders
-        import shim
+        from disks import shim
 
         self.program, self.room, self.shim = program, room, shim
         self.library = sweep.preloaded(REFUSER, room)
@@ -223,6 +221,3 @@ def main(words, room):
     ends = run_ends if asked[:1] == ["run"] else program_ends
     return swept(" ".join(asked), under([program, *asked], sys.stdin.buffer.read()), number, ends)
 
-
-if __name__ == "__main__":
-    sweep.main(main, __doc__)

@@ -1,9 +1,6 @@
-#!/usr/bin/env python3
 """Whether each page names only files that are there, and has no more bytes than it may.
 
-usage: tools/pages
-
-A page is each .md file at the top, of docs/ and examples/, and below hosts/, bindings/ and tools/. A name is the target of a link, or a text in `...` that has
+A page is a file NAME.md, wherever it stands. A name is the target of a link, or a text in `...` that has
 a `/` and begins with a folder of the repository, or the word after such a folder's name in an example of a shell. A text with a word for any name,
 as `crates/NAME`, with `my_..`, `*` or `..` stands for many, and has to fit at least one file; what a build makes (out/, target/) need not be there.
 An anchor of a link has to be the heading of its page, and a diagram for Mermaid a file examples/NAME.mmd.
@@ -13,10 +10,7 @@ import fnmatch
 import glob
 import os
 import re
-import subprocess
-import sys
 
-TOP = os.path.dirname(os.path.dirname(os.path.realpath(__file__)))
 # The most bytes that a page may have.
 MOST = {"README.md": 8192}
 # What a build makes.
@@ -25,17 +19,15 @@ MADE = re.compile(r"(^|/)(out|target)(/|$)")
 ANY = re.compile(r"\bmy_\w+|\b(?:NAME|CRATE|F|PROGRAM|DIR|FILE|R|SEED|\.\.)\b|<\w+>|\{\w+\}|\*+")
 
 
-def pages():
+def pages(files):
     """The pages, by their paths from the top."""
-    found = ["README.md", *sorted({*glob.glob("*.md"), *glob.glob("examples/*.md")} - {"README.md"}), *sorted(glob.glob("docs/*.md")), *sorted(glob.glob("hosts/**/*.md", recursive=True)), *sorted(glob.glob("bindings/*/*.md") + glob.glob("bindings/*/*/*.md")), *sorted(glob.glob("tools/**/*.md", recursive=True))]
-    return [it for it in found if not MADE.search(it)]
+    return sorted(it for it in files if it.endswith(".md"))
 
 
-def files():
+def with_folders(files):
     """Each file of the repository and each folder that has one."""
-    listed = subprocess.run(["git", "ls-files", "-co", "--exclude-standard"], stdout=subprocess.PIPE, text=True, check=True).stdout.split("\n")
-    found = {it for it in listed if it and os.path.exists(it)}
-    for it in list(found):
+    found = {*files}
+    for it in files:
         while it := os.path.dirname(it):
             found.add(it)
     return found
@@ -112,18 +104,8 @@ def held(path):
         return file.read()
 
 
-def main(words):
-    if words:
-        print(__doc__, end="", file=sys.stderr)
-        return 2
-    os.chdir(TOP)
-    found, every = files(), pages()
-    faults = [it for page in every for it in wrong(page, found)]
-    for it in faults:
-        print(it)
-    print(f"pages: {len(every)} looked at, {sum(os.path.getsize(it) for it in every)} bytes, {len(faults)} faults", flush=True)
-    return int(bool(faults))
-
-
-if __name__ == "__main__":
-    sys.exit(main(sys.argv[1:]))
+def faults(files):
+    """What is wrong with the pages."""
+    found = with_folders(files)
+    for page in pages(files):
+        yield from wrong(page, found)

@@ -1,4 +1,4 @@
-"""Runs of `epaxos node` under .ci/shim.c, and what its requests, answers and logs are in bytes (docs/FORMATS.md, sections 9 and 10)."""
+"""Runs of `epaxos node` under shim.c, and what its requests, answers and logs are in bytes (docs/FORMATS.md, sections 9 and 10)."""
 
 import copy
 import os
@@ -7,7 +7,7 @@ import struct
 import subprocess
 from dataclasses import dataclass
 
-import disk
+from disks import disk
 
 SOURCE = os.path.join(os.path.dirname(os.path.abspath(__file__)), "shim.c")
 SECONDS = 60

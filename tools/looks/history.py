@@ -1,7 +1,4 @@
-#!/usr/bin/env python3
 """Whether the commits since the last green one, which .ci/green names, say of nothing that it isn't proved; and whether unfinished work has its line.
-
-usage: tools/history
 
 A commit's subject that says "not proved" fails: what isn't proved is a patch in wip/, whose first line says what is missing, and which the last commit of
 the work removes. Where this clone doesn't have the green commit, only the last 100 commits are looked at.
@@ -11,9 +8,7 @@ import glob
 import os
 import re
 import subprocess
-import sys
 
-TOP = os.path.dirname(os.path.dirname(os.path.realpath(__file__)))
 
 
 def git(*words):
@@ -22,25 +17,17 @@ def git(*words):
     return None if ran.returncode else ran.stdout
 
 
-def main(words):
-    if words:
-        print(__doc__, end="", file=sys.stderr)
-        return 2
-    os.chdir(TOP)
+def faults(_):
+    """Commits and files of which this isn't so."""
     with open(".ci/green", encoding="utf-8") as file:
         commit = file.read().split()[0]
-    told = git("log", "--format=%h %s", f"{commit}..HEAD")
-    told = git("log", "--format=%h %s", "-100") if told is None else told
-    faults = [f"{it}: its subject says that something isn't proved" for it in (told or "").splitlines() if re.search(r"(?i)\bnot proved\b", it)]
+    log = git("log", "--format=%h %s", f"{commit}..HEAD")
+    log = git("log", "--format=%h %s", "-100") if log is None else log
+    for it in (log or "").splitlines():
+        if re.search(r"(?i)\bnot proved\b", it):
+            yield f"{it}: its subject says that something isn't proved"
     for path in sorted(glob.glob("wip/*")):
         with open(path, encoding="utf-8", errors="replace") as file:
             first = file.readline()
         if not path.endswith(".patch") or first.startswith(("diff ", "--- ", "From ")):
-            faults.append(f"{path}: a file of wip/ is a patch, NAME.patch, whose first line says what is missing")
-    for it in faults:
-        print(f"tools/history: {it}", file=sys.stderr)
-    return int(bool(faults))
-
-
-if __name__ == "__main__":
-    sys.exit(main(sys.argv[1:]))
+            yield f"{path}: a file of wip/ is a patch, NAME.patch, whose first line says what is missing"

@@ -1,23 +1,18 @@
-#!/usr/bin/env python3
 """Writes the statuses, structs and calls of bindings/c/epaxos.h from the sources of crates/ep_library, with their comments.
-
-usage: tools/c-header            writes them
-       tools/c-header --check    writes nothing; status 1 where they aren't as they would be written
 
 What stands before and behind the two lines that say so is written by hand.
 """
 
 import os
 import re
-import sys
 import textwrap
 
-TOP = os.path.dirname(os.path.dirname(os.path.realpath(__file__)))
+TOP = os.path.dirname(os.path.dirname(os.path.dirname(os.path.realpath(__file__))))
 HEADER = f"{TOP}/bindings/c/epaxos.h"
 SOURCES = f"{TOP}/crates/ep_library/src"
 HANDLES = tuple(f"{TOP}/crates/ep_handle/src/{it}.rt" for it in ("handle", "patience_handle", "checkpoint_handle"))
-BEGIN = "/* tools/c-header writes what follows, from crates/ep_library/src. */\n"
-END = "/* What tools/c-header writes ends here. */\n"
+BEGIN = "/* tools/generate writes what follows, from crates/ep_library/src. */\n"
+END = "/* What tools/generate writes ends here. */\n"
 # The files that have calls, in the order in which the header has them.
 CALLS = ("life", "proposing", "events", "executing", "syncing", "answering", "succeeding", "bound", "patience", "alone")
 # How C names what isn't named alike.
@@ -135,27 +130,15 @@ def written():
     for name, text in files.items():
         calls = list(prototypes(text))
         if calls and name not in CALLS:
-            raise Unknown(f"{name}.rt has calls, and CALLS of tools/c-header doesn't name it")
+            raise Unknown(f"{name}.rt has calls, and CALLS of tools/generated/header.py doesn't name it")
     for name in CALLS:
         title = re.match(r"//! (.*)\.\n", files[name])[1]
         parts += [f"/* ---- {title} ---- */\n", *prototypes(files[name])]
     return "\n" + "\n".join(parts) + "\n"
 
 
-def main(words):
-    if words not in ([], ["--check"]):
-        sys.exit(__doc__)
-    text = read(HEADER)
-    before, rest = text.split(BEGIN)
+def files():
+    """The path of the header, and what it has to hold."""
+    before, rest = read(HEADER).split(BEGIN)
     _, behind = rest.split(END)
-    made = before + BEGIN + written() + END + behind
-    if words:
-        if made != text:
-            sys.exit(f"{HEADER} isn't what tools/c-header writes of crates/ep_library/src")
-        print("the C header has the calls of ep_library")
-        return
-    with open(HEADER, "w", encoding="utf-8") as file:
-        file.write(made)
-
-
-main(sys.argv[1:])
+    yield HEADER, (before + BEGIN + written() + END + behind).encode()

@@ -1,5 +1,5 @@
-"""What `epaxos node` does with its disk: it is run under .ci/shim.c, which fails its calls one by one, and a model of a disk (.ci/disk.py)
-tells what a power loss at any moment would leave; and then images of disks (tools/disk-images). Runs alone too: python3 .ci/disks.py
+"""What `epaxos node` does with its disk: it is run under shim.c, which fails its calls one by one, and a model of a disk (disk.py)
+tells what a power loss at any moment would leave; and then images of disks (images). Runs alone too: python3 .ci/disks/runs.py
 [NODE PROGRAM [WORD]], with a word the rows alone whose names have it.
 
 After each call of each run, whatever was answered has to be on the disk for sure, in whole records at the beginning of the log that the
@@ -15,12 +15,13 @@ import sys
 import tempfile
 
 sys.dont_write_bytecode = True
-TOP = os.path.dirname(os.path.dirname(os.path.abspath(__file__)))
+TOP = os.path.dirname(os.path.dirname(os.path.dirname(os.path.abspath(__file__))))
 
-import disk
+sys.path.insert(0, f"{TOP}/.ci")
+
 import folders
-import shim
-from shim import SYNC, propose
+from disks import disk, shim
+from disks.shim import SYNC, propose
 
 NODE = f"{TOP}/crates/ep_server/out/ep_server"
 # errors of a disk, by their numbers, and the words for them
@@ -492,7 +493,7 @@ def tried(node=NODE, word=""):
         if os.path.isfile(f"{node}.by-rattle"):
             counts = rows(f"{node}.by-rattle", word)
             passed, failed = passed + counts[0], failed + counts[1]
-        is_well = not subprocess.run([f"{TOP}/tools/disk-images", node], stdin=subprocess.DEVNULL).returncode
+        is_well = not subprocess.run([f"{TOP}/.ci/disks/images", node], stdin=subprocess.DEVNULL).returncode
         passed, failed = passed + is_well, failed + (not is_well)
     return passed, failed
 

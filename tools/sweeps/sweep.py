@@ -1,6 +1,6 @@
 """A sweep: one program, run once for each of many faults, side by side; each run has to end as it may.
 
-tools/refused-memory, tools/failing-devices and tools/turned-bundles are made of it: each says which faults there are, and how a run may end.
+memory.py, devices.py and turned.py are made of it: each says which faults there are, and how a run may end. tools/sweep calls them.
 """
 
 import os
@@ -12,7 +12,7 @@ from collections import Counter
 from concurrent.futures import ThreadPoolExecutor
 from dataclasses import dataclass
 
-TOP = os.path.dirname(os.path.dirname(os.path.abspath(__file__)))
+TOP = os.path.dirname(os.path.dirname(os.path.dirname(os.path.abspath(__file__))))
 # how long a run may take
 SECONDS = 60
 
@@ -139,13 +139,14 @@ def command(words):
     return words[:at], words[at + 1 :] if "--" in words else None
 
 
-def main(sweep, page):
-    """Ends with 0 where the sweep of the words gives true, with 1 where it gives false, and with 2, and the page, where it gives None."""
-    if sys.argv[1:] in (["--help"], ["-h"]):
-        print(page, end="")
-        sys.exit(0)
+def main(kind, words):
+    """Runs the sweep of this module with these words. The status is 0 where it gives true, 1 where it gives false, and 2, with the module's page, where it
+    gives None."""
+    if words in (["--help"], ["-h"]):
+        print(kind.__doc__, end="")
+        return 0
     with tempfile.TemporaryDirectory(prefix="sweep-") as room:
-        well = sweep(sys.argv[1:], room)
+        well = kind.main(words, room)
     if well is None:
-        print(page, end="", file=sys.stderr)
-    sys.exit(2 if well is None else 0 if well else 1)
+        print(kind.__doc__, end="", file=sys.stderr)
+    return 2 if well is None else 0 if well else 1

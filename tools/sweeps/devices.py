@@ -1,7 +1,6 @@
-#!/usr/bin/env python3
 """Runs a crate's program with each of its reads failed in turn, and each of its writes.
 
-usage: tools/failing-devices CRATE -- ARGUMENT..
+usage: tools/sweep devices CRATE -- ARGUMENT..
 
 Takes the program that `rt run` left in crates/CRATE/out, with these arguments and the standard input, which is read once. It runs once on devices that
 work, which counts its reads of standard input and its writes on standard output and on the fault output. Then it runs
@@ -18,7 +17,6 @@ its output. Prints one line; fails where a run ended otherwise, and tells the fi
 import os
 import sys
 
-sys.dont_write_bytecode = True
 import sweep
 
 FAILED = 4
@@ -105,6 +103,3 @@ def main(words, room):
     head = f"{' '.join(asked)}: {counts[0]} reads, {counts[1]} writes, {counts[2]} on the fault output"
     return sweep.tell(head, {"well": "runs ended as they have to"}, [*few, *found])
 
-
-if __name__ == "__main__":
-    sweep.main(main, __doc__)

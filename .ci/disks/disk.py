@@ -1,6 +1,6 @@
 """What a disk holds after a power loss, page by page: a model of one under a file system, told what a program did with its files.
 
-It is fed the lines that .ci/shim.c writes, and assumes no more than file systems promise:
+It is fed the lines that shim.c writes, and assumes no more than file systems promise:
 - a write is in the page cache, where each read sees it. Its pages reach the disk in any order, each as it was at some moment since
   the last sync, or by sectors of several such moments; a page that was never written is zeros there, or anything (a stale block).
   The file's length may be on the disk before the bytes are;
