@@ -1,8 +1,9 @@
 """The host in hosts/store, where cargo is there: builds it over the library, where there is one, and runs its tests, some of them over the programs
-that `rt ci` built, then clients that others have written and strangers at its ports, where redis-py is there, and then plays two trials of 30 seconds
-over several generations, each with 3 kills and a machine replaced, whose chains the audit judges: one over nodes' processes, one whose stores have the
-core in them; and three of some seconds with the core in the stores: of a map that grows, over distance and on a fifth of a processor. Runs alone too:
-python3 .ci/store.py [NODE PROGRAM [FOLDER]], of other builds, with the folder that libepaxos.a and libepaxos.so are in.
+that `rt ci` built, then the client for Go, where go is there, clients that others have written and strangers at its ports, where redis-py is there,
+and then plays two trials of 30 seconds over several generations, each with 3 kills and a machine replaced, whose chains the audit judges: one over
+nodes' processes, one whose stores have the core in them; and three of some seconds with the core in the stores: of a map that grows, over distance
+and on a fifth of a processor. Runs alone too: python3 .ci/store.py [NODE PROGRAM [FOLDER]], of other builds, with the folder that libepaxos.a and
+libepaxos.so are in.
 
 It is built without optimisation and without what debuggers need, which takes less than a release build; and a slow store shows sooner what does work twice.
 """
@@ -16,6 +17,7 @@ import tempfile
 
 TOP = os.path.dirname(os.path.dirname(os.path.abspath(__file__)))
 STORE = f"{TOP}/hosts/store"
+GO = f"{TOP}/clients/go"
 # what `rt ci` built: the program of `node` and `collect`, and that of all else
 BUILT = (f"{TOP}/crates/ep_server/out/ep_server", f"{TOP}/crates/ep_main/out/ep_main")
 # where builds put the library: first the proved one
@@ -27,6 +29,9 @@ REGISTRY = "/usr/share/cargo/registry"
 CLIENTS = ("redis-server", "redis-tools", "python3-redis", "stunnel4")
 # for so many seconds strangers come, and half as long before and after it is looked how clients do without them
 STRANGERS = "6"
+# what is asked of the client for Go: that it is formatted and vetted, and passes its tests within a minute
+GO_LOOKS = (["sh", "-c", '! gofmt -l . | grep .'], ["go", "vet", "./..."])
+GO_TESTS = ["go", "test", "-count=1", "-timeout", "60s", "./..."]
 # how long each trial plays, and how many of its stores are killed
 TRIAL = ("--short", "--seconds", "30", "--kills", "3", "--audit")
 # a trial over links as long as those between regions, with a region lost, where other work may take a quarter, and one of stores that have little of a processor
@@ -84,6 +89,13 @@ def joined(scratch, node, program):
     return epaxos
 
 
+def is_go_well(store, core):
+    """Whether the client for Go is well, also at clusters of this store."""
+    how = {"cwd": GO, "env": {**core, "EPAXOS_STORE": store}}
+    # (its tests get a second chance too, as they are over after a minute also where the machine stands still)
+    return all(is_well(it, **how) for it in GO_LOOKS) and (is_well(GO_TESTS, **how) or is_well(GO_TESTS, **how))
+
+
 def library_there():
     """The folder of the library that a build made, or none."""
     return next((it for it in LIBRARIES if os.path.isfile(f"{it}/libepaxos.a") and os.path.isfile(f"{it}/libepaxos.so")), None)
@@ -112,6 +124,10 @@ def tried(node=BUILT[0], program=BUILT[1], library=None):
             # (its core is the one in the store, where there is a library)
             core = {name: value for name, value in environment.items() if name != "EPAXOS" or not library}
             well.append(is_well([sys.executable, f"{TOP}/.ci/folders.py", node, f"{scratch}/target/debug/folder"], env=core))
+        if not shutil.which("go"):
+            print("clients/go is not tried: there is no go", flush=True)
+        elif epaxos and all(well):
+            well.append(is_go_well(f"{scratch}/target/debug/store", core))
         if epaxos and all(well):
             well.append(is_well([it, f"{STORE}/tests/libraries.py", f"{scratch}/target/debug/store", epaxos]))
         if epaxos and all(well) and has_redis(it):

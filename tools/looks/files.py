@@ -1,6 +1,7 @@
 """Whether something reads each file.
 
-rt reads definitions, proofs and edits, and of modules those that `mod` names, as cargo does; a module may also be named as a file. The rows read what .ci/rows.py says. A page is linked from
+rt reads definitions, proofs and edits, and of modules those that `mod` names, as cargo does; a module may also be named as a file. Go reads the files of a
+package. The rows read what .ci/rows.py says. A page is linked from
 another one. Any other file has to be named by another file, by its name or, where it is a module of Python, by that.
 """
 
@@ -14,7 +15,7 @@ PLACED = re.compile(
     r"|\.ci/rows/[\w.-]+/(?:args|stdin|stdout|stderr|status|change|redirect)(?:\.gz|\.hex)?|\.ci/rows/[\w.-]+/files/.*"
     r"|(?:examples|\.ci/scripts)/[\w.-]+\.(?:script|run)"
     r"|(?:.*/)?(?:README\.md|LICENSE|CHANGELOG\.md|CONTRIBUTING\.md|\.gitignore|Cargo\.toml|Cargo\.lock|rustfmt\.toml)"
-    r"|(?:.*/)?src/(?:.*/)?(?:main|lib)\.r[st]|(?:.*/)?(?:tests|examples|benches|bin)/\w+\.rs|(?:.*/)?build\.rs|tests/\w+/lib\.rt\.txt|.*/start\.data"
+    r"|clients/go/\w+\.go|(?:.*/)?src/(?:.*/)?(?:main|lib)\.r[st]|(?:.*/)?(?:tests|examples|benches|bin)/\w+\.rs|(?:.*/)?build\.rs|tests/\w+/lib\.rt\.txt|.*/start\.data"
 )
 # what stands beside a script
 BESIDE = re.compile(r"((?:examples|\.ci/scripts)/[\w.-]+)\.(?:report|trace|mmd|dot)(?:\.gz)?")

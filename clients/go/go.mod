@@ -1,0 +1,3 @@
+module epaxos
+
+go 1.19
