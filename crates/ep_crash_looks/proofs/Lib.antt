@@ -1,1 +1,5 @@
+pub mod Standing
 pub mod CrashReading
+pub mod GoingOn
+pub mod LifeStanding
+pub mod CrashLifeReading

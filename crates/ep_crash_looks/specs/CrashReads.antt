@@ -1,5 +1,5 @@
 -- Reads that write nothing, of nodes that crash and come back. Points are those of the moves: how many of them are done.
-use Rattle.std.specs.Prelude.{◌≡◌, ℕ, ◌<◌, ◌≤◌, List, [], ◌∷◌, length, take, drop, Some, is_some}
+use Rattle.std.specs.Prelude.{◌≡◌, ℕ, ◌<◌, ◌≤◌, List, [], length, take, drop, Some, is_some}
 use Rattle.ep_base.specs.Places.{Has}
 use Rattle.ep_base.specs.Quorums.{size}
 use Rattle.ep_rules.specs.Counting.{count}
@@ -7,7 +7,6 @@ use Rattle.ep_rules.specs.Journals.{left, Scheduled, acts_of}
 use Rattle.ep_rules.specs.OneMap.{opened, reply, after_commands}
 use Rattle.ep_rules.specs.Operations.{Operation, commands_of, history_of}
 use Rattle.ep_rules.specs.States.{State, fresh_state}
-use Rattle.ep_rules.specs.Worlds.{Act}
 use Rattle.ep_looks.specs.Reads.{ReadsOneKey, found, Read}
 use Rattle.ep_node.specs.Crashes.{Start, Cluster, fresh_cluster, Move, Take, HandOut, ComeBack, AreMoves, cluster_after, without, is_beyond, stand_after, standing}
 
@@ -22,29 +21,25 @@ state_at start f moves n q = left f q (fresh_state (opened start.map)) ((cluster
 abbrev pub IsOnDisk : List Move → ℕ → ℕ → Type 0
 IsOnDisk moves n q = (cluster_at moves n).out q ≡ length ((cluster_at moves n).journal q)
 
--- what moves leave of entries that were taken before them
+-- what a move leaves of entries that were taken before it
 abbrev pub survive : Move → List Scheduled → List Scheduled
 survive (Take r e) these = these
 survive (HandOut r n) these = these
 survive (ComeBack r n) these = without (is_beyond r n) these
 
-abbrev pub surviving : List Move → List Scheduled → List Scheduled
-surviving [] these = these
-surviving (m ∷ ms) these = surviving ms (survive m these)
-
--- what was taken up to a point and stands in the end
-abbrev pub stood : List Move → ℕ → List Scheduled
-stood moves n = surviving (drop n moves) (standing stand_after [] (take n moves))
+-- what was done up to a point and stands in the end, of what each move leaves, and of what it leaves of what was done before it
+abbrev pub stood : {M X : Type 0} → (M → List X → List X) → (M → List X → List X) → List M → ℕ → List X
+stood stand outlast moves n = standing outlast (standing stand [] (take n moves)) (drop n moves)
 
 abbrev pub history_to : Start → ℕ → List Move → ℕ → List Operation
-history_to start f moves n = history_of (opened start.map) f (acts_of (stood moves n))
+history_to start f moves n = history_of (opened start.map) f (acts_of (stood stand_after survive moves n))
 
--- what a read of one key has to keep to: as in a run, and all that is looked at, or answers, is on the disk
+-- What a read of one key has to keep to: as in a run, and all that the reader has is on its disk when it answers. What is looked at needn't be on any disk.
 pub record IsCrashRead (start : Start) (f : ℕ) (moves : List Move) (r : Read) : Type 0 where
   pub reads : ReadsOneKey r.command
+  pub in_order : r.asked ≤ r.answered
   pub many : f < count (size f) (λ q. is_some (r.looked q))
-  pub between : (q n : ℕ) → r.looked q ≡ Some n → (r.asked ≤ n) × (n ≤ r.answered)
-  pub on_disk : (q n : ℕ) → r.looked q ≡ Some n → IsOnDisk moves n q
+  pub later : (q n : ℕ) → r.looked q ≡ Some n → r.asked ≤ n
   pub reader : IsOnDisk moves r.answered r.reader
   pub executed :
       (q n i : ℕ) → r.looked q ≡ Some n → Has (found (state_at start f moves n q) r.command) i →

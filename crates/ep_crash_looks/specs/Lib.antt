@@ -1,1 +1,2 @@
 pub mod CrashReads
+pub mod CrashLifeReads

@@ -1,3 +1,5 @@
+pub mod Mapped
+pub mod ByKey
 pub mod OneKey
 pub mod Finding
 pub mod Backers

@@ -17,7 +17,7 @@ use Rattle.ep_rules.proofs.Lives.{acts_both, seal_more}
 use Rattle.ep_rules.proofs.LivesLinear.{in_acts, sealed_before}
 use Rattle.ep_rules.proofs.RunHistories.{history_grows_lem}
 use Rattle.ep_looks.specs.Reads.{Read, IsBetween}
-use Rattle.ep_looks.specs.LifeReads.{history_to, IsLifeRead}
+use Rattle.ep_looks.specs.LifeReads.{life_at, history_to}
 use Rattle.ep_looks.specs.LifeOrder.{IsRight, life_place, KeepsLifeTime, LifeReadsKeepRealTime}
 use Rattle.ep_looks.proofs.Fronts.{as_many, between}
 use Rattle.ep_looks.proofs.InTurn.{reads_keep_real_time_lem}
@@ -70,7 +70,7 @@ module _ (start : Contents) (f : ℕ → ℕ) (sizes : (g : ℕ) → (0 < f g) �
   sealed_by k g n a lt m = sealed_before start f sizes turns life (take n turns) (drop n turns) (take-append-drop n turns) k (g - suc k) g (omega arith) a m
 
   -- where somebody has opened a generation, each one before it has a seal
-  sealed_below : (k g n q : ℕ) → k < g → (Rattle.ep_looks.specs.LifeReads.life_at start f turns n).has_opened g q ≡ true → has_seal (history_to start f turns k n) ≡ true
+  sealed_below : (k g n q : ℕ) → k < g → (life_at start f turns n).has_opened g q ≡ true → has_seal (history_to start f turns k n) ≡ true
   sealed_below k zero n q lt o = absurd (omega arith)
   sealed_below k (suc g) n q lt o =
       let s : has_seal (history_to start f turns g n) ≡ true = (kept start f sizes turns life g n).sealed g q o in
@@ -79,14 +79,15 @@ module _ (start : Contents) (f : ℕ → ℕ) (sizes : (g : ℕ) → (0 < f g) �
         | inr ge ↦ (let is : g ≡ k = omega arith in subst (λ z. has_seal (history_to start f turns z n) ≡ true) is s)
       ]
 
-  module _ (g : ℕ) (r : Read) (is : IsLifeRead start f turns g r) (p : ℕ) (right : IsRight start f turns g r p) where
+  -- a read whose reader has opened its generation when it answers
+  module _ (g : ℕ) (r : Read) (reader : (life_at start f turns r.answered).has_opened g r.reader ≡ true) (p : ℕ) (right : IsRight start f turns g r p) where
     fits : p ≤ length (up_to_seal (H g))
     fits =
         let a = right.answered in
         let l = part_of_all g r.answered in
         within_cut p (H g) (omega arith) right.unsealed
 
-    in_between : IsBetween (base start f sizes turns life g) (f g) (acts start f sizes turns life g) (in_run start f sizes turns life g r is) p
+    in_between : IsBetween (base start f sizes turns life g) (f g) (acts start f sizes turns life g) (in_run start f sizes turns life g r) p
     in_between = record {
       asked = subst (λ os. length os ≤ p) (sym (same_history start f sizes turns life g r.asked)) right.asked;
       answered = subst (λ os. p ≤ length os) (sym (same_history start f sizes turns life g r.answered)) right.answered;
@@ -122,7 +123,7 @@ module _ (start : Contents) (f : ℕ → ℕ) (sizes : (g : ℕ) → (0 < f g) �
             let acted : In a (take (length (acts_in g (take r.asked turns))) (acts start f sizes turns life g)) =
             subst (λ these. In a these) (sym (part start f sizes turns life g r.asked)) (subst (λ z. In a (acts_in z (take r.asked turns))) same there) in
             let lt = (reads_keep_real_time_lem (base start f sizes turns life g) (f g) (sizes g).0 (sizes g).1 (acts start f sizes turns life g) (run start f sizes turns life g)
-            (in_run start f sizes turns life g r is) p in_between).behind i a c.0 acted e in
+            (in_run start f sizes turns life g r) p in_between).behind i a c.0 acted e in
             omega (arith, at_g, same_place, lt)
 
     in_turn : (k : ℕ) (s : Read) (q : ℕ) → IsRight start f turns k s q → r.answered ≤ s.asked → life_place start f turns g p ≤ life_place start f turns k q
@@ -134,7 +135,7 @@ module _ (start : Contents) (f : ℕ → ℕ) (sizes : (g : ℕ) → (0 < f g) �
           let j : length (joined H k) ≡ length (joined H g) = ap (λ z. length (joined H z)) same in
           omega (arith, a, l, b, j))
       | inr (inl less) ↦ absurd (
-          let then = sealed_below k g r.answered r.reader less is.reader in
+          let then = sealed_below k g r.answered r.reader less reader in
           let t = grows k r.answered s.asked le in
           let now : has_seal (history_to start f turns k s.asked) ≡ true = subst (λ os. has_seal os ≡ true) (sym t.1) (seal_more (history_to start f turns k r.answered) t.0 then) in
           false≢true (sym there.unsealed ∙ sealed_then start f sizes turns life k s.asked q there.asked now))
@@ -145,8 +146,8 @@ module _ (start : Contents) (f : ℕ → ℕ) (sizes : (g : ℕ) → (0 < f g) �
           omega (arith, n, u, c))
     ]
 
-    keeps : KeepsLifeTime start f turns g r p
+    pub keeps : KeepsLifeTime start f turns g r p
     keeps = record { behind = behind; in_turn = in_turn }
 
 pub life_reads_keep_real_time_lem : LifeReadsKeepRealTime
-life_reads_keep_real_time_lem start f sizes turns life g r is p right = keeps start f sizes turns life g r is p right
+life_reads_keep_real_time_lem start f sizes turns life g r is p right = keeps start f sizes turns life g r is.reader p right

@@ -1,13 +1,14 @@
 -- Reads in a generation of a life are reads in the run that the generation is.
-use Rattle.std.proofs.Common.{◌≡◌, ℕ, zero, suc, ◌+◌, ◌-◌, ◌<◌, ◌≤◌, Bool, true, false, cond, ◌||◌, inl, inr, Option, Some, None, is_some, List, [], ◌∷◌, ◌++◌, length, take, drop, refl, sym, ap, subst, ◌∙◌, arith, length-append}
+use Rattle.std.proofs.Common.{◌≡◌, ℕ, zero, suc, ◌+◌, ◌-◌, ◌<◌, ◌≤◌, Bool, true, false, cond, ◌||◌, inl, inr, Some, is_some, List, [], ◌∷◌, ◌++◌, length, take, drop, refl, sym, ap, subst, ◌∙◌, arith, length-append}
 use Rattle.std.proofs.Math.Seq.{take-append_seam, take-append-add}
 use Rattle.std.proofs.lemmas.Bool.{cases_Bool, false≢true}
 use Rattle.std.proofs.lemmas.List.{take-append-drop}
 use Rattle.ep_base.specs.Commands.{Command}
-use Rattle.ep_base.specs.Interference.{is_seal}
+use Rattle.ep_base.specs.Interference.{is_seal, only_reads}
 use Rattle.ep_base.specs.Places.{Has}
 use Rattle.ep_base.specs.Quorums.{size}
 use Rattle.ep_base.specs.Sameness.{is_noop}
+use Rattle.ep_base.specs.declared.reply.Reply.{Reply}
 use Rattle.ep_base.specs.declared.reply.Reply.TheVariants.{Absent, Closed}
 use Rattle.ep_rules.specs.Closing.{has_seal, up_to_seal, first_seal, written_by}
 use Rattle.ep_rules.specs.Generations.{Turn, birth, IsLife, acts_in, opening_map, history_in, operations, named, joined}
@@ -22,6 +23,8 @@ use Rattle.ep_rules.proofs.CutHistories.{written_both}
 use Rattle.ep_rules.proofs.Lives.{Kept, kept_at, acts_both, seal_more}
 use Rattle.ep_rules.proofs.NamedPlaces.{operations_named, operations_both}
 use Rattle.ep_rules.proofs.RunHistories.{history_grows_lem}
+use Rattle.std.specs.Option.{option_map}
+use Rattle.ep_looks.proofs.Mapped.{mapped_is, mapped_back}
 use Rattle.ep_looks.specs.Reads.{found, world_at, Read, IsRead}
 use Rattle.ep_looks.specs.LifeReads.{life_at, state_at, IsLifeRead, life_reply, history_to, IsRightOrClosed, LifeReadsAreLinearizable}
 use Rattle.ep_looks.proofs.Fronts.{between}
@@ -46,19 +49,6 @@ closed_reply m h c real e =
     ap (λ s. reply s c) (seal_closes_lem m h e)
     ∙ ap (λ o. reply (record { contents = written_by m (up_to_seal h); seal = o }) c) v.1
     ∙ says_closed (written_by m (up_to_seal h)) v.0 c real
-
--- points of a life as points of a generation's run
-abbrev counted : (ℕ → ℕ) → Option ℕ → Option ℕ
-counted A None = None
-counted A (Some n) = Some (A n)
-
-counted_is : (A : ℕ → ℕ) (o : Option ℕ) → is_some o ≡ true → is_some (counted A o) ≡ true
-counted_is A None e = absurd (false≢true e)
-counted_is A (Some n) e = refl
-
-counted_back : (A : ℕ → ℕ) (o : Option ℕ) (m : ℕ) → counted A o ≡ Some m → (n : ℕ) × (o ≡ Some n) × (A n ≡ m)
-counted_back A None m e = absurd (cc)
-counted_back A (Some n) m e = (n, refl, (let is : A n ≡ m = cc in is))
 
 module _ (start : Contents) (f : ℕ → ℕ) (sizes : (g : ℕ) → (0 < f g) × (size (f g) ≤ 256)) (turns : List Turn) (life : IsLife f (birth start) turns) where
   -- the map with which a generation opens is what the generations before it have written
@@ -88,7 +78,7 @@ module _ (start : Contents) (f : ℕ → ℕ) (sizes : (g : ℕ) → (0 < f g) �
         ap (take (length (acts_in g (take n turns)))) (sym (sym (acts_both g (take n turns) (drop n turns)) ∙ ap (acts_in g) (take-append-drop n turns)))
         ∙ take-append_seam (acts_in g (take n turns)) (acts_in g (drop n turns))
 
-    rises : (a n : ℕ) → a ≤ n → A a ≤ A n
+    pub rises : (a n : ℕ) → a ≤ n → A a ≤ A n
     rises a n le =
         let m = between a n turns le in
         let e : length (acts_in g (take n turns)) ≡ length (acts_in g (take a turns)) + length (acts_in g m.0) =
@@ -118,26 +108,49 @@ module _ (start : Contents) (f : ℕ → ℕ) (sizes : (g : ℕ) → (0 < f g) �
         let is : p ≡ length early + k = omega arith in
         subst (λ os. has_seal os ≡ true) (sym (ap (take p) whole ∙ ap (λ n. take n (early ++ t.0)) is ∙ take-append-add early t.0 k)) (seal_more early (take k t.0) e)
 
-    module _ (r : Read) (is : IsLifeRead start f turns g r) where
-      abbrev pub in_run : Read
-      in_run = record { command = r.command; reader = r.reader; asked = A r.asked; looked = λ q. counted A (r.looked q); answered = A r.answered }
+    -- nobody had opened the next generation at a point whose operations are before the place, and have no seal
+    unopened : (a p : ℕ) → length (history_to start f turns g a) ≤ p → has_seal (take p (history_in start f turns g)) ≡ false → (q : ℕ) → (life_at start f turns a).has_opened (suc g) q ≡ false
+    unopened a p le e q = elim (cases_Bool ((life_at start f turns a).has_opened (suc g) q)) [
+      | inr n ↦ n
+      | inl o ↦ absurd (false≢true (sym e ∙ sealed_then a p le ((kept a).sealed g q o)))
+    ]
 
-      is_read : IsRead base (f g) acts in_run
+    open_reply : (c : Command) (p : ℕ) → has_seal (take p (history_in start f turns g)) ≡ false → reply (after_commands base (commands_of (take p (history_in start f turns g)))) c ≡
+        read (written_by start (operations (joined (history_in start f turns) g) ++ take p (history_in start f turns g))) c
+    open_reply c p e =
+        let first : List Operation = take p (history_in start f turns g) in
+        ap (λ s. reply s c) (open_without (opening_map start f turns g) first e)
+        ∙ ap (λ m. read (written_by m first) c) (opening_is g)
+        ∙ ap (λ m. read m c) (sym (written_both start (operations (joined (history_in start f turns) g)) first))
+
+    -- what one map of the generation replies behind p of its operations, among which all are that were executed at the point a
+    pub right_or_closed : (c : Command) (y : Reply) (a p : ℕ) → only_reads c ≡ true → length (history_to start f turns g a) ≤ p →
+        y ≡ reply (after_commands base (commands_of (take p (history_in start f turns g)))) c → IsRightOrClosed start f turns g c y ((life_at start f turns a).has_opened (suc g)) p
+    right_or_closed c y a p only le is = elim (cases_Bool (has_seal (take p (history_in start f turns g)))) [
+      | inl s ↦ inl (s, is ∙ closed_reply (opening_map start f turns g) (take p (history_in start f turns g)) c (reader_real c only) s)
+      | inr n ↦ inr (n, is ∙ open_reply c p n, unopened a p le n)
+    ]
+
+    abbrev pub in_run : Read → Read
+    in_run r = record { command = r.command; reader = r.reader; asked = A r.asked; looked = λ q. option_map A (r.looked q); answered = A r.answered }
+
+    module _ (r : Read) (is : IsLifeRead start f turns g r) where
+      is_read : IsRead base (f g) acts (in_run r)
       is_read = record {
         reads = is.reads;
         many = (
             let m = is.many in
-            let le = count_le (size (f g)) (λ q. is_some (r.looked q)) (λ q. is_some (counted A (r.looked q))) (λ q lt e. counted_is A (r.looked q) e) in
+            let le = count_le (size (f g)) (λ q. is_some (r.looked q)) (λ q. is_some (option_map A (r.looked q))) (λ q lt e. mapped_is A (r.looked q) e) in
             omega arith);
         between = λ q m e.
-            let t = counted_back A (r.looked q) m e in
+            let t = mapped_back A (r.looked q) m e in
             let b = is.between q t.0 t.1 in
             let low = rises r.asked t.0 b.0 in
             let high = rises t.0 r.answered b.1 in
             let at = t.2 in
             (omega arith, omega arith);
         executed = λ q m i e k.
-            let t = counted_back A (r.looked q) m e in
+            let t = mapped_back A (r.looked q) m e in
             subst (λ (s : State). Has s.executed i) (same_state r.answered r.reader is.reader)
             (is.executed q t.0 i t.1
             (subst (λ (s : State). Has (found s r.command) i) (sym (same_state t.0 q (is.here q t.0 t.1)))
@@ -148,38 +161,16 @@ module _ (start : Contents) (f : ℕ → ℕ) (sizes : (g : ℕ) → (0 < f g) �
       placed : (p : ℕ) × (length (history_to start f turns g r.asked) ≤ p) × (p ≤ length (history_to start f turns g r.answered))
           × (life_reply start f turns g r ≡ reply (after_commands base (commands_of (take p (history_in start f turns g)))) r.command)
       placed =
-          let t = reads_are_linearizable_lem base (f g) (sizes g).0 (sizes g).1 acts run in_run is_read in (
+          let t = reads_are_linearizable_lem base (f g) (sizes g).0 (sizes g).1 acts run (in_run r) is_read in (
             t.0,
             subst (λ os. length os ≤ t.0) (same_history r.asked) t.1.asked,
             subst (λ os. t.0 ≤ length os) (same_history r.answered) t.1.answered,
             ap (λ (s : State). reply s.store r.command) (same_state r.answered r.reader is.reader) ∙ t.2,
           )
 
-      unopened : (p : ℕ) → length (history_to start f turns g r.asked) ≤ p → has_seal (take p (history_in start f turns g)) ≡ false → (q : ℕ) → (life_at start f turns r.asked).has_opened (suc g) q ≡ false
-      unopened p le e q = elim (cases_Bool ((life_at start f turns r.asked).has_opened (suc g) q)) [
-        | inr n ↦ n
-        | inl o ↦ absurd (false≢true (sym e ∙ sealed_then r.asked p le ((kept r.asked).sealed g q o)))
-      ]
-
-      open_reply : (p : ℕ) → has_seal (take p (history_in start f turns g)) ≡ false → reply (after_commands base (commands_of (take p (history_in start f turns g)))) r.command ≡
-          read (written_by start (operations (joined (history_in start f turns) g) ++ take p (history_in start f turns g))) r.command
-      open_reply p e =
-          let first : List Operation = take p (history_in start f turns g) in
-          ap (λ s. reply s r.command) (open_without (opening_map start f turns g) first e)
-          ∙ ap (λ m. read (written_by m first) r.command) (opening_is g)
-          ∙ ap (λ m. read m r.command) (sym (written_both start (operations (joined (history_in start f turns) g)) first))
-
-      right : (p : ℕ) × (length (history_to start f turns g r.asked) ≤ p) × (p ≤ length (history_to start f turns g r.answered)) × IsRightOrClosed start f turns g r p
-      right =
-          let t = placed in (
-            t.0,
-            t.1,
-            t.2,
-            elim (cases_Bool (has_seal (take t.0 (history_in start f turns g)))) [
-              | inl s ↦ inl (s, t.3 ∙ closed_reply (opening_map start f turns g) (take t.0 (history_in start f turns g)) r.command (reader_real r.command is.reads.only) s)
-              | inr n ↦ inr (n, t.3 ∙ open_reply t.0 n, unopened t.0 t.1 n)
-            ],
-          )
+      right : (p : ℕ) × (length (history_to start f turns g r.asked) ≤ p) × (p ≤ length (history_to start f turns g r.answered))
+          × IsRightOrClosed start f turns g r.command (life_reply start f turns g r) ((life_at start f turns r.asked).has_opened (suc g)) p
+      right = let t = placed in (t.0, t.1, t.2, right_or_closed r.command (life_reply start f turns g r) r.asked t.0 is.reads.only t.1 t.3)
 
 pub life_reads_are_linearizable_lem : LifeReadsAreLinearizable
 life_reads_are_linearizable_lem start f sizes turns life g r is = right start f sizes turns life g r is

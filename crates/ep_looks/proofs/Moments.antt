@@ -1,5 +1,5 @@
 -- The moment at which a read of one key takes effect: before the first operation that interferes with it and isn't executed at its reader when that answers.
-use Rattle.std.proofs.Common.{◌≡◌, ℕ, ◌+◌, ◌<◌, ◌≤◌, inl, inr, true, is_some, List, ◌++◌, length, take, drop, sym, ap, subst, ◌∙◌, arith, length-append}
+use Rattle.std.proofs.Common.{◌≡◌, ℕ, ◌+◌, ◌<◌, ◌≤◌, inl, inr, true, Option, List, ◌++◌, length, take, drop, sym, ap, subst, ◌∙◌, arith, length-append}
 use Rattle.std.proofs.lemmas.List.{take-append-drop, take-append-le}
 use Rattle.ep_base.specs.Commands.{Command}
 use Rattle.ep_base.specs.Interference.{interfere}
@@ -7,20 +7,20 @@ use Rattle.ep_base.specs.Places.{place, Has}
 use Rattle.ep_base.specs.Quorums.{size}
 use Rattle.ep_rules.specs.OneMap.{Store}
 use Rattle.ep_rules.specs.Operations.{Operation, instances_of, history_of}
+use Rattle.ep_rules.specs.States.{State}
 use Rattle.ep_rules.specs.Worlds.{opening, Act, IsRun}
-use Rattle.ep_rules.proofs.Counting.{count_some}
 use Rattle.ep_rules.proofs.Places.{has_or, place-append_out}
 use Rattle.ep_rules.proofs.RunHistories.{instances_append, history_grows_lem}
-use Rattle.ep_rules.proofs.Stable.{some_of}
 use Rattle.ep_looks.proofs.Looking.{run_to, history_found}
 use Rattle.ep_looks.proofs.Owned.{c, h, executed, own, known, own_has}
 use Rattle.ep_looks.proofs.Splits.{missing, spot, spot_behind, fits_one}
-use Rattle.ep_looks.specs.Reads.{Read, IsRead, IsBetween}
+use Rattle.ep_looks.specs.AheadReads.{IsAheadRead}
+use Rattle.ep_looks.specs.Reads.{Read, IsBetween}
 use Rattle.ep_looks.proofs.Fronts.{before_le, between, as_many}
 use Rattle.ep_looks.proofs.Inserted.{Fits}
 use Rattle.ep_looks.proofs.OneKey.{meet_each_other}
 
-module _ (base : Store) (f : ℕ) (some : 0 < f) (few : size f ≤ 256) (acts : List Act) (run : IsRun f (opening base) acts) (r : Read) (is : IsRead base f acts r) where
+module _ (base : Store) (f : ℕ) (some : 0 < f) (few : size f ≤ 256) (acts : List Act) (run : IsRun f (opening base) acts) (r : Read) (seen : ℕ → Option State) (is : IsAheadRead base f acts r seen) where
   abbrev pub early : List Act
   early = take r.asked acts
 
@@ -39,23 +39,14 @@ module _ (base : Store) (f : ℕ) (some : 0 < f) (few : size f ≤ 256) (acts : 
   run_these : IsRun f (opening base) these
   run_these = run_to base f some few acts run r.answered
 
-  -- the question is before the answer, as something was looked at between them
-  in_order : r.asked ≤ r.answered
-  in_order =
-      let m = is.many in
-      let k = count_some (size f) (λ k. is_some (r.looked k)) (omega arith) in
-      let t = some_of (r.looked k.0) k.2 in
-      let b = is.between k.0 t.0 t.1 in
-      omega (arith, b.0, b.1)
-
   mid : (ms : List Act) × (early ++ ms ≡ these)
-  mid = between r.asked r.answered acts in_order
+  mid = between r.asked r.answered acts is.in_order
 
   -- what some replica had executed when the read was asked, and interferes with it, is executed at the reader
   was_executed : (i : ℕ) → Has (instances_of (history_of base f early)) i → interfere (cs i) r.command ≡ true → Has done i
   was_executed i k meets =
       own_has base f some few acts run r.answered r.reader i r.command meets
-      (history_found base f some few acts run r.command r.looked r.asked (executed base f some few acts run r.answered r.reader) is.many (λ q n at. (is.between q n at).0) is.executed
+      (history_found base f some few acts run r.command seen r.asked (executed base f some few acts run r.answered r.reader) is.many is.goes_on is.executed
       these mid.0 run_these mid.1 i k meets)
 
   grows : (more : List Operation) × (history_of base f these ≡ history_of base f early ++ more)

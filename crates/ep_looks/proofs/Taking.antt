@@ -11,12 +11,14 @@ use Rattle.ep_rules.specs.Operations.{Operation, instances_of, commands_of, hist
 use Rattle.ep_rules.specs.Worlds.{opening, Act, IsRun}
 use Rattle.ep_rules.proofs.OnceDone.{as_once}
 use Rattle.ep_rules.proofs.Places.{Once}
-use Rattle.ep_looks.specs.Reads.{Read, reply_of, IsRead, IsBetween}
+use Rattle.ep_looks.specs.AheadReads.{HistoriesTakeAheadReads}
+use Rattle.ep_looks.specs.Reads.{Read, reply_of, IsBetween}
 use Rattle.ep_looks.specs.RealTime.{KeepsRealTime}
 use Rattle.ep_looks.specs.WithReads.{Item, operations_in, reads_in, place_asked, place_done, IsHistoryWith, HistoriesTakeReads}
 use Rattle.ep_looks.proofs.InTurn.{reads_keep_real_time_lem, short_of_all}
 use Rattle.ep_looks.proofs.Placing.{insert, all_done, done_operations, done_reads, done_before, spot, insert_operations, insert_back, insert_new, insert_old, insert_once, insert_at, insert_keeps, insert_behind, insert_orders, spot_before, spot_after, place_is_spot, read_told, done_told}
-use Rattle.ep_looks.proofs.Reading.{reads_are_linearizable_lem}
+use Rattle.ep_looks.proofs.Looking.{seen_at}
+use Rattle.ep_looks.proofs.Reading.{is_ahead, ahead_reads_are_linearizable_lem}
 
 module _ (base : Store) (f : ℕ) (some : 0 < f) (few : size f ≤ 256) (acts : List Act) (run : IsRun f (opening base) acts) (reads : ℕ → Read) where
   abbrev h : List Operation
@@ -92,19 +94,19 @@ module _ (base : Store) (f : ℕ) (some : 0 < f) (few : size f ≤ 256) (acts : 
       in_turn = turn_next;
     }
 
-  build : (n : ℕ) → ((k : ℕ) → k < n → IsRead base f acts (reads k)) → (s : List Item) × Built n s
-  build zero are = (all_done h, none_built)
-  build (suc n) are =
-      let t = build n (λ k lt. are k (omega arith)) in
-      let r = reads_are_linearizable_lem base f some few acts run (reads n) (are n (omega arith)) in
-      (insert t.0 r.0 n, one_more n t.0 t.1 r.0 (record { between = r.1; told = r.2 }))
+  build : (n : ℕ) → ((k : ℕ) → k < n → (p : ℕ) × May k p) → (s : List Item) × Built n s
+  build zero may = (all_done h, none_built)
+  build (suc n) may =
+      let t = build n (λ k lt. may k (omega arith)) in
+      let m = may n (omega arith) in
+      (insert t.0 m.0 n, one_more n t.0 t.1 m.0 m.1)
 
-  module _ (n : ℕ) (are : (k : ℕ) → k < n → IsRead base f acts (reads k)) (s : List Item) (b : Built n s) where
+  module _ (n : ℕ) (reading : (k : ℕ) → k < n → only_reads (reads k).command ≡ true) (s : List Item) (b : Built n s) where
     abbrev q : ℕ → Command
     q j = (reads j).command
 
     only : (j : ℕ) → Has (reads_in s) j → only_reads (q j) ≡ true
-    only j k = (are j (b.back j k)).reads.only
+    only j k = reading j (b.back j k)
 
     has_done : (i : ℕ) → Has (instances_of h) i → Has (instances_of (operations_in s)) i
     has_done i k = subst (λ os. Has (instances_of os) i) (sym b.operations) k
@@ -127,7 +129,12 @@ module _ (base : Store) (f : ℕ) (some : 0 < f) (few : size f ≤ 256) (acts : 
       in_turn = b.in_turn;
     }
 
+pub histories_take_ahead_reads_lem : HistoriesTakeAheadReads
+histories_take_ahead_reads_lem base f some few acts run reads seen n are =
+    let t = build base f some few acts run reads n
+    (λ k lt. let r = ahead_reads_are_linearizable_lem base f some few acts run (reads k) (seen k) (are k lt) in (r.0, record { between = r.1; told = r.2 })) in
+    (t.0, is_history_with base f some few acts run reads n (λ k lt. (are k lt).reads.only) t.0 t.1)
+
 pub histories_take_reads_lem : HistoriesTakeReads
 histories_take_reads_lem base f some few acts run reads n are =
-    let t = build base f some few acts run reads n are in
-    (t.0, is_history_with base f some few acts run reads n are t.0 t.1)
+    histories_take_ahead_reads_lem base f some few acts run reads (λ k. seen_at base f some few acts run (reads k).looked) n (λ k lt. is_ahead base f some few acts run (reads k) (are k lt))

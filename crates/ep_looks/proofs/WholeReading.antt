@@ -1,5 +1,5 @@
 -- A read of any keys is told what one map, or one machine, tells where its reply is taken, if all that is found after that was executed already.
-use Rattle.std.proofs.Common.{◌≡◌, ℕ, ◌<◌, ◌≤◌, List, [], length, take, ap, ◌∙◌, arith, append-nil}
+use Rattle.std.proofs.Common.{◌≡◌, ℕ, ◌<◌, ◌≤◌, Option, List, [], length, take, ap, ◌∙◌, arith, append-nil}
 use Rattle.std.proofs.lemmas.List.{take_all}
 use Rattle.ep_base.specs.Commands.{Command}
 use Rattle.ep_base.specs.Places.{Has}
@@ -8,18 +8,20 @@ use Rattle.ep_rules.specs.Closing.{store_of}
 use Rattle.ep_rules.specs.Machines.{Machine, after_operations, executed_at}
 use Rattle.ep_rules.specs.OneMap.{Store, reply, after_commands}
 use Rattle.ep_rules.specs.Operations.{Operation, instances_of, commands_of}
+use Rattle.ep_rules.specs.States.{State}
 use Rattle.ep_rules.specs.Worlds.{opening, Act, IsRun}
+use Rattle.ep_looks.specs.AheadReads.{IsAheadWholeRead, AheadWholeReadsAreLinearizable}
 use Rattle.ep_looks.specs.Reads.{world_at, history_at, Read}
 use Rattle.ep_looks.specs.WholeReads.{IsWholeRead, WholeReadsAreLinearizable, MachineWholeReadsAreLinearizable}
 use Rattle.ep_looks.proofs.Fronts.{as_many}
 use Rattle.ep_looks.proofs.Inserted.{Fits}
-use Rattle.ep_looks.proofs.Looking.{history_found}
+use Rattle.ep_looks.proofs.Looking.{history_found, seen_at, many_seen, leads_on, seen_within}
 use Rattle.ep_looks.proofs.Owned.{c, h, executed, own, run_whole, known, own_has, map_is, history_leaves, machine_is, machine_leaves}
 use Rattle.ep_looks.proofs.Reading.{reader_real}
 use Rattle.ep_looks.proofs.Splits.{fits_all}
 use Rattle.ep_looks.proofs.Told.{map_told, machine_told}
 
-module _ (base : Store) (f : ℕ) (some : 0 < f) (few : size f ≤ 256) (acts : List Act) (run : IsRun f (opening base) acts) (r : Read) (is : IsWholeRead base f acts r) where
+module _ (base : Store) (f : ℕ) (some : 0 < f) (few : size f ≤ 256) (acts : List Act) (run : IsRun f (opening base) acts) (r : Read) (seen : ℕ → Option State) (is : IsAheadWholeRead base f acts r seen) where
   abbrev cs : ℕ → Command
   cs = c base f some few acts run r.asked r.reader
 
@@ -32,7 +34,7 @@ module _ (base : Store) (f : ℕ) (some : 0 < f) (few : size f ≤ 256) (acts : 
   fits : Fits cs r.command done history (length history)
   fits = fits_all cs r.command done history (known base f some few acts run r.asked r.reader) (λ u k e.
       own_has base f some few acts run r.asked r.reader u r.command e
-      (history_found base f some few acts run r.command r.looked r.asked (executed base f some few acts run r.asked r.reader) is.many (λ q n at. (is.between q n at).0) is.executed
+      (history_found base f some few acts run r.command seen r.asked (executed base f some few acts run r.asked r.reader) is.many is.goes_on is.executed
       (take r.asked acts) [] (run_whole base f some few acts run r.asked r.reader) (append-nil (take r.asked acts)) u k e))
 
   whole_history : take (length history) (history_at base f acts r.asked) ≡ history_at base f acts r.asked
@@ -56,8 +58,26 @@ module _ (base : Store) (f : ℕ) (some : 0 < f) (few : size f ≤ 256) (acts : 
         ∙ ap (λ s. M.reply s o) (machine_leaves base f some few acts run r.asked r.reader M start (length history))
         ∙ ap (λ os. M.reply (after_operations M start os) o) whole_history
 
+pub ahead_whole_reads_are_linearizable_lem : AheadWholeReadsAreLinearizable
+ahead_whole_reads_are_linearizable_lem base f some few acts run r seen is = legal base f some few acts run r seen is
+
+-- a read whose looks are in the run
+
+module _ (base : Store) (f : ℕ) (some : 0 < f) (few : size f ≤ 256) (acts : List Act) (run : IsRun f (opening base) acts) (r : Read) (is : IsWholeRead base f acts r) where
+  abbrev seen_in : ℕ → Option State
+  seen_in = seen_at base f some few acts run r.looked
+
+  is_ahead : IsAheadWholeRead base f acts r seen_in
+  is_ahead = record {
+    only = is.only;
+    many = many_seen base f some few acts run r.looked is.many;
+    goes_on = leads_on base f some few acts run r.looked r.asked (λ q n at. (is.between q n at).0);
+    executed = seen_within base f some few acts run r.looked r.command ((world_at base f acts r.asked).states r.reader).executed is.executed;
+  }
+
 pub whole_reads_are_linearizable_lem : WholeReadsAreLinearizable
-whole_reads_are_linearizable_lem base f some few acts run r is = legal base f some few acts run r is
+whole_reads_are_linearizable_lem base f some few acts run r is = legal base f some few acts run r (seen_in base f some few acts run r is) (is_ahead base f some few acts run r is)
 
 pub machine_whole_reads_are_linearizable_lem : (S R : Type 0) → MachineWholeReadsAreLinearizable S R
-machine_whole_reads_are_linearizable_lem S R M start base f some few acts run r is i out = machine_legal base f some few acts run r is i out M start
+machine_whole_reads_are_linearizable_lem S R M start base f some few acts run r is i out =
+    machine_legal base f some few acts run r (seen_in base f some few acts run r is) (is_ahead base f some few acts run r is) i out M start

@@ -5,3 +5,4 @@ pub mod WholeReads
 pub mod LifeReads
 pub mod WithReads
 pub mod LifeOrder
+pub mod AheadReads

@@ -1,5 +1,6 @@
 -- Reads that write nothing in the life of a cluster: each in one generation. Points are those of the life: how many of its turns are done.
-use Rattle.std.specs.Prelude.{◌≡◌, ◌⊎◌, ℕ, suc, ◌<◌, ◌≤◌, true, false, List, ◌++◌, length, take, Some, is_some}
+use Rattle.std.specs.Prelude.{◌≡◌, ◌⊎◌, ℕ, suc, ◌<◌, ◌≤◌, Bool, true, false, List, ◌++◌, length, take, Some, is_some}
+use Rattle.ep_base.specs.Commands.{Command}
 use Rattle.ep_base.specs.Places.{Has}
 use Rattle.ep_base.specs.Quorums.{size}
 use Rattle.ep_base.specs.declared.reply.Reply.{Reply}
@@ -38,19 +39,20 @@ life_reply start f turns g r = reply (state_at start f turns g r.answered r.read
 abbrev pub history_to : Contents → (ℕ → ℕ) → List Turn → ℕ → ℕ → List Operation
 history_to start f turns g n = history_of (opened (opening_map start f turns g)) (f g) (acts_in g (take n turns))
 
--- The read is answered behind the first p operations of its generation: that the map is closed, as there is a seal among them; or, as there is none, what one
--- map replies, which no seal closes, after all generations before, each up to its first seal, and these p. Then nobody had opened the next one at the question.
-abbrev pub IsRightOrClosed : Contents → (ℕ → ℕ) → List Turn → ℕ → Read → ℕ → Type 0
-IsRightOrClosed start f turns g r p =
+-- A reply to the command behind the first p operations of the generation: that the map is closed, as there is a seal among them; or, as there is none, what one map
+-- replies, which no seal closes, after all generations before, each up to its first seal, and these p. Then nobody had opened the next generation, as far as `next` tells.
+abbrev pub IsRightOrClosed : Contents → (ℕ → ℕ) → List Turn → ℕ → Command → Reply → (ℕ → Bool) → ℕ → Type 0
+IsRightOrClosed start f turns g c y next p =
     let first = take p (history_in start f turns g) in
-    ((has_seal first ≡ true) × (life_reply start f turns g r ≡ Closed))
+    ((has_seal first ≡ true) × (y ≡ Closed))
     ⊎ ((has_seal first ≡ false)
-    × (life_reply start f turns g r ≡ read (written_by start (operations (joined (history_in start f turns) g) ++ first)) r.command)
-    × ((q : ℕ) → (life_at start f turns r.asked).has_opened (suc g) q ≡ false))
+    × (y ≡ read (written_by start (operations (joined (history_in start f turns) g) ++ first)) c)
+    × ((q : ℕ) → next q ≡ false))
 
 -- Every read of one key in a generation takes effect between its question and its answer there, and is right or finds the map closed.
 abbrev pub LifeReadsAreLinearizable : Type 0
 LifeReadsAreLinearizable =
     (start : Contents) (f : ℕ → ℕ) → ((g : ℕ) → (0 < f g) × (size (f g) ≤ 256)) → (turns : List Turn) → IsLife f (birth start) turns →
     (g : ℕ) (r : Read) → IsLifeRead start f turns g r →
-    (p : ℕ) × (length (history_to start f turns g r.asked) ≤ p) × (p ≤ length (history_to start f turns g r.answered)) × IsRightOrClosed start f turns g r p
+    (p : ℕ) × (length (history_to start f turns g r.asked) ≤ p) × (p ≤ length (history_to start f turns g r.answered))
+    × IsRightOrClosed start f turns g r.command (life_reply start f turns g r) ((life_at start f turns r.asked).has_opened (suc g)) p

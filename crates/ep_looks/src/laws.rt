@@ -1,5 +1,11 @@
 //! Laws of reads that write nothing, in every run and in every life.
 
+ghost use Rattle.ep_looks.specs.AheadReads.{
+  AheadReadsAreLinearizable,
+  AheadWholeReadsAreLinearizable,
+  HistoriesTakeAheadReads,
+  LooksGoByKey,
+};
 ghost use Rattle.ep_looks.specs.LifeOrder.{LifeReadsKeepRealTime};
 ghost use Rattle.ep_looks.specs.LifeReads.{LifeReadsAreLinearizable};
 ghost use Rattle.ep_looks.specs.MachineReads.{MachineReadsAreLinearizable};
@@ -55,4 +61,28 @@ pub fn life_reads_are_linearizable()
 /// asked; and two reads in turn never go back, whatever their generations.
 pub fn life_reads_keep_real_time()
     ensures { LifeReadsKeepRealTime }
+{}
+
+/// A look may be ahead of the run: at what a replica holds in memory, also where a crash takes it later. The read takes effect
+/// at one moment between its question and its answer all the same.
+///
+/// Its reader's reply is that of the run: what the reader executed is on its disk.
+pub fn ahead_reads_are_linearizable()
+    ensures { AheadReadsAreLinearizable }
+{}
+
+/// With such reads put into their places, every run's history stays a linearization of it.
+pub fn histories_take_ahead_reads()
+    ensures { HistoriesTakeAheadReads }
+{}
+
+/// A read of any keys takes effect where its reply is taken, if all that looks ahead of the run find after that was executed
+/// already.
+pub fn ahead_whole_reads_are_linearizable()
+    ensures { AheadWholeReadsAreLinearizable }
+{}
+
+/// What a look finds for a read of one key rests on the key alone: one answer serves all reads of the key.
+pub fn looks_go_by_key()
+    ensures { LooksGoByKey }
 {}

@@ -7,7 +7,8 @@
 mod laws;
 
 pub use laws::{
-    histories_take_reads, life_reads_are_linearizable, life_reads_keep_real_time,
+    ahead_reads_are_linearizable, ahead_whole_reads_are_linearizable, histories_take_ahead_reads,
+    histories_take_reads, life_reads_are_linearizable, life_reads_keep_real_time, looks_go_by_key,
     machine_reads_are_linearizable, machine_whole_reads_are_linearizable, reads_are_linearizable,
     reads_keep_real_time, whole_reads_are_linearizable,
 };

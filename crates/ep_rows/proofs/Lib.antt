@@ -5,3 +5,4 @@ pub mod Compared
 pub mod Seals
 pub mod Looks
 pub mod Rescues
+pub mod CrashLooks

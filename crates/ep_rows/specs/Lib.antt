@@ -9,3 +9,10 @@ pub mod Operations
 pub mod Closing
 pub mod Generations
 pub mod Reads
+pub mod Journals
+pub mod LifeReads
+pub mod LifeOrder
+pub mod Crashes
+pub mod CrashLives
+pub mod CrashReads
+pub mod CrashLifeReads
