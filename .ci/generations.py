@@ -887,6 +887,7 @@ def every():
             "line 5  refused E15 stamp full: sparing 2 propose 0 1 get x",
             f"never given  #1 from 0 to 2: {asked}",
             "not committed  0.1 at replica 0, which leads it: PreAccepts are out, answers of others so far: 0",
+            "next  recover 0.1 at any replica that reaches 1 and 2",
         ]
     )
     yield dict(name="a trace of proposals that name whom they spare", words=["trace"], given=script.encode(), wanted=traced.encode())

@@ -112,7 +112,9 @@ def explained():
     one = life()
     edition = one.edition()[0]
     for name, it in (("every command", one), ("nothing", Looked(generation=1)), ("version 2", Looked("put x 1", version=2))):
-        wanted = "".join(f"{line}\n" for line in ["verdict accepted", *it.edition()])
+        # (replica 1 hears of no Commit, and replica 0 has executed all)
+        left = [f"next  recover 0.{at} at any replica that reaches 1 and 2" for at, _ in enumerate(it.taken, 1)]
+        wanted = "".join(f"{line}\n" for line in ["verdict accepted", *it.edition(), *left])
         yield dict(name=f"version 3: {name}, explained", words=["explain"], given=it.bundle(), wanted=wanted.encode())
     # the last receipt says that the last seal was absent, and not closed
     wanted = f"verdict refused\n{edition}\nA4 unknown receipt 12\n"

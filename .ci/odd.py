@@ -86,6 +86,7 @@ def proposed():
             traced = f"""line 2  stamp 1  replica 0 entry 1  {event}; sends #1 to 1: {ask}
 never given  #1 from 0 to 1: {ask}
 not committed  0.1 at replica 0, which leads it: PreAccepts are out, answers of others so far: 0
+next  recover 0.1 at any replica that reaches 1 and 2
 """
             yield dict(name=f"odd bytes, {what}: {op}, traced", words=["trace"], given=spelled.encode(), wanted=traced.encode())
 

@@ -130,7 +130,7 @@ def is_explained(audited, ended):
     if ended.status != audited.status or ended.told:
         return False
     if audited.status == 0:
-        return ended.output == b"verdict accepted\n"
+        return re.fullmatch(rb"verdict accepted\n((next|then|more)  .*\n)*", ended.output)
     if audited.status == 1:
         return ended.output.startswith(audited.output) and EXPLAINED.fullmatch(ended.output)
     return ended.output.startswith(audited.told) and re.fullmatch(REASONS, ended.output[len(audited.told) :])

@@ -5,6 +5,7 @@ use Rattle.ep_bundle.specs.Reading.{Left}
 use Rattle.ep_bundle.specs.Texts.{fault_text as refusal_text}
 use Rattle.ep_bundle.specs.declared.bundle_fault.BundleFault.{BundleFault}
 use Rattle.ep_bundle.specs.declared.bundle_fault.BundleFault.TheVariants.{Memory, ReadFailed, BadBundle, NotARun}
+use Rattle.ep_ending.specs.Endings.{AddsEndings}
 use Rattle.ep_journal.specs.Entries.{Collected, journals_of}
 use Rattle.ep_journal.specs.Openings.{opens}
 use Rattle.ep_report.specs.Reports.{text_of}
@@ -33,16 +34,16 @@ pub record IsRefusalTold (e : BundleFault) (finding : Finding) (text : List ℕ)
   pub reasons : List (List ℕ)
   pub told : text ≡ text_of (section (refusal_text e) reasons)
 
--- the verdict of these faults, which are all that there are, the line of the edition, and then each of them
-abbrev pub IsVerdictTold : List ℕ → List AuditFault → Finding → List ℕ → Type 0
-IsVerdictTold edition [] finding text = (finding ≡ Accepted) × (text ≡ text_of (codes "verdict accepted" ∷ []) ++ edition)
-IsVerdictTold edition (x ∷ xs) finding text =
-    (finding ≡ Refused) × (told : List ℕ) × AreTold (x ∷ xs) told × (text ≡ text_of (codes "verdict refused" ∷ []) ++ edition ++ told)
+-- the verdict of these faults, which are all that there are, the line of the edition, and then each of them; or what would end what is open, where there are none
+abbrev pub IsVerdictTold : Collected → List AuditFault → Finding → List ℕ → Type 0
+IsVerdictTold c [] finding text = (finding ≡ Accepted) × AddsEndings c (text_of (codes "verdict accepted" ∷ []) ++ edition_line c.version c.opening) text
+IsVerdictTold c (x ∷ xs) finding text =
+    (finding ≡ Refused) × (told : List ℕ) × AreTold (x ∷ xs) told × (text ≡ text_of (codes "verdict refused" ∷ []) ++ edition_line c.version c.opening ++ told)
 
 -- all faults of the journals and the receipts are told, of which the first is the audit's; where there are none, it accepts
 pub record IsJudged (c : Collected) (ts : List Receipt) (finding : Finding) (text : List ℕ) : Type 0 where
   pub first : IsFirst (opens c.opening) c.faults (journals_of c) ts (all_faults c ts)
-  pub told : IsVerdictTold (edition_line c.version c.opening) (all_faults c ts) finding text
+  pub told : IsVerdictTold c (all_faults c ts) finding text
 
 -- the bytes, none of which is read yet
 abbrev pub unread : List ℕ → Left

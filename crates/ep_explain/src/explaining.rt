@@ -26,6 +26,7 @@ use crate::subcommand::Subcommand;
 use ep_audit::{AuditFault, faults};
 use ep_base::Source;
 use ep_bundle::{Bundle, BundleFault, read_bundle};
+use ep_ending::push_endings;
 use ep_view::push_edition;
 use std::alloc::{AllocError, Global};
 
@@ -35,8 +36,8 @@ const AHEAD: usize = 65_536;
 /// What is found of the bytes of a source, and why, in words. They are taken for a script by their first 65,536 bytes, as `subcommand_of` says, and
 /// never where they begin as a bundle does; or else for a bundle. Past the first field or line at fault nothing is read, so a source without an end is explained too.
 ///
-/// First comes what the reader or an audit says: `bundle refused ..`, where they are no bundle; `verdict accepted`, and nothing
-/// else; or `verdict refused`, and then all faults in the audit's order, of which the first is the audit's. Under each fault
+/// First comes what the reader or an audit says: `bundle refused ..`, where they are no bundle; `verdict accepted`, and then what
+/// would end what is open; or `verdict refused`, and then all faults in the audit's order, of which the first is the audit's. Under each fault
 /// stand its reasons, a line each, indented by two spaces. Under the verdict of a bundle of version 3 stands the line of its
 /// edition. Of a script see `explain_script`.
 pub fn explain<S: Source>(alloc: Global, source: &mut Kept<S>) -> Result<Explained, ExplainFault>
@@ -172,10 +173,11 @@ fn tell_verdict(
     bundle: &Bundle,
     found: &[AuditFault],
 ) -> Result<Explained, AllocError>
-    ensures { IfOk result (λ told. IsVerdictTold (edition_line bundle.now.journals.version bundle.now.journals.opening) found.now told.finding told.text.items) }
+    ensures { IfOk result (λ told. IsVerdictTold bundle.now.journals found.now told.finding told.text.items) }
 {
     if found.is_empty() {
-        let text = headed(alloc, bundle, b"verdict accepted\n")?;
+        let mut text = headed(alloc, bundle, b"verdict accepted\n")?;
+        push_endings(alloc, &mut text, &bundle.journals)?;
         return Ok(Explained {
             finding: Finding::Accepted,
             text,

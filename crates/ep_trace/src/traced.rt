@@ -2,14 +2,16 @@
 
 ghost use Rattle.std.specs.Prelude.{◌≡◌, ◌++◌, OnOk, IfOk};
 ghost use Rattle.ep_trace.specs.Left.{AddsLeft};
-ghost use Rattle.ep_trace.specs.Traced.{given_by, entry_line, tried_line, tried_lines, IsTraced};
+ghost use Rattle.ep_ending.specs.Endings.{AddsEndings};
+ghost use Rattle.ep_trace.specs.Traced.{given_by, entry_line, tried_line, tried_lines, IsTold, IsTraced};
 ghost use Rattle.ep_view.specs.Editions.{edition_line};
-ghost use Rattle.ep_world.specs.Played.{entries_in, numbered};
+ghost use Rattle.ep_world.specs.Played.{collected, entries_in, numbered};
 
 use crate::left::push_left;
 use crate::lines::{push_made, push_refused};
 use crate::numbers::Numbers;
 use ep_base::ReplicaId;
+use ep_ending::push_endings;
 use ep_replay::{Ended, Outcome, Tried, play};
 use ep_script::Script;
 use ep_view::push_edition;
@@ -87,16 +89,44 @@ fn push_ended(text: &mut Vec<u8>, ended: &Ended) -> Result<(), AllocError>
     push_left(text, &ended.world, ungiven)
 }
 
-/// Plays the script in a world of its size and version, as `ep_replay` does, and tells each event, a line each, in order: the number of its
-/// line in the script, and why it was refused, or its entry, with the number of the message that it gives and of each that it
-/// sends, to whom, and what it executes. At the end stand each message that was never given, and each instance that a replica
-/// knows of and hasn't committed, with what it waits for. Of version 3 a line stands first that tells the generation, the stamp that clocks
-/// went on from, and how many keys the opening has, with the digest of what they have.
+/// Appends what would end what is open in a world.
+fn push_next(alloc: Global, text: &mut Vec<u8>, world: World) -> Result<(), AllocError>
+    ensures { OnOk result (AddsEndings (collected world) text.old.items text.new.items) }
+{
+    let journals = world.into_journals(alloc)?;
+    let told = push_endings(alloc, text, &journals);
+    drop(journals);
+    told
+}
+
+/// What is told of where a script's lines have led.
+fn told(alloc: Global, ended: Ended) -> Result<Vec<u8>, AllocError>
+    ensures { IfOk result (λ text. IsTold ended text.items) }
+{
+    let mut text = Vec::new(alloc);
+    push_ended(&mut text, &ended)?;
+    let Ended {
+        world,
+        receipts,
+        tried,
+        ungiven,
+    } = ended;
+    drop(receipts);
+    drop(tried);
+    drop(ungiven);
+    push_next(alloc, &mut text, world)?;
+    Ok(text)
+}
+
+/// Plays the script in a world of its size and version, as `ep_replay` does, and tells each event, a line each, in
+/// order: the number of its line in the script, and why it was refused, or its entry, with the number of the message
+/// that it gives and of each that it sends, to whom, and what it executes. At the end stand each message that was never
+/// given, and each instance that a replica knows of and hasn't committed, with what it waits for; and then what would
+/// end what is open. Of version 3 a line stands first that tells the generation, the stamp that clocks went on from,
+/// and how many keys the opening has, with the digest of what they have.
 pub fn trace(alloc: Global, script: &Script) -> Result<Vec<u8>, AllocError>
     ensures { IfOk result (λ text. IsTraced script.now text.items) }
 {
     let ended = play(alloc, script)?;
-    let mut text = Vec::new(alloc);
-    push_ended(&mut text, &ended)?;
-    Ok(text)
+    told(alloc, ended)
 }

@@ -25,8 +25,8 @@ Exit status:
 const AFTER_EXPLAIN: &str = "\
 Standard input is a bundle, as `replay --emit bundle` writes it, or a script. Printed are the lines of the audit or of the reader,
 with all faults of a bundle and not the first alone, and under each what to do, what usually brings it about, what stands where, and
-what differs; of a script the line and the word that are refused, what stands there and what may. Nothing is printed before the end
-is read, or the first field or line at fault.
+what differs; of a bundle that the audit accepts what would end what is open in it; of a script the line and the word that are
+refused, what stands there and what may. Nothing is printed before the end is read, or the first field or line at fault.
 
 Example:
   epaxos explain < refused.bundle
@@ -81,7 +81,8 @@ Nothing is printed before the end is read.
 
 A trace has a line for each event that the script tries, in order: the script's line, the replica's entry, the event, the number
 of each message that it sends and to whom, and what it executes; or why it is refused. Then each message that was never given,
-and each instance that a replica knows of and hasn't committed. So it tells which numbers the next `deliver` may name.
+and each instance that a replica knows of and hasn't committed, and what would end it. So it tells which numbers the next `deliver`
+may name, and which `recover` or `execute` may come next.
 
 Example:
   printf 'replicas 3\\npropose 0 1 put x 1\\nflush\\nflush\\nexecute 0 0.1\\n' | epaxos trace

@@ -1,4 +1,5 @@
-use Rattle.ep_trace.proofs.Opening.{Listed, left_after}
+use Rattle.ep_ending.proofs.Listing.{left_after}
+use Rattle.ep_trace.proofs.Opening.{Listed}
 use Rattle.ep_trace.proofs.left.push_all_open.Given as goal
 
 abbrev pub invariant-loop-next : goal.invariant-loop-next

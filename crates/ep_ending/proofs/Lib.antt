@@ -1,0 +1,8 @@
+pub mod Logs
+pub mod Naming
+pub mod Finding
+pub mod Listing
+pub mod Cutting
+pub mod Owing
+pub mod Enough
+pub mod Coming

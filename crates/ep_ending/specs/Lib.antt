@@ -1,0 +1,4 @@
+pub mod Named
+pub mod Crashed
+pub mod Lines
+pub mod Endings
