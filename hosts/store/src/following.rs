@@ -34,10 +34,30 @@ pub struct Following {
 
 /// What is being gone through.
 struct Going {
-    thread: JoinHandle<Result<u32, NodeFault>>,
+    /// None once its end was waited for.
+    thread: Option<JoinHandle<Result<u32, NodeFault>>>,
     is_wanted: Arc<AtomicBool>,
     /// When the peer was told last.
     told: Instant,
+}
+
+impl Going {
+    fn is_over(&self) -> bool {
+        self.thread.as_ref().is_none_or(JoinHandle::is_finished)
+    }
+
+    /// Waits for its end.
+    fn wait(&mut self) -> Option<Result<u32, NodeFault>> {
+        self.thread.take().map(|thread| thread.join().unwrap_or_else(|panic| resume_unwind(panic)))
+    }
+}
+
+impl Drop for Going {
+    /// (the files are another one's then)
+    fn drop(&mut self) {
+        self.is_wanted.store(false, Ordering::Relaxed);
+        self.thread.take().map(JoinHandle::join);
+    }
 }
 
 /// What comes of a look.
@@ -100,7 +120,7 @@ impl Following {
                 let (follower, to, wanted) = (Follower { core, replica: from }, self.path.clone(), is_wanted.clone());
                 let go = move || go_through(&follower, &path, &to, &wanted);
                 let thread = thread::Builder::new().name("following".into()).spawn(go).map_err(NodeFault::Thread)?;
-                self.going = Some(Going { thread, is_wanted, told: now });
+                self.going = Some(Going { thread: Some(thread), is_wanted, told: now });
                 Ok(Came::Ask(vec![self.fetch.word()]))
             }
         }
@@ -111,10 +131,10 @@ impl Following {
         let Some(going) = &mut self.going else {
             return Ok(if self.fetch.due() <= now { Came::Ask(self.fetch.again(now)) } else { Came::Nothing });
         };
-        if going.thread.is_finished() {
-            let going = self.going.take();
-            let told = going.map(|going| going.thread.join().unwrap_or_else(|panic| resume_unwind(panic)));
-            return told.unwrap_or(Ok(0)).map(Came::Done);
+        if going.is_over() {
+            let told = going.wait();
+            self.going = None;
+            return told.map_or(Ok(Came::Nothing), |told| told.map(Came::Done));
         }
         if now < going.told + BETWEEN_WORDS {
             return Ok(Came::Nothing);

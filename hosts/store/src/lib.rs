@@ -6,6 +6,7 @@ extern crate self as store;
 pub mod actions;
 pub mod admin;
 pub mod begun;
+pub mod chain;
 pub mod checkpoint;
 pub mod client;
 pub mod clients;

@@ -13,6 +13,7 @@ use std::sync::{Arc, Mutex};
 use std::thread;
 use std::time::{Duration, Instant};
 use store::admin;
+use store::chain::{Chain, newest_with};
 use store::client::{Client, Reply};
 use store::ports::Ports;
 use store::processes;
@@ -122,6 +123,12 @@ impl Cluster {
         of_it.chain([self.folder(replica)]).collect()
     }
 
+    /// What all machines have left, for this program.
+    pub fn chain<'a>(&'a self, program: &'a Path) -> Chain<'a> {
+        let folders = self.machines().map(|replica| self.folders(replica)).collect();
+        Chain { program, scratch: self.directory(), folders, newest: self.newest() }
+    }
+
     /// The newest generation that was opened anywhere.
     pub fn newest(&self) -> u32 {
         let all = self.machines().flat_map(|replica| self.folders(replica));
@@ -184,6 +191,9 @@ impl Cluster {
             if number > 0 {
                 command.args([flag, &number.to_string()]);
             }
+        }
+        if let Some(checkpoint) = self.options.checkpoint {
+            command.args(["--checkpoint", &checkpoint.to_string()]);
         }
         if self.options.starved {
             // (a change of generation takes such a store long, and isn't what is tried)
@@ -541,19 +551,12 @@ fn bytes_of(path: &Path) -> u64 {
 
 /// The newest generation that a store's folder has.
 fn newest(folder: &Path) -> Option<u32> {
-    generations(folder, "opening").max(generations(folder, "reference"))
+    newest_with(folder, &["opening", "reference"])
 }
 
 /// The newest one in which it may have promised something.
 fn newest_with_log(folder: &Path) -> Option<u32> {
-    generations(folder, "log")
-}
-
-/// The newest generation that has a file of this name.
-fn generations(folder: &Path, name: &str) -> Option<u32> {
-    let found = fs::read_dir(folder.join("generations")).ok()?.flatten();
-    let with = found.filter(|entry| fs::metadata(entry.path().join(name)).is_ok_and(|file| file.len() > 0));
-    with.filter_map(|entry| entry.file_name().to_str()?.parse().ok()).max()
+    newest_with(folder, &["log"])
 }
 
 /// Whether neither a store nor its node has the folder.

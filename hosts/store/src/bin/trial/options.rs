@@ -33,6 +33,8 @@ trial: a cluster of stores on this machine, clients, kills and cuts; then what t
     --replicas N     3, the default, or 5 or 7
     --seconds S, --kills K, --replaced M, --rounds R, --clients C, --commands N    other numbers
     --seal-numbers N, --seal-dependencies N    when stores end a generation; default 300 and 200
+    --checkpoint BYTES    with --in-store: how long logs get before stores write the whole map; default: as they do where nothing is said
+    --changes N      so many changes of generation there have to be; default 2. Where there are fewer in the end, the stores are asked for more
     --audit          also has `epaxos collect` and `epaxos audit` judge the logs and receipts of each round: its generations as one chain
     --plant early    the stores answer a SET before its receipt has come
     --plant emptied  a replica is started with an emptied log
@@ -77,6 +79,8 @@ pub struct Options {
     /// When stores end a generation; 0: as they do where nothing is said.
     pub numbers: usize,
     pub dependencies: usize,
+    /// How long logs get before stores write the whole map, where it is said.
+    pub checkpoint: Option<usize>,
     /// So many changes of generation there have to be.
     pub least_changes: u32,
     pub rounds: usize,
@@ -138,6 +142,8 @@ pub fn read(words: impl IntoIterator<Item = String>) -> Result<Option<Options>, 
             "--replaced" => options.replaced = number(&value()?)?,
             "--seal-numbers" => options.numbers = number(&value()?)?,
             "--seal-dependencies" => options.dependencies = number(&value()?)?,
+            "--checkpoint" => options.checkpoint = Some(number(&value()?)?),
+            "--changes" => options.least_changes = number(&value()?)? as u32,
             "--kills" => options.kills = number(&value()?)?,
             "--rounds" => options.rounds = number(&value()?)?,
             "--seed" => options.seed = number(&value()?)? as u64,
@@ -198,6 +204,7 @@ fn defaults() -> Result<Options, String> {
         replaced: 1,
         numbers: 300,
         dependencies: 200,
+        checkpoint: None,
         least_changes: 2,
         rounds: 1,
         clients: 0,
