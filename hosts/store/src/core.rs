@@ -29,7 +29,7 @@ pub trait Core {
     /// What all keys have, in their order, after all that was executed. None where another program has to be asked, `epaxos contents`.
     fn contents(&mut self) -> Result<Option<Pairs>, NodeFault>;
 
-    /// Where it has executed a seal: has what it goes on with made ready, beside what it is asked meanwhile.
+    /// Where a seal is under way: has what it goes on with made ready, beside what it is asked meanwhile.
     fn prepare(&mut self) -> Result<(), NodeFault> {
         Ok(())
     }

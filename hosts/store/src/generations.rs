@@ -8,10 +8,13 @@ use sha2::{Digest, Sha256};
 use std::fs::{self, File, OpenOptions};
 use std::io::{self, Read, Seek, SeekFrom, Write};
 use std::path::{Path, PathBuf};
+use std::sync::atomic::{AtomicU32, Ordering};
 
 /// What an opening begins with, up to its version, and how long it is at least.
 const MAGIC: &[u8] = b"EPOP\x03";
 const SHORTEST: usize = 59;
+/// The name of a mark.
+const MARK: &str = "left";
 /// What the file begins with that says what a reference stood for.
 const BINDING: &[u8] = b"EPOB\x03";
 
@@ -20,6 +23,8 @@ pub struct Generations {
     folder: PathBuf,
     /// None where it is only looked at.
     _lock: Option<File>,
+    /// The generation for which the mark of the one before it is on the disk beside its place; 0: none.
+    marked: AtomicU32,
 }
 
 /// A generation's opening.
@@ -59,12 +64,12 @@ impl Generations {
         let path = folder.join("node.lock");
         let lock = OpenOptions::new().write(true).create(true).truncate(false).open(&path).map_err(unusable(&path))?;
         lock.try_lock().map_err(|_| FileFault::InUse(path))?;
-        Ok(Generations { folder: folder.to_path_buf(), _lock: Some(lock) })
+        Ok(Generations { folder: folder.to_path_buf(), _lock: Some(lock), marked: AtomicU32::new(0) })
     }
 
     /// A folder of which nothing is changed.
     pub fn look(folder: &Path) -> Generations {
-        Generations { folder: folder.to_path_buf(), _lock: None }
+        Generations { folder: folder.to_path_buf(), _lock: None, marked: AtomicU32::new(0) }
     }
 
     pub fn folder_of(&self, generation: u32) -> PathBuf {
@@ -152,6 +157,15 @@ impl Generations {
         Ok(self.make(&folder).map_err(unusable(&folder))?)
     }
 
+    /// The same, and what marks the generation before it as left is on the disk, beside its place.
+    pub fn make_ready(&self, generation: u32) -> Result<(), GenerationsFault> {
+        self.make_ahead(generation)?;
+        let before = self.folder_of(generation.saturating_sub(1));
+        write_new(&before, MARK, generation.to_string().as_bytes()).map_err(unusable(&before))?;
+        self.marked.store(generation, Ordering::Release);
+        Ok(())
+    }
+
     /// Puts a reference into its place. The folder is on the disk.
     pub fn put_reference(&self, reference: &Reference) -> Result<(), GenerationsFault> {
         let folder = self.folder_of(reference.generation());
@@ -181,13 +195,16 @@ impl Generations {
     pub fn leave_before(&self, generation: u32) -> Result<(), GenerationsFault> {
         let earlier: Vec<Held> = look(&self.folder)?.into_iter().filter(|one| one.number < generation).collect();
         let last = earlier.last().map_or(0, |one| one.number);
+        let is_ready = self.marked.swap(0, Ordering::Acquire) == generation;
         for one in earlier {
             let folder = self.folder_of(one.number);
             let left = if one.left_for >= generation {
                 // (a mark that is there outlasts a crash from now on)
                 File::open(&folder).and_then(|folder| folder.sync_all())
+            } else if is_ready && one.number == generation - 1 {
+                move_in(&folder, MARK)
             } else if one.left_for == 0 || one.number == last {
-                write(&folder, "left", generation.to_string().as_bytes())
+                write(&folder, MARK, generation.to_string().as_bytes())
             } else {
                 Ok(())
             };
@@ -523,6 +540,20 @@ mod tests {
         generations.take(next(4)).unwrap();
         generations.leave_before(4).unwrap();
         assert_eq!(marks(), ["2", "4", "4"]);
+        // Of one that was made ready, and isn't begun, nothing is marked.
+        generations.make_ready(5).unwrap();
+        assert_eq!(marks(), ["2", "4", "4"]);
+        assert!(!folder.join("4/left").exists() && folder.join("4/left.new").exists());
+        generations.leave_before(5).unwrap();
+        assert_eq!(fs::read_to_string(folder.join("4/left")).unwrap(), "5");
+        assert!(!folder.join("4/left.new").exists());
+        // (what a process before this one has left beside counts for nothing)
+        [4, 5].iter().for_each(|it| _ = fs::remove_file(folder.join(format!("{it}/left"))));
+        fs::write(folder.join("4/left.new"), "9").unwrap();
+        generations.leave_before(5).unwrap();
+        assert_eq!(fs::read_to_string(folder.join("4/left")).unwrap(), "5");
+        fs::remove_file(folder.join("4/left")).unwrap();
+        fs::remove_dir_all(folder.join("5")).unwrap();
         // Any of them keeps the replica from acting in an earlier one again.
         [4, 3].iter().for_each(|it| fs::remove_dir_all(folder.join(it.to_string())).unwrap());
         assert!(matches!(generations.go_on(), Err(GenerationsFault::Left(4))));

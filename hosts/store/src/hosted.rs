@@ -388,7 +388,7 @@ impl Core for Hosted {
             return Ok(());
         };
         let (generations, next) = (self.generations.clone(), acting.state.generation.saturating_add(1));
-        let make = move || generations.make_ahead(next);
+        let make = move || generations.make_ready(next);
         self.ahead = Some(thread::Builder::new().name("ahead".into()).spawn(make).map_err(NodeFault::Thread)?);
         Ok(())
     }
@@ -421,8 +421,9 @@ impl Core for Hosted {
         let begun = match acting {
             Some(acting) if is_sealed && *begin == Begin::Again => self.next(acting)?,
             acting => {
-                // (the log's lock goes with it)
+                // (the log's lock goes with it, and the folder that was made ready may not be the next one's)
                 drop(acting);
+                self.ahead.take().map(JoinHandle::join);
                 (self.unwritten, self.opening) = (None, None);
                 self.hosting.start(&self.generations, begin)?
             }

@@ -291,8 +291,10 @@ impl<C: Core> Driver<C> {
         if self.ends_at.is_some_and(|at| is_idle || now >= at) {
             return Err(StopFault::Asked);
         }
-        if let Stage::Sealed(since) = self.generation.stage {
+        if self.generation.stage != Stage::Open {
             self.node.prepare().map_err(StopFault::Node)?;
+        }
+        if let Stage::Sealed(since) = self.generation.stage {
             let is_waiting = now < since + self.most_wait_for_peers();
             let is_early = is_waiting && self.peer_numbers().any(|peer| self.is_waited_for(peer));
             return if is_early || !self.node.is_prepared() { Ok(()) } else { self.change(&Begin::Again) };
