@@ -14,13 +14,15 @@ VALUES = {
 
 
 class Told:
-    """What the help of a command tells: what it does, and each option with what its value is called, the values that it takes, and what it means."""
+    """What the help of a command tells: what it does, and each option with what its value is called, the values that it
+    takes, and what it means."""
 
     def __init__(self, name, text):
         self.name, self.text = name, text
         self.does = text.partition("\n")[0]
         self.options = []
-        for option, value, means in re.findall(r"^  (?:    |-\w, )--([\w-]+)(?: <([^>]+)>)?(?:\.\.\.)?  +(.*)$", text, re.M):
+        row = r"^  (?:    |-\w, )--([\w-]+)(?: <([^>]+)>)?(?:\.\.\.)?  +(.*)$"
+        for option, value, means in re.findall(row, text, re.M):
             self.options.append((option, value, VALUES.get((name, option), ()), means))
         self.takes_files = bool(re.search(r"^Usage: .*[<[](FILE|LOG|FOLDER)", text, re.M))
 
@@ -48,8 +50,9 @@ def man(version, date, overview, commands):
 def man_of_store(version, date, help_text):
     """The page of the store."""
     first, _, rest = help_text.strip().partition("\n")
-    name = f'.TH EPAXOS\\-STORE 1 "{date}" "epaxos {version}"\n.SH NAME\nepaxos\\-store \\- a replica of a replicated store, for clients of the Redis protocol\n'
-    return f"{name}.SH DESCRIPTION\n.nf\n{escaped(first)}\n{escaped(rest)}\n.fi\n.SH SEE ALSO\n.BR epaxos (1)\n"
+    head = f'.TH EPAXOS\\-STORE 1 "{date}" "epaxos {version}"\n.SH NAME\n'
+    name = "epaxos\\-store \\- a replica of a replicated store\n"
+    return f"{head}{name}.SH DESCRIPTION\n.nf\n{escaped(first)}\n{escaped(rest)}\n.fi\n.SH SEE ALSO\n.BR epaxos (1)\n"
 
 
 def bash(commands):
@@ -57,7 +60,10 @@ def bash(commands):
     rows, values = [], []
     for it in commands:
         rows.append(f"        {it.name}) options='{' '.join('--' + option for option, *_ in it.options)}' ;;")
-        values += [f"        '{it.name} --{option}') COMPREPLY=($(compgen -W '{' '.join(known)}' -- \"$word\")); return ;;" for option, _, known, _ in it.options if known]
+        for option, _, known, _ in it.options:
+            if known:
+                answer = f"COMPREPLY=($(compgen -W '{' '.join(known)}' -- \"$word\")); return ;;"
+                values.append(f"        '{it.name} --{option}') {answer}")
     every = " ".join([*(it.name for it in commands), "help"])
     return f"""# completes the words of epaxos, in bash
 _epaxos() {{
@@ -91,7 +97,8 @@ def zsh(commands):
     for it in commands:
         said = []
         for option, value, known, means in it.options:
-            action = f":{value}:({' '.join(known)})" if known else f":{value}:_files" if value in ("FILE", "FOLDER") else f":{value}:" if value else ""
+            files = "_files" * (value in ("FILE", "FOLDER"))
+            action = f":{value}:({' '.join(known)})" if known else f":{value}:{files}" if value else ""
             said.append(f"'--{option}[{plain(means)}]{action}'")
         said += ["'*:file:_files'"] * it.takes_files
         rows.append(f"        {it.name}) _arguments {' '.join(said)} ;;")
@@ -127,8 +134,10 @@ def fish(commands):
         lines.append(f"complete -c epaxos -n __fish_use_subcommand -a {it.name} -d '{plain(it.does)}'")
         own = f"complete -c epaxos -n '__fish_seen_subcommand_from {it.name}'"
         for option, value, known, means in it.options:
-            takes = f" -x -a '{' '.join(known)}'" if known else " -r -F" if value in ("FILE", "FOLDER") else " -x" if value else ""
+            other = " -r -F" if value in ("FILE", "FOLDER") else " -x" if value else ""
+            takes = f" -x -a '{' '.join(known)}'" if known else other
             lines.append(f"{own} -l {option}{takes} -d '{plain(means)}'")
         lines += [f"{own} -F"] * it.takes_files
-    lines.append(f"complete -c epaxos -n '__fish_seen_subcommand_from help' -a '{' '.join(it.name for it in commands)}'")
+    every = " ".join(it.name for it in commands)
+    lines.append(f"complete -c epaxos -n '__fish_seen_subcommand_from help' -a '{every}'")
     return "\n".join(lines) + "\n"
