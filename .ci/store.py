@@ -34,6 +34,8 @@ GO_LOOKS = (["sh", "-c", '! gofmt -l . | grep .'], ["go", "vet", "./..."])
 GO_TESTS = ["go", "test", "-count=1", "-timeout", "60s", "./..."]
 # how long each trial plays, and how many of its stores are killed
 TRIAL = ("--short", "--seconds", "30", "--kills", "3", "--audit")
+# of the trial whose stores have the core in them: they write the whole map now and then, so that some are killed in that, and some come by logs
+CHECKPOINTS = ("--checkpoint", "20000")
 # a trial over links as long as those between regions, with a region lost, where other work may take a quarter, and one of stores that have little of a processor
 DISTANCE = ("--sites", "CA,VA,EU", "--seconds", "9", "--most", "125", "--trouble", "kill", "--at", "VA")
 STARVED = ("--starved",)
@@ -136,7 +138,7 @@ def tried(node=BUILT[0], program=BUILT[1], library=None):
         if epaxos and all(well):
             well.append(is_well([*trial, f"{scratch}/nodes"]))
         if epaxos and library and all(well):
-            well.append(is_well([*trial, f"{scratch}/in-store", "--in-store"]))
+            well.append(is_well([*trial, f"{scratch}/in-store", "--in-store", *CHECKPOINTS]))
             well.append(is_well([trial[0], *GROWING, "--node", epaxos, "--in-store", "--dir", f"{scratch}/growing"]))
             # (they judge times: each gets a second chance, as a machine that stands still for a tenth of a second fails either)
             for name, words in (("distance", DISTANCE), ("starved", STARVED)):

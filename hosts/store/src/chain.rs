@@ -1,4 +1,5 @@
-//! What the machines of a cluster leave, judged as one chain: by `epaxos collect` of each generation, and `epaxos audit --chain` of all.
+//! What the machines of a cluster leave, judged as one chain: by `epaxos collect` of each generation, and `epaxos audit
+//! --chain` of all.
 use crate::generations::reference;
 use crate::hosted::Hosting;
 use crate::opening::Opening;
@@ -66,7 +67,8 @@ impl Chain<'_> {
         generations.flat_map(of).filter(|path| path.exists()).collect()
     }
 
-    /// The folder that has a replica's opening and log of this generation. One who took no part told nothing: it is begun and ended there.
+    /// The folder that has a replica's opening and log of this generation. One who took no part told nothing: it is
+    /// begun and ended there.
     fn view(&self, replica: usize, (generation, count): (u32, u8)) -> Result<PathBuf, String> {
         let folders = self.folders[replica].iter().map(|folder| folder.join("generations"));
         let mut logs: Vec<PathBuf> =

@@ -88,6 +88,11 @@ impl Directory {
         self.path.join(WHOLE)
     }
 
+    /// Where what leads to such an opening comes together.
+    pub fn leading(&self) -> PathBuf {
+        self.taken().with_extension("logs")
+    }
+
     /// What came together is whole.
     pub fn keep_taken(&self) -> io::Result<PathBuf> {
         File::open(self.taken())?.sync_all()?;
@@ -179,11 +184,13 @@ impl Directory {
         }
     }
 
-    /// The folders for generations and receipts are there, and on the disk.
+    /// The folders for generations and receipts are there, and on the disk; and nothing that a peer hadn't handed whole.
     pub fn prepare(&self) -> Result<(), DirectoryFault> {
         for folder in [self.generations(), self.path.join("receipts")] {
             create(&folder).map_err(|error| unusable(folder, error))?;
         }
+        // (of what a peer was handing before this start nothing more comes)
+        [self.taken(), self.leading()].iter().for_each(|path| _ = fs::remove_file(path));
         Ok(())
     }
 

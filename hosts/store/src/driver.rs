@@ -12,6 +12,7 @@ use crate::members::{Member, Members};
 use crate::messages::Message;
 use crate::metrics::Metrics;
 use crate::node_fault::NodeFault;
+use crate::openings::Form;
 use crate::others::Others;
 use crate::outcome::{Asked, Outcome, Outgoing, Report, receipts};
 use crate::peers::{Membership, Peers, Place};
@@ -25,7 +26,7 @@ use crate::under_way::UnderWay;
 use crate::watch::Watch;
 use crate::wishes::{Manage, Wish};
 use epaxos::{Answer, Call, Fault, Instance, MOST_COMMANDS, OpenInstance, OwnedAnswer, OwnedCommand, Proposed, State};
-use std::collections::{BTreeSet, VecDeque};
+use std::collections::{BTreeMap, BTreeSet, VecDeque};
 use std::fmt::Write;
 use std::path::PathBuf;
 use std::sync::Arc;
@@ -280,8 +281,8 @@ pub struct Driver<C> {
     pub(crate) behind_since: Option<Instant>,
     /// What leads peers that lag to this generation.
     pub(crate) lead: Lead,
-    /// The peers that want an opening which isn't written yet, and when a piece was wanted last.
-    pub(crate) wanting: BTreeSet<u8>,
+    /// The peers that want an opening which isn't written yet, and in which form; and when a piece was wanted last.
+    pub(crate) wanting: BTreeMap<u8, Form>,
     pub(crate) handed: Option<Instant>,
     /// Whether something is to be dropped of generations that were left, once nothing is handed.
     pub(crate) is_drop_due: bool,
@@ -362,7 +363,7 @@ impl<C: Core> Driver<C> {
             taken: None,
             behind_since: None,
             lead: Lead::default(),
-            wanting: BTreeSet::new(),
+            wanting: BTreeMap::new(),
             handed: None,
             is_drop_due: false,
             is_writing: false,

@@ -1,4 +1,5 @@
-//! How logs are gone through, from a whole opening on: a start goes so through its own, and a replica that lags through those of a peer.
+//! How logs are gone through, from a whole opening on: a start goes so through its own, and a replica that lags through
+//! those of a peer.
 use crate::generations::{Opened, Started};
 use crate::generations_fault::GenerationsFault;
 use crate::node_fault::NodeFault;
@@ -35,8 +36,8 @@ impl Follower {
         Succession { log, told: Some(0), ..Succession::new(reference, self.replica) }
     }
 
-    /// The replica that the logs of earlier generations lead to, which has executed the seal of the last of these. `log_of` gives the log of a generation,
-    /// as the reference of the next one names it.
+    /// The replica that the logs of earlier generations lead to, which has executed the seal of the last of these.
+    /// `log_of` gives the log of a generation, as the reference of the next one names it.
     pub(crate) fn lead(
         &self,
         started: &Started,

@@ -1,5 +1,5 @@
-//! How a replica that lags, or a new one, comes to a later generation: by an opening that a peer hands it, or by the last whole one and the logs since, which a
-//! thread goes through.
+//! How a replica that lags, or a new one, comes to a later generation: by an opening that a peer hands it, or by the
+//! last whole one and the logs since, which a thread goes through.
 use crate::file_fault::FileFault;
 use crate::follower::Follower;
 use crate::generations::unusable;

@@ -1,5 +1,5 @@
-//! What this replica hands to peers that lag: the bytes that lead to its generation, of each peer those that it was told of first, for as long as they
-//! are there.
+//! What this replica hands to peers that lag: the bytes that lead to its generation, of each peer those that it was
+//! told of first, for as long as they are there.
 use crate::generations_fault::GenerationsFault;
 use crate::messages::{LONGEST_PIECE, Message};
 use crate::way::Way;
@@ -12,8 +12,9 @@ pub struct Lead {
 }
 
 impl Lead {
-    /// The piece at `offset` of the bytes that lead from the first of these generations to the second. Where they aren't there, or weren't begun here: the first
-    /// piece of those that lead to `newest`, by what the folder of generations has.
+    /// The piece at `offset` of the bytes that lead from the first of these generations to the second. Where they
+    /// aren't there, or weren't begun here: the first piece of those that lead to `newest`, by what the folder of
+    /// generations has.
     pub fn part(
         &mut self,
         folder: &Path,
@@ -30,6 +31,12 @@ impl Lead {
         let part = piece(&way, offset).ok_or(GenerationsFault::Broken(way.ends().0));
         self.ways.insert(to, way);
         part
+    }
+
+    /// How many bytes of logs lead to a generation of this folder from the last whole one; none where it is whole
+    /// itself.
+    pub fn logs(folder: &Path, generation: u32) -> u64 {
+        Way::to(folder, generation).map_or(0, |way| way.logs())
     }
 
     /// Nobody is handed anything any more.

@@ -4,12 +4,13 @@ use crate::driver::{Driver, Told, Waiting};
 use crate::following::{Came, Following};
 use crate::generation::{Generation, Stage};
 use crate::identities::{Identity, digits};
+use crate::lead::Lead;
 use crate::manage_fault::ManageFault;
 use crate::members::{Member, Members};
 use crate::messages::Message;
 use crate::node_fault::NodeFault;
 use crate::opening::Opening;
-use crate::openings::piece;
+use crate::openings::{Form, piece};
 use crate::plants::{Plant, lacking};
 use crate::random::Random;
 use crate::receipts::Receipts;
@@ -35,6 +36,9 @@ const LOOK: Duration = Duration::from_millis(1);
 const LOOK_AT_WRITING: Duration = Duration::from_millis(5);
 /// Who gets an opening asks for its pieces, and has all of it once it hasn't asked for so long.
 const HANDING: Duration = Duration::from_secs(1);
+/// For a peer an opening is written where the logs in its place have so many bytes, and so many times its own.
+const LONG_LOGS: u64 = 4 << 20;
+const PARTS_OF_LOGS: u64 = 2;
 /// A replica that lags closes by itself in this time, or takes the opening of another one.
 const BEHIND: Duration = Duration::from_millis(150);
 /// Who asked for something is told no once so many generations have begun without it.
@@ -125,7 +129,7 @@ impl<C: Core> Driver<C> {
                 self.hear_hello(from, generation, is_sealed, seen)?
             }
             Some(Message::Want { generation, offset }) => self.hand_piece(from, generation, offset)?,
-            Some(Message::Follow { first, generation, offset }) => self.hand_part(from, (first, generation), offset),
+            Some(Message::Follow { first, generation, offset }) => self.hand_part(from, (first, generation), offset)?,
             Some(piece @ (Message::Piece { .. } | Message::Part { .. })) => self.take_piece(from, piece)?,
             Some(Message::Ping(number)) => self.peers.send(from, Message::Pong(number).write()),
             Some(Message::Pong(number)) => self.hear_pong(from, number),
@@ -169,7 +173,7 @@ impl<C: Core> Driver<C> {
         let is_here = generation > 0 && self.directory.is_whole(generation);
         let (generation, offset) = if is_here { (generation, offset) } else { (self.generation.number, 0) };
         if !is_here && !self.node.put_opening().map_err(StopFault::Node)? {
-            self.wanting.insert(to);
+            self.wanting.insert(to, Form::Opening);
         } else if let Ok(piece) = piece(&self.directory, generation, offset) {
             // (where it can't be read, somebody else has it)
             self.peers.send(to, piece.write());
@@ -177,22 +181,35 @@ impl<C: Core> Driver<C> {
         Ok(())
     }
 
-    /// Hands a peer the piece that it wants of what leads to this generation. Nothing is written for it.
-    fn hand_part(&mut self, to: u8, ends: (u32, u32), offset: u64) {
+    /// Hands a peer the piece that it wants of what leads to this generation. Nothing is written for it, but where logs are long and the map is short.
+    fn hand_part(&mut self, to: u8, ends: (u32, u32), offset: u64) -> Result<(), StopFault> {
         self.handed = Some(Instant::now());
         let (folder, newest) = (self.directory.generations(), self.generation.number);
-        // (where it can't be read, somebody else has it)
-        if let Ok(part) = self.lead.part(&folder, newest, to, (ends, offset)) {
+        let is_begun = ends != (0, 0);
+        if !is_begun && self.is_better_written() && !self.node.put_opening().map_err(StopFault::Node)? {
+            self.wanting.insert(to, Form::Way);
+        } else if let Ok(part) = self.lead.part(&folder, newest, to, (ends, offset)) {
+            // (where it can't be read, somebody else has it)
             self.peers.send(to, part.write());
         }
+        Ok(())
     }
 
-    /// Hands openings that were wanted before they were written.
+    /// Whether the opening of this generation is so much shorter than the logs that lead to it that it is written for a peer.
+    fn is_better_written(&self) -> bool {
+        let logs = Lead::logs(&self.directory.generations(), self.generation.number);
+        logs >= LONG_LOGS && self.room.map <= logs / PARTS_OF_LOGS
+    }
+
+    /// Hands what was wanted before it was written.
     pub(crate) fn hand_wanted(&mut self) -> Result<(), StopFault> {
         if self.wanting.is_empty() || self.node.is_writing() {
             return Ok(());
         }
-        std::mem::take(&mut self.wanting).into_iter().try_for_each(|peer| self.hand_piece(peer, 0, 0))
+        std::mem::take(&mut self.wanting).into_iter().try_for_each(|(peer, form)| match form {
+            Form::Opening => self.hand_piece(peer, 0, 0),
+            Form::Way => self.hand_part(peer, (0, 0), 0),
+        })
     }
 
     /// Whether an opening is being written, or handed to a peer: then the generation is to last.
@@ -315,21 +332,8 @@ impl<C: Core> Driver<C> {
     /// Asks for an opening, where peers are in a later generation and this replica doesn't close its own.
     fn catch_up(&mut self, now: Instant) -> Result<(), StopFault> {
         // (a peer that is lost may be back soon, and what came of it counts)
-        if let Some(following) = self.following.as_mut().filter(|following| !following.is_over(now)) {
-            let (from, is_ended) = (following.from(), following.is_ended());
-            return match following.look(now) {
-                Ok(Came::Done(_)) | Err(_) if is_ended => {
-                    self.following = None;
-                    Ok(())
-                }
-                Ok(_) if is_ended => Ok(()),
-                Ok(came) => self.come(from, came),
-                Err(fault) => {
-                    warn(&format!("what replica {from} has handed isn't taken: {fault}"));
-                    (self.following, self.behind_since) = (None, None);
-                    Ok(())
-                }
-            };
+        if self.following.as_ref().is_some_and(|following| !following.is_over(now)) {
+            return self.follow(now);
         }
         let own = self.generation.number;
         let later = |peer: &u8| self.is_reached(*peer) && self.others.generation(*peer) > own;
@@ -348,6 +352,22 @@ impl<C: Core> Driver<C> {
         let (following, want) = begun.map_err(|error| StopFault::File(path, error))?;
         self.following = Some(following);
         self.peers.send(peer, want.write());
+        Ok(())
+    }
+
+    /// Goes on with what a peer hands this replica.
+    fn follow(&mut self, now: Instant) -> Result<(), StopFault> {
+        let Some(following) = &mut self.following else { return Ok(()) };
+        let (from, is_ended) = (following.from(), following.is_ended());
+        match following.look(now) {
+            Ok(Came::Done(_)) | Err(_) if is_ended => self.following = None,
+            Ok(_) if is_ended => {}
+            Ok(came) => return self.come(from, came),
+            Err(fault) => {
+                warn(&format!("what replica {from} has handed isn't taken: {fault}"));
+                (self.following, self.behind_since) = (None, None);
+            }
+        }
         Ok(())
     }
 

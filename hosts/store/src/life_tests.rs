@@ -177,3 +177,29 @@ fn what_is_so_is_told_again() {
     let members = trial.ask(moved).unwrap();
     assert!(members.contains(&format!("2 {} b:2\n", "02".repeat(16))), "{members}");
 }
+
+/// What a peer is handed stays, though it could be dropped.
+#[test]
+fn nothing_is_dropped_while_it_is_handed() {
+    let mut trial = Trial::new("handed");
+    let of = |generation: u32| trial.driver.directory.generations().join(generation.to_string());
+    for generation in [1, 2, 3] {
+        std::fs::create_dir_all(of(generation)).unwrap();
+        std::fs::write(of(generation).join("opening"), b"").unwrap();
+        std::fs::write(of(generation).join("left"), b"4").unwrap();
+    }
+    let left = [1, 2, 3].map(of);
+    let tick = |driver: &mut Driver<Plain>| {
+        driver.next_tick = Instant::now();
+        driver.tick().unwrap();
+        driver.dropping.take().map(JoinHandle::join);
+        left.iter().map(|it| it.exists()).collect::<Vec<_>>()
+    };
+    trial.driver.hand_part(1, (0, 0), 0).unwrap();
+    trial.driver.is_drop_due = true;
+    assert_eq!(tick(&mut trial.driver), [true, true, true]);
+    trial.driver.handed = Some(Instant::now() - HANDING);
+    // (the newest is needed, and one of the others is kept)
+    assert_eq!(tick(&mut trial.driver), [false, false, true]);
+    assert!(!trial.driver.is_drop_due);
+}

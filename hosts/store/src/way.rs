@@ -1,5 +1,5 @@
-//! What a peer needs to come to a generation: the opening of the last whole one up to there, and the logs since, each up to the length that the next
-//! reference names. All of it is one run of bytes: a head, the opening, and the logs.
+//! What a peer needs to come to a generation: the opening of the last whole one up to there, and the logs since, each
+//! up to the length that the next reference names. All of it is one run of bytes: a head, the opening, and the logs.
 use crate::file_fault::FileFault;
 use crate::generations::{Opened, Started, look, named, opened, reference, unusable};
 use crate::generations_fault::GenerationsFault;
@@ -83,7 +83,8 @@ fn read_reference(input: &mut impl Read, generation: u32) -> Result<Reference, N
     }
 }
 
-/// The bytes by which a peer comes to a generation. What they are read from doesn't change: where a file is gone, they are.
+/// The bytes by which a peer comes to a generation. What they are read from doesn't change: where a file is gone, they
+/// are.
 pub struct Way {
     head: Head,
     written: Vec<u8>,
@@ -124,6 +125,11 @@ impl Way {
 
     pub fn total(&self) -> u64 {
         self.total
+    }
+
+    /// How many of them are of logs.
+    pub fn logs(&self) -> u64 {
+        self.head.references.iter().map(Reference::length).sum()
     }
 
     /// As many of the bytes from this place on, or as many as there are.

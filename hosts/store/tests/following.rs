@@ -46,24 +46,10 @@ impl Peer {
         self.lead.part(&folder, self.newest, 0, ((first, generation), offset)).unwrap()
     }
 
-    /// All of it, in a file, as it comes.
+    /// All of it is handed, and gone through.
     fn hand(&mut self) -> Result<u32, String> {
-        let (mut following, first) = Following::begin(&self.taken(), Some(Place::Library), 1, Instant::now()).unwrap();
-        let mut asked = vec![first];
-        loop {
-            let ask = asked.pop().unwrap();
-            let part = self.answer(&ask);
-            match following.take(1, part, Instant::now()).unwrap() {
-                Came::Ask(more) => asked.extend(more),
-                Came::Nothing => {}
-                Came::Done(_) => panic!("what leads to it is no opening yet"),
-            }
-            if let [Message::Follow { offset, .. }] = asked[..]
-                && offset == fs::metadata(self.way()).map_or(0, |found| found.len())
-            {
-                return gone_through(following);
-            }
-        }
+        let (following, asked) = begin(self, 0);
+        finish(self, following, asked).0
     }
 
     /// Where what is handed comes together.
@@ -227,7 +213,8 @@ fn it_goes_on_behind_what_has_come() {
     peer.three.cores.insert(1, Hosted::start(hosting(&peer.three.of(1), 1, NEVER), &Begin::Again, 1).unwrap());
     peer.lead = Lead::default();
     assert_eq!(finish(&mut peer, following, asked), (Ok(4), pieces - 5));
-    // A checkpoint at the peer meanwhile changes nothing, as long as the logs are there; once they are gone it begins anew.
+    // A checkpoint at the peer meanwhile changes nothing, as long as the logs are there; once they are gone it begins
+    // anew.
     let (following, asked) = begin(&mut peer, 5);
     peer.three.cores[1].put_opening().unwrap();
     peer.three.wait();

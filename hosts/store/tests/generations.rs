@@ -130,6 +130,53 @@ fn generations_follow_one_another_in_memory() {
     set_more(&[&zero, &one, &two]);
 }
 
+/// A store whose core is a node takes openings alone, and has nothing else: each kind is handed what it can take, by either.
+#[test]
+fn cores_of_both_kinds_hand_what_the_other_takes() {
+    let Some(node) = real_node().filter(|_| epaxos::Core::has_library()) else { return };
+    for is_late_a_node in [true, false] {
+        let places = Places::new(if is_late_a_node { "late-node" } else { "late-store" });
+        let start = |replica: usize| match (replica == 2) == is_late_a_node {
+            true => places.start_with(replica, &node, &SHORT),
+            false => places.start_in_store_with(replica, &SHORT).unwrap(),
+        };
+        let [zero, one, two] = [0, 1, 2].map(start);
+        set(&[&zero, &one, &two], 0..10);
+        drop(two);
+        for place in 0..2 {
+            set(&[&zero, &one], 10 + 30 * place..40 + 30 * place);
+            assert!(matches!(zero.operate("EPAXOS SEAL"), Reply::Bulk(Some(_))));
+        }
+        let two = start(2);
+        two.tells("is taken from a peer");
+        has_all(&two, 0..70);
+        set(&[&two], 70..75);
+        has_all(&zero, 0..75);
+    }
+}
+
+/// Where the logs are long and the map is short, the opening is written in their place.
+#[test]
+fn who_lags_is_handed_a_short_map_whole() {
+    let places = Places::new("short-map");
+    let start = |replica: usize| places.start_in_store_with(replica, &[]);
+    let [Some(zero), Some(one), Some(two)] = [0, 1, 2].map(start) else { return };
+    drop(two);
+    for _ in 0..60 {
+        let line = format!("SET long {}", "x".repeat(60_000));
+        wait("a majority", || zero.ask(&line) == Reply::Simple("OK".into()));
+    }
+    // (of the last generation but one it could still get all)
+    for place in 0..2 {
+        set(&[&zero, &one], 5 * place..5 * place + 5);
+        assert!(matches!(zero.operate("EPAXOS SEAL"), Reply::Bulk(Some(_))));
+    }
+    let two = start(2).unwrap();
+    two.tells("is taken from a peer");
+    has_all(&two, 0..10);
+    assert!([0, 1].iter().any(|it| places.directory(*it).join("generations/3/whole").exists()));
+}
+
 /// Starts a machine that is to be let in by these words, and waits until it has told its identity.
 fn join(places: &Places, words: Command, replica: usize) -> (Store, String) {
     let mut command = Command::new(env!("CARGO_BIN_EXE_store"));
@@ -148,6 +195,40 @@ fn meets(store: &Store, replica: usize, identity: &str) {
     let is_met =
         |told: Reply| matches!(told, Reply::Bulk(Some(text)) if String::from_utf8_lossy(&text).contains(&line));
     wait("the new machine", || is_met(store.operate("EPAXOS MEMBERS")));
+}
+
+/// Who lags by several generations, and a machine that is new, get the logs since the last whole opening, and none is written for them.
+#[test]
+fn who_lags_is_handed_logs() {
+    let places = Places::new("handed-logs");
+    let start = |replica: usize| places.start_in_store_with(replica, &SHORT);
+    let [Some(zero), Some(one), Some(two)] = [0, 1, 2].map(start) else { return };
+    set(&[&zero, &one, &two], 0..10);
+    drop(two);
+    for place in 0..3 {
+        set(&[&zero, &one], 10 + 50 * place..60 + 50 * place);
+        assert!(matches!(zero.operate("EPAXOS SEAL"), Reply::Bulk(Some(_))));
+    }
+    let two = start(2).unwrap();
+    two.tells("is taken from a peer");
+    has_all(&two, 0..160);
+    set(&[&two], 160..170);
+    // Now its machine is lost.
+    drop(two);
+    wait("its folder", || fs::rename(places.directory(2), places.folder.join("lost")).is_ok());
+    let (two, identity) = join(&places, places.command_in_store(2, 3), 2);
+    meets(&one, 2, &identity);
+    assert!(matches!(one.operate(&format!("EPAXOS REPLACE 2 {identity}")), Reply::Bulk(Some(_))));
+    two.tells("node process");
+    has_all(&two, 0..170);
+    set(&[&zero, &one, &two], 170..180);
+    for replica in [0, 1] {
+        let newest = generation(&zero).max(generation(&one));
+        // (one that lags itself takes an opening, for which no reference stands)
+        let whole = |generation: usize| places.directory(replica).join(format!("generations/{generation}/whole"));
+        assert!(newest >= 5 && (2..=newest).all(|it| !whole(it).exists()));
+    }
+    assert!(!places.directory(2).join("opening.logs").exists());
 }
 
 #[test]

@@ -313,7 +313,7 @@ fn over_the_library_too() {
     }
 }
 
-/// No opening is written but those that a replica which lags wants.
+/// No opening is written but by a replica that lags: of what the others hand it, which is the logs since the first one.
 #[test]
 fn over_the_library_without_checkpoints_too() {
     if epaxos::Core::has_library() {

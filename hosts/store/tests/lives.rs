@@ -1,7 +1,9 @@
-//! Random lives of three cores in this process: commands, frames that are lost, repeated and late, recoveries, seals, kills, also in a checkpoint and
-//! while one comes to a later generation, lost disks, and machines that come in their place. What is left of each is collected, and its chain audited.
+//! Random lives of three cores in this process: commands, frames that are lost, repeated and late, recoveries, seals,
+//! kills, also in a checkpoint and while one comes to a later generation, lost disks, and machines that come in their
+//! place. What is left of each is collected, and its chain audited.
 //!
-//! A few are lived, or as many as the variable `LIVES` says, from the one on that `LIFE` says; each is the same wherever it is lived again.
+//! A few are lived, or as many as the variable `LIVES` says, from the one on that `LIFE` says; each is the same
+//! wherever it is lived again.
 mod common;
 use common::real_node;
 use common::three::{NEVER, hosting};
@@ -35,7 +37,8 @@ struct Replica {
     /// The folder of its machine, and those of the machines before it.
     folder: PathBuf,
     lost: Vec<PathBuf>,
-    /// The newest generation that it, or a machine before it, has acted in; and whether its machine is a new one, which hasn't acted yet.
+    /// The newest generation that it, or a machine before it, has acted in; and whether its machine is a new one, which
+    /// hasn't acted yet.
     acted: u32,
     is_new: bool,
     /// What it has handed to others since its start.
@@ -229,7 +232,8 @@ impl Life {
         let _ = fs::remove_file(taken);
     }
 
-    /// The disk of a replica is lost, where all are there and in one generation: another machine comes in its place, once there is a later one.
+    /// The disk of a replica is lost, where all are there and in one generation: another machine comes in its place,
+    /// once there is a later one.
     fn lose(&mut self) {
         let all: Vec<Option<u32>> = (0..3).map(|replica| self.generation(replica)).collect();
         if all[0].is_none() || all.iter().any(|it| *it != all[0]) {
@@ -277,7 +281,8 @@ impl Life {
         fs::remove_file(whole).unwrap();
     }
 
-    /// Hands one what leads to another one's generation: whether all of it came. Pieces are lost, and either may be killed in the middle.
+    /// Hands one what leads to another one's generation: whether all of it came. Pieces are lost, and either may be
+    /// killed in the middle.
     fn hand(&mut self, from: usize, to: usize, path: &Path) -> bool {
         let (mut now, step) = (Instant::now(), Duration::from_millis(700));
         let (mut following, first) = Following::begin(path, Some(Place::Library), from as u8, now).unwrap();

@@ -93,7 +93,8 @@ impl Three {
         }
     }
 
-    /// Starts replica 0 over a copy of its folder that was changed so, and tells its generation, or why it doesn't start; its map has to be that of now.
+    /// Starts replica 0 over a copy of its folder that was changed so, and tells its generation, or why it doesn't
+    /// start; its map has to be that of now.
     pub fn start(&self, change: impl FnOnce(&Path)) -> Result<u32, String> {
         let copy = self.folder.join("copy");
         let _ = fs::remove_dir_all(&copy);
