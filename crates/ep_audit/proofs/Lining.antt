@@ -35,6 +35,8 @@ use Rattle.ep_journal.specs.Openings.{opens}
 use Rattle.ep_journal.specs.declared.entry.Entry.{Entry as Written}
 use Rattle.ep_audit.specs.Lookups.{entry_at}
 use Rattle.ep_audit.specs.Lines.{told_by, line_at, line_of, lines_of, lines_in}
+use Rattle.ep_audit.specs.Turns.{takes, taken_of}
+use Rattle.ep_audit.proofs.Turning.{in_taken}
 use Rattle.ep_audit.specs.Verdicts.{places_of, instances_in, commands_in, replies_in, IsHistory}
 use Rattle.ep_audit.proofs.Answering.{each_told}
 use Rattle.ep_audit.proofs.Seen.{new_false, new_true}
@@ -99,6 +101,19 @@ lined_next g schedule seen later lines more k a done l at is made saw =
 pub lined_last : (g : ℕ → Option Decree) (schedule : List Scheduled) (seen : List ℕ) (lines : List Happening) (k : ℕ) → drop k schedule ≡ [] → Lined g schedule seen lines k → lines ≡ lines_in g [] schedule
 lined_last g schedule seen lines k none l = sym (append-nil lines) ∙ ap (λ s. lines ++ lines_in g l.merged s) (sym none) ∙ l.whole
 
+-- An entry that executes nothing has no lines.
+pub lines_taken : (g : ℕ → Option Decree) (seen : List ℕ) (s : List Scheduled) → lines_in g seen (taken_of false s) ≡ lines_in g seen s
+lines_taken g seen [] = refl
+lines_taken g seen (a ∷ s) = go a.entry.done refl (λ (xs : List ℕ). lines_taken g xs s)
+  where
+    go : (ds : List (ℕ × Answer)) → a.entry.done ≡ ds → ((xs : List ℕ) → lines_in g xs (taken_of false s) ≡ lines_in g xs s) → lines_in g seen (cond (takes false a.entry.done) (a ∷ taken_of false s) (taken_of false s)) ≡ lines_in g seen (a ∷ s)
+    go [] e rec =
+        ap (λ (ds : List (ℕ × Answer)). lines_in g seen (cond (takes false ds) (a ∷ taken_of false s) (taken_of false s))) e ∙ rec seen
+        ∙ sym (ap (λ (ds : List (ℕ × Answer)). lines_of g seen ds ++ lines_in g (seen ++ filter (is_new seen) (order_of ds)) s) e ∙ ap (λ (xs : List ℕ). lines_in g xs s) (append-nil seen))
+    go (d ∷ ds) e rec =
+        ap (λ (ds : List (ℕ × Answer)). lines_in g seen (cond (takes false ds) (a ∷ taken_of false s) (taken_of false s))) e
+        ∙ ap (λ (ls : List Happening). lines_of g seen a.entry.done ++ ls) (rec (seen ++ filter (is_new seen) (order_of a.entry.done)))
+
 -- An entry of the schedule, where the journals have it.
 
 pub record StandsAt (c : Collected) (a : Scheduled) : Type 0 where
@@ -108,9 +123,9 @@ pub record StandsAt (c : Collected) (a : Scheduled) : Type 0 where
   pub there : slice_get (entries_at c a.replica) place ≡ Some entry
   pub is : entry_of entry ≡ a.entry
 
-pub stands_at : (c : Collected) (s : List Scheduled) (k : ℕ) (a : Scheduled) → AreLocalRuns (opens c.opening) c.faults (journals_of c) → IsSchedule (journals_of c) s → slice_get s k ≡ Some a → StandsAt c a
-stands_at c s k a runs h at =
-    let there : In a.entry (journals_of c a.replica) = subst (In a.entry) (h.0 a.replica) (in_of a s (at_in s k a at)) in
+pub stands_at : (c : Collected) (s : List Scheduled) (a : Scheduled) → AreLocalRuns (opens c.opening) c.faults (journals_of c) → IsSchedule (journals_of c) s → In a s → StandsAt c a
+stands_at c s a runs h at =
+    let there : In a.entry (journals_of c a.replica) = subst (In a.entry) (h.0 a.replica) (in_of a s at) in
     let p = in_at (journals_of c a.replica) a.entry there in
     let n = (numbers_are_places_lem (journals_of c a.replica) (runs.local a.replica).0 p.0 a.entry).0 p.1 in
     let w = shown_from (entries_at c a.replica) p.0 a.entry p.1 in
@@ -179,11 +194,13 @@ slice_here [] k p lt e = absurd (omega arith)
 slice_here (x ∷ xs) zero p lt e = ap Some (sym e)
 slice_here (x ∷ xs) (suc k) p lt e = slice_here xs k p (omega arith) e
 
-pub looked : (c : Collected) (s : List Scheduled) (k : ℕ) (p : ℕ × ℕ) (xs : List (ℕ × ℕ)) (o : Option (Bor Written)) → AreLocalRuns (opens c.opening) c.faults (journals_of c) → IsSchedule (journals_of c) s → xs ≡ places_of s → k < length xs → p ≡ get_or xs k p →
-    option_copied o ≡ entry_at (entries_at c p.0) p.1 → Looked c s k o
-looked c s k p xs o runs h is lt e lookup =
-    let a = place_at s k p (subst (λ z. slice_get z k ≡ Some p) is (slice_here xs k p lt e)) in
-    let st = stands_at c s k a.0 runs h a.1 in
+-- of a schedule, the entries that a merge takes
+pub looked : (c : Collected) (all : Bool) (s : List Scheduled) (k : ℕ) (p : ℕ × ℕ) (xs : List (ℕ × ℕ)) (o : Option (Bor Written)) → AreLocalRuns (opens c.opening) c.faults (journals_of c) → IsSchedule (journals_of c) s → xs ≡ places_of (taken_of all s) → k < length xs → p ≡ get_or xs k p →
+    option_copied o ≡ entry_at (entries_at c p.0) p.1 → Looked c (taken_of all s) k o
+looked c all s k p xs o runs h is lt e lookup =
+    let these : List Scheduled = taken_of all s in
+    let a = place_at these k p (subst (λ z. slice_get z k ≡ Some p) is (slice_here xs k p lt e)) in
+    let st = stands_at c s a.0 runs h (in_taken all s a.0 (at_in these k a.0 a.1)) in
     record {
       next = a.0;
       at = a.1;

@@ -19,7 +19,7 @@ use Rattle.ep_rules.specs.declared.receipt.Receipt.{Receipt}
 use Rattle.ep_rules.proofs.ChainsExplained.{chains_explain_lem, chains_keep_callers_lem}
 use Rattle.ep_rules.proofs.Sorted.{above}
 use Rattle.ep_audit.specs.Closings.{operations_in}
-use Rattle.ep_audit.specs.Verdicts.{places_of}
+use Rattle.ep_audit.specs.Verdicts.{places_of, summary_of}
 use Rattle.ep_audit.specs.declared.verdict.Verdict.{Verdict}
 use Rattle.ep_audit.specs.Audited.{IsOneClosing}
 use Rattle.ep_audit.specs.Chained.{AreLinked, GoesOn, IsChainFault, IsChainRefused, IsChained, IsGood, IsJudged, IsParted, IsReached, parted, refused, unclosed, faults_at, faults_in, journals_at, journals_in, map_after, map_in, maps_at, number_of, receipts_at, receipts_in}
@@ -116,25 +116,25 @@ record Facts (links : List ChainLink) (verdicts : List Verdict) (g : ℕ) (s : L
   merges : Merges (opens link.journals.opening) link.journals.faults (journals_of link.journals) s
   scheduled : verdict.schedule.items ≡ places_of s
   operations : operations_in verdict.history.items ≡ history_from link.journals.opening.contents link.journals.faults s
-  closing : IsOneClosing link.journals.opening.contents link.journals.faults (journals_of link.journals) verdict
+  closing : IsOneClosing link.journals.opening.contents link.journals.faults (journals_of link.journals) (summary_of verdict)
   sealed : (c : Closing) → verdict.closing ≡ Some c → Closes link.journals.opening.contents link.journals.faults (journals_of link.journals) (λ r. [])
   at_stamp : (c : Closing) (is : verdict.closing ≡ Some c) → (sealed c is).entry.stamp ≡ c.stamp
 
-facts_of : (links : List ChainLink) (verdicts : List Verdict) (g : ℕ) (l : ChainLink) (v : Verdict) → slice_get links g ≡ Some l → slice_get verdicts g ≡ Some v → (j : IsJudged l v) → Facts links verdicts g j.verdict.order
+facts_of : (links : List ChainLink) (verdicts : List Verdict) (g : ℕ) (l : ChainLink) (v : Verdict) → slice_get links g ≡ Some l → slice_get verdicts g ≡ Some v → (j : IsJudged l v) → Facts links verdicts g j.says.summary.order
 facts_of links verdicts g l v a b j =
-    let same = same_operations l.journals.opening.contents l.journals.faults (journals_of l.journals) v j.verdict j.merges in
+    let same = same_operations l.journals.opening.contents l.journals.faults (journals_of l.journals) (summary_of v) j.says.summary j.says.merges in
     record {
       link = l;
       verdict = v;
       there = a;
       told = b;
-      good = j.accepted;
-      merges = j.merges;
-      scheduled = j.verdict.schedule;
+      good = j.says.accepted;
+      merges = j.says.merges;
+      scheduled = j.schedule;
       operations = same;
-      closing = j.closing l.journals.opening.contents refl;
-      sealed = λ c is. (seal_there l.journals.opening.contents l.journals.faults (journals_of l.journals) v j.verdict j.merges c is).closes;
-      at_stamp = λ c is. (seal_there l.journals.opening.contents l.journals.faults (journals_of l.journals) v j.verdict j.merges c is).stamp;
+      closing = j.says.closing l.journals.opening.contents refl;
+      sealed = λ c is. (seal_there l.journals.opening.contents l.journals.faults (journals_of l.journals) (summary_of v) j.says.summary j.says.merges c is).closes;
+      at_stamp = λ c is. (seal_there l.journals.opening.contents l.journals.faults (journals_of l.journals) (summary_of v) j.says.summary j.says.merges c is).stamp;
     }
 
 module _ (links : List ChainLink) (verdicts : List Verdict) (count : length verdicts ≡ length links) (linked : AreLinked links verdicts) where
@@ -146,7 +146,7 @@ module _ (links : List ChainLink) (verdicts : List Verdict) (count : length verd
       let l = some_at links g lt in
       let v = some_at verdicts g (omega arith) in
       let j = linked.judged g l.0 v.0 l.1 v.1 in
-      (j.verdict.order, facts_of links verdicts g l.0 v.0 l.1 v.1 j)
+      (j.says.summary.order, facts_of links verdicts g l.0 v.0 l.1 v.1 j)
 
   chosen : (g : ℕ) → (g < n) ⊎ (n ≤ g) → List Scheduled
   chosen g (inl lt) = (judged_at g lt).0
@@ -306,4 +306,4 @@ unjudged_unfollowed p v l place c (Fault at fault) closed h = refused_by c close
 
 pub parted_here : (p : ChainLink) (v : Verdict) (l : ChainLink) (w : Verdict) (place : ℕ) (c : Closing) (f : ChainFault) (o : Option ChainFault) → v.closing ≡ Some c → IsJudged l w → o ≡ Some f → MatchOption o (GoesOn p v l) (λ f. IsParted p v c l f) →
     IsUnfollowedBy p v l place place f
-parted_here p v l w place c f o closed judged is m = parted_by c closed refl judged.accepted (subst (λ (o : Option ChainFault). MatchOption o (GoesOn p v l) (λ f. IsParted p v c l f)) is m)
+parted_here p v l w place c f o closed judged is m = parted_by c closed refl judged.says.accepted (subst (λ (o : Option ChainFault). MatchOption o (GoesOn p v l) (λ f. IsParted p v c l f)) is m)

@@ -28,8 +28,8 @@ use Rattle.ep_rules.proofs.Sealing.{closed_stays, not_seal, sealed_here, stays_o
 use Rattle.ep_audit.specs.declared.closing.Closing.{Closing}
 use Rattle.ep_audit.specs.declared.happening.Happening.{Happening}
 use Rattle.ep_audit.specs.Closings.{operations_in, IsExecuted, IsFirstSeal, IsClosing}
-use Rattle.ep_audit.specs.Verdicts.{commands_in, instances_in, left_after, IsVerdict}
-use Rattle.ep_audit.specs.declared.verdict.Verdict.{Verdict}
+use Rattle.ep_audit.specs.Verdicts.{commands_in, instances_in, left_by, IsSummary}
+use Rattle.ep_audit.specs.declared.summary.Summary.{Summary}
 use Rattle.ep_audit.specs.Audited.{IsOneClosing}
 
 -- The first seal.
@@ -140,7 +140,7 @@ module _ (m : Contents) (f : ℕ) (journal : Journals) (schedule : List Schedule
       let shut : is_closed (after_all (told_in (opened m) f acts) (opened m) own) ≡ true = closed_by (told_in (opened m) f acts) m own i has (ap is_seal (told_same m f journal schedule given i) ∙ seals) in
       subst (λ s. is_closed s ≡ true) (sym (store_is (opened m) f given.some given.few acts run r) ∙ ap (λ (s : State). s.store) state) shut
 
-  module _ (v : Verdict) (same : operations_in v.history.items ≡ history_from m f schedule) (closing : IsClosing journal (operations_in v.history.items) v.closing) where
+  module _ (v : Summary) (same : operations_in v.history.items ≡ history_from m f schedule) (closing : IsClosing journal (operations_in v.history.items) v.closing) where
     abbrev h : List Operation
     h = history_from m f schedule
 
@@ -153,37 +153,37 @@ module _ (m : Contents) (f : ℕ) (journal : Journals) (schedule : List Schedule
             let t : IsFirstSeal journal h c = subst (IsClosing journal h) is k in
             (last_of h t.before _ t.seals t.last).first ∙ ap (λ o. option_map (λ (c : Closing). c.value) o) (sym is)
 
-    pub left_is : (r : ℕ) → is_closed (store_left m f journal r) ≡ true → store_left m f journal r ≡ record { contents = left_after (opened m) v; seal = option_map (λ (c : Closing). c.value) v.closing }
+    pub left_is : (r : ℕ) → is_closed (store_left m f journal r) ≡ true → store_left m f journal r ≡ record { contents = left_by (opened m) v.history.items; seal = option_map (λ (c : Closing). c.value) v.closing }
     left_is r shut =
         let t = closes_left m f journal schedule given r shut in
         let after : after_commands (opened m) (commands_of h) ≡ map_of (written_by m (up_to_seal h)) (first_seal h) = seal_closes_lem m h t.0 in
-        let told : left_after (opened m) v ≡ written_by m (up_to_seal h) =
+        let told : left_by (opened m) v.history.items ≡ written_by m (up_to_seal h) =
         ap (λ cs. (after_commands (opened m) cs).contents) (commands_are_of v.history.items ∙ ap commands_of same) ∙ ap (λ (s : Store). s.contents) after
         in
         t.1 ∙ ap₂ (λ (n : Contents) (o : Option (List ℕ)). map_of n o) (sym told) (seal_told t.0)
 
-    somebody : (c : Closing) → v.closing ≡ Some c → (r : ℕ) × (store_left m f journal r ≡ record { contents = left_after (opened m) v; seal = Some c.value })
+    somebody : (c : Closing) → v.closing ≡ Some c → (r : ℕ) × (store_left m f journal r ≡ record { contents = left_by (opened m) v.history.items; seal = Some c.value })
     somebody c is =
         let t : IsFirstSeal journal h c = subst (λ (o : Option Closing). IsClosing journal h o) is (subst (λ (os : List Operation). IsClosing journal os v.closing) same closing) in
         let l = last_of h t.before _ t.seals t.last in
         let x : IsExecuted journal c.instance = t.stamp.executed in
         let command : command_at (opened m) f journal c.instance ≡ Seal c.value = sym (command_is (command_at (opened m) f journal) h _ are_of l.stands) in
         let shut = closed_left x.replica x.entry c.instance x.stands x.executes (ap is_seal command) in
-        (x.replica, left_is x.replica shut ∙ ap (λ o. map_of (left_after (opened m) v) (option_map (λ (c : Closing). c.value) o)) is)
+        (x.replica, left_is x.replica shut ∙ ap (λ o. map_of (left_by (opened m) v.history.items) (option_map (λ (c : Closing). c.value) o)) is)
 
     pub one_closing : IsOneClosing m f journal v
     one_closing = record { left = left_is; somebody = somebody }
 
 -- the verdict's operations are those of the run
-pub same_operations : (m : Contents) (f : ℕ) (journal : Journals) (v : Verdict) (is : IsVerdict (opened m) f journal v) → Merges (opened m) f journal is.order → operations_in v.history.items ≡ history_from m f is.order
+pub same_operations : (m : Contents) (f : ℕ) (journal : Journals) (v : Summary) (is : IsSummary (opened m) f journal v) → Merges (opened m) f journal is.order → operations_in v.history.items ≡ history_from m f is.order
 same_operations m f journal v is given =
     operations_are (command_at (opened m) f journal) v.history.items (history_from m f is.order) (is.history.instances ∙ sym (same_history m f journal is.order given)) is.history.commands (are_of m f journal is.order given)
 
-pub closing_of_verdict : (base : Store) (f : ℕ) (journal : Journals) (v : Verdict) (is : IsVerdict base f journal v) → Merges base f journal is.order → (m : Contents) → base ≡ opened m → IsOneClosing m f journal v
-closing_of_verdict base f journal v is given m e =
-    go m (subst (λ b. (k : IsVerdict b f journal v) × Merges b f journal k.order) e (is, given))
+pub closing_of_summary : (base : Store) (f : ℕ) (journal : Journals) (v : Summary) (is : IsSummary base f journal v) → Merges base f journal is.order → (m : Contents) → base ≡ opened m → IsOneClosing m f journal v
+closing_of_summary base f journal v is given m e =
+    go m (subst (λ b. (k : IsSummary b f journal v) × Merges b f journal k.order) e (is, given))
   where
-    go : (m : Contents) → ((k : IsVerdict (opened m) f journal v) × Merges (opened m) f journal k.order) → IsOneClosing m f journal v
+    go : (m : Contents) → ((k : IsSummary (opened m) f journal v) × Merges (opened m) f journal k.order) → IsOneClosing m f journal v
     go m p = one_closing m f journal p.0.order p.1 v (same_operations m f journal v p.0 p.1) p.0.closing
 
 -- the verdict's seal is executed, by an entry of its stamp
@@ -191,7 +191,7 @@ pub record IsThere (m : Contents) (f : ℕ) (journal : Journals) (c : Closing) :
   pub closes : Closes m f journal (λ r. [])
   pub stamp : closes.entry.stamp ≡ c.stamp
 
-pub seal_there : (m : Contents) (f : ℕ) (journal : Journals) (v : Verdict) (is : IsVerdict (opened m) f journal v) → Merges (opened m) f journal is.order → (c : Closing) → v.closing ≡ Some c → IsThere m f journal c
+pub seal_there : (m : Contents) (f : ℕ) (journal : Journals) (v : Summary) (is : IsSummary (opened m) f journal v) → Merges (opened m) f journal is.order → (c : Closing) → v.closing ≡ Some c → IsThere m f journal c
 seal_there m f journal v is given c closed =
     let h : List Operation = history_from m f is.order in
     let same = same_operations m f journal v is given in

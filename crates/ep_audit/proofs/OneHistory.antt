@@ -13,10 +13,11 @@ use Rattle.ep_rules.proofs.JournalsKeep.{journals_keep_lem}
 use Rattle.ep_rules.proofs.JournalsOrders.{journals_order_lem}
 use Rattle.ep_rules.proofs.JournalsReplies.{each_reply_lem}
 use Rattle.ep_rules.proofs.Merged.{merged_is_a_run_lem}
-use Rattle.ep_audit.specs.Verdicts.{IsVerdict}
+use Rattle.ep_audit.specs.Verdicts.{summary_of, IsSummary, IsVerdict}
+use Rattle.ep_audit.specs.declared.summary.Summary.{Summary}
 use Rattle.ep_audit.specs.declared.verdict.Verdict.{Verdict}
-use Rattle.ep_audit.specs.Audited.{IsOneHistory, IsAudited}
-use Rattle.ep_audit.proofs.OneClosings.{closing_of_verdict}
+use Rattle.ep_audit.specs.Audited.{IsOneHistory, IsSummarized, IsAudited}
+use Rattle.ep_audit.proofs.OneClosings.{closing_of_summary}
 use Rattle.ep_rules.specs.OneMap.{Store}
 
 -- what is committed after some entries is committed after all
@@ -40,7 +41,11 @@ one_history base f journal receipts schedule m a =
       callers = λ t u there here. caller_order_lem base f journal schedule m t u (a.agree t there) (a.agree u here);
     }
 
-pub audited : (base : Store) (f : ℕ) (journal : Journals) (receipts : List Receipt) (v : Verdict) → 1 ≤ f → f ≤ 3 → AreLocalRuns base f journal → IsAccepted base f journal receipts → IsVerdict base f journal v → IsAudited base f journal receipts v
-audited base f journal receipts v some few local a is =
+pub summarized : (base : Store) (f : ℕ) (journal : Journals) (receipts : List Receipt) (s : Summary) → 1 ≤ f → f ≤ 3 → AreLocalRuns base f journal → IsAccepted base f journal receipts → IsSummary base f journal s → IsSummarized base f journal receipts s
+summarized base f journal receipts s some few local a is =
     let m : Merges base f journal is.order = record { some = omega arith; few = omega arith; local = local; matched = a.matched; scheduled = is.scheduled } in
-    record { accepted = a; verdict = is; merges = m; history = subst (λ h. IsOneHistory base f journal receipts is.order h) (sym is.history.instances) (one_history base f journal receipts is.order m a); closing = closing_of_verdict base f journal v is m }
+    record { accepted = a; summary = is; merges = m; history = subst (λ h. IsOneHistory base f journal receipts is.order h) (sym is.history.instances) (one_history base f journal receipts is.order m a); closing = closing_of_summary base f journal s is m }
+
+pub audited : (base : Store) (f : ℕ) (journal : Journals) (receipts : List Receipt) (v : Verdict) → 1 ≤ f → f ≤ 3 → AreLocalRuns base f journal → IsAccepted base f journal receipts → IsVerdict base f journal v → IsAudited base f journal receipts v
+unfolding summarized
+audited base f journal receipts v some few local a is = record { says = summarized base f journal receipts (summary_of v) some few local a is.says; schedule = is.schedule }

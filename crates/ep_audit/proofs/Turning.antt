@@ -1,19 +1,20 @@
 -- The next entry of journals is the first one of their schedule.
-use Rattle.std.proofs.Common.{◌≡◌, ◌≢◌, ℕ, zero, suc, ◌+◌, ◌<◌, ◌≤◌, Bool, true, false, cond, ltb, ◌⊎◌, inl, inr, Option, Some, None, List, [], ◌∷◌, ◌++◌, length, length-append, length-set, drop, set, get_or, replicate, append-nil, append_assoc, get_or-set_same, get_or-set_other, refl, sym, ap, subst, ◌∙◌, arith}
+use Rattle.std.proofs.Common.{◌≡◌, ◌≢◌, ℕ, zero, suc, ◌+◌, ◌<◌, ◌≤◌, Bool, true, false, cond, eqb, ltb, ◌||◌, option_map, slice_range, filter, ◌⊎◌, inl, inr, Option, Some, None, List, [], ◌∷◌, ◌++◌, length, length-append, length-set, drop, set, get_or, replicate, append-nil, append_assoc, get_or-set_same, get_or-set_other, refl, sym, ap, subst, ◌∙◌, arith}
 use Rattle.std.proofs.lemmas.Bool.{ltb-true, ltb-false, cases_eq, cases_lt}
 use Rattle.ep_rules.specs.Worlds.{In}
 use Rattle.std.proofs.lemmas.List.{get_or-replicate, length-replicate}
 use Rattle.std.proofs.Math.ListN.{get_or-eq_default}
 use Rattle.std.proofs.Math.Seq.{drop-nil}
+use Rattle.std.proofs.lemmas.List.Folds.{drop_split}
 use Rattle.std.proofs.lemmas.Option.{same_Some}
 use Rattle.ep_base.specs.Quorums.{size}
-use Rattle.ep_rules.specs.Journals.{Entry, Journals, Scheduled, of, Precedes, IsSchedule, AreNumbered, AreLocalRuns}
+use Rattle.ep_rules.specs.Journals.{Entry, Journals, Scheduled, of, Precedes, Rises, IsSchedule, AreNumbered, AreLocalRuns}
 use Rattle.ep_rules.proofs.Merged.{of_in}
 use Rattle.ep_rules.proofs.Sorted.{of_first, of_skip}
 use Rattle.ep_rules.proofs.OneSchedule.{heads, tails}
-use Rattle.ep_journal.specs.Entries.{entries_of}
+use Rattle.ep_journal.specs.Entries.{entry_of, entries_of}
 use Rattle.ep_journal.specs.declared.entry.Entry.{Entry as Written}
-use Rattle.ep_audit.specs.Turns.{first_turn, earlier, least_turn, least_of, rests, AreFirst}
+use Rattle.ep_audit.specs.Turns.{first_turn, earlier, takes, taken, all_taken, taken_of, first_taken, least_turn, least_of, rests, AreFirst}
 use Rattle.ep_audit.specs.Verdicts.{places_of}
 use Rattle.ep_audit.specs.declared.entry_place.EntryPlace.{EntryPlace}
 use Rattle.ep_rules.specs.OneMap.{Store}
@@ -148,38 +149,59 @@ none_left journal none (a ∷ xs) h = absurd (nil_cons a.entry (of a.replica xs)
 
 -- What is left after some entries.
 
-found : (r : ℕ) (t : EntryPlace) (es : List Entry) → first_turn r es ≡ Some t → (e : Entry) × (rest : List Entry) × (es ≡ e ∷ rest) × (e.number ≡ t.number) × (e.stamp ≡ t.stamp)
-found r t [] h = absurd (none_first r t [] refl h)
-found r t (e ∷ rest) h =
-    let is = same_Some (record { replica = r; number = e.number; stamp = e.stamp }) t h in
-    (e, rest, refl, ap (λ (z : EntryPlace). z.number) is, ap (λ (z : EntryPlace). z.stamp) is)
+-- the first entry that is taken of these after k, whose numbers rise from n, is followed by what is taken after g
+record NextTaken (all : Bool) (n k : ℕ) (xs : List Entry) (t : EntryPlace) : Type 0 where
+  entry : Entry
+  g : ℕ
+  here : taken all (drop k xs) ≡ entry ∷ taken all (drop g xs)
+  after : suc t.number ≡ n + g
+  number : entry.number ≡ t.number
+  stamp : entry.stamp ≡ t.stamp
 
-drop_more : (k : ℕ) (xs : List Entry) (e : Entry) (es : List Entry) → drop k xs ≡ e ∷ es → drop (suc k) xs ≡ es
-drop_more zero [] e es h = absurd (nil_cons e es h)
-drop_more (suc k) [] e es h = absurd (nil_cons e es h)
-drop_more zero (x ∷ xs) e es h = tails x e xs es h
-drop_more (suc k) (x ∷ xs) e es h = drop_more k xs e es h
+next_taken : (all : Bool) (r n last k : ℕ) (xs : List Entry) (t : EntryPlace) → AreNumbered n last xs → first_turn r (taken all (drop k xs)) ≡ Some t → NextTaken all n k xs t
+next_taken all r n last zero [] t a h = absurd (none_first r t [] refl h)
+next_taken all r n last (suc k) [] t a h = absurd (none_first r t [] refl h)
+next_taken all r n last (suc k) (x ∷ xs) t a h =
+    let m = next_taken all r (suc n) x.stamp k xs t a.3 h in
+    record { entry = m.entry; g = suc m.g; here = m.here; after = (let f = m.after in omega arith); number = m.number; stamp = m.stamp }
+next_taken all r n last zero (x ∷ xs) t a h = go (takes all x.done) refl h (λ k. next_taken all r (suc n) x.stamp 0 xs t a.3 k)
+  where
+    go : (b : Bool) → takes all x.done ≡ b → first_turn r (cond b (x ∷ taken all xs) (taken all xs)) ≡ Some t → (first_turn r (taken all xs) ≡ Some t → NextTaken all (suc n) 0 xs t) → NextTaken all n 0 (x ∷ xs) t
+    go true is k next =
+        let same : ◌≡◌ {A = EntryPlace} (record { replica = r; number = x.number; stamp = x.stamp }) t = same_Some (record { replica = r; number = x.number; stamp = x.stamp }) t k in
+        let number : x.number ≡ t.number = ap (λ (z : EntryPlace). z.number) same in
+        record {
+          entry = x;
+          g = 1;
+          here = ap (λ b. cond b (x ∷ taken all xs) (taken all xs)) is;
+          after = (let first = a.0 in omega arith);
+          number = number;
+          stamp = ap (λ (z : EntryPlace). z.stamp) same;
+        }
+    go false is k next =
+        let m = next k in
+        record {
+          entry = m.entry;
+          g = suc m.g;
+          here = ap (λ b. cond b (x ∷ taken all xs) (taken all xs)) is ∙ m.here;
+          after = (let f = m.after in omega arith);
+          number = m.number;
+          stamp = m.stamp;
+        }
 
-number_at : (n last k : ℕ) (xs : List Entry) (e : Entry) (es : List Entry) → AreNumbered n last xs → drop k xs ≡ e ∷ es → e.number ≡ n + k
-number_at n last zero [] e es a h = absurd (nil_cons e es h)
-number_at n last (suc k) [] e es a h = absurd (nil_cons e es h)
-number_at n last zero (x ∷ xs) e es a h = let s : x.number ≡ e.number = ap (λ (z : Entry). z.number) (heads x e xs es h) in let b = a.0 in omega arith
-number_at n last (suc k) (x ∷ xs) e es a h = let s = number_at (suc n) x.stamp k xs e es a.3 h in omega arith
-
-pub goes : (journal : Journals) (done : List ℕ) (t : EntryPlace) → AreNumbered 1 0 (journal t.replica) → first_turn t.replica (rests journal done t.replica) ≡ Some t → t.replica < length done →
-    Goes (rests journal done) (rests journal (set done t.replica t.number)) t
-goes journal done t numbered h lt =
+pub goes : (all : Bool) (journal : Journals) (done : List ℕ) (t : EntryPlace) → AreNumbered 1 0 (journal t.replica) → first_turn t.replica (rests all journal done t.replica) ≡ Some t → t.replica < length done →
+    Goes (rests all journal done) (rests all journal (set done t.replica t.number)) t
+goes all journal done t numbered h lt =
     let r = t.replica in
-    let k = get_or done r 0 in
-    let d = found r t (drop k (journal r)) h in
-    let n : t.number ≡ suc k = (let m = number_at 1 0 k (journal r) d.0 d.1 numbered d.2 in let e = d.3 in omega arith) in
-    let later : rests journal (set done r t.number) r ≡ d.1 = ap (λ z. drop z (journal r)) (get_or-set_same done r t.number 0 lt ∙ n) ∙ drop_more k (journal r) d.0 d.1 d.2 in
+    let m = next_taken all r 1 0 (get_or done r 0) (journal r) t numbered h in
+    let n : t.number ≡ m.g = (let f = m.after in omega arith) in
+    let later : rests all journal (set done r t.number) r ≡ taken all (drop m.g (journal r)) = ap (λ z. taken all (drop z (journal r))) (get_or-set_same done r t.number 0 lt ∙ n) in
     record {
-      entry = d.0;
-      here = d.2 ∙ ap (λ z. d.0 ∷ z) (sym later);
-      number = d.3;
-      stamp = d.4;
-      others = λ q ne. ap (λ z. drop z (journal q)) (get_or-set_other done r q t.number 0 ne);
+      entry = m.entry;
+      here = m.here ∙ ap (λ z. m.entry ∷ z) (sym later);
+      number = m.number;
+      stamp = m.stamp;
+      others = λ q ne. ap (λ z. taken all (drop z (journal q))) (get_or-set_other done r q t.number 0 ne);
     }
 
 -- how many entries the replicas below n have
@@ -208,67 +230,129 @@ left_falls (suc n) journal later t g lt = elim (cases_eq t.replica n) [
 
 -- The first entry after some.
 
-pub first_none : (r k : ℕ) (es : List Written) → length es ≤ k → first_turn r (drop k (entries_of es)) ≡ None
-first_none r zero [] h = refl
-first_none r (suc k) [] h = refl
-first_none r zero (e ∷ es) h = absurd (omega arith)
-first_none r (suc k) (e ∷ es) h = first_none r k es (omega arith)
+first_is : (all : Bool) (r : ℕ) (es : List Written) → first_turn r (taken all (entries_of es)) ≡ option_map (λ (e : Written). record { replica = r; number = e.number; stamp = e.stamp }) (first_taken all es)
+first_is all r [] = refl
+first_is all r (e ∷ es) = go (takes all e.done) (first_is all r es)
+  where
+    go : (b : Bool) → first_turn r (taken all (entries_of es)) ≡ option_map (λ (e : Written). record { replica = r; number = e.number; stamp = e.stamp }) (first_taken all es) →
+        first_turn r (cond b (entry_of e ∷ taken all (entries_of es)) (taken all (entries_of es))) ≡ option_map (λ (e : Written). record { replica = r; number = e.number; stamp = e.stamp }) (cond b (Some e) (first_taken all es))
+    go true k = refl
+    go false k = k
 
-pub first_some : (r k : ℕ) (es : List Written) (e : Written) → k < length es → e ≡ get_or es k e → first_turn r (drop k (entries_of es)) ≡ Some (record { replica = r; number = e.number; stamp = e.stamp })
-first_some r zero [] e h is = absurd (omega arith)
-first_some r (suc k) [] e h is = absurd (omega arith)
-first_some r zero (x ∷ es) e h is = ap (λ (z : Written). Some (record { replica = r; number = z.number; stamp = z.stamp })) (sym is)
-first_some r (suc k) (x ∷ es) e h is = first_some r k es e (omega arith) is
+entries_dropped : (k : ℕ) (es : List Written) → drop k (entries_of es) ≡ entries_of (drop k es)
+entries_dropped zero [] = refl
+entries_dropped (suc k) [] = refl
+entries_dropped zero (e ∷ es) = refl
+entries_dropped (suc k) (e ∷ es) = entries_dropped k es
+
+none_past : (k : ℕ) (es : List Written) → length es ≤ k → drop k es ≡ []
+none_past zero [] le = refl
+none_past (suc k) [] le = refl
+none_past zero (e ∷ es) le = absurd (omega arith)
+none_past (suc k) (e ∷ es) le = none_past k es (omega arith)
+
+abbrev pub turn_by : ℕ → Written → EntryPlace
+turn_by r e = record { replica = r; number = e.number; stamp = e.stamp }
+
+-- the first entry that is taken after k
+pub first_after : (all : Bool) (r k : ℕ) (es rest : List Written) (o : Option Written) → k ≤ length es → rest ≡ slice_range es k (length es) → o ≡ first_taken all rest →
+    first_turn r (taken all (drop k (entries_of es))) ≡ option_map (turn_by r) o
+first_after all r k es rest o le is found =
+    let whole : drop k es ≡ rest = drop_split es k (length es) le ∙ ap (λ z. slice_range es k (length es) ++ z) (none_past (length es) es (omega arith)) ∙ append-nil (slice_range es k (length es)) ∙ sym is in
+    ap (λ z. first_turn r (taken all z)) (entries_dropped k es ∙ ap entries_of whole) ∙ first_is all r rest ∙ ap (option_map (turn_by r)) (sym found)
+
+pub none_after : (all : Bool) (r k : ℕ) (es : List Written) → length es ≤ k → first_turn r (taken all (drop k (entries_of es))) ≡ None
+none_after all r k es le = ap (λ z. first_turn r (taken all z)) (entries_dropped k es ∙ ap entries_of (none_past k es le))
+
+-- What is taken of a schedule.
+
+taken_at : (all : Bool) (q : ℕ) (s : List Scheduled) → of q (taken_of all s) ≡ taken all (of q s)
+taken_at all q [] = refl
+taken_at all q (a ∷ s) = go (takes all a.entry.done) refl (eqb a.replica q) refl (taken_at all q s)
+  where
+    go : (b : Bool) → takes all a.entry.done ≡ b → (c : Bool) → eqb a.replica q ≡ c → of q (taken_of all s) ≡ taken all (of q s) →
+        of q (cond b (a ∷ taken_of all s) (taken_of all s)) ≡ taken all (cond c (a.entry ∷ of q s) (of q s))
+    go true t true e k = ap (λ c. cond c (a.entry ∷ of q (taken_of all s)) (of q (taken_of all s))) e ∙ ap (λ z. a.entry ∷ z) k ∙ sym (ap (λ b. cond b (a.entry ∷ taken all (of q s)) (taken all (of q s))) t)
+    go true t false e k = ap (λ c. cond c (a.entry ∷ of q (taken_of all s)) (of q (taken_of all s))) e ∙ k
+    go false t true e k = k ∙ sym (ap (λ b. cond b (a.entry ∷ taken all (of q s)) (taken all (of q s))) t)
+    go false t false e k = k
+
+pub in_taken : (all : Bool) (s : List Scheduled) (a : Scheduled) → In a (taken_of all s) → In a s
+in_taken all [] a h = h
+in_taken all (x ∷ s) a h = go (takes all x.entry.done) h (in_taken all s a)
+  where
+    go : (b : Bool) → In a (cond b (x ∷ taken_of all s) (taken_of all s)) → (In a (taken_of all s) → In a s) → In a (x ∷ s)
+    go true (inl is) rec = inl is
+    go true (inr k) rec = inr (rec k)
+    go false k rec = inr (rec k)
+
+rises_taken : (all : Bool) (s : List Scheduled) → Rises s → Rises (taken_of all s)
+rises_taken all [] h = h
+rises_taken all (x ∷ s) h = go (takes all x.entry.done) (rises_taken all s h.1)
+  where
+    go : (b : Bool) → Rises (taken_of all s) → Rises (cond b (x ∷ taken_of all s) (taken_of all s))
+    go true rec = ((λ b k. h.0 b (in_taken all s b k)), rec)
+    go false rec = rec
+
+taken_schedule : (all : Bool) (journal : Journals) (s : List Scheduled) → IsSchedule journal s → IsSchedule (all_taken all journal) (taken_of all s)
+taken_schedule all journal s h = ((λ q. taken_at all q s ∙ ap (taken all) (h.0 q)), rises_taken all s h.1)
+
+-- a merge of all takes all
+pub whole_taken : (s : List Scheduled) → taken_of true s ≡ s
+whole_taken [] = refl
+whole_taken (a ∷ s) = ap (λ z. a ∷ z) (whole_taken s)
 
 -- A schedule that is under way.
 
 -- what is made so far, and what is left, are the whole schedule
-pub record Remains (journal : Journals) (done : List ℕ) (made : List (ℕ × ℕ)) (schedule : List Scheduled) : Type 0 where
+pub record Remains (all : Bool) (journal : Journals) (done : List ℕ) (made : List (ℕ × ℕ)) (schedule : List Scheduled) : Type 0 where
   pub rest : List Scheduled
-  pub scheduled : IsSchedule (rests journal done) rest
+  pub scheduled : IsSchedule (rests all journal done) rest
   pub whole : made ++ places_of rest ≡ places_of schedule
 
 pub is_next : (n : ℕ) (journal : Journals) (o : Option EntryPlace) → o ≡ least_turn n journal → Tells n journal o
 is_next n journal o e = subst (Tells n journal) (sym e) (least_is n journal)
 
 -- none beyond the cluster
-none_beyond : (base : Store) (f : ℕ) (journal : Journals) (done : List ℕ) → AreLocalRuns base f journal → (q : ℕ) → size f ≤ q → rests journal done q ≡ []
-none_beyond base f journal done runs q le = ap (drop (get_or done q 0)) (runs.others q le) ∙ drop-nil (get_or done q 0)
+none_beyond : (all : Bool) (base : Store) (f : ℕ) (journal : Journals) (done : List ℕ) → AreLocalRuns base f journal → (q : ℕ) → size f ≤ q → rests all journal done q ≡ []
+none_beyond all base f journal done runs q le = ap (λ z. taken all (drop (get_or done q 0) z)) (runs.others q le) ∙ ap (taken all) (drop-nil (get_or done q 0))
 
-module _ (base : Store) (f : ℕ) (journal : Journals) (runs : AreLocalRuns base f journal) (done : List ℕ) (long : length done ≡ size f) (t : EntryPlace) (e : Some t ≡ least_turn (size f) (rests journal done)) where
-  pub turn_is : IsLeastTurn (size f) (rests journal done) t
-  turn_is = is_next (size f) (rests journal done) (Some t) e
+module _ (all : Bool) (base : Store) (f : ℕ) (journal : Journals) (runs : AreLocalRuns base f journal) (done : List ℕ) (long : length done ≡ size f) (t : EntryPlace) (e : Some t ≡ least_turn (size f) (rests all journal done)) where
+  pub turn_is : IsLeastTurn (size f) (rests all journal done) t
+  turn_is = is_next (size f) (rests all journal done) (Some t) e
 
   pub turn_below : t.replica < length done
   turn_below = let b = turn_is.below in omega arith
 
-  pub turn_goes : Goes (rests journal done) (rests journal (set done t.replica t.number)) t
-  turn_goes = goes journal done t (runs.local t.replica).0 turn_is.first turn_below
+  pub turn_goes : Goes (rests all journal done) (rests all journal (set done t.replica t.number)) t
+  turn_goes = goes all journal done t (runs.local t.replica).0 turn_is.first turn_below
 
-  pub fewer_left : left_below (size f) (rests journal (set done t.replica t.number)) < left_below (size f) (rests journal done)
-  fewer_left = left_falls (size f) (rests journal done) (rests journal (set done t.replica t.number)) t turn_goes turn_is.below
+  pub fewer_left : left_below (size f) (rests all journal (set done t.replica t.number)) < left_below (size f) (rests all journal done)
+  fewer_left = left_falls (size f) (rests all journal done) (rests all journal (set done t.replica t.number)) t turn_goes turn_is.below
 
-  pub remains_next : (made : List (ℕ × ℕ)) (schedule : List Scheduled) → Remains journal done made schedule → Remains journal (set done t.replica t.number) (made ++ ((t.replica, t.number) ∷ [])) schedule
+  pub remains_next : (made : List (ℕ × ℕ)) (schedule : List Scheduled) → Remains all journal done made schedule → Remains all journal (set done t.replica t.number) (made ++ ((t.replica, t.number) ∷ [])) schedule
   remains_next made schedule m =
-      let b = next_is (size f) (rests journal done) (rests journal (set done t.replica t.number)) t turn_is (none_beyond base f journal done runs) turn_goes m.rest m.scheduled in
+      let b = next_is (size f) (rests all journal done) (rests all journal (set done t.replica t.number)) t turn_is (none_beyond all base f journal done runs) turn_goes m.rest m.scheduled in
       record {
         rest = b.rest;
         scheduled = b.scheduled;
         whole = append_assoc made ((t.replica, t.number) ∷ []) (places_of b.rest) ∙ ap (λ z. made ++ z) (sym b.is) ∙ m.whole;
       }
 
-pub remains_first : (f : ℕ) (journal : Journals) (done : List ℕ) (schedule : List Scheduled) → ((q : ℕ) → get_or done q 0 ≡ 0) → IsSchedule journal schedule → Remains journal done [] schedule
-remains_first f journal done schedule zeros h = record {
-  rest = schedule;
-  scheduled = ((λ q. h.0 q ∙ ap (λ k. drop k (journal q)) (sym (zeros q))), h.1);
-  whole = refl;
-}
+pub remains_first : (all : Bool) (f : ℕ) (journal : Journals) (done : List ℕ) (schedule : List Scheduled) → ((q : ℕ) → get_or done q 0 ≡ 0) → IsSchedule journal schedule → Remains all journal done [] (taken_of all schedule)
+remains_first all f journal done schedule zeros h =
+    let t = taken_schedule all journal schedule h in
+    record {
+      rest = taken_of all schedule;
+      scheduled = ((λ q. t.0 q ∙ ap (λ k. taken all (drop k (journal q))) (sym (zeros q))), t.1);
+      whole = refl;
+    }
 
-pub remains_all : (base : Store) (f : ℕ) (journal : Journals) (done : List ℕ) (made : List (ℕ × ℕ)) (schedule : List Scheduled) → AreLocalRuns base f journal → None ≡ least_turn (size f) (rests journal done) → Remains journal done made schedule → made ≡ places_of schedule
-remains_all base f journal done made schedule runs e m =
-    let none = is_next (size f) (rests journal done) None e in
-    let all : (q : ℕ) → rests journal done q ≡ [] = λ q. elim (cases_lt q (size f)) [ inl lt ↦ none q lt | inr ge ↦ none_beyond base f journal done runs q ge ] in
-    sym (append-nil made) ∙ ap (λ s. made ++ places_of s) (sym (none_left (rests journal done) all m.rest m.scheduled)) ∙ m.whole
+pub remains_all : (all : Bool) (base : Store) (f : ℕ) (journal : Journals) (done : List ℕ) (made : List (ℕ × ℕ)) (schedule : List Scheduled) → AreLocalRuns base f journal → None ≡ least_turn (size f) (rests all journal done) → Remains all journal done made schedule → made ≡ places_of schedule
+remains_all all base f journal done made schedule runs e m =
+    let none = is_next (size f) (rests all journal done) None e in
+    let empty : (q : ℕ) → rests all journal done q ≡ [] = λ q. elim (cases_lt q (size f)) [ inl lt ↦ none q lt | inr ge ↦ none_beyond all base f journal done runs q ge ] in
+    sym (append-nil made) ∙ ap (λ s. made ++ places_of s) (sym (none_left (rests all journal done) empty m.rest m.scheduled)) ∙ m.whole
 
 abbrev pub zeros : ℕ → List ℕ
 zeros n = replicate n 0
@@ -306,18 +390,18 @@ first_more n journal turns after turn is grown h = subst (AreFirst (n + 1) journ
   ],
 )
 
-pub first_begins : (n : ℕ) (journal : Journals) (done : List ℕ) (turns : List (Option EntryPlace)) → ((q : ℕ) → get_or done q 0 ≡ 0) → AreFirst n journal turns → AreFirst n (rests journal done) turns
-first_begins n journal done turns none h = (h.0, λ r lt. h.1 r lt ∙ ap (λ k. first_turn r (drop k (journal r))) (sym (none r)))
+pub first_begins : (all : Bool) (n : ℕ) (journal : Journals) (done : List ℕ) (turns : List (Option EntryPlace)) → ((q : ℕ) → get_or done q 0 ≡ 0) → AreFirst n (all_taken all journal) turns → AreFirst n (rests all journal done) turns
+first_begins all n journal done turns none h = (h.0, λ r lt. h.1 r lt ∙ ap (λ k. first_turn r (taken all (drop k (journal r)))) (sym (none r)))
 
-pub first_next : (n : ℕ) (journal : Journals) (done : List ℕ) (turns : List (Option EntryPlace)) (r number : ℕ) (turn : Option EntryPlace) → length done ≡ n → r < n → turn ≡ first_turn r (drop number (journal r)) → AreFirst n (rests journal done) turns
-    → AreFirst n (rests journal (set done r number)) (set turns r turn)
-first_next n journal done turns r number turn long below is h = (
+pub first_next : (all : Bool) (n : ℕ) (journal : Journals) (done : List ℕ) (turns : List (Option EntryPlace)) (r number : ℕ) (turn : Option EntryPlace) → length done ≡ n → r < n → turn ≡ first_turn r (taken all (drop number (journal r))) → AreFirst n (rests all journal done) turns
+    → AreFirst n (rests all journal (set done r number)) (set turns r turn)
+first_next all n journal done turns r number turn long below is h = (
   length-set turns r turn ∙ h.0,
   λ q lt. elim (cases_eq q r) [
     | inl same ↦ ap (λ k. get_or (set turns r turn) k None) same ∙ get_or-set_same turns r turn None (let k : length turns ≡ n = h.0 in omega arith)
         ∙ is
-        ∙ ap (λ k. first_turn r (drop k (journal r))) (sym (get_or-set_same done r number 0 (omega arith)))
-        ∙ (λ t. first_turn (sym same t) (rests journal (set done r number) (sym same t)))
-    | inr ne ↦ get_or-set_other turns r q turn None ne ∙ h.1 q lt ∙ ap (λ k. first_turn q (drop k (journal q))) (sym (get_or-set_other done r q number 0 ne))
+        ∙ ap (λ k. first_turn r (taken all (drop k (journal r)))) (sym (get_or-set_same done r number 0 (omega arith)))
+        ∙ (λ t. first_turn (sym same t) (rests all journal (set done r number) (sym same t)))
+    | inr ne ↦ get_or-set_other turns r q turn None ne ∙ h.1 q lt ∙ ap (λ k. first_turn q (taken all (drop k (journal q)))) (sym (get_or-set_other done r q number 0 ne))
   ],
 )

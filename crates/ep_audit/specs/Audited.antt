@@ -16,7 +16,8 @@ use Rattle.ep_rules.specs.Worlds.{In, IsRun, opening}
 use Rattle.ep_rules.specs.declared.receipt.Receipt.{Receipt}
 use Rattle.ep_audit.specs.Faults.{fault_of}
 use Rattle.ep_audit.specs.declared.closing.Closing.{Closing}
-use Rattle.ep_audit.specs.Verdicts.{instances_in, left_after, IsVerdict}
+use Rattle.ep_audit.specs.Verdicts.{instances_in, left_by, places_of, summary_of, IsSummary}
+use Rattle.ep_audit.specs.declared.summary.Summary.{Summary}
 use Rattle.ep_audit.specs.declared.verdict.Verdict.{Verdict}
 use Rattle.ep_audit.specs.declared.verdict_fault.VerdictFault.{VerdictFault}
 use Rattle.ep_audit.specs.declared.verdict_fault.VerdictFault.TheVariants.{Memory, Fault}
@@ -53,21 +54,26 @@ pub record IsOneHistory (base : Store) (f : ℕ) (journal : Journals) (receipts 
   pub callers :
       (t u : Receipt) → In t receipts → In u receipts → u.stamp ≤ t.seen → Has h t.instance → Has h u.instance → place h u.instance < place h t.instance
 
--- The journals of replicas that open with the map m have one closing, which the verdict tells.
-pub record IsOneClosing (m : Contents) (f : ℕ) (journal : Journals) (v : Verdict) : Type 0 where
-  -- whose journal has executed a seal leaves the map that the verdict's history leaves, closed by the verdict's seal
-  pub left : (r : ℕ) → is_closed (store_left m f journal r) ≡ true → store_left m f journal r ≡ record { contents = left_after (opened m) v; seal = option_map (λ c. c.value) v.closing }
+-- The journals of replicas that open with the map m have one closing, which the summary tells.
+pub record IsOneClosing (m : Contents) (f : ℕ) (journal : Journals) (v : Summary) : Type 0 where
+  -- whose journal has executed a seal leaves the map that the summary's history leaves, closed by the summary's seal
+  pub left : (r : ℕ) → is_closed (store_left m f journal r) ≡ true → store_left m f journal r ≡ record { contents = left_by (opened m) v.history.items; seal = option_map (λ c. c.value) v.closing }
   -- and where the history has a seal, somebody has executed it
-  pub somebody : (c : Closing) → v.closing ≡ Some c → (r : ℕ) × (store_left m f journal r ≡ record { contents = left_after (opened m) v; seal = Some c.value })
+  pub somebody : (c : Closing) → v.closing ≡ Some c → (r : ℕ) × (store_left m f journal r ≡ record { contents = left_by (opened m) v.history.items; seal = Some c.value })
 
--- the verdict of journals and receipts that are accepted: its schedule and its history are those of the run
-pub record IsAudited (base : Store) (f : ℕ) (journal : Journals) (receipts : List Receipt) (v : Verdict) : Type 0 where
+-- what journals and receipts say that are accepted: its history is that of the run
+pub record IsSummarized (base : Store) (f : ℕ) (journal : Journals) (receipts : List Receipt) (s : Summary) : Type 0 where
   pub accepted : IsAccepted base f journal receipts
-  pub verdict : IsVerdict base f journal v
+  pub summary : IsSummary base f journal s
   -- what the laws of runs that merge are said of
-  pub merges : Merges base f journal verdict.order
-  pub history : IsOneHistory base f journal receipts verdict.order (instances_in v.history.items)
-  pub closing : (m : Contents) → base ≡ opened m → IsOneClosing m f journal v
+  pub merges : Merges base f journal summary.order
+  pub history : IsOneHistory base f journal receipts summary.order (instances_in s.history.items)
+  pub closing : (m : Contents) → base ≡ opened m → IsOneClosing m f journal s
+
+-- the verdict of journals and receipts that are accepted: its schedule is that of the run, too
+pub record IsAudited (base : Store) (f : ℕ) (journal : Journals) (receipts : List Receipt) (v : Verdict) : Type 0 where
+  pub says : IsSummarized base f journal receipts (summary_of v)
+  pub schedule : v.schedule.items ≡ places_of says.summary.order
 
 -- why there is no verdict: want of memory, or the first fault
 abbrev pub IsRefused : Store → ℕ → Journals → List Receipt → VerdictFault → Type 0

@@ -13,6 +13,7 @@ use Rattle.ep_rules.specs.Worlds.{In}
 use Rattle.ep_audit.specs.declared.happening.Happening.{Happening}
 use Rattle.ep_audit.specs.Closings.{operations_in, IsClosing}
 use Rattle.ep_audit.specs.Lines.{told_by}
+use Rattle.ep_audit.specs.declared.summary.Summary.{Summary}
 use Rattle.ep_audit.specs.declared.verdict.Verdict.{Verdict}
 
 -- the replica of each entry, with the entry's number
@@ -49,15 +50,27 @@ pub record IsHistory (base : Store) (f : ℕ) (journal : Journals) (schedule : L
   pub told : (h : Happening) → In h lines → (answer : Answer) × AnswersFirst schedule h.instance answer × (told_by answer ≡ h.reply)
   pub replies : Merges base f journal schedule → replies_in lines ≡ replies base (commands_in lines)
 
--- the schedule of the journals of replicas that open with the map base, all that they commit, their history, and its first seal
-pub record IsVerdict (base : Store) (f : ℕ) (journal : Journals) (verdict : Verdict) : Type 0 where
+-- what a verdict says besides its schedule
+abbrev pub summary_of : Verdict → Summary
+summary_of v = record { committed = v.committed; history = v.history; closing = v.closing }
+
+-- all that the journals of replicas that open with the map base commit, the history of their schedule, and its first seal
+pub record IsSummary (base : Store) (f : ℕ) (journal : Journals) (summary : Summary) : Type 0 where
   pub order : List Scheduled
   pub scheduled : IsSchedule journal order
-  pub schedule : verdict.schedule.items ≡ places_of order
-  pub committed : IsTable base f journal verdict.committed.items
-  pub history : IsHistory base f journal order verdict.history.items
-  pub closing : IsClosing journal (operations_in verdict.history.items) verdict.closing
+  pub committed : IsTable base f journal summary.committed.items
+  pub history : IsHistory base f journal order summary.history.items
+  pub closing : IsClosing journal (operations_in summary.history.items) summary.closing
 
--- what the keys have after all of the verdict's history, from base on: a seal closes the map, so what comes after it changes nothing
+-- and the schedule
+pub record IsVerdict (base : Store) (f : ℕ) (journal : Journals) (verdict : Verdict) : Type 0 where
+  pub says : IsSummary base f journal (summary_of verdict)
+  pub schedule : verdict.schedule.items ≡ places_of says.order
+
+-- what the keys have after all of these lines, from base on: a seal closes the map, so what comes after it changes nothing
+abbrev pub left_by : Store → List Happening → Contents
+left_by base lines = (after_commands base (commands_in lines)).contents
+
+-- what they have after all of the verdict's history
 abbrev pub left_after : Store → Verdict → Contents
-left_after base verdict = (after_commands base (commands_in verdict.history.items)).contents
+left_after base verdict = left_by base verdict.history.items

@@ -3,8 +3,8 @@
 ghost use Rattle.std.specs.Prelude.{◌≡◌, ◌<◌, ◌^◌, length, IfOk, OnOk};
 ghost use Rattle.std.specs.FinMap.{entries};
 ghost use Rattle.ep_journal.specs.Openings.{opens};
-ghost use Rattle.ep_rules.specs.OneMap.{after, after_commands};
-ghost use Rattle.ep_audit.specs.Verdicts.{commands_in};
+ghost use Rattle.ep_rules.specs.OneMap.{after};
+ghost use Rattle.ep_audit.specs.Verdicts.{left_by};
 
 use crate::happening::Happening;
 use ep_base::Command;
@@ -25,12 +25,12 @@ fn apply(store: &mut Store, command: &Command) -> Result<(), AllocError>
 }
 
 /// What the keys have after the history, from the opening on; more than fit into 32 bits are want of memory.
-pub(crate) fn contents_of(
+pub fn contents_of(
     alloc: Global,
     opening: &Opening,
     history: &[Happening],
 ) -> Result<Contents, AllocError>
-    ensures value { IfOk result (λ m. m ≡ (after_commands (opens opening.now) (commands_in history.now)).contents) }
+    ensures value { IfOk result (λ m. m ≡ left_by (opens opening.now) history.now) }
     ensures few { IfOk result (λ m. length (entries m) < 2 ^ 32) }
 {
     let mut store = Store::opened(alloc, opening.contents())?;

@@ -1,12 +1,12 @@
 //! The next entries of journals.
 
-ghost use Rattle.std.specs.Prelude.{◌≡◌, ◌<◌, drop, length};
+ghost use Rattle.std.specs.Prelude.{◌≡◌, ◌<◌, drop, length, option_copied};
 ghost use Rattle.ep_base.specs.Quorums.{size};
 ghost use Rattle.ep_journal.specs.Entries.{journals_of};
-ghost use Rattle.ep_audit.specs.Turns.{first_turn, earlier, least_of};
+ghost use Rattle.ep_audit.specs.Turns.{first_turn, earlier, first_taken, least_of, taken, takes};
 
 use ep_base::{ReplicaId, Stamp};
-use ep_journal::Journals;
+use ep_journal::{Entry, Journals};
 
 /// An entry of a replica's journal, by its number and stamp.
 #[derive(Clone, Copy)]
@@ -16,15 +16,42 @@ pub(crate) struct EntryPlace {
     pub stamp: Stamp,
 }
 
-/// The first entry of the replica's journal after so many.
-pub(crate) fn first(journals: &Journals, replica: ReplicaId, done: usize) -> Option<EntryPlace>
+/// Whether a merge takes the entry: a merge of all takes any, another one only an entry that executes something.
+fn takes(all: bool, entry: &Entry) -> bool
+    ensures { result ≡ takes all entry.now.done }
+{
+    all || !entry.done.as_slice().is_empty()
+}
+
+/// The first of the entries that the merge takes.
+fn first_taken(all: bool, entries: &[Entry]) -> Option<&Entry>
+    ensures { option_copied result ≡ first_taken all entries.now }
+{
+    for entry in entries {
+        if takes(all, entry) {
+            return Some(entry);
+        }
+    }
+    None
+}
+
+/// The first entry of the replica's journal, after so many, that the merge takes.
+pub(crate) fn first(
+    all: bool,
+    journals: &Journals,
+    replica: ReplicaId,
+    done: usize,
+) -> Option<EntryPlace>
     requires { replica < size journals.now.faults }
-    ensures { result ≡ first_turn replica (drop done (journals_of journals.now replica)) }
+    ensures { result ≡ first_turn replica (taken all (drop done (journals_of journals.now replica))) }
 {
     let Some(journal) = journals.get(replica) else {
         return None;
     };
-    let Some(entry) = journal.entries().get(done) else {
+    let Some(rest) = journal.entries().get(done..) else {
+        return None;
+    };
+    let Some(entry) = first_taken(all, rest) else {
         return None;
     };
     Some(EntryPlace {

@@ -1,12 +1,13 @@
 //! The history of journals, with replies.
 
-ghost use Rattle.std.specs.Prelude.{◌≡◌, ◌++◌, ◌⊎◌, ◌↔◌, ℕ, List, [], Some, OnOk, IfOk};
+ghost use Rattle.std.specs.Prelude.{◌≡◌, ◌++◌, ◌⊎◌, ◌↔◌, ℕ, List, [], Some, OnOk, IfOk, false};
 ghost use Rattle.ep_base.specs.Places.{Has};
 ghost use Rattle.ep_rules.specs.Journals.{Scheduled, IsSchedule};
 ghost use Rattle.ep_rules.specs.Steps.{order_of};
 ghost use Rattle.ep_journal.specs.Entries.{journals_of};
 ghost use Rattle.ep_audit.specs.Lines.{told_by, line_at, line_of, lines_of, lines_in};
 ghost use Rattle.ep_audit.specs.Tables.{agreed_in};
+ghost use Rattle.ep_audit.specs.Turns.{taken_of};
 ghost use Rattle.ep_audit.specs.Verdicts.{places_of};
 
 use crate::happening::Happening;
@@ -105,20 +106,21 @@ fn see_all(seen: &mut Executed, done: &[(InstanceId, Answer)]) -> Result<(), All
     Ok(())
 }
 
-/// The commands that were executed, each once, in the order of first executions, with their replies; no-ops are left out.
+/// The commands that were executed, each once, in the order of first executions, with their replies; no-ops are left out. What is handed in are
+/// the entries that execute something, in the schedule's order: no other one has a part in the history.
 pub(crate) fn history_of(
     alloc: Global,
     journals: &Journals,
-    schedule: &[(ReplicaId, u32)],
+    executing: &[(ReplicaId, u32)],
 ) -> Result<Vec<Happening>, AllocError>
-    requires { (s : List Scheduled) → IsSchedule (journals_of journals.now) s → schedule.now ≡ places_of s }
+    requires { (s : List Scheduled) → IsSchedule (journals_of journals.now) s → executing.now ≡ places_of (taken_of false s) }
     ensures { IfOk result (λ v. (s : List Scheduled) → IsSchedule (journals_of journals.now) s → v.items ≡ lines_in (agreed_in journals.now) [] s) }
 {
     journals.are_journals();
     journals.are_local_runs();
     let mut seen = Executed::new(alloc);
     let mut lines = Vec::new(alloc);
-    for (replica, number) in schedule {
+    for (replica, number) in executing {
         if let Some(entry) = entry_at(journals, *replica, *number) {
             let done = entry.done.as_slice();
             add_executions(alloc, journals, &seen, done, &mut lines)?;

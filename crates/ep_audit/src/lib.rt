@@ -9,8 +9,9 @@
 //!
 //! The work is in two halves. `matching.rt` finds the first fault (`listing.rt` all of them): it goes through the handled frames by replica and entry, and then through the
 //! receipts, and answers the first one that isn't as `IsAccepted` of `ep_rules`, specs/Audits.antt, asks. Frames and proposals are found by
-//! their places, so that an audit is one pass. `verdict.rt` tells what the journals say (specs/Verdicts.antt): it merges the entries by stamp and replica,
-//! collects what is committed, and takes each command at its first execution. That the replies told are one map's is a law of `ep_rules` on journals
+//! their places, so that an audit is one pass. `summary.rt` tells what the journals say (specs/Verdicts.antt): it
+//! collects what is committed, merges the entries that execute something by stamp and replica, and takes each command at its first execution. `verdict.rt` adds the
+//! schedule: all entries, merged. That the replies told are one map's is a law of `ep_rules` on journals
 //! that match, and not work done here.
 //!
 //! The order of the checks is part of the contract: which fault is told first. How things are found, merged and looked up isn't.
@@ -38,6 +39,8 @@ mod lookups;
 mod matching;
 mod proposals;
 mod seals;
+mod summarizing;
+mod summary;
 mod table;
 mod upgrade_law;
 mod verdict;
@@ -50,10 +53,13 @@ pub use chain_fault::ChainFault;
 pub use chain_link::ChainLink;
 pub use chain_verdict_fault::ChainVerdictFault;
 pub use closing::Closing;
+pub use contents::contents_of;
 pub use happening::Happening;
 pub use listing::faults;
 pub use lookups::{entries_of, entry_at, is_request, proposed, sent_there};
 pub use matching::first_fault;
+pub use summarizing::audit_summary;
+pub use summary::Summary;
 pub use upgrade_law::upgraded_says_the_same;
 pub use verdict::Verdict;
 pub use verdict_fault::VerdictFault;

@@ -9,10 +9,8 @@ ghost use Rattle.ep_audit.specs.Verdicts.{IsVerdict, left_after};
 use crate::closing::Closing;
 use crate::contents::contents_of;
 use crate::happening::Happening;
-use crate::history::history_of;
-use crate::in_order::schedule;
-use crate::seals::closing_of;
-use crate::table::table_of;
+use crate::in_order::merged;
+use crate::summary::Summary;
 use ep_base::{Decree, InstanceId, ReplicaId};
 use ep_exec::Contents;
 use ep_journal::Journals;
@@ -39,11 +37,12 @@ impl Verdict {
     pub fn of(alloc: Global, journals: &Journals) -> Result<Verdict, AllocError>
         ensures { IfOk result (λ v. IsVerdict (opens journals.now.opening) journals.now.faults (journals_of journals.now) v) }
     {
-        journals.are_local_runs();
-        let schedule = schedule(alloc, journals)?;
-        let committed = table_of(alloc, journals)?;
-        let history = history_of(alloc, journals, &schedule)?;
-        let closing = closing_of(alloc, journals, &history)?;
+        let schedule = merged(alloc, true, journals)?;
+        let Summary {
+            committed,
+            history,
+            closing,
+        } = Summary::of(alloc, journals)?;
         Ok(Verdict {
             schedule,
             committed,

@@ -3,7 +3,6 @@ mod Linked
 mod Choosing
 pub mod Ending
 mod Flags
-mod Judging
 mod Making
 mod Ranges
 mod Rewriting

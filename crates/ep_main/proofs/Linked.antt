@@ -14,6 +14,7 @@ use Rattle.ep_bundle.specs.declared.bundle_fault.BundleFault.{BundleFault}
 use Rattle.ep_bundle.specs.declared.bundle_fault.BundleFault.TheVariants as bundle
 use Rattle.ep_report.specs.Lives.{Life, link_line}
 use Rattle.ep_audit.specs.declared.chain_fault.ChainFault.{ChainFault}
+use Rattle.ep_audit.specs.Verdicts.{summary_of}
 use Rattle.ep_audit.specs.declared.verdict.Verdict.{Verdict}
 use Rattle.ep_main.specs.ChainLines.{IsRefusal, IsUnreadLate}
 use Rattle.ep_main.specs.Chains.{AreRead, Chains, EndsOfFiles, IsBadFile, IsOfBytes, IsLinkOf, IsNoFile, IsNoLink, IsStopped, IsToldChain, IsWritten, ReadsLate, SaysOfChain, chain_text, file_line, life_text, link_text, links_text}
@@ -145,19 +146,19 @@ read_more ls l read one = All-append (λ (x : ChainLink). (zs : List ℕ) × IsL
 -- The lines of generations.
 
 pub link_told :
-    (l : ChainLink) (v : Verdict) (life : Life) (old new : List ℕ) → Some life ≡ life_in l.journals v →
+    (l : ChainLink) (v : Verdict) (life : Life) (old new : List ℕ) → Some life ≡ life_in l.journals (summary_of v) →
     new ≡ old ++ link_line life (length v.committed.items) (length v.history.items) ++ codes "\n" → new ≡ old ++ link_text l v
 link_told l v life old new some is =
     is ∙ append_assoc old (link_line life (length v.committed.items) (length v.history.items)) (codes "\n") ∙ ap (λ (o : Option Life). old ++ life_text o v) some
 
 pub line_told :
-    {A E : Type 0} (r : Result A E) (l : ChainLink) (v : Verdict) (life : Life) (n m : ℕ) (old new : List ℕ) → Some life ≡ life_in l.journals v → n ≡ length v.committed.items → m ≡ length v.history.items →
+    {A E : Type 0} (r : Result A E) (l : ChainLink) (v : Verdict) (life : Life) (n m : ℕ) (old new : List ℕ) → Some life ≡ life_in l.journals (summary_of v) → n ≡ length v.committed.items → m ≡ length v.history.items →
     OnOk r (new ≡ old ++ link_line life n m ++ codes "\n") → OnOk r (new ≡ old ++ link_text l v)
 line_told {A} {E} (Ok a) l v life n m old new some is is' h =
     link_told l v life old new some (h ∙ ap₂ (λ (x y : ℕ). old ++ link_line life x y ++ codes "\n") is is')
 line_told {A} {E} (Err e) l v life n m old new some is is' h = tt
 
-pub link_silent : (l : ChainLink) (v : Verdict) (old : List ℕ) → None ≡ life_in l.journals v → old ≡ old ++ link_text l v
+pub link_silent : (l : ChainLink) (v : Verdict) (old : List ℕ) → None ≡ life_in l.journals (summary_of v) → old ≡ old ++ link_text l v
 link_silent l v old none = sym (append-nil old) ∙ ap (λ (o : Option Life). old ++ life_text o v) none
 
 pub line_more :

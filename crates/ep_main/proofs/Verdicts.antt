@@ -9,6 +9,7 @@ use Rattle.ep_audit.specs.Faults.{fault_of}
 use Rattle.ep_audit.specs.declared.audit_fault.AuditFault.{AuditFault}
 use Rattle.ep_rules.specs.Audits.{IsFault}
 use Rattle.ep_run.specs.declared.ran.Ran.{Ran}
+use Rattle.ep_audit.specs.Verdicts.{summary_of}
 use Rattle.ep_audit.specs.declared.verdict.Verdict.{Verdict}
 use Rattle.ep_main.proofs.Flags.{run_verdict}
 use Rattle.ep_main.specs.Audits.{SaysOfRun}
@@ -45,7 +46,7 @@ refused_in ran e is finished =
 pub bundled_in :
     (ran : Ran) (v : Verdict) (text : List ℕ) → ran.finished.verdict ≡ Ok v → IsFinished ran.receipts.items ran.finished →
     text ≡ bundle_bytes ran.finished.journals ran.receipts.items → SaysOfRun Bundle ran Done text
-bundled_in ran v text is finished same = (v, accepted_in ran v is finished, same)
+bundled_in ran v text is finished same = (summary_of v, (accepted_in ran v is finished).says, same)
 
 pub bundled_refused :
     (ran : Ran) (e : AuditFault) (text : List ℕ) → ran.finished.verdict ≡ Err e → IsFinished ran.receipts.items ran.finished →

@@ -9,8 +9,8 @@ use Rattle.ep_rules.specs.Audits.{Fault, IsFault}
 use Rattle.ep_rules.specs.declared.receipt.Receipt.{Receipt}
 use Rattle.ep_report.specs.Reports.{text_of, run_lines}
 use Rattle.ep_run.specs.declared.ran.Ran.{Ran}
-use Rattle.ep_audit.specs.declared.verdict.Verdict.{Verdict}
-use Rattle.ep_audit.specs.Audited.{IsAudited}
+use Rattle.ep_audit.specs.declared.summary.Summary.{Summary}
+use Rattle.ep_audit.specs.Audited.{IsSummarized}
 use Rattle.ep_report.specs.Judging.{accepted_text, refusal_text}
 use Rattle.ep_report.specs.Lives.{life_in}
 use Rattle.ep_cli.specs.Outputs.{Output, Wrote}
@@ -19,17 +19,17 @@ use Rattle.ep_main.specs.declared.asked.Emit.TheVariants.{Report, Bundle}
 use Rattle.ep_cli.specs.declared.status.Status.{Status}
 use Rattle.ep_cli.specs.declared.status.Status.TheVariants.{Done, AuditRefused, Refused, OutOfMemory, Failed}
 
--- the audit accepts, and the text is this of its verdict; or it refuses, and the text is that of the first fault
-abbrev pub Judges : Collected → List Receipt → (Verdict → List ℕ) → (Fault → List ℕ) → Status → List ℕ → Type 0
+-- the audit accepts, and the text is this of what it says; or it refuses, and the text is that of the first fault
+abbrev pub Judges : Collected → List Receipt → (Summary → List ℕ) → (Fault → List ℕ) → Status → List ℕ → Type 0
 Judges journals receipts accepted refused Done text =
-    (verdict : Verdict) × IsAudited (opens journals.opening) journals.faults (journals_of journals) receipts verdict × (text ≡ accepted verdict)
+    (summary : Summary) × IsSummarized (opens journals.opening) journals.faults (journals_of journals) receipts summary × (text ≡ accepted summary)
 Judges journals receipts accepted refused AuditRefused text =
     (fault : Fault) × IsFault (opens journals.opening) journals.faults (journals_of journals) receipts fault × (text ≡ refused fault)
 Judges journals receipts accepted refused Refused text = ⊥
 Judges journals receipts accepted refused OutOfMemory text = ⊥
 Judges journals receipts accepted refused Failed text = ⊥
 
--- of a bundle: its verdict and the receipts, or the first fault
+-- of a bundle: what it says and the receipts, or the first fault
 abbrev pub Says : Collected → List Receipt → Status → List ℕ → Type 0
 Says journals receipts status text =
     Judges journals receipts (accepted_text journals receipts) refusal_text status text
@@ -37,10 +37,10 @@ Says journals receipts status text =
 -- of a run: its report, or the first fault; or, whatever the audit says, the bundle of what the run left
 abbrev pub SaysOfRun : Emit → Ran → Status → List ℕ → Type 0
 SaysOfRun Report ran status text =
-    Judges ran.finished.journals ran.receipts.items (λ v. text_of (run_lines (life_in ran.finished.journals v) v.committed.items v.history.items ran.receipts.items ran.refused.items ran.lost)) refusal_text
+    Judges ran.finished.journals ran.receipts.items (λ s. text_of (run_lines (life_in ran.finished.journals s) s.committed.items s.history.items ran.receipts.items ran.refused.items ran.lost)) refusal_text
     status text
 SaysOfRun Bundle ran status text =
-    Judges ran.finished.journals ran.receipts.items (λ v. bundle_bytes ran.finished.journals ran.receipts.items) (λ f. bundle_bytes ran.finished.journals ran.receipts.items)
+    Judges ran.finished.journals ran.receipts.items (λ s. bundle_bytes ran.finished.journals ran.receipts.items) (λ f. bundle_bytes ran.finished.journals ran.receipts.items)
     status text
 
 -- The bytes are one bundle, and what was written is what the audit says of it.

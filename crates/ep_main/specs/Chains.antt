@@ -13,6 +13,7 @@ use Rattle.ep_bundle.specs.declared.bundle_fault.BundleFault.TheVariants as bund
 use Rattle.ep_report.specs.Lives.{Life, link_line}
 use Rattle.ep_report.specs.Reports.{text_of, chain_refusal_lines}
 use Rattle.ep_audit.specs.declared.chain_fault.ChainFault.{ChainFault}
+use Rattle.ep_audit.specs.Verdicts.{summary_of}
 use Rattle.ep_audit.specs.declared.verdict.Verdict.{Verdict}
 use Rattle.ep_cli.specs.Lines.{writing_failed}
 use Rattle.ep_device.specs.declared.system_fault.SystemFault.{SystemFault}
@@ -80,7 +81,7 @@ life_text (Some life) v = link_line life (length v.committed.items) (length v.hi
 
 -- the line of a generation
 abbrev pub link_text : ChainLink → Verdict → List ℕ
-link_text l v = life_text (life_in l.journals v) v
+link_text l v = life_text (life_in l.journals (summary_of v)) v
 
 abbrev pub links_text : List ChainLink → List Verdict → List ℕ
 links_text [] vs = []

@@ -5,19 +5,19 @@ use Rattle.ep_journal.specs.Entries.{journals_of}
 use Rattle.ep_journal.specs.Openings.{opens}
 use Rattle.ep_report.specs.Reports.{text_of, accepted_lines, refused_lines}
 use Rattle.ep_script.specs.Plan.{Plan}
-use Rattle.ep_audit.specs.declared.verdict.Verdict.{Verdict}
-use Rattle.ep_audit.specs.Audited.{IsAudited}
+use Rattle.ep_audit.specs.declared.summary.Summary.{Summary}
+use Rattle.ep_audit.specs.Audited.{IsSummarized}
 use Rattle.ep_report.specs.Lives.{life_in}
 use Rattle.ep_replay.specs.Outcome.{IsReplay}
 use Rattle.ep_main.specs.declared.asked.Emit.{Emit}
 use Rattle.ep_main.specs.declared.asked.Emit.TheVariants.{Report, Bundle}
 use Rattle.ep_replay.specs.declared.replayed.Replayed.{Replayed}
 
--- The audit accepts what the run left, and the text is the audit's verdict, the receipts, and the lines that were refused.
+-- The audit accepts what the run left, and the text is what the audit says, the receipts, and the lines that were refused.
 pub record IsReportOf (played : Replayed) (text : List ℕ) : Type 0 where
-  pub verdict : Verdict
-  pub audited : IsAudited (opens played.journals.opening) played.journals.faults (journals_of played.journals) played.receipts.items verdict
-  pub printed : text ≡ text_of (accepted_lines (life_in played.journals verdict) verdict.committed.items verdict.history.items played.receipts.items ++ refused_lines played.refused.items)
+  pub summary : Summary
+  pub audited : IsSummarized (opens played.journals.opening) played.journals.faults (journals_of played.journals) played.receipts.items summary
+  pub printed : text ≡ text_of (accepted_lines (life_in played.journals summary) summary.committed.items summary.history.items played.receipts.items ++ refused_lines played.refused.items)
 
 -- The text is the report of what the protocol plays of the script.
 pub record IsReport (plan : Plan) (text : List ℕ) : Type 0 where

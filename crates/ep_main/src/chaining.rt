@@ -112,8 +112,8 @@ fn push_link(
 ) -> Result<(), AllocError>
     ensures { OnOk result (text.new.items ≡ text.old.items ++ link_text link.now verdict.now) }
 {
-    let contents = told_contents(alloc, &link.journals, verdict)?;
-    let Some(life) = life_of(&link.journals, verdict, &contents) else {
+    let contents = told_contents(alloc, &link.journals, &verdict.history)?;
+    let Some(life) = life_of(&link.journals, verdict.closing.as_ref(), &contents) else {
         return Ok(());
     };
     push_link_line(text, &life, verdict.committed.len(), verdict.history.len())

@@ -16,7 +16,7 @@ ghost use Rattle.ep_main.specs.declared.engine_fault.EngineFault.TheVariants.{Me
 use crate::asked::Emit;
 use crate::engine_fault::EngineFault;
 use crate::gathering::gather_bundle;
-use ep_audit::{VerdictFault, audit};
+use ep_audit::Summary;
 use ep_base::Source;
 use ep_cli::{Made, Status};
 use ep_replay::{Replayed, replay};
@@ -72,27 +72,22 @@ fn bundle_of(alloc: Global, played: &Replayed) -> Result<Vec<u8>, EngineFault>
     gather_bundle(alloc, &played.journals, played.receipts.as_slice())
 }
 
-/// The report of what a script's run left, which the audit accepts.
+/// The report of what a script's run left. The audit accepts that, so none is made.
 fn report_of(alloc: Global, played: &Replayed) -> Result<Vec<u8>, EngineFault>
     requires { IsAccepted (opens played.now.journals.opening) played.now.journals.faults (journals_of played.now.journals) played.now.receipts.items }
     ensures value { IfOk result (λ text. IsReportOf played.now text.items) }
     ensures memory { IfErr result (λ e. e ≡ Memory) }
 {
-    match audit(alloc, &played.journals, played.receipts.as_slice()) {
-        Ok(verdict) => {
-            let contents = told_contents(alloc, &played.journals, &verdict)?;
-            let life = life_of(&played.journals, &verdict, &contents);
-            let found = Findings {
-                life: life.as_ref(),
-                committed: verdict.committed.as_slice(),
-                history: verdict.history.as_slice(),
-                receipts: played.receipts.as_slice(),
-            };
-            let text = report(alloc, &found, played.refused.as_slice())?;
-            forget(verdict);
-            Ok(text)
-        }
-        Err(VerdictFault::Fault(_)) => unreachable!(),
-        Err(VerdictFault::Memory) => Err(EngineFault::Memory),
-    }
+    let summary = Summary::of(alloc, &played.journals)?;
+    let contents = told_contents(alloc, &played.journals, &summary.history)?;
+    let life = life_of(&played.journals, summary.closing.as_ref(), &contents);
+    let found = Findings {
+        life: life.as_ref(),
+        committed: summary.committed.as_slice(),
+        history: summary.history.as_slice(),
+        receipts: played.receipts.as_slice(),
+    };
+    let text = report(alloc, &found, played.refused.as_slice())?;
+    forget(summary);
+    Ok(text)
 }

@@ -95,8 +95,8 @@ fn judge_reported(alloc: Global, ran: &Ran) -> Result<Made, EngineFault>
                 refused: ran.refused.as_slice(),
                 lost: ran.lost,
             };
-            let contents = told_contents(alloc, &ran.finished.journals, verdict)?;
-            let life = life_of(&ran.finished.journals, verdict, &contents);
+            let contents = told_contents(alloc, &ran.finished.journals, &verdict.history)?;
+            let life = life_of(&ran.finished.journals, verdict.closing.as_ref(), &contents);
             let found = Findings {
                 life: life.as_ref(),
                 committed: verdict.committed.as_slice(),

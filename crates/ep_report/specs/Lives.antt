@@ -5,8 +5,9 @@ use Rattle.ep_base.specs.declared.version.Version.{Version}
 use Rattle.ep_base.specs.declared.version_kind.VersionKind.TheVariants.{V1, V2, V3}
 use Rattle.ep_journal.specs.Entries.{Collected}
 use Rattle.ep_journal.specs.Openings.{opens}
-use Rattle.ep_audit.specs.Verdicts.{left_after}
-use Rattle.ep_audit.specs.declared.verdict.Verdict.{Verdict}
+use Rattle.ep_audit.specs.Verdicts.{left_by}
+use Rattle.ep_audit.specs.declared.happening.Happening.{Happening}
+use Rattle.ep_audit.specs.declared.summary.Summary.{Summary}
 use Rattle.ep_exec.specs.Table.{contents_code}
 use Rattle.ep_report.specs.Contents.{contents_line}
 use Rattle.ep_report.specs.Parts.{instance_text}
@@ -54,26 +55,32 @@ abbrev pub link_line : Life → ℕ → ℕ → List ℕ
 link_line l committed history =
     generation_line l ++ codes " committed " ++ decimal committed ++ codes " history " ++ decimal history ++ codes " " ++ closing_line l.closing ++ codes " " ++ contents_line l.contents
 
--- What journals and a verdict tell of it.
+-- What journals and their history tell of it.
 
--- of the generation g, whose clocks went on from the stamp since, what the verdict says, and the map that its history leaves
-abbrev pub life_with : ℕ → ℕ → Verdict → Contents → Life
-life_with g since v m = record { generation = g; since = since; closing = v.closing; contents = m }
+-- of the generation g, whose clocks went on from the stamp since, the first seal of its history, and the map that this leaves
+abbrev pub life_with : ℕ → ℕ → Option Closing → Contents → Life
+life_with g since closing m = record { generation = g; since = since; closing = closing; contents = m }
 
-abbrev pub life_at : Version → ℕ → Verdict → Contents → Option Life
-life_at V1 since v m = None
-life_at V2 since v m = None
-life_at (V3 g) since v m = Some (life_with g since v m)
+abbrev pub life_at : Version → ℕ → Option Closing → Contents → Option Life
+life_at V1 since closing m = None
+life_at V2 since closing m = None
+life_at (V3 g) since closing m = Some (life_with g since closing m)
 
--- of these journals; versions 1 and 2 have no generation
-abbrev pub life_in : Collected → Verdict → Option Life
-life_in c v = life_at c.version c.opening.since v (left_after (opens c.opening) v)
+-- of these journals, where this is the map that a report tells
+abbrev pub life_told : Collected → Option Closing → Option Contents → Option Life
+life_told c closing None = None
+life_told c closing (Some m) = life_at c.version c.opening.since closing m
 
--- the map of these journals that a report tells
+-- the map that a report tells; versions 1 and 2 tell none
 abbrev pub told_at : Version → Contents → Option Contents
 told_at V1 m = None
 told_at V2 m = None
 told_at (V3 g) m = Some m
 
-abbrev pub told_in : Collected → Verdict → Option Contents
-told_in c v = told_at c.version (left_after (opens c.opening) v)
+-- of these journals, with this history
+abbrev pub told_in : Collected → List Happening → Option Contents
+told_in c lines = told_at c.version (left_by (opens c.opening) lines)
+
+-- what they say of their generation; versions 1 and 2 have none
+abbrev pub life_in : Collected → Summary → Option Life
+life_in c s = life_told c s.closing (told_in c s.history.items)

@@ -7,7 +7,7 @@ use crate::findings::Findings;
 use crate::judgement::Judgement;
 use crate::lives::{life_of, told_contents};
 use crate::reports::{accepted, refusal};
-use ep_audit::{VerdictFault, audit};
+use ep_audit::{VerdictFault, audit_summary};
 use ep_journal::Journals;
 use ep_rules::Receipt;
 use std::alloc::{AllocError, Global};
@@ -20,14 +20,14 @@ pub fn judge(
 ) -> Result<Judgement, AllocError>
     ensures { IfOk result (λ j. IsSaid journals.now receipts.now j.is_accepted j.text.items) }
 {
-    match audit(alloc, journals, receipts) {
-        Ok(verdict) => {
-            let contents = told_contents(alloc, journals, &verdict)?;
-            let life = life_of(journals, &verdict, &contents);
+    match audit_summary(alloc, journals, receipts) {
+        Ok(summary) => {
+            let contents = told_contents(alloc, journals, &summary.history)?;
+            let life = life_of(journals, summary.closing.as_ref(), &contents);
             let found = Findings {
                 life: life.as_ref(),
-                committed: verdict.committed.as_slice(),
-                history: verdict.history.as_slice(),
+                committed: summary.committed.as_slice(),
+                history: summary.history.as_slice(),
                 receipts,
             };
             let text = accepted(alloc, &found)?;

@@ -7,9 +7,9 @@ use Rattle.ep_base.specs.declared.reply.Reply.{Reply}
 use Rattle.ep_base.specs.declared.version.Version.{Version}
 use Rattle.ep_base.specs.declared.version_kind.VersionKind.TheVariants.{V1, V2, V3}
 use Rattle.ep_audit.specs.Tables.{agreed_in}
-use Rattle.ep_audit.specs.Verdicts.{IsVerdict}
+use Rattle.ep_audit.specs.Verdicts.{IsSummary}
 use Rattle.ep_audit.specs.declared.happening.Happening.{Happening}
-use Rattle.ep_audit.specs.declared.verdict.Verdict.{Verdict}
+use Rattle.ep_audit.specs.declared.summary.Summary.{Summary}
 use Rattle.ep_journal.specs.Entries.{Collected, entries_at, journals_of}
 use Rattle.ep_journal.specs.Openings.{Opening, opens}
 use Rattle.ep_journal.specs.declared.entry.Entry.{Entry}
@@ -135,9 +135,9 @@ whole_text c history kept = graph_text (edition_title c.version c.opening) (line
 
 -- this is the journals' history
 pub record IsHistoryOf (c : Collected) (history : List Happening) : Type 0 where
-  pub verdict : Verdict
-  pub is_verdict : IsVerdict (opens c.opening) c.faults (journals_of c) verdict
-  pub is : history ≡ verdict.history.items
+  pub summary : Summary
+  pub is_summary : IsSummary (opens c.opening) c.faults (journals_of c) summary
+  pub is : history ≡ summary.history.items
 
 -- The graph has the journals' edition, and in rising order each committed instance that an entry proposes or recovers that is asked for, with the reply of
 -- the journals' history, and with its dependencies but for those that others which are kept imply.

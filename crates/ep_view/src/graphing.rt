@@ -12,7 +12,7 @@ use crate::editions::generation_words;
 use crate::events::command_words;
 use crate::labels::push_dot_words;
 use crate::selection::Selection;
-use ep_audit::{Happening, Verdict};
+use ep_audit::{Happening, Summary};
 use ep_base::{Command, Decree, InstanceId, Reply, Version, VersionKind};
 use ep_journal::{Journals, Opening};
 use ep_report::{Part, push_parts, push_reply};
@@ -209,14 +209,12 @@ fn push_graph(
 fn history_of(alloc: Global, journals: &Journals) -> Result<Vec<Happening>, AllocError>
     ensures { IfOk result (λ v. IsHistoryOf journals.now v.items) }
 {
-    let verdict = Verdict::of(alloc, journals)?;
-    let Verdict {
-        schedule,
+    let summary = Summary::of(alloc, journals)?;
+    let Summary {
         committed,
         history,
         closing,
-    } = verdict;
-    drop(schedule);
+    } = summary;
     drop(committed);
     drop(closing);
     Ok(history)

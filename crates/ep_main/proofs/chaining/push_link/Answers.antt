@@ -3,4 +3,4 @@ use Rattle.ep_main.proofs.Linked.{line_told}
 use Rattle.ep_main.proofs.chaining.push_link.Goals as goal
 
 pub returns : goal.returns
-returns c = line_told c.push_link_line.result c.args.link.now c.args.verdict.now c.in-Some.life _ _ _ _ c.in-Some.ensures (search rules) (search rules) c.push_link_line.ensures
+returns c = line_told c.push_link_line.result c.args.link.now c.args.verdict.now c.in-Some.life _ _ _ _ (search rules) (search rules) (search rules) c.push_link_line.ensures

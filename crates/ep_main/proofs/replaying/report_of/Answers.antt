@@ -1,11 +1,6 @@
 use Rattle.std.proofs.Common.{rules}
-use Rattle.ep_main.proofs.Judging.{not_refused}
 use Rattle.ep_main.proofs.replaying.report_of.Goals as goal
 
-pub unreachable-requires : goal.unreachable-requires
-unreachable-requires c =
-    not_refused _ _ _ _ _ _ c.in-Err-Fault.field-0-0 c.in-Err-Fault.field-0-is c.as_slice.ensures.value c.in-Err-Fault.ensures.refused c.requires
-
-pub returns-in_ok-text-in-Ok-clause-value : goal.returns-in_ok-text-in-Ok-clause-value
-returns-in_ok-text-in-Ok-clause-value c =
-    record { verdict = c.in-Ok.verdict; audited = search rules; printed = search rules }
+pub returns-clause-value : goal.returns-clause-value
+returns-clause-value c =
+    record { summary = c.in_ok-summary.summary; audited = c.in_ok-summary.ensures.accepted c.args.played.now.receipts.items c.requires; printed = search rules }
