@@ -48,7 +48,7 @@ a_changed_journal() {
 }
 an_open_instance() {
     head -n 5 examples/recovery.script | ./epaxos trace > /tmp/open
-    [ "$(wc -l < /tmp/open)" = 5 ]
+    [ "$(wc -l < /tmp/open)" = 6 ]
     told "$(head -n 3 /tmp/open | tail -n 1)"
     told "$(tail -n 1 /tmp/open)"
 }
