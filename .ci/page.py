@@ -13,8 +13,6 @@ The last line is 'pages: N passed, M failed'.
 """
 
 import html
-import importlib.machinery
-import importlib.util
 import json
 import os
 import re
@@ -26,11 +24,12 @@ from xml.dom import minidom
 
 sys.dont_write_bytecode = True
 TOP = os.path.dirname(os.path.dirname(os.path.abspath(__file__)))
-sys.path.insert(0, f"{TOP}/.ci")
+sys.path[:0] = [f"{TOP}/.ci", f"{TOP}/tools"]
 import drawing
 import looks
 import odd
 import rows
+from loaded import loaded
 
 GRAPHVIZ = shutil.which("dot")
 BROWSER = shutil.which("chromium") or shutil.which("chromium-browser") or shutil.which("google-chrome")
@@ -179,10 +178,7 @@ def graph_fault(told, made):
 
 def frames():
     """tools/bench/page, which drives a browser."""
-    loader = importlib.machinery.SourceFileLoader("page_frames", f"{TOP}/tools/bench/page")
-    made = importlib.util.module_from_spec(importlib.util.spec_from_loader("page_frames", loader))
-    loader.exec_module(made)
-    return made
+    return loaded("page_frames", f"{TOP}/tools/bench/page")
 
 
 def paths_of(entries):

@@ -10,8 +10,6 @@ the libraries that these need. It is entered by `unshare`; where that isn't allo
 
 import filecmp
 import glob
-import importlib.machinery
-import importlib.util
 import os
 import re
 import shutil
@@ -20,6 +18,9 @@ import sys
 import tempfile
 
 TOP = os.path.dirname(os.path.dirname(os.path.abspath(__file__)))
+sys.path.insert(0, f"{TOP}/tools")
+from loaded import loaded
+
 TOOLS = (
     "sh", "cat", "cmp", "cp", "env", "grep", "gzip", "head", "ls", "mkdir", "mv", "printf", "readlink", "rm", "sed",
     "sha256sum", "sleep", "tail", "test", "tr", "true", "wc", "redis-cli",
@@ -64,10 +65,7 @@ fn main() {
 
 def tool():
     """The module of tools/release."""
-    loader = importlib.machinery.SourceFileLoader("make_release", f"{TOP}/tools/release")
-    made = importlib.util.module_from_spec(importlib.util.spec_from_loader("make_release", loader))
-    loader.exec_module(made)
-    return made
+    return loaded("make_release", f"{TOP}/tools/release")
 
 
 def libraries(path):
