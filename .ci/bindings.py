@@ -1,54 +1,55 @@
-"""The bindings for Rust and Python in bindings/, over the programs that `rt ci` built, and over the library where there is one: the crate's tests and pages where
-cargo is there, and the example of each, begun, gone on with, and audited. Runs alone too: python3 .ci/bindings.py [NODE PROGRAM [FOLDER]], of other builds, with
-the folder that libepaxos.a and libepaxos.so are in.
+"""The bindings for Rust and Python in bindings/, over the library, where there is one: the crate's tests and pages where cargo is there, and the example of each, begun,
+gone on with, and audited by the programs that `rt ci` built. Runs alone too: python3 .ci/bindings.py [NODE PROGRAM [FOLDER]], of other builds, with the folder that
+libepaxos.a and libepaxos.so are in.
 """
 
-import filecmp
 import hashlib
 import os
 import re
 import shutil
-import struct
 import subprocess
 import sys
 import tempfile
 
 sys.dont_write_bytecode = True
 
+from nodes import worked
 from store import BUILT, CHEAP, TOP, is_well, joined, library_there
 
-CRATE, PYTHON, HEADER = f"{TOP}/bindings/rust/epaxos", f"{TOP}/bindings/python", f"{TOP}/bindings/c/epaxos.h"
+CRATE, PYTHON = f"{TOP}/bindings/rust/epaxos", f"{TOP}/bindings/python"
 # how a page that lacks something, or links to nothing, isn't made
 STRICT = {"RUSTDOCFLAGS": "-D warnings"}
-# (a launcher of what isn't proved says so, on each start of a process)
+# (a launcher of what isn't proved says so, on each start)
 QUIET = {"EPAXOS_QUIET": "1"}
 
 
-def rust(scratch, environment, library):
-    """Whether each command went well: the tests, the pages, and the examples, of which each runs over each core."""
-    environment = {**environment, **CHEAP, **STRICT, "CARGO_TARGET_DIR": f"{scratch}/target", "EPAXOS_LIBRARY": library or ""}
-    yield is_well(["cargo", "test", "--offline", "--quiet"], cwd=CRATE, env=environment)
-    yield is_well(["cargo", "doc", "--offline", "--quiet", "--no-deps"], cwd=CRATE, env=environment)
-    cores = [environment]
-    if library:
-        # (the tests are over both cores; what is on the pages is over the one that is found)
-        cores.append(without(environment, "EPAXOS"))
-        yield is_well(["cargo", "test", "--offline", "--quiet", "--doc"], cwd=CRATE, env=cores[1])
-    for number, core in enumerate(cores):
-        folder = f"{scratch}/rust{number}"
-        for words in (["three", folder], ["three", folder], ["lock"], ["machine"]):
-            yield is_well([f"{scratch}/target/debug/examples/{words[0]}", *words[1:]], env=core)
-        folders = [f"{folder}/{me}" for me in range(3)]
-        yield is_audited(environment["EPAXOS"], folders, [f"{it}/receipts" for it in folders]) == 600
-    if library:
-        for last in (4, 7):
-            yield goes_on([f"{scratch}/target/debug/examples/generations", f"{scratch}/rust-generations"], cores[1], last)
+def rust(scratch, environment):
+    """Whether each command went well: the tests, the pages, and the examples."""
+    environment = {**environment, **CHEAP, **STRICT, "CARGO_TARGET_DIR": f"{scratch}/target"}
+    all_of_it = ["--features", "async"]
+    yield is_well(["cargo", "test", "--offline", "--quiet", *all_of_it], cwd=CRATE, env=environment)
+    yield is_well(["cargo", "doc", "--offline", "--quiet", "--no-deps", *all_of_it], cwd=CRATE, env=environment)
+    folder = f"{scratch}/rust"
+    for words in (["three", folder], ["three", folder], ["lock"], ["accounts"], ["machine"]):
+        yield is_well([f"{scratch}/target/debug/examples/{words[0]}", *words[1:]], env=environment)
+    folders = [f"{folder}/{me}" for me in range(3)]
+    yield is_audited(environment["EPAXOS"], folders, [f"{it}/receipts" for it in folders]) == 600
+    for last in (4, 7):
+        yield goes_on([f"{scratch}/target/debug/examples/generations", f"{scratch}/rust-generations"], environment, last)
+    yield is_refused_without(environment, scratch)
 
 
-def goes_on(words, core, last):
+def is_refused_without(environment, scratch):
+    """Whether the crate isn't built where the library isn't, and says what is missing."""
+    nowhere = {**environment, "EPAXOS_LIBRARY": f"{scratch}/nowhere"}
+    ran = subprocess.run(["cargo", "check", "--offline", "--quiet"], cwd=CRATE, env=nowhere, stdin=subprocess.DEVNULL, stderr=subprocess.PIPE, text=True)
+    return ran.returncode != 0 and f"{scratch}/nowhere/libepaxos.a" in ran.stderr
+
+
+def goes_on(words, environment, last):
     """Whether an example goes through three generations up to this one, and comes back."""
     print(*(os.path.relpath(it, TOP) if it.startswith(TOP) else it for it in words), flush=True)
-    said = subprocess.run(words, env=core, stdin=subprocess.DEVNULL, stdout=subprocess.PIPE, text=True).stdout.splitlines()
+    said = subprocess.run(words, env=environment, stdin=subprocess.DEVNULL, stdout=subprocess.PIPE, text=True).stdout.splitlines()
     told = [re.fullmatch(r"generation (\d+): (\d+)\.20", it) for it in said[:-1]]
     # (the last to put a value is client 3 * G + me in generation G)
     found = [int(it[1]) for it in told if it and int(it[2]) // 3 == int(it[1]) - 1]
@@ -65,28 +66,13 @@ def is_audited(program, folders, receipts=()):
     return int(found[1]) if found and not bundle.returncode and not report.returncode else None
 
 
-def without(environment, name):
-    return {key: value for key, value in environment.items() if key != name}
-
-
 def line(begin):
-    """The bytes of the one line of examples/requests.txt that is indented and begins so, with the frame that it names."""
-    with open(f"{TOP}/examples/requests.txt", encoding="utf-8") as file:
+    """The bytes of the one line of requests.txt that is indented and begins so, with the frame that it names."""
+    with open(f"{TOP}/tests/vectors/requests.txt", encoding="utf-8") as file:
         (found,) = (it.strip() for it in file if it.startswith(f"    {begin}"))
-    with open(f"{TOP}/examples/frames.txt", encoding="utf-8") as file:
+    with open(f"{TOP}/tests/vectors/frames.txt", encoding="utf-8") as file:
         frame = next(it.strip() for it in file if it.startswith("    4550 01 01"))
     return bytes.fromhex(found.replace("FRAME", frame)), bytes.fromhex(frame)
-
-
-def wire():
-    """The bytes behind each name in examples/wire.txt. A line that is indented further goes on with the one before."""
-    found, name = {}, None
-    with open(f"{TOP}/examples/wire.txt", encoding="utf-8") as file:
-        for indented in (it for it in file if it.startswith("    ")):
-            if indented[4] != " ":
-                name, indented = indented.split(None, 1)
-            found[name] = found.get(name, b"") + bytes.fromhex(indented)
-    return found
 
 
 def vectors():
@@ -94,7 +80,7 @@ def vectors():
     sys.path.insert(0, PYTHON)
     import epaxos
 
-    known = wire()
+    known = worked()
     commands = {
         "get": epaxos.get(b"ab"),
         "put": epaxos.put(b"c", b"v"),
@@ -104,10 +90,17 @@ def vectors():
         "ask": epaxos.opaque(b"c", b"\x09", is_reading=True),
         "act": epaxos.opaque(b"c", b"\x09", b"d"),
         "seal": epaxos.seal(b"me"),
+        "tx": epaxos.tx(require={b"x": None}, put={b"x": b"1"}, tell=[b"y"]),
+        "tx-all": epaxos.tx(require={b"c": None, b"a": b"1"}, tell=[b"d", b"a"], put={b"a": b"2"}, delete=[b"c", b"b"]),
     }
     yield commands == {name: known[name] for name in commands}
-    yield epaxos._request(1, struct.pack(">IIQ", 1, 2, 3) + epaxos.put(b"x", b"12")) == known["propose"]
-    yield asked_by(lambda replica: replica.propose(1, 2, epaxos.put(b"x", b"12"), 3, spared=1)) == [known["propose-sparing"]]
+    yield all(refuses_tx(epaxos, **words) for words in NO_TX)
+    receipts = {name: epaxos._Fields(known[name]).receipt().answer for name in ("done", "done-untold", "undone")}
+    yield receipts == {"done": (True, [None, b"old"]), "done-untold": (True, []), "undone": (False, [b""])}
+    yield asked_by(lambda replica: replica.interfering(b"k"), known["found"]) == [known["interfering"]]
+    found = [epaxos.Instance(1, 258), (0, 7)]
+    yield asked_by(lambda replica: replica.read(b"k", found), known["read-closed"]) == [known["read"]]
+    yield all(is_read(epaxos, known, *it) for it in READ)
     output, one, seven = epaxos.Output(known["report"][4:]), epaxos.Instance(1, 258), epaxos.Instance(0, 7)
     receipts = [epaxos.Receipt(9, 2, one, 3, 1, 4, 5, None)]
     told = (output.entries, output.is_sealed, output.frames, output.receipts, output.committed, output.executed)
@@ -118,17 +111,57 @@ def vectors():
     yield reference.bytes == run and epaxos.Reference.read(run) == reference and reference.binding(b"9" * 32) == b"EPOB\3" + run[-32:] + b"9" * 32
     yield all(is_no_reference(epaxos, changed) for changed in changes(run))
 
-    put = epaxos._request(1, struct.pack(">IIQ", 1, 2, 3) + epaxos.put(b"x", b"1"))
-    yield put == line("0000001a 01")[0]
+    yield line("0000001a 01")[0].endswith(epaxos.put(b"x", b"1"))
     answer, frame = line("0000004f 09")
     output, first = epaxos.Output(answer[4:]), epaxos.Instance(0, 1)
     told = (output.entries, output.is_sealed, output.frames, output.receipts, output.committed, output.executed)
     yield told == (1, False, [(1, frame)], [], [], []) and output.open == [epaxos.Open(first, 1, 1, 0)]
 
 
+# No commands over many keys: of none, of one that is put and deleted, with keys or values out of range, of 1,025, of 17
+# that are told, and of a body that is a byte too long.
+NO_TX = (
+    {}, {"put": {b"x": b""}, "delete": [b"x"]}, {"tell": [b""]}, {"tell": [bytes(256)]},
+    {"put": {b"x": bytes(65_536)}}, {"require": {b"x": bytes(65_536)}},
+    {"delete": [it.to_bytes(2, "big") for it in range(1_025)]}, {"tell": [bytes([it]) for it in range(1, 18)]},
+    {"put": {b"x": bytes(65_535), b"y": bytes(65_530)}},
+)  # fmt: skip
+
+
+def refuses_tx(epaxos, **words):
+    try:
+        return not epaxos.tx(**words)
+    except epaxos.Fault as fault:
+        return fault.name == "OutOfRange"
+
+
+# What is read of the answers that are worked out.
+READ = (
+    ("found-none", []), ("found", [(0, 7), (1, 258)]), ("read-absent", None), ("read-empty", b""),
+    ("read-value", b"v"), ("read-waits", (1, 258)), ("read-closed", "closed"),
+)  # fmt: skip
+
+
+def is_read(epaxos, known, name, wanted):
+    """Whether a replica reads this answer so, and none that is cut, nor that of another request."""
+    uses = [lambda replica: replica.read(b"k", []), lambda replica: replica.interfering(b"k")]
+    use, answer = uses[name.startswith("found")], known[name]
+    others = [answer[:at] for at in range(5, len(answer))] + [known[it] for it in ("synced", "malformed")]
+    others += [known["read-closed" if name.startswith("found") else "found"], bytes.fromhex("00000002 0c 04")]
+    got = []
+    asked_by(lambda replica: got.append(use(replica)), answer)
+    for it in others:
+        try:
+            asked_by(use, it)
+        except epaxos.Fault:
+            continue
+        return False
+    return got == [wanted]
+
+
 def opening_line(begin, count):
-    """The bytes of so many lines of examples/openings.txt that are indented, from the one on that begins so."""
-    with open(f"{TOP}/examples/openings.txt", encoding="utf-8") as file:
+    """The bytes of so many lines of tests/vectors/openings.txt that are indented, from the one on that begins so."""
+    with open(f"{TOP}/tests/vectors/openings.txt", encoding="utf-8") as file:
         lines = [it.strip() for it in file if it.startswith("    ")]
     at = next(place for place, it in enumerate(lines) if it.startswith(begin))
     return bytes.fromhex("".join(lines[at : at + count]))
@@ -151,140 +184,61 @@ def is_no_reference(epaxos, run):
         return True
 
 
-def asked_by(use):
-    """The requests that a use of a replica makes."""
+def asked_by(use, answer):
+    """The requests that a use of a replica makes, where this, with its length, is the answer."""
     import epaxos
 
     asked = []
 
     class Core:
-        def act(self, kind, body):
+        def ask(self, kind, body):
             asked.append(epaxos._request(kind, body))
+            return answer[4:]
 
     use(epaxos.Replica(Core(), 0))
     return asked
 
 
-def shortened(text):
-    """A header's text in one line, without its comments."""
-    return " ".join(re.sub(r"/\*.*?\*/", "", text, flags=re.DOTALL).split())
-
-
-# The types of the crate's src/ffi.rs in C.
-IN_C = {"u8": "uint8_t", "u16": "uint16_t", "u32": "uint32_t", "u64": "uint64_t", "usize": "size_t", "void": "uint8_t"}
-
-
-def in_c(words, names):
-    """A type of src/ffi.rs, or of the header, with its pointer: `const uint8_t *` and `*const u8` are one."""
-    is_pointer, is_const = "*" in words, "const" in words
-    name = re.sub(r"\*|\bconst\b|\bmut\b|\bstruct\b", " ", words).split()[0]
-    return ("const " * is_const) + names.get(name, IN_C.get(name, name)) + " *" * is_pointer
-
-
-def declared_in_rust():
-    """What the crate declares of the library: each call with its types and its parameters' names, each struct with its fields, each status with its number."""
-    with open(f"{CRATE}/src/ffi.rs", encoding="utf-8") as file:
-        text = file.read()
-    found = re.findall(r"/// `struct (\w+)`[^\n]*\n(?:#\[[^\n]*\n)*(?:pub\(crate\) )?struct (\w+) \{(.*?)\n\}", text, re.DOTALL)
-    names = {name: in_header for in_header, name, _ in found}
-    declared = {it: [(name, in_c(words, names)) for name, words in re.findall(r"(\w+): ([^,]+),", body)] for it, _, body in found}
-    declared["EP_VERSION"] = re.search(r"VERSION: u32 = (\d+)", text)[1]
-    with open(f"{CRATE}/src/status.rs", encoding="utf-8") as file:
-        declared |= {f"EP_{name}": number for name, number in re.findall(r"const (\w+): u8 = (\d+);", file.read())}
-    for name, words, result in re.findall(r"fn (ep_\w+)\((.*?)\) -> (\w+);", text):
-        declared[name] = [("", in_c(result, names)), *((it, in_c(kind, names)) for it, kind in re.findall(r"(\w+): ([^,]+)", words))]
-    return declared
-
-
-def declared_in_header(text):
-    """The same of the header."""
-    declared = dict(re.findall(r"(EP_\w+) = (\d+)", text)) | dict(re.findall(r"#define (EP_\w+) (\d+)", text))
-    for name, body in re.findall(r"struct (\w+) \{ (.*?) \};", text):
-        fields = declared.setdefault(name, [])
-        for field in body.rstrip(";").split("; "):
-            kind, _, it = field.rpartition(" ")
-            fields.append((it.lstrip("*"), in_c(f"{kind} {'*' * it.startswith('*')}", {})))
-    for result, name, words in re.findall(r"(\w+) (ep_\w+)\((.*?)\);", text):
-        words = [] if words == "void" else [it.rpartition(" ") for it in words.split(", ")]
-        declared[name] = [("", in_c(result, {})), *((it.lstrip("*"), in_c(f"{kind} {'*' * it.startswith('*')}", {})) for kind, _, it in words)]
-    return declared
-
-
-def headers():
-    """Whether the crate and the Python file declare what they use of the library as its header does."""
-    if not os.path.isfile(HEADER):
-        print("the library's declarations are not compared: there is no header", flush=True)
-        return
-    with open(HEADER, encoding="utf-8") as file:
-        text = shortened(file.read())
-    known, used = declared_in_header(text), declared_in_rust()
-    wrong = [it for it in used if used[it] != known.get(it)]
-    print(*(f"the crate differs from the header: {it}: {used[it]}, and not {known.get(it)}" for it in wrong), sep="\n", end="\n" * bool(wrong), flush=True)
-    yield len(used) > 20 and not wrong
-    import epaxos
-
-    lines = [it for it in epaxos._DECLARED.splitlines() if it]
-    wrong = [it for it in lines if not re.search(re.escape(it) + r"(?!\w)", text)]
-    print(*(f"epaxos.py differs from the header: {it}" for it in wrong), sep="\n", end="\n" * bool(wrong), flush=True)
-    yield len(lines) > 20 and not wrong
-
-
-def python(scratch, environment, library):
-    """Whether each command went well: the example, begun and gone on with, over each core; and whether both have written the same logs."""
+def python(scratch, environment):
+    """Whether each command went well: the examples, begun and gone on with, and what is told and refused."""
     environment = {**environment, "PYTHONDONTWRITEBYTECODE": "1"}
-    cores = [environment]
-    if library:
-        cores.append({**without(environment, "EPAXOS"), "EPAXOS_LIBRARY": library})
-    for number, core in enumerate(cores):
-        for _ in range(2):
-            yield is_well([sys.executable, f"{PYTHON}/three.py", f"{scratch}/python{number}"], env=core)
-    if library:
-        for name in ("0.log", "1.log", "2.log"):
-            yield filecmp.cmp(f"{scratch}/python0/{name}", f"{scratch}/python1/{name}", shallow=False)
-        yield is_well([sys.executable, f"{PYTHON}/large.py"], env=cores[1])
-        for last in (4, 7):
-            yield goes_on([sys.executable, f"{PYTHON}/generations.py", f"{scratch}/python-generations"], cores[1], last)
-        yield says(cores[1], SUCCEEDS, "what doesn't go on", SUCCEEDS_SAYS)
+    for _ in range(2):
+        yield is_well([sys.executable, f"{PYTHON}/three.py", f"{scratch}/python"], env=environment)
+    yield is_well([sys.executable, f"{PYTHON}/large.py"], env=environment)
+    for last in (4, 7):
+        yield goes_on([sys.executable, f"{PYTHON}/generations.py", f"{scratch}/python-generations"], environment, last)
+    for what, (program, wanted) in PROGRAMS.items():
+        yield says(environment, program, what, wanted)
     import epaxos
 
-    yield from (takes_turns(core) for core in cores)
-    yield from (takes_meanwhile(core) for core in cores)
     folders = [f"{scratch}/audited/{me}" for me in range(3)]
     for me, folder in enumerate(folders):
         os.makedirs(f"{folder}/1")
-        shutil.copy(f"{scratch}/python0/{me}.log", f"{folder}/1/log")
+        shutil.copy(f"{scratch}/python/{me}.log", f"{folder}/1/log")
         with open(f"{folder}/1/opening", "wb") as file:
             file.write(epaxos.first_opening(3))
     yield is_audited(environment["EPAXOS"], folders) == 0
-    yield refuses_an_older_log(epaxos, cores, f"{scratch}/python0/0.log")
+    yield refuses_an_older_log(environment, f"{scratch}/python/0.log")
 
 
-def refuses_an_older_log(epaxos, cores, path):
+def refuses_an_older_log(environment, path):
     """Whether a log that has fewer entries than were told is refused, and one that has as many isn't."""
-    with open(path, "rb") as file:
-        log = file.read()
-    entries = epaxos._entries(log)
-    for core in cores:
-        told = []
-        for more in (0, 1):
-            words = [sys.executable, "-c", OLDER, PYTHON, path, str(entries + more)]
-            told.append(subprocess.run(words, env=core, stdout=subprocess.PIPE, text=True).stdout)
-        if told != [f"{entries}\n", f"the log has {entries} entries, and {entries + 1} were told: it is an older one, and must not be gone on from\n"]:
-            print(f"an older log: {told}", flush=True)
-            return False
-    return True
+
+    def told_of(told):
+        words = [sys.executable, "-c", OLDER, PYTHON, path, *told]
+        return subprocess.run(words, env=environment, stdout=subprocess.PIPE, text=True).stdout
+
+    entries = int(told_of([]))
+    told = [told_of([str(entries + more)]) for more in (0, 1)]
+    print(f"an older log: {told}", flush=True)
+    return told == [f"{entries}\n", f"the log has {entries} entries, and {entries + 1} were told: it is an older one, and must not be gone on from\n"]
 
 
-def says(core, program, what, wanted):
+def says(environment, program, what, wanted):
     """Whether a program that uses the binding says what it has to."""
-    said = subprocess.run([sys.executable, "-c", program, PYTHON], env=core, stdout=subprocess.PIPE, text=True).stdout
+    said = subprocess.run([sys.executable, "-c", program, PYTHON], env=environment, stdout=subprocess.PIPE, text=True).stdout
     print(f"{what}:", said, end="", flush=True)
     return said == wanted
-
-
-def takes_turns(core):
-    """Whether all that threads propose at once, at one replica, is taken, and nothing once it is ended."""
-    return says(core, THREADS, "threads that propose at once", "1912 of 1912 taken, 0 refused; then NoReplica\n")
 
 
 # Eight threads propose at one replica, which is then ended.
@@ -314,11 +268,6 @@ except epaxos.Fault as fault:
 """
 
 
-def takes_meanwhile(core):
-    """Whether a replica takes while its log is written only where that was begun, and tells then of what was written alone."""
-    return says(core, MEANWHILE, "taken while the log is written", "Unsynced; told of 1 entry, by 1 frame; then of 2, by 1\n")
-
-
 # Proposes while what was proposed before is being written; a proposal has one frame, to the replica that isn't spared.
 MEANWHILE = """
 import sys
@@ -336,6 +285,72 @@ ready.begin()
 replica.propose(1, 2, epaxos.put(b"b", b"2"))
 first, second = ready.synced(), replica.ready().synced()
 print(f"told of {first.entries} entry, by {len(first.frames)} frame; then of {second.entries}, by {len(second.frames)}")
+"""
+
+
+# Reads that write nothing: before a put is known, before it is committed, before it is executed, behind it, and behind
+# a seal; and what is refused.
+READS = """
+import sys
+sys.path.insert(0, sys.argv[1])
+import epaxos
+def tried(call, *words):
+    try:
+        return call(*words)
+    except epaxos.Fault as fault:
+        return fault.name
+def told(reading):
+    return f"waits for {reading}" if isinstance(reading, epaxos.Instance) else reading
+def settled(replica):
+    return replica.ready().synced().frames
+zero, one = replicas = [epaxos.Replica.new(3, me) for me in range(2)]
+print(tried(one.interfering, b"k"), tried(one.read, b"k", []))
+for it in replicas: settled(it)
+print(one.interfering(b"k"), one.read(b"k", []))
+zero.propose(1, 1, epaxos.put(b"k", b"v"))
+print(tried(zero.interfering, b"k"), tried(zero.read, b"k", []))
+for _, frame in settled(zero): one.handle(frame)
+acknowledged = settled(one)
+found = {*one.interfering(b"k"), *zero.interfering(b"k")}
+print(*found, one.interfering(b"l"), told(one.read(b"k", found)), told(one.read(b"l", found)), one.read(b"k", ()))
+for _, frame in acknowledged: zero.handle(frame)
+zero.execute_all()
+frames = settled(zero)
+before = one.report(0).entries
+print(zero.read(b"k", found), told(one.read(b"k", found)), one.report(0).entries - before)
+for to, frame in frames:
+    if to == 1: one.handle(frame)
+settled(one)
+print(told(one.read(b"k", found)), end=" ")
+one.execute_all()
+settled(one)
+print(one.read(b"k", found), one.read(b"l", found), told(one.read(b"k", [(2, 7), (1, 9000), *found])))
+odd = [(b"", []), (b"k" * 256, []), (b"k", [(0, 1)] * 63_001), *((b"k", [it]) for it in [(3, 1), (0, 0), (0, 9001)])]
+print({tried(one.read, *it) for it in odd}, tried(one.interfering, b""), tried(one.interfering, b"k" * 256), end=" ")
+print(one.read(b"k" * 255, []), one.read(b"k", [(0, 1)] * 63_000))
+one.propose(1, 2, epaxos.seal(b"s"), spared=2)
+for to, frame in settled(one):
+    zero.handle(frame)
+for to, frame in settled(zero): one.handle(frame)
+one.execute_all()
+settled(one)
+print(*one.interfering(b"l"), one.read(b"k", one.interfering(b"k")), one.read(b"l", []), zero.read(b"l", [(1, 1)]))
+# a request that was refused memory may wait for the next answers
+for use in (lambda: one.interfering(b"l") == [(1, 1)], lambda: one.ready().synced().frames == []):
+    one._core.call("ep_ask", epaxos._request(16, b"k"), 6)
+    assert use()
+one.end()
+print(tried(one.interfering, b"k"), tried(one.read, b"k", []))
+"""
+READS_SAYS = """Unsynced Unsynced
+[] None
+Unsynced Unsynced
+0.1 [] waits for 0.1 waits for 0.1 None
+b'v' waits for 0.1 0
+waits for 0.1 b'v' None waits for 1.9000
+{'OutOfRange'} OutOfRange OutOfRange None b'v'
+1.1 closed closed 1.1
+NoReplica NoReplica
 """
 
 
@@ -411,7 +426,16 @@ SUCCEEDS_SAYS = (
 )
 
 
-# Opens a log of which so many entries were told.
+PROGRAMS = {
+    "what doesn't go on": (SUCCEEDS, SUCCEEDS_SAYS),
+    "reads that write nothing": (READS, READS_SAYS),
+    # all that threads propose at once is taken, and nothing once the replica is ended
+    "threads that propose at once": (THREADS, "1912 of 1912 taken, 0 refused; then NoReplica\n"),
+    # a replica takes while its log is written only where that was begun, and tells then of what was written alone
+    "taken while the log is written": (MEANWHILE, "Unsynced; told of 1 entry, by 1 frame; then of 2, by 1\n"),
+}
+
+# Opens a log of which so many entries were told, or all.
 OLDER = """
 import sys
 sys.path.insert(0, sys.argv[1])
@@ -419,7 +443,7 @@ import epaxos
 with open(sys.argv[2], "rb") as file:
     log = file.read()
 try:
-    with epaxos.Replica.open(3, 0, log, told=int(sys.argv[3])) as replica:
+    with epaxos.Replica.open(3, 0, log, told=int(sys.argv[3]) if sys.argv[3:] else None) as replica:
         print(replica.ready().synced().entries)
 except epaxos.OpenFault as fault:
     print(fault)
@@ -428,17 +452,15 @@ except epaxos.OpenFault as fault:
 
 def tried(node=BUILT[0], program=BUILT[1], library=None):
     """How many of these passed, and how many failed."""
-    if not os.path.isfile(node) or not os.path.isfile(program):
-        print("the bindings are not tried: `rt ci` has not built both programs", flush=True)
-        return 0, 0
     library = library or library_there()
-    if not library:
-        print("the bindings are not tried over the library: there is none", flush=True)
+    if not library or not os.path.isfile(node) or not os.path.isfile(program):
+        print("the bindings are not tried: there is no library, or `rt ci` has not built both programs", flush=True)
+        return 0, 0
     with tempfile.TemporaryDirectory(prefix="epaxos-bindings-") as scratch:
-        environment = {**os.environ, **QUIET, "EPAXOS": joined(scratch, node, program)}
-        well = [*vectors(), *headers(), *python(scratch, environment, library)]
+        environment = {**os.environ, **QUIET, "EPAXOS": joined(scratch, node, program), "EPAXOS_LIBRARY": library}
+        well = [*vectors(), *python(scratch, environment)]
         if shutil.which("cargo"):
-            well += rust(scratch, environment, library)
+            well += rust(scratch, environment)
         else:
             print("bindings/rust is not tried: there is no cargo", flush=True)
     return well.count(True), well.count(False)

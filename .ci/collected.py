@@ -268,7 +268,7 @@ def refusals():
     # receipts of version 2 have shorter lengths
     early = ONE.receipts[0][:32] + b"\1" + number(1, 2) + b"v"
     yield refused("receipts of version 2", files | {"told": early + bytes(4)}, "receipts refused told: bad field at byte 33")
-    code = ONE.receipts[0][:32] + b"\5"
+    code = ONE.receipts[0][:32] + b"\7"
     yield refused("receipts with another answer", files | {"told": code}, "receipts refused told: bad field at byte 32")
     # the first fault: of a file that is missing, of the openings, of the logs, and of the receipts
     bad = {"two/7/opening": b"", "zero/7/log": b"", "told": code}

@@ -60,11 +60,21 @@ class Life:
         key, other = chance.sample(KEYS, 2)
         value, expected, new = chance.choice(VALUES), chance.choice((*VALUES, "%!", "%!")), chance.choice((*VALUES, "%!"))
         opaque = [f"{name} {keys} {value}" for name in ("ask", "act") for keys in (key, f"{key} {other}")]
-        others = [f"get {key}", f"put {key} {value}", f"del {key}", f"swap {key} {other}", f"cas {key} {expected} {new}", *opaque]
+        others = [self.many(), self.many(), f"get {key}", f"put {key} {value}", f"del {key}", f"swap {key} {other}", f"cas {key} {expected} {new}", *opaque]
         # (half of them name another replica as the spared one)
         spared = chance.choice([it for it in range(self.size) if it != replica])
         named = f"sparing {spared} " if chance.random() < 0.5 else ""
         return f"{named}propose {replica} {chance.randrange(1, 4)} {f'seal {value}' if chance.random() < 0.06 else chance.choice(others)}"
+
+    def many(self):
+        """A command over many keys, its items in any order."""
+        chance, items = self.chance, []
+        for key in chance.sample(KEYS, chance.randrange(1, 5)):
+            of = [f"if {key} {chance.choice((*VALUES, '%!'))}"] * (chance.random() < 0.3) + [f"get {key}"] * (chance.random() < 0.5)
+            of += chance.choice(([], [f"put {key} {chance.choice(VALUES)}"], [f"del {key}"]))
+            items += of or [f"get {key}"]
+        chance.shuffle(items)
+        return " ".join(["tx", *items])
 
     def script(self):
         """A script for a replay, which all replicas end by executing what they can."""
@@ -159,7 +169,7 @@ class Report:
         said = command.reply(self.held)
         if command.name == "seal":
             self.closing = f"closed {name} {text.split(' ')[1]}"
-        return said if isinstance(said, str) else "absent" if said is None else f"present {generations.worded(said)}"
+        return generations.replied(said)
 
     def ending(self):
         line = next(self.lines)

@@ -111,11 +111,11 @@ def generations():
 def late():
     """Commands of version 3."""
     early = "is a command of version 3: here may stand get, put, del or swap; behind replicas, generation G makes the script one of version 3"
-    for command in (b"cas x 1 2", b"ask x q", b"act x y q", b"seal n"):
+    for command in (b"cas x 1 2", b"ask x q", b"act x y q", b"seal n", b"tx get x"):
         word = command.split()[0].decode()
         yield f"{word} in version 2", S + b"propose 0 1 " + command + b"\n", told(2, f", word 4: {word} {early}")
-    yield "another command of version 3", LATE + b"propose 0 1 set x 1\n", told(3, ", word 4: set is no command: get, put, del, swap, cas, ask, act or seal")
-    yield "no command of version 3", LATE + b"propose 0 1\n", told(3, ", word 4: nothing stands here: a command, get, put, del, swap, cas, ask, act or seal")
+    yield "another command of version 3", LATE + b"propose 0 1 set x 1\n", told(3, ", word 4: set is no command: get, put, del, swap, cas, ask, act, seal or tx")
+    yield "no command of version 3", LATE + b"propose 0 1\n", told(3, ", word 4: nothing stands here: a command, get, put, del, swap, cas, ask, act, seal or tx")
     yield "a cas without what is new", LATE + b"propose 0 1 cas x 1\n", told(3, ", word 7: nothing stands here: a value")
     yield "a cas and more", LATE + b"propose 0 1 cas x 1 2 3\n", told(3, ", word 8: 3 is one word more than the line has: propose R C cas K E N")
     none = "has %!, which is no escape: % and two hexadecimal digits; %- stands alone, for no bytes"
@@ -130,13 +130,33 @@ def late():
     yield "a recovery that spares one", LATE + b"sparing 1 recover 0 0.1\n", told(3, ", word 3: recover isn't propose: the line is sparing S propose R C COMMAND")
     yield "a replica that spares itself", LATE + b"sparing 00 propose 0 1 put x 1\n", told(3, ", word 4: 0 is the spared replica too: no replica spares itself")
     yield "no client behind a spared replica", LATE + b"sparing 1 propose 0\n", told(3, ", word 5: nothing stands here: a client, 1 to 4294967295")
-    yield "another command behind a spared replica", LATE + b"sparing 1 propose 0 1 set x\n", told(3, ", word 6: set is no command: get, put, del, swap, cas, ask, act or seal")
+    yield "another command behind a spared replica", LATE + b"sparing 1 propose 0 1 set x\n", told(3, ", word 6: set is no command: get, put, del, swap, cas, ask, act, seal or tx")
     yield "a get and more behind a spared replica", LATE + b"sparing 1 propose 0 1 get x 1\n", told(3, ", word 8: 1 is one word more than the line has: sparing S propose R C get K")
     yield "a swap of one key behind a spared replica", LATE + b"sparing 2 propose 0 1 swap a %61\n", told(3, ", word 8: %61 spells the bytes of the first key: a swap has two different keys")
     yield "an act of one key twice", LATE + b"propose 0 1 act x %78 q\n", told(3, ", word 6: %78 spells the bytes of the first key: such a command has two different keys")
     yield "an ask without a body", LATE + b"propose 0 1 ask x\n", told(3, ", word 6: nothing stands here: a body")
     yield "an ask and more", LATE + b"propose 0 1 ask x y q z\n", told(3, ", word 8: z is one word more than the line has: propose R C ask K K B")
     yield "a seal and more", LATE + b"propose 0 1 seal n m\n", told(3, ", word 6: m is one word more than the line has: propose R C seal V")
+
+
+def many():
+    """Commands over many keys."""
+    items = "if K E, get K, put K V or del K"
+    yield "a tx without items", LATE + b"propose 0 1 tx\n", told(3, f", word 5: nothing stands here: an item, {items}")
+    yield "a tx of a swap", LATE + b"propose 0 1 tx swap x y\n", told(3, f", word 5: swap begins no item of tx: {items}")
+    yield "an item and more", LATE + b"propose 0 1 tx get x y\n", told(3, f", word 7: y begins no item of tx: {items}")
+    yield "a comment behind items", LATE + b"propose 0 1 tx get x # both\n", told(3, f", word 7: # begins no item of tx: {items}; comments stand on lines of their own")
+    yield "an item without a key", LATE + b"propose 0 1 tx get x del\n", told(3, ", word 8: nothing stands here: a key")
+    yield "a guard without a value", LATE + b"propose 0 1 tx if x\n", told(3, ", word 7: nothing stands here: a value")
+    yield "an item of an empty key", LATE + b"propose 0 1 tx get %-\n", told(3, ", word 6: %- spells 0 bytes: the length of a key, 1 to 255")
+    yield "a put of none", LATE + b"propose 0 1 tx put x %!\n", told(3, ", word 7: %! has %!, which is no escape: % and two hexadecimal digits; %- stands alone, for no bytes")
+    one = "a key has at most one if, one get, and one put or del"
+    yield "a key that is put and deleted", LATE + b"propose 0 1 tx put x 1 get x del %78\n", told(3, f", word 11: %78 spells a key that has such an item already, by word 6: {one}")
+    yield "a key that is guarded twice", LATE + b"sparing 1 propose 0 1 tx if x 1 if x 1\n", told(3, f", word 11: x spells a key that has such an item already, by word 8: {one}")
+    gets = b"".join(b" get k%d" % it for it in range(17))
+    yield "17 keys that are told", LATE + b"propose 0 1 tx" + gets + b"\n", told(3, ", word 37: get is the 17th get: a tx tells at most 16 keys")
+    dels = b"".join(b" del %c%c" % (48 + it % 64, 48 + it // 64) for it in range(1025))
+    yield "1,025 keys", LATE + b"propose 0 1 tx" + dels + b"\n", told(3, ", word 2054: 0@ spells the 1025th key: a tx names at most 1024")
 
 
 def weather():
@@ -184,7 +204,7 @@ def texts():
 
 def every():
     """All of them."""
-    for name, script, wanted in (*firsts(), *words(), *numbers(), *keys(), *generations(), *late(), *weather()):
+    for name, script, wanted in (*firsts(), *words(), *numbers(), *keys(), *generations(), *late(), *many(), *weather()):
         yield dict(name=f"explain a script: {name}", words=["explain"], given=script, wanted=wanted.encode(), status=2)
     for name, command, wanted in endless():
         yield dict(name=f"explain input without an end: {name}", words=["explain"], redirect=f"< <({command})", wanted=wanted.encode(), status=2)

@@ -25,6 +25,7 @@ sys.path.insert(0, f"{TOP}/.ci")
 import bindings
 import clock
 import generations
+import growth
 import lanes
 import launcher
 import library
@@ -32,6 +33,7 @@ import moved
 import page
 import release
 import rows
+import sim
 import store
 from disks import runs as disks
 
@@ -62,7 +64,11 @@ PUT = b"replicas 3\npropose 0 1 put x 1\n"
 # a script whose bundle has over 16 KiB, so that it takes several reads, and is audited and upgraded, shown and drawn on devices that fail
 LONG = b"replicas 3\n" + b"propose 0 1 put x 1\nflush\nflush\n" * 40
 # what looks whether something that is written is up to date
-LOOKS = (["tools/generate", "--check", "rows", "page", "header"], ["tools/tidy"], ["tools/wrong-bodies", "--look"])
+LOOKS = (
+    ["tools/generate", "--check", "rows", "page", "header", "bindings", "pictures"],
+    ["tools/tidy"],
+    ["tools/wrong-bodies", "--look"],
+)
 # how ep_viewer looks at a bundle
 VIEWS = (["show"], ["show", "--columns"], ["explain"], ["draw"], ["draw", "--mermaid"], ["draw", "--dot"])
 TRACE = ["trace"]
@@ -161,7 +167,8 @@ def refused_memory():
     for name in SCRIPTS:
         script = read(name)
         print(f"{name}, with each allocation refused:", flush=True)
-        for words, given in ((["replay"], script), (["replay", "--emit", "bundle"], script), (["audit"], bundle_of(script))):
+        runs = ((["replay"], script), (["replay", "--emit", "json"], script), (["replay", "--emit", "bundle"], script), (["audit"], bundle_of(script)))
+        for words, given in runs:
             yield swept("memory", ["ep_main", "--", *words], given)
     for name in ROWS:
         named = rows_named(name)
@@ -179,7 +186,8 @@ def refused_memory():
             with open(name, "wb") as file:
                 file.write(it.bundle())
         for chain in (names, names[::-1]):
-            yield swept("memory", ["ep_main", "--", "audit", "--chain", *chain], b"")
+            for form in ([], ["--emit", "json"]):
+                yield swept("memory", ["ep_main", "--", "audit", "--chain", *chain, *form], b"")
         print("logs of version 2 whose opening is made, and logs that are refused, with each allocation refused:", flush=True)
         for name, it in (("both", moved.Apart(True)), ("waits", moved.Apart(False))):
             for log, held in moved.kept(it).items():
@@ -277,6 +285,7 @@ PARTS = (
     Part("wrong bodies", wrong_bodies, is_of_built=False),
     Part("tests/", tests, is_of_built=False),
     Part("rows", both_programs),
+    Part("growth", lambda: growth.tried(PROGRAM)),
     Part("launcher", launcher.tried),
     Part("disks", disks.tried),
     Part("page", lambda: page.tried(PROGRAM)),
@@ -287,6 +296,7 @@ PARTS = (
     Part("library", library.tried),
     Part("hosts/store", store.tried),
     Part("bindings", bindings.tried),
+    Part("simulated hosts", sim.tried),
     Part("release", release.of_gate),
 )
 

@@ -5,14 +5,17 @@ Digests are hashlib's, of bytes that are spelled here."""
 
 import copy
 import hashlib
+import string
 
 S = "replicas 3\n"
 LAST_GENERATION, LAST_STAMP = 2**32 - 1, 2**48 - 1
-OPS = {"get": 2, "put": 3, "del": 4, "swap": 5, "cas": 6, "ask": 7, "act": 8, "seal": 9}
+OPS = {"get": 2, "put": 3, "del": 4, "swap": 5, "cas": 6, "ask": 7, "act": 8, "seal": 9, "tx": 10}
 EMPTY_DIGEST = "df3f619804a92fdb4057192dc43dd748ea778adc52bc498ce80524c014b81119"
 # what a refused command line tells first and last
 REFUSED, HELP = b"command line refused\nerror: ", b"\nFor more information, try '--help'.\n"
 LONGEST = "v" * 65_535
+# as many keys as a command may name, rising
+MANY_KEYS = [one + other for one in string.digits + string.ascii_lowercase for other in string.digits + string.ascii_lowercase][:1024]
 
 
 def number(value, size):
@@ -60,10 +63,46 @@ def report(life, committed=(), history=(), closing="open", held=None, receipts=(
     return joined([*lines, *([] if lost is None else [f"lost {lost}"])]).encode()
 
 
+def optional(held):
+    """A value, or that there is none."""
+    return b"\0" if held is None else b"\1" + number(len(held), 4) + held
+
+
 def part(word):
     """One of the two parts of a comparison's body."""
-    held = spelled(word)
-    return b"\0" if held is None else b"\1" + number(len(held), 4) + held
+    return optional(spelled(word))
+
+
+def items_of(words):
+    """What the words of a command over many keys say of each key, by rising keys: its guard in a list, whether it is told, and what is written in a list."""
+    items, at = {}, 0
+    while at < len(words):
+        kind, key = words[at], spelled(words[at + 1])
+        guard, told, write = items.get(key, ([], False, []))
+        if kind == "if":
+            guard = [spelled(words[at + 2])]
+        elif kind == "get":
+            told = True
+        else:
+            write = [spelled(words[at + 2]) if kind == "put" else None]
+        items[key] = guard, told, write
+        at += 3 if kind in ("if", "put") else 2
+    return sorted(items.items())
+
+
+def item_bytes(key, guard, told, write):
+    """An item of a command over many keys."""
+    flags = told + 2 * bool(guard) + (0 if not write else 8 if write[0] is None else 4)
+    put = number(len(write[0]), 4) + write[0] if flags & 4 else b""
+    return number(len(key), 1) + number(flags, 1) + key + b"".join(optional(it) for it in guard) + put
+
+
+def item_words(key, guard, told, write):
+    """The same, as a report has it."""
+    of = worded(key)
+    yield from (f" if {of} {'%!' if it is None else worded(it)}" for it in guard)
+    yield from [f" get {of}"] * told
+    yield from (f" del {of}" if it is None else f" put {of} {worded(it)}" for it in write)
 
 
 class Command:
@@ -72,6 +111,13 @@ class Command:
     def __init__(self, text):
         name, *words = text.split(" ")
         self.text, self.name, self.op = text, name, OPS[name]
+        if name == "tx":
+            self.items = items_of(words)
+            self.keys = [it for it, _ in self.items]
+            self.only_reads = not any(write for _, (_, _, write) in self.items)
+            self.body = number(len(self.items), 2) + b"".join(item_bytes(key, *it) for key, it in self.items)
+            self.text = "tx" + "".join(word for key, it in self.items for word in item_words(key, *it))
+            return
         of_two = name == "swap" or name in ("ask", "act") and len(words) == 3
         self.keys = [] if name == "seal" else [spelled(it) for it in words[: 1 + of_two]]
         rest = words[len(self.keys) :]
@@ -89,6 +135,8 @@ class Command:
         """What the command is told of an open map, which it changes."""
         if self.name in ("seal", "ask", "act"):
             return None if self.name == "seal" else "ordered"
+        if self.name == "tx":
+            return self.transact(held)
         had = held.get(self.keys[0])
         if self.name == "put":
             held[self.keys[0]] = self.values[0]
@@ -105,6 +153,25 @@ class Command:
             if self.values[1] is not None:
                 held[self.keys[0]] = self.values[1]
         return had
+
+    def transact(self, held):
+        """What one over many keys is told: whether it was done, and what each key had that it tells."""
+        told = [held.get(key) for key, (_, is_told, _) in self.items if is_told]
+        if any(held.get(key) != it for key, (guard, _, _) in self.items for it in guard):
+            return "undone", told
+        for key, (_, _, write) in self.items:
+            for it in write:
+                held.pop(key, None)
+                if it is not None:
+                    held[key] = it
+        return "done", told
+
+
+def replied(reply):
+    """A reply as reports have it."""
+    if isinstance(reply, tuple):
+        return reply[0] + "".join(f" {replied(it)}" for it in reply[1])
+    return reply if isinstance(reply, str) else "absent" if reply is None else f"present {worded(reply)}"
 
 
 class Generation:
@@ -126,8 +193,9 @@ class Generation:
 
     def command_bytes(self, command, deps=None):
         """The op and all lengths; in a frame with the number of dependencies."""
-        key = command.keys[0] if command.keys else b""
-        second = command.keys[1] if len(command.keys) > 1 else b""
+        keys = [] if command.name == "tx" else command.keys
+        key = keys[0] if keys else b""
+        second = keys[1] if len(keys) > 1 else b""
         start = number(command.op, 1) + number(len(key), 1)
         count = b"" if deps is None else number(len(deps), 2)
         if self.version < 3:
@@ -161,6 +229,8 @@ class Generation:
         self.entries[replica].append(whole + number(len(answers), 2) + b"".join(answers))
 
     def answer_bytes(self, reply):
+        if isinstance(reply, tuple):
+            return number(5 if reply[0] == "done" else 6, 1) + number(len(reply[1]), 2) + b"".join(optional(it) for it in reply[1])
         if reply in ("closed", "ordered"):
             return number(3 if reply == "closed" else 4, 1)
         return b"\0" if reply is None else b"\1" + number(len(reply), 4 if self.version == 3 else 2) + reply
@@ -211,7 +281,7 @@ class Generation:
         name, stamp = f"0.{len(self.taken)}", self.stamps[0]
         if command.name == "seal" and not self.closing:
             self.closing = f"closed {name} {command.text.split(' ')[1]} stamp {stamp}"
-        said = reply if isinstance(reply, str) else "absent" if reply is None else f"present {worded(reply)}"
+        said = replied(reply)
         self.committed.append(f"{name} seq {seq} deps {','.join(f'0.{it}' for it in deps) or '-'} {command.text}")
         self.history.append(f"{name} {command.text} -> {said}")
         self.given.append(f"client 1 request {len(self.taken)} {name} {said}")
@@ -280,11 +350,15 @@ REFUSED_COMMANDS = (
     *(f"{name}{it}" for name in ("ask", "act") for it in ("", " x", " x y b c", " %- b", " x %- b", " x x b", " x %78 b", " x %!", " x y %!", " %! b", " x% b")),
     *(f"seal{it}" for it in ("", " a b", " %!", " %", " a%!")),
     *("put x %!", "put %! x", "get %!", "swap x %!", "Cas x 1 2", "opaque x b", "noop", "seals n"),
+    *(f"tx{it}" for it in ("", " x", " get", " put x", " if x", " del", " set x 1", " get x 1", " get x get x", " get x get %78", " put x 1 put x 2", " del x del x", " put x 1 del x", " del x put x 1")),
+    *(f"tx{it}" for it in (" if x 1 if x 1", " if x %! put x %!", " get %-", " get %!", " if %! 1", " del x%", " put x 1 cas x 1 2", " get x if", " Get x")),
+    *("tx " + " ".join(f"get {it}" for it in MANY_KEYS[:17]), "tx " + " ".join(f"del {it}" for it in (*MANY_KEYS, "aaa"))),
+    f"tx get {'k' * 256}",
     f"cas {'k' * 256} 1 2",
     f"ask k {'k' * 256} b",
 )
 # Commands of version 3 that a script of version 2 refuses
-LATER_COMMANDS = ("cas x 1 2", "cas x %! 1", "ask x b", "ask x y b", "act x b", "act x y b", "seal n", "seal %-", "put x " + "v" * 1025)
+LATER_COMMANDS = ("tx get x", "tx put x 1 put y 2", "cas x 1 2", "cas x %! 1", "ask x b", "ask x y b", "act x b", "act x y b", "seal n", "seal %-", "put x " + "v" * 1025)
 
 # Proposals in version 3 that don't name another replica of three as the spared one
 REFUSED_SPARING = (
@@ -506,7 +580,10 @@ def runs():
 ALONE = (
     *("get a", "get x", "put a 2", "put x %-", "del a", "del x", "swap a b", "swap x a", "cas a 1 2", "cas a 2 3", "cas a 1 %!", "cas x %! 1", "cas x %- 1", "cas b %- %!"),
     *("ask a q", "ask a b %-", "act x q", "act b a %00%ff", "seal n", "seal %-"),
+    *("tx get a", "tx put x %-", "tx del a", "tx if a 1", "tx if x 1", "tx get b put a 2 get x del b get a", "tx if b %- if x %! put x 1 put a %00%ff get b", "tx if a %! del a get a"),
 )
+# accounts, between which goes what is there
+BANK = ("tx if a 10 if b 20 put a 5 put b 25", "tx get b get a", "tx if a 10 put a 0 put b 30", "tx get a get b get c", "put a 1", "tx if c %! put c 7 get a del b", "swap a c", "get b", "tx if b %- get b", "tx del x")
 RUNS = (
     Generation(),
     Generation(generation=LAST_GENERATION, since=LAST_STAMP),
@@ -517,6 +594,11 @@ RUNS = (
     Generation("ask k l " + LONGEST, "act k " + LONGEST, "seal " + LONGEST, "put k 1"),
     Generation(*LOCK, size=5, generation=7, since=LAST_STAMP - 500),
     Generation("seal a", "seal b", "get a", "act a b c", size=7, opening={"a": "1"}),
+    *(Generation(*BANK, "seal n", "tx put a 1 get a", size=size, opening={"a": "10", "b": "20"}) for size in (3, 7)),
+    # (as many keys as there may be, as many that are told, as long a body, and as long a reply)
+    Generation("tx " + " ".join(f"put {it} {at}" for at, it in enumerate(MANY_KEYS)), "tx " + " ".join(f"get {it}" for it in MANY_KEYS[:16]) + " " + " ".join(f"del {it}" for it in MANY_KEYS[8:]), "get aa"),
+    Generation(f"tx put k {LONGEST} put l {LONGEST[6:]}", "tx get l get k", f"tx if k {LONGEST} get l", opening={"a": "1"}),
+    Generation("tx " + " ".join(f"get {it}" for it in MANY_KEYS[:16]), opening={it: LONGEST for it in MANY_KEYS[:16]}),
     *(Generation("put x 1", "cas x 1 2", "seal n", size=size, spared=it, generation=2) for size in (3, 5, 7) for it in range(1, size)),
 )
 # of FORMATS.md, section 2.2: a generation that opens with nothing, one that opens with a and ab, and one in which `put x 1` was proposed
@@ -582,7 +664,7 @@ def bad_bundles():
     yield "a value of 65,536 bytes", of_keys((b"a", b"v" * 65_536)), bad(27)
     yield "a key that is cut", OPENED[:31], bad(31)
     yield "a value that is cut", OPENED[:32], bad(32)
-    for byte, at in ((1, 56), (10, 56), (2, 59), (4, 59), (5, 58), (6, 59), (9, 57)):
+    for byte, at in ((1, 56), (11, 56), (2, 59), (4, 59), (5, 58), (6, 59), (9, 57), (10, 57)):
         yield f"op {byte} in the place of a put", changed(PROPOSED, (56, byte)), bad(at)
     for byte in (7, 8):
         yield f"op {byte} in the place of a put, which its frame isn't of", changed(PROPOSED, (56, byte)), NOT_A_RUN
@@ -596,7 +678,7 @@ def bad_bundles():
     yield "a proposal that asks the spared replica too", SPARED[:66] + number(2, 2) + changed(sent, (9, 1)) + changed(sent, (11, 1)) + SPARED[122:], NOT_A_RUN
     for length, at in ((31, 31), (48, 48), (56, 56), (57, 57), (58, 58)):
         yield f"the first {length} bytes of a proposal that names the spared replica", SPARED[:length], bad(at)
-    for byte, at in ((1, 57), (10, 57), (2, 60)):
+    for byte, at in ((1, 57), (11, 57), (2, 60), (10, 58)):
         yield f"op {byte} in the place of a put, behind the spared replica", changed(SPARED, (57, byte)), bad(at)
     for bundle, at, name in ((SPARED, 31, "3"), (EARLY[0], 15, "1"), (EARLY[1], 15, "2")):
         for byte in (0, 7, 255) if name == "3" else (0, 6, 7):
@@ -617,12 +699,45 @@ def bad_bundles():
     # an answer's code and its value's length: of the last entry but the journals and the receipt behind it
     held = Generation("get a", opening={"a": "1"}).bundle()
     receipt = len(held) - 6
-    yield "an answer of another kind", changed(held, (receipt, 5)), bad(receipt)
+    yield "an answer of another kind", changed(held, (receipt, 7)), bad(receipt)
+    # (it tells nothing, and then there are three bytes left)
+    yield "an answer to a command over many keys in the place of a get's", changed(held, (receipt, 5)), bad(receipt + 3)
     yield "an answer of 65,537 bytes", changed(held, (receipt + 2, 1)), bad(receipt + 1)
     # the codes of version 3, in version 2
     early = Generation("get a", version=2).bundle()
-    for byte in (3, 4):
+    for byte in (3, 4, 5, 6):
         yield f"answer {byte} in version 2", changed(early, (len(early) - 1, byte)), bad(len(early) - 1)
+
+
+def bad_items():
+    """Bundles whose commands over many keys are none, or whose replies are none, and what is told."""
+    body = "0002 01 06 78 00 00000001 31 01 01 79"
+    it = Generation("tx if x %! put x 1 get y").bundle()
+    at = it.index(bytes.fromhex(body))
+    changes = {
+        "no items": (1, 0), "an item less": (1, 1), "an item more": (1, 3), "many items more": (0, 4), "an empty key": (2, 0), "another length of a key": (2, 2), "a longer key": (2, 200),
+        "neither told nor guarded nor written": (3, 0), "put and deleted": (3, 12), "a flag that there is none": (3, 22), "no put": (3, 2), "no guard": (3, 4), "a guard that is neither": (5, 2),
+        "a value of 65,536 bytes": (7, 1), "a longer value": (9, 2), "a shorter value": (9, 0), "the same key": (13, 0x78), "keys that fall": (13, 0x77),
+        "a second item that says nothing": (12, 0), "a second item of all flags": (12, 15),
+    }
+    for name, (place, byte) in changes.items():
+        yield f"items: {name}", changed(it, (at + place, byte)), bad(at)
+    # (the length of the body stands before it)
+    for length, place in ((4, at - 4), (13, at), (15, at)):
+        yield f"items: a body of {length} bytes", changed(it, (at - 1, length)), bad(place)
+    yield "items: a body of 131,081 bytes", it[: at - 4] + number(131_081, 4) + it[at:], bad(at - 4)
+    seventeen = number(17, 2) + b"".join(item_bytes(it.encode(), [], True, []) for it in MANY_KEYS[:17])
+    yield "items: 17 that are told", it[: at - 4] + number(len(seventeen), 4) + seventeen + it[at + 14 :], bad(at)
+    more = number(1_025, 2) + b"".join(item_bytes(it.encode(), [], False, [None]) for it in (*MANY_KEYS, "zzz"))
+    yield "items: 1,025 of them", it[: at - 4] + number(len(more), 4) + more + it[at + 14 :], bad(at)
+    # the reply `done`, of y alone, which isn't there: 5, 1 in two bytes, 0; at the receipt's end
+    end = len(it)
+    yield "a reply that tells 17", changed(it, (end - 2, 17)), bad(end - 3)
+    yield "a reply that tells 257", changed(it, (end - 3, 1)), bad(end - 3)
+    yield "a reply that tells neither a value nor none", changed(it, (end - 1, 2)), bad(end - 1)
+    yield "a reply that tells a value of 65,536 bytes", it[:-1] + b"\1" + number(65_536, 4) + bytes(65_536), bad(end)
+    yield "a reply that is cut off", it[:-1], bad(end - 1)
+    yield "a reply that tells nothing, and a byte more", changed(it, (end - 2, 0)), bad(end - 1)
 
 
 def told_by_number(version, told):
@@ -665,7 +780,7 @@ def bundles():
     for at, it in enumerate(RUNS):
         yield dict(name=f"an audit of run {at} of version 3", words=["audit"], given=it.bundle(), wanted=it.audited())
     yield from answers_of_others()
-    for name, it, told_of in bad_bundles():
+    for name, it, told_of in (*bad_bundles(), *bad_items()):
         yield dict(name=f"an audit of {name}", words=["audit"], given=it, told=told_of, status=2)
 
 
@@ -862,7 +977,7 @@ def chain_files():
         yield dict(name=f"a chain with {redirect}", words=[*chain, "one bundle", "two.bundle"], files=files, redirect=redirect, wanted=wanted)
     for redirect in ("> /dev/full", ">&-"):
         yield dict(name=f"a chain with {redirect}", words=[*chain, "one bundle"], files=files, redirect=redirect, told=b"writing failed\n", status=4)
-    for words in (["--chain"], ["one bundle"], ["one bundle", "two.bundle"], ["--chain", "--chain"], ["--emit", "report", "--chain", "one bundle"], ["--chains", "one bundle"], ["--chain=one bundle"]):
+    for words in (["--chain"], ["one bundle"], ["one bundle", "two.bundle"], ["--chain", "--chain"], ["--emit", "bundle", "--chain", "one bundle"], ["--chains", "one bundle"], ["--chain=one bundle"]):
         yield dict(name=f"words refused: audit {' '.join(words)}", words=["audit", *words], files=files, told=REFUSED, rest=HELP, status=2)
 
 

@@ -10,6 +10,7 @@ import shutil
 import subprocess
 import sys
 import tempfile
+import threading
 import time
 
 import rows
@@ -101,8 +102,9 @@ class Room:
         ran = subprocess.run(f"{under} ./epaxos {words} {redirect}", input=given.encode(), env=environment, **how)
         return ran.returncode, ran.stdout.decode(errors="replace"), ran.stderr.decode(errors="replace")
 
-    def seen(self, command, typed=b""):
-        """The status, and what a terminal shows, on which the fault output of the command comes."""
+    def seen(self, command, typed=b"", hear=lambda shown: None):
+        """The status, and what a terminal shows, on which the fault output of the command comes; `hear` gets all of it
+        that has come so far."""
         child, terminal = pty.fork()
         if not child:
             os.chdir(self.top)
@@ -119,9 +121,28 @@ class Room:
             if not part:
                 break
             shown += part
+            hear(shown)
         status = os.waitstatus_to_exitcode(os.waitpid(child, 0)[1])
         os.close(terminal)
         return status, shown.decode(errors="replace").replace("\r\n", "\n")
+
+    def seen_briefly(self, command, typed=b""):
+        """The same but for how far the command is, which it tells where it takes long, as on a machine that is slow."""
+        status, shown = self.seen(command, typed)
+        return status, re.sub(r"epaxos \w+: \d+ s so far.*\n", "", shown)
+
+    def seen_long(self):
+        """The status of a replay whose input ends once it has told something, or after a minute; what that was."""
+        reading, writing = os.pipe()
+        os.set_inheritable(reading, True)
+        with open(reading, "rb"), open(writing, "wb", buffering=0) as script:
+            script.write(SCRIPT.encode())
+            end = threading.Timer(60, script.close)
+            end.start()
+            ends = lambda shown: b"\n" in shown and script.close()
+            status, shown = self.seen(f"./epaxos replay <&{reading} > it.out", hear=ends)
+            end.cancel()
+        return status, shown.partition("\n")[0]
 
 
 def refused(reason, tip=""):
@@ -143,7 +164,7 @@ def fixed(room):
         ("--biuld", refused("unexpected argument '--biuld' found")),
         ("build --unproved", refused("unrecognized subcommand 'build'")),
         ("--build now", (2, "", "epaxos: --build takes at most --unproved and --jobs N, with N from 1 to 99\n")),
-        ("--build --unproved now", (2, "", "epaxos: --build --unproved takes at most --library and --jobs N, with N from 1 to 99\n")),
+        ("--build --unproved now", (2, "", "epaxos: --build --unproved takes at most --library, --no-checks and --jobs N, with N from 1 to 99\n")),
         ("put.script", refused("unrecognized subcommand 'put.script'", "epaxos reads standard input: epaxos replay < put.script")),
         ("no.run", refused("unrecognized subcommand 'no.run'", "epaxos reads standard input: epaxos run < no.run")),
         ("cut.bundle", refused("unrecognized subcommand 'cut.bundle'", "epaxos reads standard input: epaxos audit < cut.bundle")),
@@ -170,7 +191,7 @@ def fixed(room):
     yield "each program is built once, alone", room.text("it.built"), "--program ep_main\n--program ep_server\n--program ep_viewer\n"
     os.rename(f"{room.top}/tools/unproved.kept", f"{room.top}/tools/unproved")
     room.place()
-    yield "--version, not built", room.run("--version")[1].splitlines()[0::2], ["epaxos 0.1.0", "nothing is built: ./epaxos --build --unproved, or --build"]
+    yield "--version, not built", room.run("--version")[1].splitlines()[0::2], ["epaxos 1.0.0", "nothing is built: ./epaxos --build --unproved, or --build"]
 
 
 def chosen(room):
@@ -180,7 +201,7 @@ def chosen(room):
     yield "--quiet", room.run("--quiet replay", SCRIPT), (0, REPORT, "")
     yield "EPAXOS_QUIET=1", room.run("replay", SCRIPT, quiet="1"), (0, REPORT, "")
     yield "unproved, no words", room.run(""), refused("'epaxos' requires a subcommand but one was not provided")
-    yield "unproved, --version", room.run("--version"), (0, "epaxos 0.1.0\nthe kit of the unproved\nnot proved: built with --unproved\n", "")
+    yield "unproved, --version", room.run("--version"), (0, "epaxos 1.0.0\nthe kit of the unproved\nnot proved: built with --unproved\n", "")
     yield "unproved, a trace", room.run("--quiet trace", FOUR), (2, "", "script refused at line 1\n")
     yield "unproved, a file as a word", room.run("--quiet replay put.script"), (2, "", f"{REFUSED}unexpected argument 'put.script' found\n\nUsage: epaxos replay [OPTIONS]{MORE}")
     yield "unproved, a file without --chain", room.run("--quiet audit cut.bundle"), (2, "", f"{REFUSED}a FILE stands with '--chain' alone{MORE}")
@@ -199,7 +220,7 @@ def chosen(room):
     room.restore("crates/ep_server/src/main.rt")
     room.place("proved", "unproved")
     yield "proved", room.run("replay", SCRIPT), (0, REPORT, "")
-    yield "proved, --version", room.run("--version"), (0, "epaxos 0.1.0\nthe kit of the proved\nproved\n", "")
+    yield "proved, --version", room.run("--version"), (0, "epaxos 1.0.0\nthe kit of the proved\nproved\n", "")
     room.edit("crates/ep_base/specs/Lib.antt")
     yield "both, a definition is newer", room.run("replay", SCRIPT), (0, REPORT, UNPROVED)
     room.restore("crates/ep_base/specs/Lib.antt")
@@ -262,46 +283,61 @@ def shown(room):
         ("audit", "unsent.bundle", 1, "see: epaxos explain < unsent.bundle\n"),
         ("replay", "put.script", 0, ""),
     ):
-        yield f"{words} {given}, on a terminal", room.seen(f"./epaxos {words} < {given} > it.out"), (status, said)
+        seen = room.seen_briefly(f"./epaxos {words} < {given} > it.out")
+        yield f"{words} {given}, on a terminal", seen, (status, said)
         status_elsewhere, _, told = room.run(words, redirect=f"< {given}")
         yield f"{words} {given}, not on a terminal", (status_elsewhere, told), (status, "".join(line for line in said.splitlines(True) if not line.startswith(("see: ", "epaxos reads "))))
-    yield "a chain, on a terminal", room.seen("./epaxos audit --chain cut.bundle"), (2, "bundle refused E12 at byte 4 in cut.bundle\n")
-    yield "from a pipe, on a terminal", room.seen("cat four.script | ./epaxos replay"), (2, "script refused at line 1\nsee: epaxos explain < FILE\n")
+    yield "a chain, on a terminal", room.seen_briefly("./epaxos audit --chain cut.bundle"), (2, "bundle refused E12 at byte 4 in cut.bundle\n")
+    yield "from a pipe, on a terminal", room.seen_briefly("cat four.script | ./epaxos replay"), (2, "script refused at line 1\nsee: epaxos explain < FILE\n")
+    yield "long work, on a terminal", room.seen_long(), (0, "epaxos replay: 2 s so far")
+    yield "long work, --quiet", room.seen("(cat put.script; sleep 3.6) | ./epaxos --quiet replay > it.out"), (0, "")
     status, seen = room.seen("./epaxos replay > it.out", (SCRIPT + "\4").encode())
     yield "a script from the terminal", (status, "reading from the terminal; Ctrl-D ends the input\n" in seen), (0, True)
-    many = SCRIPT + "#\n" * 20000
-    room.write("many.script", many)
-    # (the reader is gone before anything is written)
-    closed = "(sleep 0.2; ./epaxos {} < {}; echo $? > it.status) | (exec <&-; sleep 0.3); cat it.status"
+    # (nobody reads this pipe)
+    reading, writing = os.pipe()
+    os.close(reading)
+    os.set_inheritable(writing, True)
+    closed = f"./epaxos {{}} < {{}} >&{writing}; echo $?"
     for words, given in (("replay", "put.script"), ("show", "unsent.bundle"), ("help replay", "/dev/null"), ("help", "/dev/null")):
-        yield f"{words}, its pipe closed, on a terminal", room.seen(closed.format(words, given)), (0, "4\n")
-        told = subprocess.run(["bash", "-c", closed.format(words, given)], cwd=room.top, stdout=subprocess.PIPE, stderr=subprocess.PIPE)
+        yield f"{words}, its pipe closed, on a terminal", room.seen_briefly(closed.format(words, given)), (0, "4\n")
+        how = {"cwd": room.top, "pass_fds": [writing], "stdout": subprocess.PIPE, "stderr": subprocess.PIPE}
+        told = subprocess.run(["bash", "-c", closed.format(words, given)], **how)
         yield f"{words}, its pipe closed", (told.stdout, told.stderr), (b"4\n", b"writing failed\n")
-    yield "replay to a full device, on a terminal", room.seen("./epaxos replay < put.script > /dev/full"), (4, "writing failed\n")
+    os.close(writing)
+    yield "replay to a full device, on a terminal", room.seen_briefly("./epaxos replay < put.script > /dev/full"), (4, "writing failed\n")
 
 
-# What a build does that has one thing to do, of which nothing is heard for a while.
+# What a build does that has one thing to do, of which nothing is heard until it has told so three times more, or for a
+# minute; its output is how often it may have told so by then.
 BUILD = """
 import time
 from progress import Progress
-progress = Progress("crates proved", silence=0.1)
+told = []
+class Counted(Progress):
+    def write(self, text):
+        told.append(text)
+        super().write(text)
+progress, begun = Counted("crates proved", silence=0.1), time.monotonic()
 progress.count = 2
 progress.start()
 progress.begin("ep_base")
-time.sleep(1)
+while len(told) < 4 and time.monotonic() < begun + 60:
+    time.sleep(0.01)
 progress.end("ep_base", True)
+print(1 + int((time.monotonic() - begun) / 0.1))
 """
 
 
 def builds(room):
     """How a build tells how far it is."""
-    line = "epaxos: 0 of 2 crates proved, at ep_base (0 min 00 s)"
+    line = r"epaxos: 0 of 2 crates proved, at ep_base \(0 min \d\d s\)"
     told = subprocess.run([sys.executable, "-Bc", BUILD], cwd=f"{room.top}/tools", stdout=subprocess.PIPE, stderr=subprocess.PIPE, text=True)
     lines = told.stderr.splitlines()
-    # (the last ones may be of a second later)
-    yield "a long build, not on a terminal", (told.returncode, told.stdout, lines[:2], len(lines) < 12), (0, "", [line, line], True)
-    status, seen = room.seen(f"cd tools && {sys.executable} -Bc '{BUILD}'")
-    yield "a long build, on a terminal", (status, seen.startswith(f"\r\033[K{line}\r\033[K"), "\n" in seen), (0, True, False)
+    are_lines = all(re.fullmatch(line, it) for it in lines)
+    are_few = 4 <= len(lines) <= int(told.stdout)
+    yield "a long build, not on a terminal", (told.returncode, are_lines, are_few), (0, True, True)
+    status, seen = room.seen(f"cd tools && {sys.executable} -Bc '{BUILD}' > ../it.out")
+    yield "a long build, on a terminal", (status, bool(re.fullmatch(rf"(\r\033\[K{line}){{4,}}", seen))), (0, True)
 
 
 def tried():

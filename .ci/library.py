@@ -66,9 +66,10 @@ def is_audited(logs, scratch, node, program):
 
 def built(compiler, scratch, archive):
     """Whether each program is built and runs by the compiler, and the logs of the example are audited."""
-    for name, flags in (("example", []), ("generations", []), ("misuse", []), ("oom", [WRAPPED])):
+    for name, flags in (("example", []), ("generations", []), ("misuse", []), ("told", []), ("oom", [WRAPPED])):
         yield is_well([compiler, *STRICT, *flags, f"{FOLDER}/{name}.c", archive, "-o", f"{scratch}/{compiler}-{name}"])
     yield lines([f"{scratch}/{compiler}-misuse"]) == "each mistake is a status\n"
+    yield lines([f"{scratch}/{compiler}-told"]) == "all is told as the formats say\n"
     yield is_well([f"{scratch}/{compiler}-oom"])
     yield lines([f"{scratch}/{compiler}-generations"]) == "generation 4, and each start is in it\n"
 
@@ -104,7 +105,8 @@ def tried(archive=None, node=BUILT[0], program=BUILT[1]):
                 well.append(is_well(["g++", "-Wall", "-Wextra", "-Wpedantic", "-Werror", f"-I{FOLDER}", f"{scratch}/header.cc", archive, "-o", f"{scratch}/header"]) and is_well([f"{scratch}/header"]))
             if shutil.which("valgrind"):
                 os.mkdir(f"{scratch}/looked")
-                well += [is_well([*VALGRIND, f"{scratch}/{compilers[0]}-{it}"]) for it in ("misuse", "generations")]
+                looked = ("misuse", "generations", "told")
+                well += [is_well([*VALGRIND, f"{scratch}/{compilers[0]}-{it}"]) for it in looked]
                 well.append(is_well([*VALGRIND, f"{scratch}/{compilers[0]}-example", f"{scratch}/looked"]))
     return well.count(True), well.count(False)
 

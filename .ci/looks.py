@@ -7,6 +7,8 @@ from generations import LAST_GENERATION, LONGEST, Generation, number, told
 
 ALL = ("cas a 1 2", "cas a 1 3", "cas c %! %-", "ask a q", "ask a b q%20r", "act a %-", "act b a seq", "swap b a", "seal n", "get b", "ask a q", "seal m")
 
+MANY = ("tx if x %! put x 1 get y", "tx if x %! get x put z 1", "get z", "tx get y get x", "tx del x if y %! put %ff %-", "seal n", "tx get z")
+
 
 class Looked(Generation):
     """A generation, and the lines that are shown of it, each with its stamp and its replica."""
@@ -72,11 +74,17 @@ def shown():
         ("nothing", Looked(generation=1)),
         ("an opening alone", Looked(generation=2, since=2**48 - 1, opening={"%ff": "2", "%00": "%-"})),
         ("long values", Looked(f"put k {LONGEST}", f"cas k {LONGEST} {LONGEST[1:]}", f"seal {LONGEST}", opening={"k": LONGEST})),
+        ("many keys", Looked(*MANY)),
         ("version 2", Looked("put x 1", "swap x y", version=2)),
         ("version 1", Looked("put x 1", "get x", version=1)),
     ):
         yield dict(name=f"version 3: {name}, shown", words=["show"], given=other.bundle(), wanted=other.shown())
     # (each event names one instance)
+    many = Looked(*MANY)
+    for key, names in (("x", ("0.1", "0.2", "0.4", "0.5")), ("y", ("0.1", "0.4", "0.5")), ("z", ("0.2", "0.3", "0.7")), ("%ff", ("0.5",)), ("1", ())):
+        events = [it for at in names for it in (f"; took {at};", f" PreAccept {at} ", f" PreAcceptOK {at} ", f"execute {at};")]
+        wanted = many.shown(lambda line: any(it in line for it in events))
+        yield dict(name=f"version 3: of many keys, what is about the key {key}, shown", words=["show", "--key", key], given=many.bundle(), wanted=wanted)
     for key, names in (("c", ("0.3",)), ("b", ("0.5", "0.7", "0.8", "0.10")), ("%62", ("0.5", "0.7", "0.8", "0.10")), ("n", ()), ("q", ())):
         events = [it for at in names for it in (f"; took {at};", f" PreAccept {at} ", f" PreAcceptOK {at} ", f"execute {at};")]
         wanted = one.shown(lambda line: any(it in line for it in events))
@@ -111,7 +119,7 @@ def explained():
     """How they are explained."""
     one = life()
     edition = one.edition()[0]
-    for name, it in (("every command", one), ("nothing", Looked(generation=1)), ("version 2", Looked("put x 1", version=2))):
+    for name, it in (("every command", one), ("many keys", Looked(*MANY)), ("nothing", Looked(generation=1)), ("version 2", Looked("put x 1", version=2))):
         # (replica 1 hears of no Commit, and replica 0 has executed all)
         left = [f"next  recover 0.{at} at any replica that reaches 1 and 2" for at, _ in enumerate(it.taken, 1)]
         wanted = "".join(f"{line}\n" for line in ["verdict accepted", *it.edition(), *left])
@@ -143,9 +151,14 @@ def refusal(name, given, at, field, where, allowed, found):
     yield dict(name=f"version 3: {name}, explained", words=["explain"], given=given, wanted=line.encode(), is_begun=True, says=says, status=2)
 
 
-OP = "op (2 get, 3 put, 4 del, 5 swap, 6 cas, 7 ask, 8 act, 9 seal)"
-CODE = "code of an answer (0 absent, 1 present, 2 lost, 3 closed, 4 ordered)"
+OP = "op (2 get, 3 put, 4 del, 5 swap, 6 cas, 7 ask, 8 act, 9 seal, 10 tx)"
+CODE = "code of an answer (0 absent, 1 present, 2 lost, 3 closed, 4 ordered, 5 done, 6 undone)"
 TWO_PARTS = "what is expected, and then what is new, and nothing more: each a 0, or a 1, a length of four bytes to 65535, and so many bytes"
+ITEMS = (
+    "a count of two bytes from 1 to 1024, then so many keys, rising, and nothing more: each a length from 1, flags (1 told, 2 guarded, 4 put, 8 del; at least one, "
+    "not both put and del, and at most 16 told), the key, of a guard a 0, or a 1, a length of four bytes to 65535, and so many bytes, and of a put a length of four "
+    "bytes to 65535, and so many bytes"
+)
 
 
 def changed(held, at, value):
@@ -166,8 +179,8 @@ def fields():
     yield from refusal("a key twice", changed(opened, 38, b"a"), 38, "key", "the opening, key 2", higher, "a")
     # a proposal's command stands 5 + 9 + 16 bytes behind the opening's 15
     op, where = 26 + 15 + 5 + 9 + 16, "the journal of replica 0 entry 1"
-    yield from refusal("an op", changed(opened, op, b"\12"), op, OP, where, "2 to 9", "10")
-    yield from refusal("no op", changed(opened, op, b"\1"), op, OP, where, "2 to 9", "1")
+    yield from refusal("an op", changed(opened, op, b"\13"), op, OP, where, "2 to 10", "11")
+    yield from refusal("no op", changed(opened, op, b"\1"), op, OP, where, "2 to 10", "1")
     yield from refusal("no key", changed(opened, op + 1, b"\0"), op + 1, "length of the key", where, "1 to 255", "0")
     yield from refusal("a seal's key", changed(opened, op, b"\11"), op + 1, "length of the key", where, "0", "1")
     yield from refusal("a second key of a get", changed(opened, op, b"\2"), op + 2, "length of the second key", where, "0", "1")
@@ -186,16 +199,24 @@ def fields():
     spared = Looked("put x 1", size=5, generation=1, spared=2).bundle()
     for byte in (0, 5):
         yield from refusal(f"a spared replica {byte}", changed(spared, 26 + 5 + 9 + 16, bytes([byte])), 26 + 5 + 9 + 16, "spared replica", where, "0 to 4, and not the journal's own replica", str(byte))
-    yield from refusal("no op behind a spared replica", changed(spared, 26 + 5 + 9 + 17, b"\1"), 26 + 5 + 9 + 17, OP, where, "2 to 9", "1")
+    yield from refusal("no op behind a spared replica", changed(spared, 26 + 5 + 9 + 17, b"\1"), 26 + 5 + 9 + 17, OP, where, "2 to 10", "1")
     cas = Looked("cas k %! 1", generation=1).bundle()
     body = 26 + 5 + 9 + 16 + 7 + 1
     yield from refusal("a body of no two parts", changed(cas, body, b"\2"), body, "body", where, TWO_PARTS, "%02%01%00%00%00%011")
     yield from refusal("a frame too short", changed(cas, body + 7 + 2, number(47, 4)), body + 7 + 2, "length of a frame", where, "48 to 400000", "47")
     yield from refusal("a frame too long", changed(cas, body + 7 + 2, number(400_001, 4)), body + 7 + 2, "length of a frame", where, "48 to 400000", "400001")
     # the last byte is that of a receipt's answer
-    yield from refusal("an answer", cas[:-1] + b"\5", len(cas) - 1, CODE, "receipt 1", "0 to 4", "5")
+    yield from refusal("an answer", cas[:-1] + b"\7", len(cas) - 1, CODE, "receipt 1", "0 to 6", "7")
     long = cas[:-1] + b"\1" + number(65_536, 4)
     yield from refusal("an answer too long", long, len(cas), "length of an answer's value", "receipt 1", "0 to 65535", "65536")
+    many = Looked("tx if x %! put x 1 get y", generation=1).bundle()
+    yield from refusal("a key of a command over many keys", changed(many, body - 7, b"\1"), body - 7, "length of the key", where, "0", "1")
+    yield from refusal("too few bytes of many keys", changed(many, body - 5, number(4, 4)), body - 5, "length of the body", where, "5 to 131080", "4")
+    yield from refusal("many keys that fall", changed(many, body - 1 + 13, b"w"), body - 1, "body", where, ITEMS, "%00%02%01%06x%00%00%00%00%011%01%01w")
+    # the last four bytes are the receipt's answer: its code, how many keys are told, and of one that it has nothing
+    yield from refusal("too many told keys", changed(many, len(many) - 2, b"\21"), len(many) - 3, "number of told keys", "receipt 1", "0 to 16", "17")
+    yield from refusal("a told key's mark", many[:-1] + b"\2", len(many) - 1, "mark of a told key (0 absent, 1 present)", "receipt 1", "0 to 1", "2")
+    yield from refusal("a told key's value too long", many[:-1] + b"\1" + number(65_536, 4), len(many), "length of an answer's value", "receipt 1", "0 to 65535", "65536")
     early = Looked("put x 1", version=2).bundle()
     yield from refusal("an answer of version 2", early[:-1] + b"\3", len(early) - 1, "code of an answer (0 absent, 1 present, 2 lost)", "receipt 1", "0 to 2", "3")
 
@@ -233,7 +254,7 @@ def steps():
 
 def drawn():
     """How they are drawn."""
-    for name, one in (("every command", life()), ("the spared replica", life(spared=1)), ("nothing", Looked(generation=1)), ("version 2", Looked("put x 1", "swap x y", version=2))):
+    for name, one in (("every command", life()), ("many keys", Looked(*MANY)), ("the spared replica", life(spared=1)), ("nothing", Looked(generation=1)), ("version 2", Looked("put x 1", "swap x y", version=2))):
         yield dict(name=f"version 3: {name}, drawn", words=["draw", "--mermaid"], given=one.bundle(), wanted=drawing.sequence(one.shown().decode(), one.size).encode())
         yield dict(name=f"version 3: {name}, drawn as a graph", words=["draw", "--dot"], given=one.bundle(), wanted=drawing.graph(one.shown().decode()).encode())
 

@@ -255,6 +255,9 @@ def tried(program):
             passed, failed = passed + (not wrong), failed + bool(wrong)
             if wrong:
                 print(f"{name}, {what}: {wrong}", flush=True)
+    # README's picture says of which page it is
+    is_new = not subprocess.run([f"{TOP}/tools/generate", "--check", "picture"]).returncode
+    passed, failed = passed + is_new, failed + (not is_new)
     print(f"pages: {passed} passed, {failed} failed", flush=True)
     return passed, failed
 

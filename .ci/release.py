@@ -22,8 +22,8 @@ sys.path.insert(0, f"{TOP}/tools")
 from loaded import loaded
 
 TOOLS = (
-    "sh", "cat", "cmp", "cp", "env", "grep", "gzip", "head", "ls", "mkdir", "mv", "printf", "readlink", "rm", "sed",
-    "sha256sum", "sleep", "tail", "test", "tr", "true", "wc", "redis-cli",
+    "sh", "bash", "cat", "cmp", "cp", "env", "grep", "gzip", "head", "ls", "mkdir", "mv", "printf", "readlink",
+    "realpath", "rm", "sed", "sha256sum", "sleep", "stat", "tail", "test", "tr", "true", "wc", "redis-cli",
 )  # fmt: skip
 # parts of Python's own library that nothing here needs
 UNNEEDED = ("__pycache__", "test", "config-*", "idlelib", "lib2to3", "site-packages", "dist-packages")
@@ -44,7 +44,7 @@ os.execve("/bin/sh", ["sh", "/try.sh"], {"PATH": "/usr/bin:/bin", "HOME": "/tmp"
 SCRIPT = f"{TOP}/.ci/release.sh"
 MANIFEST = """[package]
 name = "taken"
-version = "0.1.0"
+version = "1.0.0"
 edition = "2024"
 
 [dependencies]
@@ -53,10 +53,9 @@ epaxos = { path = "epaxos" }
 [workspace]
 """
 TAKEN = """
-use epaxos::{Cluster, Core, Replica};
+use epaxos::{Cluster, Replica};
 
 fn main() {
-    assert!(Core::has_library());
     let mut replica = Replica::new(Cluster::Three, 0).expect("a replica");
     let _ = replica.ready().expect("the log's header");
 }
@@ -125,13 +124,8 @@ def used(archive, package, folder):
     return ran.stdout.splitlines() + failed
 
 
-# what pages name that is of the sources alone
-OF_SOURCES = ("crates", "tests", "tools", ".ci")
-OF_SOURCES += ("hosts/store/src", "hosts/store/tests", "hosts/store/Cargo.toml")
-
-
-def dead_links(archive, folder):
-    """The links of the archive's pages that lead nowhere there, nor to the sources."""
+def dead_links(archive, folder, sources):
+    """The links of the archive's pages that lead nowhere there, nor to these sources."""
     subprocess.run(["tar", "-xzf", archive, "-C", folder], check=True)
     top = glob.glob(f"{folder}/epaxos-*")[0]
     for page in glob.glob(f"{top}/**/*.md", recursive=True):
@@ -140,7 +134,7 @@ def dead_links(archive, folder):
         for target in found:
             path = os.path.normpath(os.path.join(os.path.dirname(page), target))
             inside = os.path.relpath(path, top)
-            if "://" not in target and not os.path.exists(path) and not inside.startswith(OF_SOURCES):
+            if "://" not in target and not os.path.exists(path) and not inside.startswith(sources):
                 yield f"{os.path.relpath(page, top)}: {target}"
 
 
@@ -178,7 +172,7 @@ def tried(make=None, store=None):
             is_same = filecmp.cmp(one, other, shallow=False)
             check(f"{os.path.basename(one)} has the same bytes when it is made again", is_same)
         os.mkdir(f"{folder}/pages")
-        dead = [*dead_links(first[0], f"{folder}/pages")]
+        dead = [*dead_links(first[0], f"{folder}/pages", release.OF_SOURCES)]
         check("".join(["the links of its pages", *(f"; dead: {it}" for it in dead)]), not dead)
         if may_enter() and shutil.which("cc") and shutil.which("ldd"):
             for line in used(first[0], first[1] if len(first) > 1 else None, folder):

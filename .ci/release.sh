@@ -61,6 +61,12 @@ a_chain() {
     told "$(tail -n 1 /tmp/chain)"
 }
 refused() { says "$3" ./epaxos audit --chain "$1" "$2" && told "$3"; }
+traces() {
+    grep '^line [0-9]*  stamp' docs/TUTORIAL.md > /tmp/lines
+    [ "$(wc -l < /tmp/lines)" -ge 5 ]
+    for it in conflict recovery take_lock first_life; do ./epaxos trace < examples/$it.script; done > /tmp/traces
+    while read -r line; do grep -qxF "$line" /tmp/traces || return 1; done < /tmp/lines
+}
 refused_chains() {
     sed 's/opening x 1/opening x 7/' examples/second_life.script > /tmp/other.script
     bundle /tmp/other.script /tmp/other.bundle
@@ -79,10 +85,38 @@ refusal() {
     "$@" > /tmp/output 2>&1 || status=$?
     [ "$status" = 2 ]
 }
-no_command() { refusal ./epaxos reply && grep -q "unrecognized subcommand" /tmp/output; }
+no_command() {
+    refusal ./epaxos reply
+    grep -q "unrecognized subcommand" /tmp/output
+    grep -q "subcommands: replay, trace, .*, help]" /tmp/output
+}
 a_file_as_a_word() {
     refusal ./epaxos replay examples/one_put.script
     grep -q "epaxos replay < examples" /tmp/output
+}
+# What a terminal shows, on which the fault output of a command comes.
+on_terminal() { python3 -c 'import pty, sys; sys.exit(pty.spawn(["sh", "-c", sys.argv[1]]) >> 8)' "$1" > /tmp/shown; }
+shows() { tr -d '\r' < /tmp/shown | grep -qF "$1"; }
+hints() {
+    echo "replicas 4" > /tmp/four.script
+    status=0
+    on_terminal "./epaxos replay < /tmp/four.script > /tmp/output" || status=$?
+    [ "$status" = 2 ] && shows "see: epaxos explain < "
+}
+progress() {
+    unset EPAXOS_QUIET
+    long="(cat examples/one_put.script; sleep 3) | ./epaxos"
+    on_terminal "$long replay > /tmp/output"
+    shows "epaxos replay: 2 s so far"
+    cmp /tmp/output examples/one_put.report
+    on_terminal "$long --quiet replay > /tmp/output"
+    ! shows "so far"
+}
+completions() {
+    bash -c '. share/bash-completion/completions/epaxos
+        words() { COMP_WORDS=("$@") COMP_CWORD=$(($# - 1)); _epaxos; echo "${COMPREPLY[*]}"; }
+        words epaxos repl; words epaxos replay --emit j; words epaxos audit --ch' > /tmp/output
+    printf 'replay\njson\n--chain\n' | cmp - /tmp/output
 }
 manual() {
     gzip -dc share/man/man1/epaxos.1.gz | grep -q "^Usage: epaxos node"
@@ -104,7 +138,6 @@ its_audit() {
     ./epaxos collect --generation 1 /tmp/a/0 /tmp/a/1 /tmp/a/2 > /tmp/c.bundle
     says "verdict accepted" ./epaxos audit < /tmp/c.bundle
 }
-over_three_nodes() { EPAXOS=$PWD/epaxos python3 bindings/python/three.py /tmp/q; }
 three_stores() { CLUSTER=/tmp/cluster bin/epaxos-cluster up; }
 redis_cli() {
     [ "$(redis-cli -p 7000 set x 1)" = OK ]
@@ -133,7 +166,10 @@ packaged_stores() {
 }
 packaged_unit() {
     unit=/usr/lib/systemd/system/epaxos-store.service
-    grep -q "^ExecStart=/usr/bin/epaxos-store" $unit && ! grep -q /usr/local $unit
+    grep -q "^ExecStart=/usr/bin/epaxos-store" $unit && ! grep -q /usr/local $unit || return 1
+    # (what it reads is there, and names the folders that the package has)
+    [ -d /etc/epaxos-store ] && grep -q "^EnvironmentFile=/etc/default/epaxos-store" $unit || return 1
+    grep -q '^#OPTIONS=".* --dir /var/lib/epaxos-store --peer-key /etc/epaxos-store/key"' /etc/default/epaxos-store
 }
 
 cd /epaxos-*-x86_64-linux || exit
@@ -152,18 +188,21 @@ try "the tutorial: a receipt that was changed" a_changed_receipt
 try "the tutorial: a journal that was changed" a_changed_journal
 try "the tutorial: an instance that stays open" an_open_instance
 try "the tutorial: a chain" a_chain
+try "the tutorial: lines of traces" traces
 try "the tutorial: chains that are refused" refused_chains
 try "help" help_is_there
 try "the version" version_is_there
 try "no command" no_command
 try "a file as a word" a_file_as_a_word
 try "the manual" manual
+[ ! -x /bin/bash ] || try "completions of bash" completions
 try "a node" a_node
 try "a program in C" a_program_in_c
 try "its audit" its_audit
 if [ -x /usr/bin/python3 ]; then
-    try "a program in Python, over the library" python3 bindings/python/three.py /tmp/p
-    try "a program in Python, over three nodes" over_three_nodes
+    [ ! -x /bin/bash ] || try "hints on a terminal" hints
+    [ ! -x /bin/bash ] || try "how far long work is" progress
+    try "a program in Python" python3 bindings/python/three.py /tmp/p
     try "three stores" three_stores
     [ ! -x /usr/bin/redis-cli ] || try "redis-cli" redis_cli
     try "the end of the stores" end_of_stores

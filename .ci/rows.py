@@ -13,7 +13,8 @@ A row is a folder .ci/rows/NAME with files, each of which may lack:
 PROGRAM is ep_main as it was built; what begins with a command of another program (commands.txt) is run by that, which was built as it was. Runs of `epaxos node`, and of `collect` on its logs, are in .ci/nodes.py.
 More rows are made of the scripts and reports in examples/ and .ci/scripts/ (NAME.script is played, NAME.run is run
 by both hosts, and where there is a NAME.trace, a NAME.mmd or a NAME.dot, NAME.script is traced
-or drawn), and by .ci/made.py, .ci/words.py, .ci/cases.py, .ci/odd.py, .ci/faults.py, .ci/generations.py, .ci/collected.py, .ci/moved.py and .ci/looks.py. What .ci/drawn.py draws by
+or drawn), and by .ci/made.py, .ci/words.py, .ci/cases.py, .ci/odd.py, .ci/faults.py, .ci/generations.py, .ci/collected.py, 
+.ci/moved.py and .ci/looks.py; those of reports as JSON of the reports in text, by .ci/as_json.py. What .ci/drawn.py draws by
 chance is looked at too.
 """
 
@@ -24,7 +25,7 @@ import re
 import subprocess
 import sys
 import tempfile
-from dataclasses import dataclass, field
+from dataclasses import dataclass, field, replace
 
 sys.dont_write_bytecode = True
 TOP = os.path.dirname(os.path.dirname(os.path.abspath(__file__)))
@@ -197,6 +198,16 @@ def written():
                         yield Row(f"{name}, drawn by {way}", ["replay", "--emit", "bundle", "|", "draw", way], script, text(f"{TOP}/{folder}", f"{stem}.{ending}"))
 
 
+def in_json(rows):
+    """The rows, and for each that asks for a report in text that of the same report as JSON."""
+    from as_json import is_told, wanted
+
+    for row in rows:
+        yield row
+        if is_told(row):
+            yield replace(row, name=f"{row.name}, as JSON", words=[*row.words, "--emit", "json"], wanted=wanted(row.wanted), others=[wanted(it) for it in row.others])
+
+
 def every():
     """All rows."""
     sys.path.insert(0, f"{TOP}/.ci")
@@ -210,9 +221,10 @@ def every():
     import odd
     import words
 
-    yield from stored()
-    yield from (Row(**it) for it in (*words.every(), *cases.every(), *odd.every(), *faults.every(), *generations.every(), *collected.every(), *moved.every(), *looks.every()))
-    yield from written()
+    yield from in_json(stored())
+    yield from in_json(Row(**it) for it in generations.every())
+    yield from (Row(**it) for it in (*words.every(), *cases.every(), *odd.every(), *faults.every(), *collected.every(), *moved.every(), *looks.every()))
+    yield from in_json(written())
     for name, script, report in (*made.every(), *cases.played(), *generations.played()):
         yield from played(name, script, report)
     for name, words, script, reports in (*made.weather(), *cases.hosted(), *generations.hosted()):

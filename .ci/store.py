@@ -1,8 +1,7 @@
-"""The host in hosts/store, where cargo is there: builds it over the library, where there is one, and runs its tests, some of them over the programs
+"""The host in hosts/store, where cargo and the library are there: builds it, and runs its tests, some of them over the programs
 that `rt ci` built, then the client for Go, where go is there, clients that others have written and strangers at its ports, where redis-py is there,
-and then plays two trials of 30 seconds over several generations, each with 3 kills and a machine replaced, whose chains the audit judges: one over
-nodes' processes, one whose stores have the core in them; and three of some seconds with the core in the stores: of a map that grows, over distance
-and on a fifth of a processor. Runs alone too: python3 .ci/store.py [NODE PROGRAM [FOLDER]], of other builds, with the folder that libepaxos.a and
+and then plays a trial of 30 seconds over several generations, with 3 kills and a machine replaced, whose chain the audit judges; and four of some
+seconds: of a bank, of a map that grows, over distance and on a fifth of a processor. Runs alone too: python3 .ci/store.py [NODE PROGRAM [FOLDER]], of other builds, with the folder that libepaxos.a and
 libepaxos.so are in.
 
 It is built without optimisation and without what debuggers need, which takes less than a release build; and a slow store shows sooner what does work twice.
@@ -29,15 +28,18 @@ REGISTRY = "/usr/share/cargo/registry"
 CLIENTS = ("redis-server", "redis-tools", "python3-redis", "stunnel4")
 # for so many seconds strangers come, and half as long before and after it is looked how clients do without them
 STRANGERS = "6"
-# what is asked of the client for Go: that it is formatted and vetted, and passes its tests within a minute
+# what is asked of the client for Go: that it is formatted and vetted, and passes its tests within five minutes
 GO_LOOKS = (["sh", "-c", '! gofmt -l . | grep .'], ["go", "vet", "./..."])
-GO_TESTS = ["go", "test", "-count=1", "-timeout", "60s", "./..."]
+GO_TESTS = ["go", "test", "-count=1", "-timeout", "300s", "./..."]
 # how long each trial plays, and how many of its stores are killed
 TRIAL = ("--short", "--seconds", "30", "--kills", "3", "--audit")
-# of the trial whose stores have the core in them: they write the whole map now and then, so that some are killed in that, and some come by logs
+# money goes between accounts by transactions of all kinds
+BANK = ("--bank", "--seconds", "10", "--kills", "2", "--replaced", "0", "--changes", "1", "--audit")
+# the stores write the whole map now and then, so that some are killed in that, and some come by logs
 CHECKPOINTS = ("--checkpoint", "20000")
 # a trial over links as long as those between regions, with a region lost, where other work may take a quarter, and one of stores that have little of a processor
-DISTANCE = ("--sites", "CA,VA,EU", "--seconds", "9", "--most", "125", "--trouble", "kill", "--at", "VA")
+DISTANCE = ("--sites", "CA,VA,EU", "--reads", "50", "--seconds", "9", "--most", "125")
+DISTANCE += ("--trouble", "kill", "--at", "VA")
 STARVED = ("--starved",)
 # a map that grows over a change of generation, all of which a machine 20 ms away then gets
 GROWING = ("--growing", "6000", "--replaced", "1", "--delay", "20")
@@ -91,10 +93,10 @@ def joined(scratch, node, program):
     return epaxos
 
 
-def is_go_well(store, core):
+def is_go_well(store, environment):
     """Whether the client for Go is well, also at clusters of this store."""
-    how = {"cwd": GO, "env": {**core, "EPAXOS_STORE": store}}
-    # (its tests get a second chance too, as they are over after a minute also where the machine stands still)
+    how = {"cwd": GO, "env": {**environment, "EPAXOS_STORE": store}}
+    # (its tests get a second chance, as a lock may be lost where the machine stands still)
     return all(is_well(it, **how) for it in GO_LOOKS) and (is_well(GO_TESTS, **how) or is_well(GO_TESTS, **how))
 
 
@@ -106,16 +108,14 @@ def library_there():
 def tried(node=BUILT[0], program=BUILT[1], library=None):
     """How many of these passed, and how many failed."""
     library = library or library_there()
-    if not shutil.which("cargo"):
-        print("hosts/store is not tried: there is no cargo", flush=True)
+    if not library or not shutil.which("cargo"):
+        print("hosts/store is not tried: there is no library, or no cargo", flush=True)
         return 0, 0
     with tempfile.TemporaryDirectory(prefix="epaxos-store-") as scratch:
-        environment = {**os.environ, **CHEAP, "CARGO_TARGET_DIR": f"{scratch}/target", "EPAXOS_LIBRARY": library or ""}
-        if not library:
-            print("hosts/store is not tried with the core in it: there is no library", flush=True)
+        environment = {**os.environ, **CHEAP, "CARGO_TARGET_DIR": f"{scratch}/target", "EPAXOS_LIBRARY": library}
         epaxos = joined(scratch, node, program) if os.path.isfile(node) and os.path.isfile(program) else None
         if epaxos:
-            # (of it the tests start clusters)
+            # (it judges what clusters leave)
             environment["EPAXOS"] = epaxos
         else:
             print("no cluster of hosts/store is tried: `rt ci` has not built both programs", flush=True)
@@ -123,27 +123,27 @@ def tried(node=BUILT[0], program=BUILT[1], library=None):
         packages, it = source(), python()
         well = [is_well(["cargo", "test", *packages, "--quiet"], cwd=STORE, env=environment)]
         if epaxos and all(well):
-            # (its core is the one in the store, where there is a library)
-            core = {name: value for name, value in environment.items() if name != "EPAXOS" or not library}
-            well.append(is_well([sys.executable, f"{TOP}/.ci/folders.py", node, f"{scratch}/target/debug/folder"], env=core))
+            well.append(is_well([sys.executable, f"{TOP}/.ci/folders.py", node, f"{scratch}/target/debug/folder"], env=environment))
         if not shutil.which("go"):
             print("clients/go is not tried: there is no go", flush=True)
         elif epaxos and all(well):
-            well.append(is_go_well(f"{scratch}/target/debug/store", core))
+            well.append(is_go_well(f"{scratch}/target/debug/store", environment))
         if epaxos and all(well):
-            well.append(is_well([it, f"{STORE}/tests/libraries.py", f"{scratch}/target/debug/store", epaxos]))
+            well.append(is_well([it, f"{STORE}/tests/libraries.py", f"{scratch}/target/debug/store"]))
         if epaxos and all(well) and has_redis(it):
-            well.append(is_well([it, f"{STORE}/tests/strangers.py", f"{scratch}/target/debug/store", epaxos, STRANGERS]))
-        trial = [f"{scratch}/target/debug/trial", *TRIAL, "--node", epaxos, "--dir"]
+            well.append(is_well([it, f"{STORE}/tests/strangers.py", f"{scratch}/target/debug/store", STRANGERS]))
+        trial = [f"{scratch}/target/debug/trial", "--node", epaxos]
         if epaxos and all(well):
-            well.append(is_well([*trial, f"{scratch}/nodes"]))
-        if epaxos and library and all(well):
-            well.append(is_well([*trial, f"{scratch}/in-store", "--in-store", *CHECKPOINTS]))
-            well.append(is_well([trial[0], *GROWING, "--node", epaxos, "--in-store", "--dir", f"{scratch}/growing"]))
-            # (they judge times: each gets a second chance, as a machine that stands still for a tenth of a second fails either)
-            for name, words in (("distance", DISTANCE), ("starved", STARVED)):
-                timed = [trial[0], *words, "--node", epaxos, "--in-store", "--dir"]
-                well.append(is_well([*timed, f"{scratch}/{name}"]) or is_well([*timed, f"{scratch}/{name}-again"]))
+            well.append(is_well([*trial, *TRIAL, *CHECKPOINTS, "--dir", f"{scratch}/trial"]))
+            well.append(is_well([*trial, *BANK, "--dir", f"{scratch}/bank"]))
+            well.append(is_well([*trial, *GROWING, "--dir", f"{scratch}/growing"]))
+            # (it judges waits: it is played again over links that take longer, as what a slow machine adds counts less)
+            distance = [*trial, *DISTANCE, "--dir"]
+            times = enumerate(("1", "4", "4"))
+            well.append(any(is_well([*distance, f"{scratch}/{turn}", "--times", it]) for turn, it in times))
+            # (it judges how long logs get, which a machine may spoil that stands still for a tenth of a second)
+            starved = [*trial, *STARVED, "--dir"]
+            well.append(is_well([*starved, f"{scratch}/starved"]) or is_well([*starved, f"{scratch}/starved-again"]))
     return well.count(True), well.count(False)
 
 

@@ -45,7 +45,7 @@ def told():
         ("help replay", b"Reads a script "),
         ("run -h", b"Reads a script "),
         ("audit -h", b"Reads a bundle "),
-        ("-V", b"epaxos 0.1.0\n"),
+        ("-V", b"epaxos 1.0.0\n"),
     ):
         yield dict(name=f"words: {words}", words=words.split(), wanted=begins, is_begun=True)
 
@@ -57,7 +57,8 @@ def refused():
         ("replay --emit Report", "invalid value \"Report\" for '--emit <WHAT>'"),
         ("replay --emit report --emit report", "the argument '--emit <WHAT>' cannot be used multiple times"),
         ("--emit report replay", "unexpected argument '--emit' found"),
-        ("audit --emit report", "unexpected argument '--emit' found"),
+        ("audit --emit bundle", "invalid value \"bundle\" for '--emit <WHAT>'"),
+        ("audit --emit JSON", "invalid value \"JSON\" for '--emit <WHAT>'"),
     ):
         yield dict(name=f"words refused: {words}", words=words.split(), given=SCRIPT, told=REFUSED + begins.encode(), rest=HELP, status=2)
     for option, values in (("--host", ("Ring", "rings")), ("--capacity", ("0", "+5", "00000000064")), ("--turns", ("1e3",))):

@@ -27,14 +27,23 @@ def crates_of(top):
     return {it.name: it for it in KIT.rtlib.crates_below(f"{top}/crates")}
 
 
+def is_left(crate):
+    """Whether `rt ci` left a library in this clone of the crate as it is: some kits keep nothing else."""
+    made = f"{crate.rlib}/format"
+    walks = (os.walk(f"{crate.folder}/{part}") for part in ("src", "specs", "proofs"))
+    files = (f"{at}/{it}" for walk in walks for at, _, names in walk for it in names)
+    return os.path.isfile(made) and all(os.path.getmtime(it) <= os.path.getmtime(made) for it in files)
+
+
 def give_kept(crates):
     """Gives each of the crates the library that `rt ci` kept on this machine of the same files over the same libraries, and returns the names of those of
     which it kept none. The crates stand lowest first, with all that they stand on. Such a library has its statements alone, which a check by `rattle` takes
     and `rt check` doesn't: so it has no stamp."""
-    kept, lacking = KIT.Kept([]), []
+    kept, lacking = KIT.Kept([]) if hasattr(KIT, "Kept") else None, []
     for it in crates:
-        if any(dep.name in lacking for dep in it.deps):
+        if any(dep.name in lacking for dep in it.deps) or kept is None and not is_left(it):
             lacking.append(it.name)
+        if kept is None or it.name in lacking:
             continue
         key, note = kept.key(it), f"{it.folder}/out/kept"
         if not (os.path.isfile(f"{it.rlib}/format") and os.path.isfile(note) and KIT.rtlib.text_of(note) == key):

@@ -29,7 +29,7 @@ extern "C" {
 #endif
 
 /* What ep_version() answers of the library that this header is of. */
-#define EP_VERSION 6
+#define EP_VERSION 8
 
 /* Begins a struct ep_bytes of no bytes, and a struct ep_replica of no replica. */
 #define EP_EMPTY { (const uint8_t *)"", 0 }
@@ -105,6 +105,48 @@ struct ep_exchange {
     uint8_t has_desired;
 };
 
+/* A part of the header of a frame of version 3 (docs/FORMATS.md, section 1.2). */
+struct ep_frame_head {
+    /* The entry of its sender that it is of. */
+    uint32_t entry;
+    /* The generation. */
+    uint32_t generation;
+    /* At which of the frame's bytes the body of its command begins, behind both keys: a seal's value is there. */
+    uint32_t body_at;
+    /* How many bytes the body has; 0 where there is none. */
+    uint32_t body_len;
+    /* The number of its instance. */
+    uint16_t number;
+    /* The counter of its ballot; 0 of a Commit. */
+    uint16_t ballot;
+    /* How many dependencies it has. */
+    uint16_t dependencies;
+    /* The replica that leads the instance. */
+    uint8_t replica;
+    /* The replica that sent it. */
+    uint8_t from;
+    /* The replica that it is for. */
+    uint8_t to;
+    /* 1: PreAccept; 2: its answer; 3: Accept; 4: its answer; 5: Commit; 6: Prepare; 7: its answer; 8: a refusal. */
+    uint8_t kind;
+    /* The op of its command, 1 to 10 (9 is a seal); 0 where it has none. */
+    uint8_t op;
+};
+
+/* What the folder of a generation has (docs/FORMATS.md, section 13). */
+struct ep_held_generation {
+    /* The generation, from 1. */
+    uint32_t number;
+    /* The later generation that its mark names, as ep_left_in reads it; 0 where it has no mark. */
+    uint32_t left_for;
+    /* 0: its opening isn't there. */
+    uint8_t has_opening;
+    /* 0: no reference is there. */
+    uint8_t has_reference;
+    /* 0: no binding is there that has the digests of both. */
+    uint8_t is_bound;
+};
+
 /* An instance, which is a place for one command. */
 struct ep_instance {
     /* Its number among those of its leader, from 1 to 9,000, in version 2 to 2,000. */
@@ -121,12 +163,55 @@ struct ep_leading {
     uint8_t answers;
 };
 
+/* What an opening file tells before its map (docs/FORMATS.md, section 12). */
+struct ep_opening_head {
+    /* The stamp that clocks go on from. */
+    uint64_t since;
+    /* At which of the file's bytes its map begins, by how many keys that has (4 bytes). */
+    uint64_t map_at;
+    /* The generation. */
+    uint32_t generation;
+    /* How many bytes the value of the seal has that began the generation, from byte 23 on; 0 of generation 1. */
+    uint32_t seal_len;
+    /* How many keys have a value. */
+    uint32_t keys;
+    /* How many replicas the cluster has. */
+    uint8_t replicas;
+    /* 1: a seal began the generation; 0 of generation 1. */
+    uint8_t has_seal;
+};
+
+/* A key and its value, as they stand in the bytes of a map. */
+struct ep_pair {
+    /* How many bytes both take, with their lengths before them: behind these the next ones begin. */
+    uint64_t len;
+    /* At which byte the key begins. */
+    uint32_t key_at;
+    /* How many bytes it has. */
+    uint32_t key_len;
+    /* At which byte the value begins. */
+    uint32_t value_at;
+    /* How many bytes it has. */
+    uint32_t value_len;
+};
+
 /* Where bytes are refused: as the status says, an offset counted from 0, or a number. */
 struct ep_place {
     /* The first number of which the status speaks; else 0. */
     uint64_t at;
     /* The second one; else 0. */
     uint64_t by;
+};
+
+/* What a reference says (docs/FORMATS.md, section 12.3). The SHA-256 of its log's bytes stands from byte 18 on, and
+   from byte 50 on its own digest. */
+struct ep_reference_head {
+    /* How many bytes its log has. */
+    uint64_t length;
+    /* The generation after that log, from 2. */
+    uint32_t generation;
+    /* How many replicas that has. */
+    uint8_t replicas;
 };
 
 /* What a replica is opened as. */
@@ -143,6 +228,28 @@ struct ep_setup {
     /* 0: the replica goes on from its log; else it is new. A replica whose log is lost must never be new again: it
        would have forgotten what it told. */
     uint8_t is_new;
+};
+
+/* How a replica starts. */
+struct ep_start_plan {
+    /* In which generation. */
+    uint32_t generation;
+    /* 1: its opening is written into its place first; else 0. */
+    uint8_t writes;
+    /* 1: its log is begun, since there is none; 2: it is gone on with, or begun where there is none; 3: it is gone
+       on with. */
+    uint8_t log;
+};
+
+/* What a replica's start on its folder is asked for. */
+struct ep_start_wish {
+    /* Of 3: of which generation the opening is; else ignored. */
+    uint32_t generation;
+    /* 1: to go on with what is there; 2: to begin generation 1, of a replica that is new; 3: to take the opening of
+       a generation, which a peer has, or which was made as the one before was closed. */
+    uint8_t kind;
+    /* Of 2 and 3: 0 if the opening's bytes aren't those of the newest one in the folder; else ignored. */
+    uint8_t is_same;
 };
 
 /* What the next generation begins as. */
@@ -221,6 +328,20 @@ enum {
     EP_BAD_FRAME = 14,
     /* The seen stamp is too far ahead, or the replica's stamps are used up. */
     EP_STAMP_FULL = 15,
+    /* No generation is in the folder. */
+    EP_NO_GENERATION = 16,
+    /* The replica is new, and generation `at` is in its folder. */
+    EP_HAS_GENERATION = 17,
+    /* The replica has begun the log of generation `at`, whose opening isn't in its folder: it mustn't act in any up
+       to it. */
+    EP_LEFT = 18,
+    /* The opening is of a generation before `at`, which is in the folder. */
+    EP_OLDER = 19,
+    /* Generation `at` has another opening in the folder. */
+    EP_OTHER_FILE = 20,
+    /* Of this generation the folder has neither an opening nor a reference that can be read, and a later one rests
+       on it. */
+    EP_BROKEN = 21,
     /* There is no replica: none was opened, it was freed, or another thread is in a call with it, which has to be
        kept out. */
     EP_NO_REPLICA = 32,
@@ -326,6 +447,18 @@ static inline const char *ep_status_name(uint8_t status)
         return "EP_BAD_FRAME";
     case EP_STAMP_FULL:
         return "EP_STAMP_FULL";
+    case EP_NO_GENERATION:
+        return "EP_NO_GENERATION";
+    case EP_HAS_GENERATION:
+        return "EP_HAS_GENERATION";
+    case EP_LEFT:
+        return "EP_LEFT";
+    case EP_OLDER:
+        return "EP_OLDER";
+    case EP_OTHER_FILE:
+        return "EP_OTHER_FILE";
+    case EP_BROKEN:
+        return "EP_BROKEN";
     case EP_NO_REPLICA:
         return "EP_NO_REPLICA";
     case EP_HAS_REPLICA:
@@ -447,6 +580,12 @@ uint8_t ep_propose_cas(struct ep_replica *replica, const struct ep_call *call, c
 uint8_t ep_propose_opaque(struct ep_replica *replica, const struct ep_call *call, const struct ep_touching *touching,
                           const uint8_t *body, size_t body_len);
 
+/* A client asks for a command over 1 to 1,024 keys, as the body says (docs/FORMATS.md, section 1): what each of some
+   keys must have, which at most 16 keys the answer tells, and what is written. If each has what it must, all is
+   written, and the answer is EP_REPLY_DONE; else nothing is, and it is EP_REPLY_UNDONE. `ep_write_tx` writes bodies.
+   Statuses are those of `ep_propose_get`; EP_OUT_OF_RANGE, too: the body is none. */
+uint8_t ep_propose_tx(struct ep_replica *replica, const struct ep_call *call, const uint8_t *body, size_t body_len);
+
 /* A client closes the map, and so ends the generation. The value is yours: say who takes part in the next one.
    Statuses are those of `ep_propose_get`. */
 uint8_t ep_propose_seal(struct ep_replica *replica, const struct ep_call *call, const uint8_t *value,
@@ -511,6 +650,17 @@ uint8_t ep_answers(struct ep_replica *replica, uint32_t told, uint8_t most, stru
    asked still waits. */
 uint8_t ep_prepare(struct ep_replica *replica, uint32_t told, uint8_t most);
 
+/* Lends what `ep_answers` lends, and behind it one answer more, of kind 13: what the entries after the first `told`
+   proposed and executed, in their order. For each proposal 1, the client (4), the request (4) and the instance that
+   it took (3); for each instance that was executed, whoever proposed its command, 2, the instance (3), the command
+   as a proposal has it (op, lengths of both keys and of the body, and these), and its answer as a receipt has it.
+   Statuses are those of `ep_answers`. */
+uint8_t ep_answers_all(struct ep_replica *replica, uint32_t told, uint8_t most, struct ep_bytes *answers);
+
+/* Makes what `ep_answers_all` would lend if all that was taken were on the disk, and holds it until `ep_told` asks
+   for it then, as `ep_prepare` does, whose statuses it has. */
+uint8_t ep_prepare_all(struct ep_replica *replica, uint32_t told, uint8_t most);
+
 /* Lends what `ep_prepare` made, once. All that it tells is on the disk. EP_NO_REPLICA; EP_NONE: it made nothing;
    EP_UNSYNCED: what was lent then isn't on the disk yet. */
 uint8_t ep_told(struct ep_replica *replica, struct ep_bytes *answers);
@@ -560,15 +710,15 @@ uint8_t ep_close(struct ep_replica *replica, uint8_t replicas, struct ep_bytes *
 uint8_t ep_reference(const struct ep_closed_log *closed, uint8_t *out, size_t out_len, size_t *len);
 
 /* Goes on in the next generation, once a seal was executed here, all is on the disk and nothing is lent: the replica
-   is then that of the next generation, new, with the map as it is, of which nothing is copied where nobody else has
-   what this generation opened with. ep_ready lends the header of its log, which names the digest. Behind
-   `checkpoint` is then the file that it opened with, which shares the map: write it when there is time, and free it
-   before the next ep_succeed, which has to copy the map else. After a start the replica goes through the generations
-   since the last whole opening by this call, with the log of each. EP_NO_REPLICA, EP_UNSYNCED; EP_NOT_SEALED;
-   EP_LAST_GENERATION; EP_HAS_CHECKPOINT; EP_LOG_EXISTS; EP_OUT_OF_RANGE: `digest` hasn't 32 bytes, `replicas` isn't
-   3, 5 or 7, or `replica` isn't below it: all is as it was. EP_MEMORY, and each other status from EP_NO_LOG on, by
-   which the log is refused, where `place` becomes the numbers that the status names: the replica, or the checkpoint,
-   may be gone; what was said to be on the disk is there, and ep_open goes on from it. */
+   is then that of the next generation, new, with the map as it is, of which nothing is copied. ep_ready lends the
+   header of its log, which names the digest. Behind `checkpoint` is then the file that it opened with, which shares
+   the map, and what is left of this generation: write it, and let the rest go (ep_checkpoint_rest), when there is
+   time. After a start the replica goes through the generations since the last whole opening by this call, with the
+   log of each. EP_NO_REPLICA, EP_UNSYNCED; EP_NOT_SEALED; EP_LAST_GENERATION; EP_HAS_CHECKPOINT; EP_LOG_EXISTS;
+   EP_OUT_OF_RANGE: `digest` hasn't 32 bytes, `replicas` isn't 3, 5 or 7, or `replica` isn't below it: all is as it
+   was. EP_MEMORY, and each other status from EP_NO_LOG on, by which the log is refused, where `place` becomes the
+   numbers that the status names: the replica, or the checkpoint, may be gone; what was said to be on the disk is
+   there, and ep_open goes on from it. */
 uint8_t ep_succeed(struct ep_replica *replica, struct ep_checkpoint *checkpoint,
                    const struct ep_succession *succession, struct ep_place *place);
 
@@ -577,6 +727,11 @@ uint8_t ep_succeed(struct ep_replica *replica, struct ep_checkpoint *checkpoint,
    They lie there until the next call with this checkpoint, which any thread may make, whatever the replica does.
    EP_NO_CHECKPOINT, EP_MEMORY; EP_NONE: all was given. */
 uint8_t ep_checkpoint_next(struct ep_checkpoint *checkpoint, size_t most, struct ep_bytes *piece);
+
+/* Lets go what is left of the generation before, which goes with the checkpoint else: when there is time, and by any
+   thread, since that takes the longer the more the generation did. EP_DONE, also where nothing is left;
+   EP_NO_CHECKPOINT. */
+uint8_t ep_checkpoint_rest(struct ep_checkpoint *checkpoint);
 
 /* Lets the file go, if it is there. EP_DONE. */
 uint8_t ep_checkpoint_free(struct ep_checkpoint *checkpoint);
@@ -635,6 +790,60 @@ uint8_t ep_patience_turn(struct ep_patience *patience, uint64_t now, const uint8
 /* Tells when to have the next turn at the latest, if no instance is opened before. EP_NO_PATIENCE; EP_NONE: nothing
    is waited for, or too few peers are reached. */
 uint8_t ep_patience_due(struct ep_patience *patience, uint64_t *due);
+
+/* ---- Frames, as a host reads them that passes them on ---- */
+
+/* Tells what the header of a frame says, by its first 48 bytes. Of these no more is looked at than that the frame is
+   of version 3: a host that passes frames on needs to know what goes by, and ep_handle judges them. EP_BAD_FRAME:
+   there are fewer than 48, or they begin as no frame of version 3 does. */
+uint8_t ep_frame_head(const uint8_t *frame, size_t frame_len, struct ep_frame_head *head);
+
+/* ---- What opening files tell before their maps ---- */
+
+/* Tells what an opening file says before its map, by its first bytes: 65,562 are always enough. The digest isn't
+   looked at, as ep_open does. So a host knows of which generation a file is that it is sent, and whom its seal
+   names, before it has all of it; and what the first pieces of a checkpoint say. EP_OPENING_SHORT: more bytes are
+   needed; EP_OPENING_WRONG: no opening begins so. */
+uint8_t ep_opening_head(const uint8_t *opening, size_t opening_len, struct ep_opening_head *head);
+
+/* ---- References, as a host reads them ---- */
+
+/* Reads a reference, of 82 bytes, exactly: what is refused no reference has. EP_MEMORY; EP_OPENING_SHORT,
+   EP_OPENING_DAMAGED, EP_OPENING_WRONG, where `place` becomes the numbers that the status names. */
+uint8_t ep_read_reference(const uint8_t *reference, size_t reference_len, struct ep_reference_head *read,
+                          struct ep_place *place);
+
+/* ---- The keys of maps in bytes ---- */
+
+/* Tells where the first key and its value stand of the bytes of a map, as ep_contents lends them and opening files
+   have them, from behind the 4 bytes on that say how many keys it has; with the bytes behind these, the next one;
+   and so on. EP_NONE: there isn't a whole one. */
+uint8_t ep_pair(const uint8_t *pairs, size_t pairs_len, struct ep_pair *pair);
+
+/* ---- How a replica starts, by what its folder has ---- */
+
+/* Plans how a replica starts, by what its folder has of its generations, in any order, and by what is asked for. By
+   such a plan a replica never acts in a generation that it has left, and never begins a log that it has begun
+   before, as long as its marks are there. EP_MEMORY; EP_OUT_OF_RANGE: `kind` is none; and those by which it isn't
+   started, where `place` becomes the generation that they name: EP_NO_GENERATION, EP_HAS_GENERATION, EP_LEFT,
+   EP_OLDER, EP_OTHER_FILE. */
+uint8_t ep_plan(const struct ep_held_generation *held, size_t held_len, const struct ep_start_wish *wish,
+                struct ep_start_plan *plan, struct ep_place *place);
+
+/* Tells the greatest generation that is in the folder, which has an opening or a reference; 0 if none is. EP_MEMORY. */
+uint8_t ep_newest(const struct ep_held_generation *held, size_t held_len, uint32_t *newest);
+
+/* Tells from which generation on logs are replayed to open this one: `first` becomes the greatest up to it whose
+   opening can be read, where those above it, up to this one, have references. EP_MEMORY; EP_BROKEN: `first` becomes
+   the generation that has neither. */
+uint8_t ep_first(const struct ep_held_generation *held, size_t held_len, uint32_t generation, uint32_t *first);
+
+/* Tells which generation the name of a folder spells: in decimal, without a zero in front. EP_NONE: it spells none. */
+uint8_t ep_generation_in(const uint8_t *name, size_t name_len, uint32_t *generation);
+
+/* The later generation that the mark of this one names, by the mark's bytes. What can't be read stands for every
+   later one: 2^32 - 1. */
+uint32_t ep_left_in(const uint8_t *mark, size_t mark_len, uint32_t generation);
 
 /* ---- What is told without a replica ---- */
 

@@ -1,8 +1,9 @@
 /* Three replicas in one process, with a file each for a log: ./example FOLDER
 
    Begins them in the folder, which has to be there, or goes on with those that are in it. Each of three clients puts 20 values, at a replica of its own; the
-   keys are the same three for all. Then the maps are compared. A program of yours has one replica, and sends frames to others. What the generation opened
-   with is kept beside the logs, for an audit. */
+   keys are the same three for all. After each round one more client reads, at each replica in turn. Then the maps are
+   compared, with one another and with what a command over all three keys tells. A program of yours has one replica, and
+   sends frames to others. What the generation opened with is kept beside the logs, for an audit. */
 #include "epaxos.h"
 #include "epaxos_answers.h"
 
@@ -40,6 +41,8 @@ struct node {
     uint32_t told; /* how many entries were reported */
     uint64_t seen; /* the greatest stamp that its client was told */
     int answered;  /* how many answers its client got */
+    char values[KEYS][32]; /* what its client's command over all keys was told */
+    char mirrored[KEYS][32]; /* the map, by the commands that it executed */
 };
 
 static struct node nodes[REPLICAS];
@@ -88,6 +91,49 @@ static void keep(const struct node *node, struct ep_bytes log, int is_anew)
         stop("%s can't be written", folder);
 }
 
+/* Notes what a command over all keys was told. */
+static void read_values(struct node *node, struct ep_receipt *receipt)
+{
+    struct ep_told_value told;
+    for (int place = 0; place < KEYS && ep_next_told(receipt, &told); place++) {
+        struct ep_bytes had = told.value;
+        snprintf(node->values[place], sizeof node->values[place], "%.*s", (int)had.len, (const char *)had.at);
+    }
+}
+
+/* Does again what the replica executed, to a map beside it: each put has to be answered what that has. */
+static void mirror(struct node *node, const struct ep_followed *one)
+{
+    enum { PUT = 3 };
+    if (one->op != PUT)
+        return;
+    char had[32], *here = node->mirrored[one->key.at[one->key.len - 1] - '0'];
+    snprintf(had, sizeof had, "%.*s", (int)one->value.len, (const char *)one->value.at);
+    if (strcmp(had, here))
+        stop("a put is answered %s, and not %s", had, here);
+    snprintf(here, sizeof had, "%.*s", (int)one->body.len, (const char *)one->body.at);
+}
+
+/* The instances that were executed are those of the report, in its order. */
+static void follow(struct node *node, struct ep_bytes answers, struct ep_report *report)
+{
+    struct ep_reader followed;
+    struct ep_followed one;
+    struct ep_instance instance;
+    if (!ep_read_followed(answers, &followed))
+        stop("what was done isn't told");
+    while (ep_next_followed(&followed, &one)) {
+        if (!one.is_executed)
+            continue;
+        if (!ep_next_executed(report, &instance) || instance.number != one.instance.number
+            || instance.replica != one.instance.replica)
+            stop("another instance was executed");
+        mirror(node, &one);
+    }
+    if (followed.is_cut || ep_next_executed(report, &instance))
+        stop("what was done is cut short");
+}
+
 /* Sends the frames that are told, and counts the answers that clients got. */
 static void read_ready(struct node *node, struct ep_bytes answers)
 {
@@ -102,7 +148,9 @@ static void read_ready(struct node *node, struct ep_bytes answers)
     while (ep_next_receipt(&report, &receipt)) {
         node->seen = receipt.stamp > node->seen ? receipt.stamp : node->seen;
         node->answered++;
+        read_values(node, &receipt);
     }
+    follow(node, answers, &report);
 }
 
 /* One round: the log first, and then what it tells. */
@@ -114,7 +162,7 @@ static void turn(struct node *node)
     if (log.len)
         keep(node, log, is_anew);
     check("ep_synced", ep_synced(&node->replica, log.len));
-    check("ep_answers", ep_answers(&node->replica, node->told, 0, &answers));
+    check("ep_answers_all", ep_answers_all(&node->replica, node->told, 0, &answers));
     read_ready(node, answers);
 }
 
@@ -172,6 +220,42 @@ static void settle(void)
     } while (sent);
 }
 
+/* Asks a replica all of whose entries are on the disk: its answer. */
+static struct ep_bytes asked(struct node *node, const uint8_t *request, size_t len)
+{
+    struct ep_bytes answers, answer;
+    check("ep_ask", ep_ask(&node->replica, request, len));
+    check("ep_answers", ep_answers(&node->replica, node->told, 0, &answers));
+    if (!ep_next_answer(&answers, &answer))
+        stop("an answer is cut short");
+    return answer;
+}
+
+/* A client's read at a replica, which writes nothing: once the client has asked, this one and another tell what
+   interferes. What the key has lies in the reader. */
+static struct ep_bytes read_key(int me, const uint8_t *key, size_t len)
+{
+    uint8_t request[EP_READ_SIZE(255, 256)];
+    struct ep_instance found[256];
+    struct ep_items instances;
+    struct ep_reading reading;
+    size_t count = 0, size = ep_write_interfering(request, sizeof request, key, len);
+    for (int look = 0; look < 2; look++) {
+        if (!ep_read_interfering(asked(&nodes[(me + look) % REPLICAS], request, size), &instances))
+            stop("what interferes isn't told");
+        /* (what both tell may be named twice) */
+        while (count < 256 && ep_next_instance(&instances, &found[count]))
+            count++;
+    }
+    size = ep_write_read(request, sizeof request, key, len, found, count);
+    if (!ep_read_reading(asked(&nodes[me], request, size), &reading))
+        stop("what is read isn't told");
+    /* (where frames are under way a host asks again once the instance is executed; here all are handed over) */
+    if (count == 256 || reading.reply == EP_READ_WAITS)
+        stop("too much is found, or %d.%d isn't executed", reading.instance.replica, reading.instance.number);
+    return reading.value;
+}
+
 /* How often the program was started here before: each start has clients' numbers of its own, since a number and a request name one command over all starts. */
 static uint32_t starts(const char *folder)
 {
@@ -199,6 +283,37 @@ static void write_opening(const char *folder, struct ep_bytes opening)
         stop("%s can't be written", path);
 }
 
+/* Each replica is read to have one of the values that were put in this round, the same one. */
+static void check_reads(uint32_t request)
+{
+    char key[16], first[32] = "";
+    int keys = snprintf(key, sizeof key, "key %u", request % KEYS);
+    for (int me = 0; me < REPLICAS; me++) {
+        char value[32];
+        struct ep_bytes read = read_key(me, (uint8_t *)key, (size_t)keys);
+        snprintf(value, sizeof value, "%.*s", (int)read.len, (const char *)read.at);
+        if (!me)
+            strcpy(first, value);
+        if (strcmp(first, value) || !strchr(value, '.') || strtoul(strchr(value, '.') + 1, NULL, 10) != request)
+            stop("%s is read to have %s, and not %s", key, value, first);
+    }
+}
+
+/* A client asks for all keys at once: so what it is told is of one moment. */
+static void ask_for_all(struct node *node, uint32_t client)
+{
+    char keys[KEYS][16];
+    uint8_t body[256];
+    struct ep_tx_item items[KEYS];
+    struct ep_call call = { .seen = node->seen, .client = client, .request = PUTS + 1 };
+    for (int place = 0; place < KEYS; place++) {
+        size_t len = (size_t)snprintf(keys[place], sizeof keys[place], "key %d", place);
+        items[place] = (struct ep_tx_item){ .key = { (uint8_t *)keys[place], len }, .says = EP_TX_TELL };
+    }
+    check("ep_propose_tx", ep_propose_tx(&node->replica, &call, body, ep_write_tx(body, sizeof body, items, KEYS)));
+    settle();
+}
+
 int main(int count, char **words)
 {
     if (count != 2)
@@ -221,7 +336,9 @@ int main(int count, char **words)
             check("ep_propose_put", ep_propose_put(&nodes[me].replica, &call, (uint8_t *)key, (size_t)keys, (uint8_t *)value, (size_t)values));
         }
         settle();
+        check_reads(request);
     }
+    ask_for_all(&nodes[0], client);
     for (int place = 0; place < KEYS; place++) {
         char key[16], values[REPLICAS][32];
         int keys = snprintf(key, sizeof key, "key %d", place);
@@ -230,8 +347,8 @@ int main(int count, char **words)
             check("ep_get", ep_get(&nodes[me].replica, (uint8_t *)key, (size_t)keys, &value));
             snprintf(values[me], sizeof values[me], "%.*s", (int)value.len, (const char *)value.at);
         }
-        if (strcmp(values[0], values[1]) || strcmp(values[1], values[2]))
-            stop("the maps differ");
+        if (strcmp(values[0], values[1]) || strcmp(values[1], values[2]) || strcmp(values[0], nodes[0].values[place]))
+            stop("the maps differ, or %s was told otherwise", key);
         printf("%s %s\n", key, values[0]);
     }
     for (int me = 0; me < REPLICAS; me++) {

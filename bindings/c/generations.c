@@ -148,6 +148,9 @@ static struct file written(struct ep_checkpoint *checkpoint, size_t most)
     struct file file = { NULL, 0 };
     struct ep_bytes piece;
     uint8_t status;
+    DO(ep_checkpoint_rest(checkpoint));
+    /* (nothing is left any more) */
+    DO(ep_checkpoint_rest(checkpoint));
     while ((status = ep_checkpoint_next(checkpoint, most, &piece)) == EP_DONE)
         append(&file, piece);
     check("ep_checkpoint_next", status, EP_NONE);

@@ -27,7 +27,7 @@ static void read_whole(struct ep_bytes answers)
     struct ep_frame frame;
     struct ep_receipt receipt;
     struct ep_instance instance;
-    struct ep_open_instance open;
+    struct ep_open_instance open = { { 0, 0 }, 0, { 0, 0 } };
     for (size_t len = 0; len < answers.len; len++)
         WANT(0, ep_read_report((struct ep_bytes){ answers.at, len }, &report));
     WANT(1, ep_read_report(answers, &report));
@@ -43,6 +43,173 @@ static void read_whole(struct ep_bytes answers)
     WANT(1, ep_next_open_instance(&report, &open));
     WANT(101, open.instance.number + 100 * open.leading.phase + 1000 * open.instance.replica);
     WANT(0, ep_next_open_instance(&report, &open));
+}
+
+/* The answer to a request; of no bytes where none comes. */
+static struct ep_bytes asked(struct ep_replica *replica, const uint8_t *request, size_t len)
+{
+    struct ep_bytes answers = EP_EMPTY, answer = EP_EMPTY;
+    WANT(EP_DONE, ep_ask(replica, request, len));
+    WANT(EP_DONE, ep_answers(replica, 9, 0, &answers));
+    WANT(1, ep_next_answer(&answers, &answer));
+    return answer;
+}
+
+/* Reads of what is no key, or by no instance, and answers that are cut or to another request. 0.1 to 0.3 are puts of
+   `k`, none of which is committed. */
+static void read_nothing(struct ep_replica *replica)
+{
+    static uint8_t request[EP_READ_SIZE(255, EP_MOST_FOUND)];
+    static struct ep_instance found[EP_MOST_FOUND + 1];
+    static const uint8_t malformed[] = { 7, 23, 0, 0, 0, 0, 0, 0, 0, 11 }, ordered[] = { 12, 4 };
+    uint8_t long_key[256] = { 1 };
+    const uint8_t *key = (const uint8_t *)"k";
+    struct ep_items instances;
+    struct ep_reading reading;
+    struct ep_bytes answer;
+
+    WANT(0, (int)ep_write_interfering(request, sizeof request, key, 0));
+    WANT(0, (int)ep_write_interfering(request, sizeof request, long_key, 256));
+    WANT(0, (int)ep_write_interfering(request, 5, key, 1));
+    WANT(EP_MOST_INTERFERING, (int)ep_write_interfering(request, sizeof request, long_key, 255));
+    WANT(0, (int)ep_write_read(request, sizeof request, key, 0, found, 0));
+    WANT(0, (int)ep_write_read(request, sizeof request, long_key, 256, found, 0));
+    WANT(0, (int)ep_write_read(request, 13, key, 1, found, 1));
+    WANT(0, (int)ep_write_read(request, sizeof request, key, 1, found, EP_MOST_FOUND + 1));
+    WANT((int)sizeof request, (int)ep_write_read(request, sizeof request, long_key, 255, found, EP_MOST_FOUND));
+
+    answer = asked(replica, request, ep_write_interfering(request, 6, key, 1));
+    for (size_t len = 0; len < answer.len; len++)
+        WANT(0, ep_read_interfering((struct ep_bytes){ answer.at, len }, &instances));
+    WANT(0, ep_read_reading(answer, &reading));
+    WANT(1, ep_read_interfering(answer, &instances));
+    for (int number = 1; number <= 3; number++) {
+        WANT(1, ep_next_instance(&instances, &found[3 - number]));
+        WANT(number, found[3 - number].number + found[3 - number].replica);
+    }
+    WANT(0, ep_next_instance(&instances, &found[3]));
+
+    /* the least of them is waited for, in whatever order they stand; and none where none was found */
+    WANT(20, (int)ep_write_read(request, 20, key, 1, found, 3));
+    WANT(0, memcmp(request, "\0\0\0\20\21\1k\0\0\0\3\0\0\3\0\0\2\0\0\1", 20));
+    answer = asked(replica, request, 20);
+    for (size_t len = 0; len < answer.len; len++)
+        WANT(0, ep_read_reading((struct ep_bytes){ answer.at, len }, &reading));
+    WANT(0, ep_read_interfering(answer, &instances));
+    WANT(1, ep_read_reading(answer, &reading));
+    WANT(EP_READ_WAITS, reading.reply);
+    WANT(1, reading.instance.number + reading.instance.replica);
+    answer = asked(replica, request, ep_write_read(request, sizeof request, key, 1, found, 0));
+    WANT(1, ep_read_reading(answer, &reading));
+    WANT(EP_REPLY_ABSENT, reading.reply + (int)reading.value.len + reading.instance.number);
+    WANT(0, ep_read_reading((struct ep_bytes){ ordered, sizeof ordered }, &reading));
+
+    /* no instance of three replicas is malformed */
+    found[0] = (struct ep_instance){ 1, 3 };
+    answer = asked(replica, request, ep_write_read(request, sizeof request, key, 1, found, 1));
+    if (answer.len != sizeof malformed || memcmp(answer.at, malformed, sizeof malformed))
+        puts("what is malformed is answered otherwise"), wrong = 1;
+    WANT(0, ep_read_reading(answer, &reading));
+}
+
+static struct ep_bytes text(const char *words)
+{
+    return (struct ep_bytes){ (const uint8_t *)words, strlen(words) };
+}
+
+/* Items that are no command over many keys have no body, and bodies that are none aren't proposed. */
+static void write_many(struct ep_replica *replica, struct ep_call *call)
+{
+    static uint8_t body[EP_TX_LONGEST + 1], value[65536];
+    static struct ep_tx_item many[EP_TX_MOST_KEYS + 1];
+    static uint8_t keys[EP_TX_MOST_KEYS + 1][2];
+    static const uint8_t worked[] = { 0, 2, 1, 6, 'x', 0, 0, 0, 0, 1, '1', 1, 1, 'y' };
+    const struct ep_bytes none = EP_EMPTY, longest = { value, 65535 }, longer = { value, 65536 };
+    struct ep_tx_item two[] = {
+        { text("x"), EP_TX_REQUIRE_NONE | EP_TX_PUT, none, text("1") },
+        { text("y"), EP_TX_TELL, none, none },
+    };
+    const struct ep_tx_item bad[] = {
+        { none, EP_TX_TELL, none, none }, { { value, 256 }, EP_TX_TELL, none, none },
+        { text("x"), 0, none, none }, { text("x"), 32, none, none },
+        { text("x"), EP_TX_PUT | EP_TX_DEL, none, none }, { text("x"), EP_TX_REQUIRE | EP_TX_REQUIRE_NONE, none, none },
+        { text("x"), EP_TX_PUT, none, longer }, { text("x"), EP_TX_REQUIRE, longer, none },
+    };
+    const struct ep_bytes turned[][2] = {
+        { text("x"), text("x") }, { text("y"), text("x") }, { text("xy"), text("x") }, { text("\x80"), text("\x7f") },
+    };
+
+    WANT((int)sizeof worked, (int)ep_write_tx(body, sizeof worked, two, 2));
+    WANT(0, memcmp(body, worked, sizeof worked));
+    WANT(0, (int)ep_write_tx(body, sizeof worked - 1, two, 2));
+    WANT(0, (int)ep_write_tx(body, sizeof body, two, 0));
+    for (size_t at = 0; at < sizeof bad / sizeof *bad; at++)
+        WANT(0, (int)ep_write_tx(body, sizeof body, &bad[at], 1));
+    for (size_t at = 0; at < sizeof turned / sizeof *turned; at++) {
+        two[0].key = turned[at][0], two[1].key = turned[at][1];
+        WANT(0, (int)ep_write_tx(body, sizeof body, two, 2));
+    }
+    for (int place = 0; place <= EP_TX_MOST_KEYS; place++) {
+        keys[place][0] = (uint8_t)(place / 256), keys[place][1] = (uint8_t)place;
+        many[place] = (struct ep_tx_item){ { keys[place], 2 }, place < 17 ? EP_TX_TELL : EP_TX_DEL, none, none };
+    }
+    WANT(0, (int)ep_write_tx(body, sizeof body, many, 17));
+    many[16].says = EP_TX_DEL;
+    WANT(0, (int)ep_write_tx(body, sizeof body, many, EP_TX_MOST_KEYS + 1));
+    WANT(2 + 4 * EP_TX_MOST_KEYS, (int)ep_write_tx(body, sizeof body, many, EP_TX_MOST_KEYS));
+    /* two values, of which the first is as long as can be: a count, and each with a key of 1 byte, 2 bytes before it
+       and 4 behind */
+    two[0] = (struct ep_tx_item){ text("x"), EP_TX_PUT, none, longest };
+    two[1] = (struct ep_tx_item){ text("y"), EP_TX_PUT, none, longest };
+    two[1].put.len = EP_TX_LONGEST - 2 - 7 - 65535 - 7;
+    WANT(EP_TX_LONGEST, (int)ep_write_tx(body, sizeof body, two, 2));
+    two[1].put.len++;
+    WANT(0, (int)ep_write_tx(body, sizeof body, two, 2));
+
+    memcpy(body, worked, sizeof worked);
+    for (size_t len = 0; len < sizeof worked; len++)
+        WANT(EP_OUT_OF_RANGE, ep_propose_tx(replica, call, body, len));
+    WANT(EP_OUT_OF_RANGE, ep_propose_tx(replica, call, body, sizeof worked + 1));
+    /* flags of nothing, of both writes, and of none that there is; keys that don't rise; no items */
+    for (int flags = 0; flags < 256; flags++) {
+        const uint8_t one[] = { 0, 1, 1, (uint8_t)flags, 'x' };
+        if (flags != EP_TX_TELL && flags != EP_TX_DEL && flags != EP_TX_TELL + EP_TX_DEL)
+            WANT(EP_OUT_OF_RANGE, ep_propose_tx(replica, call, one, sizeof one));
+    }
+    body[13] = 'x';
+    WANT(EP_OUT_OF_RANGE, ep_propose_tx(replica, call, body, sizeof worked));
+    body[13] = 'y', body[1] = 0;
+    WANT(EP_OUT_OF_RANGE, ep_propose_tx(replica, call, body, sizeof worked));
+}
+
+/* A receipt that tells two values, of which the first is none: it is read whole, and no part of it is. */
+static void read_told(void)
+{
+    static const uint8_t done[] = {
+        0, 0, 0, 9, 0, 0, 0, 2, 1, 1, 2, 0, 0, 0, 0, 0, 0, 0, 3, 1, 0, 0, 0, 4, 0, 0, 0, 0, 0, 0, 0, 5,
+        EP_REPLY_DONE, 0, 2, 0, 1, 0, 0, 0, 3, 'o', 'l', 'd',
+    };
+    struct ep_told_value told = { 7, EP_EMPTY };
+    for (size_t len = 0; len < sizeof done; len++) {
+        struct ep_reader reader = ep_reader_of((struct ep_bytes){ done, len });
+        ep_read_receipt(&reader);
+        WANT(1, reader.is_cut);
+    }
+    struct ep_reader reader = ep_reader_of((struct ep_bytes){ done, sizeof done });
+    struct ep_receipt receipt = ep_read_receipt(&reader);
+    WANT(0, reader.is_cut + (int)reader.left);
+    WANT(9, (int)receipt.client);
+    WANT((int)sizeof done, (int)receipt.bytes.len);
+    WANT(EP_REPLY_DONE, receipt.reply);
+    WANT(0, (int)receipt.value.len);
+    WANT(2, (int)receipt.told.left);
+    WANT(1, ep_next_told(&receipt, &told));
+    WANT(0, told.is_there + (int)told.value.len);
+    WANT(1, ep_next_told(&receipt, &told));
+    WANT(1, told.is_there);
+    WANT(3, (int)told.value.len);
+    WANT(0, memcmp(told.value.at, "old", 3));
+    WANT(0, ep_next_told(&receipt, &told));
 }
 
 /* When to wait no longer: mistakes, and one own proposal of replica 0 of three, whose member took 100, three times (SRTT 100, RTTVAR 27: a time-out of 208). */
@@ -109,6 +276,7 @@ static void go_on(struct ep_replica *replica)
 
     WANT(EP_NO_REPLICA, ep_succeed(&none, &checkpoint, &next, &place));
     WANT(EP_NO_CHECKPOINT, ep_checkpoint_next(&checkpoint, 100, &piece));
+    WANT(EP_NO_CHECKPOINT, ep_checkpoint_rest(&checkpoint));
     WANT(EP_DONE, ep_checkpoint_free(&checkpoint));
     WANT(EP_NOT_SEALED, ep_succeed(replica, &checkpoint, &next, &place));
     next.digest.len = 31;
@@ -157,7 +325,7 @@ int main(void)
     struct ep_touching touching = { { key, 1 }, { key, 1 }, 1, 0 };
     struct ep_setup setup = { empty, empty, 3, 0, 1 };
     struct ep_items contents;
-    struct ep_pair pair;
+    struct ep_key_value pair;
     uint32_t count = 77;
     size_t len = 3;
 
@@ -178,6 +346,8 @@ int main(void)
         touching.has_second = 0;
         WANT(EP_NO_REPLICA, ep_propose_opaque(&replica, &call, &touching, key, 1));
         touching.has_second = 1;
+        WANT(EP_OUT_OF_RANGE, ep_propose_tx(&replica, &call, key, 1));
+        WANT(EP_NO_REPLICA, ep_propose_tx(&replica, &call, (const uint8_t *)"\0\1\1\1k", 5));
         WANT(EP_NO_REPLICA, ep_propose_seal(&replica, &call, key, 1));
         WANT(EP_NO_REPLICA, ep_give_up(&replica, here));
         WANT(EP_NO_REPLICA, ep_recover(&replica, here));
@@ -257,6 +427,7 @@ int main(void)
     WANT(EP_OUT_OF_RANGE, ep_propose_put(&replica, &call, long_key, 256, key, 1));
     WANT(EP_OUT_OF_RANGE, ep_propose_swap(&replica, &call, key, 1, key, 1));
     WANT(EP_OUT_OF_RANGE, ep_propose_opaque(&replica, &call, &touching, key, 1));
+    write_many(&replica, &call);
     call.client = 0;
     WANT(EP_OUT_OF_RANGE, ep_propose_get(&replica, &call, key, 1));
     call.client = 1, call.seen = (1ull << 40) + 1;
@@ -335,14 +506,16 @@ int main(void)
     WANT(EP_DONE, ep_synced(&replica, log.len));
     WANT(EP_DONE, ep_answers(&replica, 2, 0, &value));
     WANT(3, value.at[8]);
+    read_nothing(&replica);
 
     /* audits */
-    char text[64];
-    WANT(EP_BAD_BUNDLE, ep_audit(key, 1, (uint8_t *)text, sizeof text, &len));
-    if (len != strlen("bundle refused E12 at byte 0\n") || memcmp(text, "bundle refused E12 at byte 0\n", len))
+    char said[64];
+    WANT(EP_BAD_BUNDLE, ep_audit(key, 1, (uint8_t *)said, sizeof said, &len));
+    if (len != strlen("bundle refused E12 at byte 0\n") || memcmp(said, "bundle refused E12 at byte 0\n", len))
         puts("another line says why bytes are no bundle"), wrong = 1;
     WANT(EP_TOO_SHORT, ep_audit(key, 1, none, sizeof none, &len));
     WANT(EP_DONE, ep_free(&replica));
+    read_told();
     wait_no_longer();
     if (!wrong)
         puts("each mistake is a status");

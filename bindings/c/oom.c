@@ -80,10 +80,15 @@ static void turn(int me)
     uint8_t is_anew;
     ask(ep_ready, (&replicas[me], &log, &is_anew));
     add(log.at, log.len);
+    if (me == 2)
+        ask(ep_prepare_all, (&replicas[me], told[me], 2));
     ask(ep_synced, (&replicas[me], log.len));
-    ask(ep_answers, (&replicas[me], told[me], 2, &answers));
+    if (me == 2)
+        ask(ep_told, (&replicas[me], &answers));
+    else
+        ask(ep_answers_all, (&replicas[me], told[me], 2, &answers));
     add(answers.at, answers.len);
-    /* (what was asked is answered before the answer of kind 9, which is the last one) */
+    /* (what was asked is answered before the answer of kind 9, behind which is that of kind 13) */
     const uint8_t *at = answers.at;
     while (at[4] != 9)
         at += 4 + number(at);
@@ -124,9 +129,34 @@ static void go_on(uint8_t me)
     ep_checkpoint_free(&checkpoint);
 }
 
+/* How a replica starts by what its folder has, and what a reference says. */
+static void plan(void)
+{
+    static const uint8_t zeros[32] = { 0 };
+    const struct ep_held_generation held[] = { { 1, 0, 1, 0, 0 }, { 2, 0, 0, 1, 0 } };
+    const struct ep_start_wish wish = { 0, 1, 0 };
+    const struct ep_closed_log closed = { { zeros, sizeof zeros }, 43, 2, 3 };
+    struct ep_start_plan plan = { 0, 0, 0 };
+    struct ep_reference_head head = { 0, 0, 0 };
+    struct ep_place place;
+    uint32_t newest = 0, first = 0;
+    uint8_t reference[82];
+    size_t len;
+    ask(ep_plan, (held, 2, &wish, &plan, &place));
+    ask(ep_newest, (held, 2, &newest));
+    ask(ep_first, (held, 2, 2, &first));
+    ask(ep_reference, (&closed, reference, sizeof reference, &len));
+    ask(ep_read_reference, (reference, len, &head, &place));
+    add((uint8_t[]){ (uint8_t)plan.generation, plan.log, (uint8_t)newest, (uint8_t)first, (uint8_t)head.length }, 5);
+}
+
 static void once(void)
 {
     static const uint8_t key[] = "k", value[] = "v", other[] = "other", state[] = { 0, 0, 0, 1, 11 };
+    /* what interferes with a read of `k`, and a read for which 0.1 was found */
+    static const uint8_t look[] = { 0, 0, 0, 2, 16, 'k' }, read[] = { 0, 0, 0, 10, 17, 1, 'k', 0, 0, 0, 1, 0, 0, 1 };
+    /* `j` must have no value, and is deleted; `k` is told, and gets `w` */
+    static const uint8_t many[] = { 0, 2, 1, 10, 'j', 0, 1, 5, 'k', 0, 0, 0, 1, 'w' };
     uint8_t first[64], report[256];
     struct ep_bytes opening = { first, 0 }, none = EP_EMPTY, lent;
     struct ep_place place;
@@ -134,6 +164,7 @@ static void once(void)
     size_t len;
     memset(told, 0, sizeof told);
     given = sent = 0, sum = 0, refusals = 0;
+    plan();
     ask(ep_first_opening, (REPLICAS, first, sizeof first, &opening.len));
     for (uint8_t me = 0; me < REPLICAS; me++) {
         struct ep_setup setup = { opening, none, REPLICAS, me, 1 };
@@ -146,9 +177,13 @@ static void once(void)
             struct ep_exchange exchange = { { value, 1 }, { other, 5 }, request > 1, 1 };
             if (request == 2)
                 ask(ep_propose_cas, (&replicas[me], &call, key, 1, &exchange));
+            else if (request == 3)
+                ask(ep_propose_tx, (&replicas[me], &call, many, sizeof many));
             else
                 ask(ep_propose_put, (&replicas[me], &call, key, 1, value, 1));
             ask(ep_ask, (&replicas[me], state, sizeof state));
+            ask(ep_ask, (&replicas[me], look, sizeof look));
+            ask(ep_ask, (&replicas[me], read, sizeof read));
             turn(me);
             settle();
             while (again("ep_get", ep_get(&replicas[me], key, 1, &lent), EP_NONE)) { }

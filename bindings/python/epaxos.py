@@ -13,11 +13,11 @@
         replica.propose(client=1, request=1, command=put(b"x", b"1"))
         replica.handle(frame)                            # bytes from a peer
         replica.advance()                                # executes what can be executed
+        replica.read(b"x", found)                        # a client's read that writes nothing: `Replica.read`
 
-The core is a library, libepaxos.so, or a process of each replica, `epaxos node`. `./epaxos --build` proves and builds both, and `./epaxos --build --unproved`
-builds both in minutes. It is a process of the program that EPAXOS names, if it names one; else the library in the folder that EPAXOS_LIBRARY names, beside this file, or in
-the repository that it is in; else a process of the program of that repository, or of the one on the PATH. What is proved, and what you owe, stands in
-bindings/rust/epaxos/src/lib.rs; the bytes in docs/FORMATS.md, section 10. Nothing here is proved.
+The core is a library, libepaxos.so, in the folder that EPAXOS_LIBRARY names, beside this file, or in the repository that it is in. `./epaxos --build` proves and builds
+it, and `./epaxos --build --unproved` builds it in minutes. What is proved, and what you owe, stands in bindings/rust/epaxos/src/lib.rs; the bytes in docs/FORMATS.md,
+section 10. Nothing here is proved.
 """
 
 import ctypes
@@ -25,17 +25,18 @@ import functools
 import hashlib
 import os
 import re
-import shutil
 import struct
-import subprocess
 import sys
-import tempfile
 import threading
 from typing import NamedTuple, Optional
 
 HERE = os.path.dirname(os.path.realpath(__file__))
 TOP = os.path.dirname(os.path.dirname(HERE))
 LONGEST_KEY, LONGEST_VALUE = 255, 65_535
+# a `tx` names 1 to so many keys, of which it tells so many at most, and has so many bytes at most
+MOST_KEYS, MOST_TOLD, LONGEST_TX = 1_024, 16, 131_080
+# a cluster has so many instances at most, and so many may be named for a read
+MOST_FOUND = 63_000
 # the numbers of the faults' names (docs/FORMATS.md, section 7)
 FAULTS = {
     1: "Memory", 3: "OutOfRange", 4: "SpaceFull", 5: "SeqExhausted", 6: "NotLeading", 7: "TooFewAnswers", 8: "AlreadyCommitted",
@@ -46,7 +47,7 @@ FAULTS = {
 class Fault(Exception):
     """A call was refused, and has changed nothing: `name`, as `NotCommitted`, and the instance that it names, if it does.
 
-    `NoReplica`: it was ended; or another thread is in a call with it, which the binding keeps out. `Ended: ..`: the core is gone; open the replica again, from its log.
+    `NoReplica`: it was ended; or another thread is in a call with it, which the binding keeps out. `Ended: ..`: the library answers what it never should.
     """
 
     def __init__(self, name, instance=None):
@@ -69,7 +70,8 @@ class Instance(NamedTuple):
 
 
 class Receipt(NamedTuple):
-    """What a client may be told: `answer` is a value, or None where the key had none, or one of LOST, CLOSED and ORDERED. `stamp` is its next `seen`."""
+    """What a client may be told: `answer` is a value, or None where the key had none, or one of LOST, CLOSED and
+    ORDERED, or of a `tx` a TxAnswer. `stamp` is its next `seen`."""
 
     client: int
     request: int
@@ -100,6 +102,14 @@ class Answer(str):
 LOST, CLOSED, ORDERED = Answer("lost"), Answer("closed"), Answer("ordered")
 
 
+class TxAnswer(NamedTuple):
+    """What a `tx` is answered: whether all that it requires was there, so that it was done, and what each key had
+    before it that it tells, a value or None, in rising order of keys."""
+
+    is_done: bool
+    values: list
+
+
 def get(key):
     """Tells a key's value, as of all that was answered before."""
     return _command(2, key)
@@ -122,7 +132,29 @@ def swap(first, second):
 
 def cas(key, expected, new):
     """The key gets the new value, or None, where it has the expected one, or None; the answer is what it had."""
-    return _command(6, key, body=b"".join(b"\0" if it is None else b"\1" + _block(it) for it in (expected, new)))
+    return _command(6, key, body=_part(expected) + _part(new))
+
+
+def tx(require=None, tell=(), put=None, delete=()):
+    """Asks for some keys, and writes some, if all that it requires is there: each key of `require` has the value that
+    stands there, or none where that is None. Then those of `put` get their values, and those of `delete` lose theirs;
+    else nothing is written. The answer, a `TxAnswer`, has what those of `tell` had before.
+
+        tx(require={b"alice": b"30", b"bob": None}, put={b"alice": b"20", b"bob": b"10"})
+
+    Fault OutOfRange: it names no key, or more than 1,024; it tells more than 16; a key is put and deleted; it has more
+    than 131,080 bytes."""
+    require, tell, put, delete = dict(require or {}), {*tell}, dict(put or {}), {*delete}
+    keys = sorted({*require, *tell, *put, *delete})
+    if not 1 <= len(keys) <= MOST_KEYS or len(tell) > MOST_TOLD or delete & {*put}:
+        raise Fault("OutOfRange")
+    items = []
+    for key in keys:
+        flags = (key in tell) + 2 * (key in require) + 4 * (key in put) + 8 * (key in delete)
+        items += [bytes([len(_key(key)), flags]), key]
+        items += [_part(require[key])] if key in require else []
+        items += [_block(_value(put[key]))] if key in put else []
+    return _command(10, b"", body=len(keys).to_bytes(2, "big") + b"".join(items))
 
 
 def opaque(first, body, second=b"", is_reading=False):
@@ -147,17 +179,22 @@ class Reference(NamedTuple):
     @classmethod
     def read(cls, run):
         """That of these bytes. ValueError: they are those of none."""
-        if len(run) == 82 and run[:5] == b"EPOR\3":
-            read = cls(*struct.unpack_from(">BIQ32s", run, 5))
-            if read.replicas in (3, 5, 7) and read.generation >= 2 and read.length >= _HEADER and read.bytes == run:
-                return read
-        raise ValueError("no reference")
+        run, head, place = bytes(run), _STRUCTS["ep_reference_head"](), _STRUCTS["ep_place"]()
+        status = _loaded(_library()).ep_read_reference(run, len(run), head, place)
+        if status == _STATUSES["EP_MEMORY"]:
+            raise Fault("Memory")
+        if status:
+            raise ValueError("no reference")
+        return cls(head.replicas, head.generation, head.length, run[18:50])
 
     @property
     def bytes(self):
         """The bytes of the file."""
-        front = b"EPOR\3" + _packed(">BIQ32s", *self)
-        return front + hashlib.sha256(front).digest()
+        _packed(">BIQ", *self[:3])
+        closed = _STRUCTS["ep_closed_log"](_bytes(self.sum), self.length, self.generation, self.replicas)
+        status, run = _copied_by("ep_reference", closed)
+        _Library.check(status)
+        return run
 
     @property
     def digest(self):
@@ -176,12 +213,14 @@ class Reference(NamedTuple):
 
 def first_opening(replicas):
     """The file that generation 1 opens with, of so many replicas: a map in which nothing is. `epaxos collect` wants it beside each log (README.md)."""
-    front = b"EPOP\3" + bytes([replicas]) + (1).to_bytes(4, "big") + bytes(17)
-    return front + hashlib.sha256(front).digest()
+    _packed(">B", replicas)
+    status, run = _copied_by("ep_first_opening", replicas)
+    _Library.check(status)
+    return run
 
 
 def _command(op, first, second=b"", body=b""):
-    longest = 2 * (LONGEST_VALUE + 5) if op == 6 else LONGEST_VALUE
+    longest = LONGEST_TX if op in (6, 10) else LONGEST_VALUE
     if len(first) > LONGEST_KEY or len(second) > LONGEST_KEY or len(body) > longest:
         raise Fault("OutOfRange")
     return struct.pack(">BBBI", op, len(first), len(second), len(body)) + first + second + body
@@ -189,6 +228,17 @@ def _command(op, first, second=b"", body=b""):
 
 def _block(run):
     return len(run).to_bytes(4, "big") + run
+
+
+def _part(value):
+    """A value, or that there is none."""
+    return b"\0" if value is None else b"\1" + _block(_value(value))
+
+
+def _value(value):
+    if len(value) > LONGEST_VALUE:
+        raise Fault("OutOfRange")
+    return value
 
 
 class _Fields:
@@ -214,8 +264,13 @@ class _Fields:
     def block(self):
         return self.run(self.number(4))
 
+    def part(self):
+        return self.block() if self.number(1) else None
+
     def answer(self):
         kind = self.number(1)
+        if kind in (5, 6):
+            return TxAnswer(kind == 5, self.all(self.part, 2))
         return self.block() if kind == 1 else (None, None, LOST, CLOSED, ORDERED)[kind]
 
     def receipt(self):
@@ -292,58 +347,55 @@ class Replica:
         self._generation, self._length, self._end = 0, 0, 0
 
     @classmethod
-    def new(cls, replicas, me, opening=None, core=None, reference=None):
-        """Replica `me` of so many, before any event; of generation 1, or of the one that `opening` begins. `core`: LIBRARY, PROCESS, or the one that is found. `reference`: that which
-        stood for the opening before it was written, where the generation was begun by one (`succeed`): its log names that. Look at the binding first."""
-        return cls(_core(core)(replicas, me, opening, None, reference), 0)
+    def new(cls, replicas, me, opening=None, reference=None):
+        """Replica `me` of so many, before any event; of generation 1, or of the one that `opening` begins. `reference`: that which stood for the opening before it was written, where
+        the generation was begun by one (`succeed`): its log names that. Look at the binding first."""
+        return cls(_Library(replicas, me, opening, None, reference), 0)
 
     @classmethod
-    def open(cls, replicas, me, log, opening=None, told=None, core=None, reference=None):
+    def open(cls, replicas, me, log, opening=None, told=None, reference=None):
         """The replica that this log is of, as if it had never stopped. `told`: how many entries were told before; None: all that the log has."""
         if not log:
             raise OpenFault("the log is empty")
         told = _told_of(log, told)
-        return cls(_core(core)(replicas, me, opening, log, reference), told)
+        return cls(_Library(replicas, me, opening, log, reference), told)
 
     @_in_turn
     def propose(self, client, request, command, seen=0, spared=None):
         """Proposes a client's command: `seen` is the greatest stamp of the receipts that it knows of, `spared` the other replica that isn't asked at first, such as the slowest
         one or one that can't be reached (None: the one just below this). (Nothing is taken while a Ready isn't synced, nor begun: Unsynced.)"""
-        body = _packed(">IIQ", client, request, seen) + command
-        if spared is None:
-            self._core.act(1, body)
-        else:
-            self._core.act(14, _packed(">B", spared) + body)
+        _packed(">IIQB", client, request, seen, spared or 0)
+        self._core.propose((client, request, seen, spared), command)
 
     @_in_turn
     def handle(self, frame):
         """Handles bytes that came from a peer."""
-        self._core.act(2, frame)
+        self._core.handle(bytes(frame))
 
     @_in_turn
     def give_up(self, instance):
         """Waits no longer for the fast quorum of an own instance."""
-        self._core.act(3, _packed(">BH", *instance))
+        self._core.act("ep_give_up", _instance(instance))
 
     @_in_turn
     def recover(self, instance):
         """Takes over an instance."""
-        self._core.act(4, _packed(">BH", *instance))
+        self._core.act("ep_recover", _instance(instance))
 
     @_in_turn
     def execute(self, instance):
         """Executes an instance, and before it all that it depends on."""
-        self._core.act(5, _packed(">BH", *instance))
+        self._core.execute(_instance(instance))
 
     @_in_turn
     def advance(self):
         """Executes all own instances that are ready."""
-        self._core.act(6, b"")
+        self._core.act("ep_advance")
 
     @_in_turn
     def execute_all(self):
         """Executes all instances that are ready, others' too."""
-        self._core.act(12, b"")
+        self._core.act("ep_execute_all")
 
     @_in_turn
     def ready(self, most=0):
@@ -378,13 +430,52 @@ class Replica:
     @_in_turn
     def get(self, key) -> Optional[bytes]:
         """What this replica's map has at the key: a local read, which may be old. All that was taken has to be on the disk."""
-        if not 1 <= len(key) <= LONGEST_KEY:
+        return self._core.get(_key(key))
+
+    @_in_turn
+    def interfering(self, key):
+        """Which instances interfere with a read of the key, in rising order: those of all writes of it, and of all
+        seals, that this replica has recorded, committed or not. It is one of F + 1 answers that a `read` is given. All
+        that was taken has to be on the disk."""
+        fields = self._answered(16, _key(key), 11)
+        return fields.all(fields.instance)
+
+    @_in_turn
+    def read(self, key, found):
+        """A client's read of the key that writes nothing, and is as good as the command: it stands behind all that was
+        answered when it was asked for. All that was taken has to be on the disk.
+
+        It is a value, or None where the key has none; or an Instance, the least of those found that isn't executed
+        here: call it again, with the same `found`, once that is (`execute_all`); where it stays open it is recovered as
+        any other is. Or CLOSED: ask anew in the next generation, the replicas too.
+
+        found: all instances that F + 1 replicas told of (`interfering`) when they were asked *after* the client asked;
+        this one may be among them. How a replica's host asks another one is yours; the question names the generation.
+        One answer is for all reads of the key that were asked for before its question was sent, and for no later
+        one."""
+        found = list(found)
+        if len(found) > MOST_FOUND:
             raise Fault("OutOfRange")
-        return self._core.get(key)
+        named = b"".join(_packed(">BH", *it) for it in found)
+        fields = self._answered(17, bytes([len(_key(key))]) + key + len(found).to_bytes(4, "big") + named, 12)
+        reply = fields.number(1)
+        if reply > 3:
+            raise Fault(_BAD_ANSWER)
+        if reply == 2:
+            return fields.instance()
+        return fields.run(fields.number(2)) if reply == 1 else CLOSED if reply else None
+
+    def _answered(self, kind, body, told):
+        """What stands in the answer of this kind to a request."""
+        answer = self._core.ask(kind, body)
+        _check(answer)
+        if answer[0] != told:
+            raise Fault(_BAD_ANSWER)
+        return _Fields(answer[1:])
 
     @_in_turn
     def contents(self):
-        """What all keys of this replica's map have, by their names: a local read, as `get`. Of the library alone."""
+        """What all keys of this replica's map have, by their names: a local read, as `get`."""
         fields = _Fields(self._core.contents())
         return dict(fields.all(lambda: _pair(fields)))
 
@@ -397,7 +488,7 @@ class Replica:
     @_in_turn
     def close(self, replicas):
         """The opening of the next generation, of so many replicas, once a seal was executed: keep it on the disk, begin each replica with it, and have none act in the
-        generation before. Of the library alone."""
+        generation before."""
         return self._core.close(replicas)
 
     @_in_turn
@@ -410,7 +501,7 @@ class Replica:
     @_in_turn
     def succeed(self, reference, me, log=None, told=None):
         """Goes on in the next generation, once a seal was executed and all that was taken is on the disk and told: it is replica `me` of that one then, with the map as it is. Its log
-        comes first, as of `new`, and names the reference. What is returned gives the file that the generation opens with, in pieces: a `Checkpoint`. Of the library alone.
+        comes first, as of `new`, and names the reference. What is returned gives the file that the generation opens with, in pieces: a `Checkpoint`.
 
         The order on the disk, for generation G + 1: `reference.bytes` as `G+1/reference`; this call; `G+1/log`, which `ready` lends; the mark `G/left`; and only then `synced`. When
         there is time: the pieces as `G+1/opening`, then `reference.binding(digest)` as `G+1/whole`; then what is older may go.
@@ -445,7 +536,7 @@ class Replica:
 
 class Checkpoint:
     """The file that a generation opens with, in pieces: `for piece in checkpoint: file.write(piece)`. Any thread may take them, whatever the replica does, whose map it shares. The last
-    piece is the file's digest alone, 32 bytes. Let it go when it is written: the replica's next `succeed` has to copy the map else."""
+    piece is the file's digest alone, 32 bytes. It keeps what is left of the generation before, until it goes."""
 
     PIECE = 1 << 16
 
@@ -466,12 +557,30 @@ class Checkpoint:
         return iter(self.piece, None)
 
     @_in_turn
+    def let_go(self):
+        """Lets go what is left of the generation before, which goes with it else. That takes some time, in the thread that calls it."""
+        self._calls.ep_checkpoint_rest(self._handle)
+
+    @_in_turn
     def end(self):
         """Lets it go; it gives nothing more."""
         self._calls.ep_checkpoint_free(self._handle)
 
     def __del__(self):
         self._calls.ep_checkpoint_free(self._handle)
+
+
+def _instance(instance):
+    """A struct ep_instance of this one."""
+    replica, number = instance
+    _packed(">BH", replica, number)
+    return _STRUCTS["ep_instance"](number, replica)
+
+
+def _key(key):
+    if not 1 <= len(key) <= LONGEST_KEY:
+        raise Fault("OutOfRange")
+    return bytes(key)
 
 
 def _pair(fields):
@@ -496,6 +605,9 @@ def _check(answer):
 # A log's records (docs/FORMATS.md, section 9).
 
 _HEADER, _BEFORE, _BEHIND = 43, 16, 8
+# no entry has this number: behind it there is nothing to tell
+_NOTHING = 0xFFFFFFFF
+_BAD_ANSWER = "Ended: an answer isn't of the protocol"
 _MASK = (1 << 64) - 1
 
 
@@ -535,173 +647,49 @@ def _told_of(log, told):
     return entries if told is None else told
 
 
-def _sealed(records, begin):
-    """The same records, which say that the log was on the disk up to where they begin."""
-    made, at = [], 0
-    while at < len(records):
-        length = int.from_bytes(records[at : at + 4], "big")
-        entry = records[at + _BEFORE : at + _BEFORE + length]
-        made.append(records[at : at + 8] + struct.pack(">Q", begin) + entry + struct.pack(">Q", _sum(begin + at, begin, entry)))
-        at += _BEFORE + length + _BEHIND
-    return b"".join(made)
-
-
-class _Process:
-    """The core in a process of its own, whose own log stands in a scratch folder. (As bindings/rust/epaxos/src/process.rs)"""
-
-    def __init__(self, replicas, me, opening, log, reference=None):
-        if reference is not None:
-            raise OpenFault("a process doesn't open a log that names a reference: take the library")
-        memory = "/dev/shm"
-        self.scratch = tempfile.mkdtemp(prefix="epaxos-", dir=memory if os.path.isdir(memory) else None)
-        self.running, self.folder = None, f"{self.scratch}/node"
-        self.errors = open(f"{self.scratch}/errors", "a+b")
-        self.words = [_program(), "node", "--replicas", str(replicas), "--replica", str(me), "--dir", self.folder]
-        try:
-            os.mkdir(self.folder)
-            self.begin(opening, log)
-        except BaseException:
-            self.end()
-            raise
-
-    def begin(self, opening, log):
-        more = ["--new"]
-        if opening is not None:
-            with open(f"{self.scratch}/opening", "wb") as file:
-                file.write(opening)
-            more = ["--take", file.name]
-        path = f"{self.folder}/{int.from_bytes(opening[6:10], 'big') if opening else 1}/log"
-        self.start(more)
-        if log is not None:
-            # (that start has only made the folder: the log takes the place of the one that it began)
-            self.stop()
-            if self.running.returncode:
-                raise OpenFault(self.said())
-            with open(path, "wb") as file:
-                file.write(log)
-            self.start([])
-        try:
-            self.answers([(10, b"")])
-        except Fault:
-            raise OpenFault(self.said()) from None
-        self.log = open(path, "rb")
-        # (what is open stays: so a process that is killed leaves nothing behind)
-        shutil.rmtree(self.scratch, ignore_errors=True)
-        self.lent, self.at = self.log.read(), 0
-        # (is_dirty: something was taken that isn't lent yet; begun: what there is to tell of what is lent, where it was asked)
-        self.is_lent, self.is_anew, self.is_dirty, self.begun = True, True, False, None
-
-    def start(self, more):
-        try:
-            self.running = subprocess.Popen([*self.words, *more], stdin=subprocess.PIPE, stdout=subprocess.PIPE, stderr=self.errors)
-        except OSError as error:
-            raise OpenFault(f"there is no core: {error}") from None
-
-    def stop(self):
-        for pipe in (self.running.stdin, self.running.stdout):
-            try:
-                pipe.close()
-            except BrokenPipeError:
-                pass
-        self.running.wait()
-
-    def said(self):
-        self.errors.seek(0)
-        return (self.errors.read().decode(errors="replace").strip().splitlines() or ["the core has ended"])[-1]
-
-    def answers(self, requests):
-        """Asks, and reads the answers. The last request has to be one that is answered."""
-        if self.errors.closed:
-            raise Fault("NoReplica")
-        try:
-            self.running.stdin.write(b"".join(_request(*it) for it in requests))
-            self.running.stdin.flush()
-        except (BrokenPipeError, ValueError):
-            raise Fault(f"Ended: {self.said()}") from None
-        answers = []
-        for _ in requests:
-            length = self.running.stdout.read(4)
-            answer = self.running.stdout.read(int.from_bytes(length, "big"))
-            if len(length) < 4 or not answer:
-                raise Fault(f"Ended: {self.said()}")
-            answers.append(answer)
-        return answers
-
-    def act(self, kind, body):
-        if self.is_lent and (self.is_anew or self.begun is None):
-            raise Fault("Unsynced")
-        if len(body) > 400_000:
-            raise Fault("BadFrame")
-        answer = self.answers([(kind, body), (10, b"")])[0]
-        _check(answer)
-        self.is_dirty |= int.from_bytes(answer[1:5], "big") > 0
-
-    def lend(self):
-        if self.is_dirty and not self.is_lent:
-            self.lent, self.is_lent, self.is_dirty = _sealed(self.log.read(), self.at), True, False
-        return (self.lent, self.is_anew) if self.is_lent else (b"", False)
-
-    def sync(self):
-        if self.is_lent:
-            self.at += len(self.lent)
-            self.lent, self.is_lent, self.is_anew = b"", False, False
-
-    def prepare(self, told, most):
-        self.begun = self.answers([(13, struct.pack(">IB", told, most))])[0]
-
-    def release(self):
-        begun, self.begun = self.begun, None
-        return begun
-
-    def ask(self, kind, body):
-        if self.is_dirty or self.is_lent:
-            raise Fault("Unsynced")
-        return self.answers([(kind, body)])[0]
-
-    def tell(self, told, most):
-        return self.ask(13, struct.pack(">IB", told, most))
-
-    def get(self, key):
-        fields = _Fields(self.ask(7, key))
-        fields.run(1)
-        return fields.run(fields.number(2)) if fields.number(1) else None
-
-    def handled(self, peer):
-        answer = self.ask(15, _packed(">B", peer))
-        _check(answer)
-        return int.from_bytes(answer[1:], "big")
-
-    def contents(self):
-        raise NotImplementedError("a process doesn't tell its map: take the library")
-
-    def close(self, replicas):
-        raise NotImplementedError("a process closes no generation here: take the library")
-
-    def succeed(self, reference, me, log):
-        raise NotImplementedError("a process serves one generation: take the library")
-
-    def end(self):
-        if self.running:
-            self.stop()
-        self.errors.close()
-        shutil.rmtree(self.scratch, ignore_errors=True)
-
-
-# Those parts of bindings/c/epaxos.h that are used here, word for word.
+# tools/generate writes what follows, from bindings/c/epaxos.h.
 _DECLARED = """
-#define EP_VERSION 6
+#define EP_VERSION 8
+EP_DONE = 0
 EP_MEMORY = 1
 EP_OUT_OF_RANGE = 3
+EP_SPACE_FULL = 4
+EP_SEQ_EXHAUSTED = 5
+EP_NOT_LEADING = 6
+EP_TOO_FEW_ANSWERS = 7
+EP_ALREADY_COMMITTED = 8
+EP_BALLOTS_EXHAUSTED = 9
 EP_NOT_COMMITTED = 10
-EP_NO_CHECKPOINT = 30
+EP_NOT_A_RUN = 11
+EP_BAD_BUNDLE = 12
+EP_NOT_MINE = 13
+EP_BAD_FRAME = 14
+EP_STAMP_FULL = 15
+EP_NO_GENERATION = 16
+EP_HAS_GENERATION = 17
+EP_LEFT = 18
+EP_OLDER = 19
+EP_OTHER_FILE = 20
+EP_BROKEN = 21
 EP_NO_REPLICA = 32
+EP_HAS_REPLICA = 33
 EP_LENT = 34
 EP_UNSYNCED = 35
+EP_NOT_LENT = 36
+EP_NOT_ALL = 37
 EP_NONE = 38
 EP_TOO_SHORT = 39
+EP_NOT_ONE = 40
+EP_REFUSED = 41
 EP_NOT_SEALED = 42
 EP_LAST_GENERATION = 43
+EP_NO_PATIENCE = 44
+EP_HAS_PATIENCE = 45
+EP_UNTOLD = 46
+EP_NO_CHECKPOINT = 30
+EP_HAS_CHECKPOINT = 31
 EP_NO_LOG = 48
+EP_LOG_EXISTS = 49
 EP_OTHER_LOG = 50
 EP_NO_HEADER = 51
 EP_OTHER_VERSION = 52
@@ -717,19 +705,28 @@ EP_OPENING_DAMAGED = 61
 EP_OPENING_WRONG = 62
 EP_OTHER_OPENING = 63
 struct ep_replica { void *at; };
-struct ep_bytes { const uint8_t *at; size_t len; };
-struct ep_setup { struct ep_bytes opening; struct ep_bytes log; uint8_t replicas; uint8_t replica; uint8_t is_new; };
-struct ep_succession { struct ep_bytes digest; struct ep_bytes log; uint8_t replicas; uint8_t replica; uint8_t is_new; };
-struct ep_checkpoint { void *at; };
-struct ep_place { uint64_t at; uint64_t by; };
-struct ep_call { uint64_t seen; uint32_t client; uint32_t request; uint8_t has_spared; uint8_t spared; };
-struct ep_exchange { struct ep_bytes expected; struct ep_bytes desired; uint8_t has_expected; uint8_t has_desired; };
-struct ep_touching { struct ep_bytes first; struct ep_bytes second; uint8_t has_second; uint8_t is_reading; };
-struct ep_instance { uint16_t number; uint8_t replica; };
 struct ep_patience { void *at; };
+struct ep_bytes { const uint8_t *at; size_t len; };
+struct ep_call { uint64_t seen; uint32_t client; uint32_t request; uint8_t has_spared; uint8_t spared; };
+struct ep_checkpoint { void *at; };
+struct ep_closed_log { struct ep_bytes sum; uint64_t length; uint32_t generation; uint8_t replicas; };
+struct ep_exchange { struct ep_bytes expected; struct ep_bytes desired; uint8_t has_expected; uint8_t has_desired; };
+struct ep_frame_head { uint32_t entry; uint32_t generation; uint32_t body_at; uint32_t body_len; uint16_t number; uint16_t ballot; uint16_t dependencies; uint8_t replica; uint8_t from; uint8_t to; uint8_t kind; uint8_t op; };
+struct ep_held_generation { uint32_t number; uint32_t left_for; uint8_t has_opening; uint8_t has_reference; uint8_t is_bound; };
+struct ep_instance { uint16_t number; uint8_t replica; };
+struct ep_leading { uint8_t phase; uint8_t answers; };
+struct ep_opening_head { uint64_t since; uint64_t map_at; uint32_t generation; uint32_t seal_len; uint32_t keys; uint8_t replicas; uint8_t has_seal; };
+struct ep_pair { uint64_t len; uint32_t key_at; uint32_t key_len; uint32_t value_at; uint32_t value_len; };
+struct ep_place { uint64_t at; uint64_t by; };
+struct ep_reference_head { uint64_t length; uint32_t generation; uint8_t replicas; };
+struct ep_setup { struct ep_bytes opening; struct ep_bytes log; uint8_t replicas; uint8_t replica; uint8_t is_new; };
+struct ep_start_plan { uint32_t generation; uint8_t writes; uint8_t log; };
+struct ep_start_wish { uint32_t generation; uint8_t kind; uint8_t is_same; };
+struct ep_succession { struct ep_bytes digest; struct ep_bytes log; uint8_t replicas; uint8_t replica; uint8_t is_new; };
+struct ep_touching { struct ep_bytes first; struct ep_bytes second; uint8_t has_second; uint8_t is_reading; };
 struct ep_waits { uint64_t seed; uint32_t granularity; uint32_t initial; uint32_t told; uint32_t longest; uint8_t replicas; uint8_t replica; };
-uint32_t ep_version(void);
 uint8_t ep_open(struct ep_replica *replica, const struct ep_setup *setup, struct ep_place *place);
+uint8_t ep_cut(struct ep_replica *replica, struct ep_place *place);
 uint8_t ep_free(struct ep_replica *replica);
 uint8_t ep_propose_get(struct ep_replica *replica, const struct ep_call *call, const uint8_t *key, size_t key_len);
 uint8_t ep_propose_put(struct ep_replica *replica, const struct ep_call *call, const uint8_t *key, size_t key_len, const uint8_t *value, size_t value_len);
@@ -737,24 +734,32 @@ uint8_t ep_propose_del(struct ep_replica *replica, const struct ep_call *call, c
 uint8_t ep_propose_swap(struct ep_replica *replica, const struct ep_call *call, const uint8_t *first, size_t first_len, const uint8_t *second, size_t second_len);
 uint8_t ep_propose_cas(struct ep_replica *replica, const struct ep_call *call, const uint8_t *key, size_t key_len, const struct ep_exchange *exchange);
 uint8_t ep_propose_opaque(struct ep_replica *replica, const struct ep_call *call, const struct ep_touching *touching, const uint8_t *body, size_t body_len);
+uint8_t ep_propose_tx(struct ep_replica *replica, const struct ep_call *call, const uint8_t *body, size_t body_len);
 uint8_t ep_propose_seal(struct ep_replica *replica, const struct ep_call *call, const uint8_t *value, size_t value_len);
 uint8_t ep_handle(struct ep_replica *replica, const uint8_t *frame, size_t frame_len);
 uint8_t ep_give_up(struct ep_replica *replica, struct ep_instance instance);
 uint8_t ep_recover(struct ep_replica *replica, struct ep_instance instance);
-uint8_t ep_execute(struct ep_replica *replica, struct ep_instance instance, struct ep_instance *waits_for);
 uint8_t ep_advance(struct ep_replica *replica);
 uint8_t ep_execute_all(struct ep_replica *replica);
+uint8_t ep_execute(struct ep_replica *replica, struct ep_instance instance, struct ep_instance *waits_for);
 uint8_t ep_ready(struct ep_replica *replica, struct ep_bytes *log, uint8_t *is_anew);
 uint8_t ep_synced(struct ep_replica *replica, size_t count);
-uint8_t ep_prepare(struct ep_replica *replica, uint32_t told, uint8_t most);
-uint8_t ep_told(struct ep_replica *replica, struct ep_bytes *answers);
 uint8_t ep_answers(struct ep_replica *replica, uint32_t told, uint8_t most, struct ep_bytes *answers);
+uint8_t ep_prepare(struct ep_replica *replica, uint32_t told, uint8_t most);
+uint8_t ep_answers_all(struct ep_replica *replica, uint32_t told, uint8_t most, struct ep_bytes *answers);
+uint8_t ep_prepare_all(struct ep_replica *replica, uint32_t told, uint8_t most);
+uint8_t ep_told(struct ep_replica *replica, struct ep_bytes *answers);
+uint8_t ep_ask(struct ep_replica *replica, const uint8_t *request, size_t request_len);
 uint8_t ep_get(struct ep_replica *replica, const uint8_t *key, size_t key_len, struct ep_bytes *value);
 uint8_t ep_contents(struct ep_replica *replica, struct ep_bytes *contents);
 uint8_t ep_handled(struct ep_replica *replica, uint8_t peer, uint32_t *entries);
+uint8_t ep_next_open(struct ep_replica *replica, struct ep_instance above, struct ep_instance *instance);
+uint8_t ep_leads(struct ep_replica *replica, struct ep_instance instance, struct ep_leading *leading);
 uint8_t ep_close(struct ep_replica *replica, uint8_t replicas, struct ep_bytes *opening);
+uint8_t ep_reference(const struct ep_closed_log *closed, uint8_t *out, size_t out_len, size_t *len);
 uint8_t ep_succeed(struct ep_replica *replica, struct ep_checkpoint *checkpoint, const struct ep_succession *succession, struct ep_place *place);
 uint8_t ep_checkpoint_next(struct ep_checkpoint *checkpoint, size_t most, struct ep_bytes *piece);
+uint8_t ep_checkpoint_rest(struct ep_checkpoint *checkpoint);
 uint8_t ep_checkpoint_free(struct ep_checkpoint *checkpoint);
 uint8_t ep_open_bound(struct ep_replica *replica, const uint8_t *opening, size_t opening_len, const struct ep_succession *succession, struct ep_place *place);
 uint8_t ep_patience_begin(struct ep_patience *patience, const struct ep_waits *waits);
@@ -765,8 +770,21 @@ uint8_t ep_patience_hurry(struct ep_patience *patience);
 uint8_t ep_patience_put_off(struct ep_patience *patience, struct ep_instance instance, uint16_t ballot, uint64_t now);
 uint8_t ep_patience_turn(struct ep_patience *patience, uint64_t now, const uint8_t *instances, size_t instances_len, struct ep_bytes *late);
 uint8_t ep_patience_due(struct ep_patience *patience, uint64_t *due);
+uint8_t ep_frame_head(const uint8_t *frame, size_t frame_len, struct ep_frame_head *head);
+uint8_t ep_opening_head(const uint8_t *opening, size_t opening_len, struct ep_opening_head *head);
+uint8_t ep_read_reference(const uint8_t *reference, size_t reference_len, struct ep_reference_head *read, struct ep_place *place);
+uint8_t ep_pair(const uint8_t *pairs, size_t pairs_len, struct ep_pair *pair);
+uint8_t ep_plan(const struct ep_held_generation *held, size_t held_len, const struct ep_start_wish *wish, struct ep_start_plan *plan, struct ep_place *place);
+uint8_t ep_newest(const struct ep_held_generation *held, size_t held_len, uint32_t *newest);
+uint8_t ep_first(const struct ep_held_generation *held, size_t held_len, uint32_t generation, uint32_t *first);
+uint8_t ep_generation_in(const uint8_t *name, size_t name_len, uint32_t *generation);
+uint32_t ep_left_in(const uint8_t *mark, size_t mark_len, uint32_t generation);
+uint32_t ep_version(void);
 uint8_t ep_first_opening(uint8_t replicas, uint8_t *out, size_t out_len, size_t *len);
+uint8_t ep_sum(const uint8_t *bytes, size_t bytes_len, uint8_t *out, size_t out_len, size_t *len);
+uint8_t ep_audit(const uint8_t *bundle, size_t bundle_len, uint8_t *out, size_t out_len, size_t *len);
 """
+# What tools/generate writes ends here.
 _NUMBERS = {"uint8_t": ctypes.c_uint8, "uint16_t": ctypes.c_uint16, "uint32_t": ctypes.c_uint32, "uint64_t": ctypes.c_uint64, "size_t": ctypes.c_size_t}
 _STATUSES = {name: int(number) for name, number in re.findall(r"^(EP_\w+) = (\d+)$", _DECLARED, re.M)}
 _STRUCTS = {}
@@ -792,6 +810,16 @@ def _bytes(run):
 
 def _copied(lent):
     return ctypes.string_at(lent.at, lent.len) if lent.len else b""
+
+
+def _copied_by(name, *words):
+    """The status of a call that copies bytes, and these."""
+    call, length, out = getattr(_loaded(_library()), name), ctypes.c_size_t(), (ctypes.c_uint8 * 0)()
+    status = _STATUSES["EP_TOO_SHORT"]
+    while status == _STATUSES["EP_TOO_SHORT"]:
+        out = (ctypes.c_uint8 * length.value)()
+        status = call(*words, ctypes.cast(out, ctypes.POINTER(ctypes.c_uint8)), len(out), length)
+    return status, bytes(out)
 
 
 # Why a call is refused, where that has no number of a fault's name.
@@ -833,10 +861,14 @@ class _Library:
 
     def __init__(self, replicas, me, opening, log, reference=None):
         self.calls, self.lent, self.begun, self.replicas = _loaded(_library()), 0, True, replicas
-        opening = self.first_opening(replicas) if opening is None else opening
+        if not (0 <= replicas < 256 and 0 <= me < 256):
+            raise OpenFault(_UNOPENED["EP_OUT_OF_RANGE"])
+        if opening is None:
+            status, opening = _copied_by("ep_first_opening", replicas)
+            self.opened(status, _STRUCTS["ep_place"]())
         # (no bytes are no opening; to the library they would be another version)
-        if not opening or not 0 <= me < 256:
-            self.opened(_STATUSES["EP_OUT_OF_RANGE" if opening else "EP_OPENING_SHORT"], _STRUCTS["ep_place"]())
+        if not opening:
+            self.opened(_STATUSES["EP_OPENING_SHORT"], _STRUCTS["ep_place"]())
         setup = _STRUCTS["ep_setup"](_bytes(opening), _bytes(log or b""), replicas, me, log is None)
         self.replica, place = _STRUCTS["ep_replica"](), _STRUCTS["ep_place"]()
         if reference is None:
@@ -874,15 +906,6 @@ class _Library:
         if status:
             raise OpenFault(f"the library answers status {status}")
 
-    def first_opening(self, replicas):
-        length, out = ctypes.c_size_t(), (ctypes.c_uint8 * 0)()
-        status = _STATUSES["EP_TOO_SHORT" if 0 <= replicas < 256 else "EP_OUT_OF_RANGE"]
-        while status == _STATUSES["EP_TOO_SHORT"]:
-            out = (ctypes.c_uint8 * length.value)()
-            status = self.calls.ep_first_opening(replicas, out, len(out), length)
-        self.opened(status, _STRUCTS["ep_place"]())
-        return bytes(out)
-
     def call(self, name, *words):
         """Calls, and raises what is refused."""
         self.check(getattr(self.calls, name)(self.replica, *words))
@@ -892,36 +915,29 @@ class _Library:
         if status:
             raise Fault(_REFUSED.get(status) or FAULTS.get(status, f"Ended: the library answers status {status}"))
 
-    def act(self, kind, body):
+    def act(self, name, *words):
+        """A call by which it takes something."""
         if self.lent and not self.begun:
             raise Fault("Unsynced")
-        if kind == 1:
-            self.propose(_Fields(body))
-        elif kind == 14:
-            self.propose(_Fields(body[1:]), body[0])
-        elif kind == 2:
-            self.call("ep_handle", bytes(body), len(body))
-        elif kind in (6, 12):
-            self.call({6: "ep_advance", 12: "ep_execute_all"}[kind])
-        else:
-            replica, number = struct.unpack(">BH", body)
-            instance = _STRUCTS["ep_instance"](number, replica)
-            if kind == 5:
-                self.execute(instance)
-            else:
-                self.call({3: "ep_give_up", 4: "ep_recover"}[kind], instance)
+        self.call(name, *words)
+
+    def handle(self, frame):
+        self.act("ep_handle", frame, len(frame))
 
     def execute(self, instance):
         waits_for = _STRUCTS["ep_instance"]()
-        status = self.calls.ep_execute(self.replica, instance, waits_for)
-        if status == _STATUSES["EP_NOT_COMMITTED"]:
-            raise Fault(FAULTS[status], Instance(waits_for.replica, waits_for.number))
-        self.check(status)
+        try:
+            self.act("ep_execute", instance, waits_for)
+        except Fault as fault:
+            if fault.name == "NotCommitted":
+                raise Fault(fault.name, Instance(waits_for.replica, waits_for.number)) from None
+            raise
 
-    def propose(self, fields, spared=None):
-        """Proposes what a proposal's bytes say."""
-        client, request, seen = fields.number(4), fields.number(4), fields.number(8)
+    def propose(self, caller, command):
+        """Proposes the command that these bytes spell."""
+        client, request, seen, spared = caller
         call = _STRUCTS["ep_call"](seen, client, request, spared is not None, spared or 0)
+        fields = _Fields(command)
         op, lengths, length = fields.number(1), (fields.number(1), fields.number(1)), fields.number(4)
         first, second = (fields.run(it) for it in lengths)
         body = fields.run(length)
@@ -931,14 +947,14 @@ class _Library:
             words = [touching, body, len(body)]
         elif op == 6:
             parts = _Fields(body)
-            expected, new = (parts.block() if parts.number(1) else None for _ in range(2))
+            expected, new = parts.part(), parts.part()
             words.append(_STRUCTS["ep_exchange"](_bytes(expected or b""), _bytes(new or b""), expected is not None, new is not None))
-        elif op in (3, 9):
+        elif op in (3, 9, 10):
             words = [*words * (op == 3), body, len(body)]
         elif op == 5:
             words += [second, len(second)]
-        names = {2: "get", 3: "put", 4: "del", 5: "swap", 6: "cas", 7: "opaque", 8: "opaque", 9: "seal"}
-        self.call(f"ep_propose_{names[op]}", call, *words)
+        names = {2: "get", 3: "put", 4: "del", 5: "swap", 6: "cas", 7: "opaque", 8: "opaque", 9: "seal", 10: "tx"}
+        self.act(f"ep_propose_{names[op]}", call, *words)
 
     def lend(self):
         lent, is_anew = _STRUCTS["ep_bytes"](), ctypes.c_uint8()
@@ -957,14 +973,18 @@ class _Library:
 
     def release(self):
         self.begun = False
-        # (the answer's length stands before it)
-        return self.lent_by("ep_told")[4:]
+        return self.answers("ep_told")[-1]
 
     def tell(self, told, most):
-        answers = _STRUCTS["ep_bytes"]()
-        self.call("ep_answers", told, most, answers)
-        # (the answer's length stands before it)
-        return _copied(answers)[4:]
+        return self.answers("ep_answers", told, most)[-1]
+
+    def answers(self, name, *words):
+        """The answers that a call lends: the last one is what there is to tell. (Before it may stand one to a request
+        that was refused memory.)"""
+        fields, answers = _Fields(self.lent_by(name, *words)), []
+        while fields.at < len(fields.held):
+            answers.append(fields.block())
+        return answers
 
     def get(self, key):
         value = _STRUCTS["ep_bytes"]()
@@ -973,6 +993,16 @@ class _Library:
             self.check(status)
             return _copied(value)
         return None
+
+    def ask(self, kind, body):
+        """The answer to a request, of a replica all of whose entries are on the disk."""
+        if self.lent:
+            raise Fault("Unsynced")
+        # (while something isn't on the disk this is refused: the answer would wait)
+        self.get(b"-")
+        request = _request(kind, body)
+        self.call("ep_ask", request, len(request))
+        return self.answers("ep_answers", _NOTHING, 0)[-2]
 
     def lent_by(self, name, *words):
         """What a call lends."""
@@ -1012,10 +1042,7 @@ class Patience:
     """
 
     def __init__(self, replicas, me, seed, granularity=100_000, initial=1_000_000, told=1_500_000, longest=20_000_000):
-        path = _library()
-        if not path:
-            raise OpenFault("there is no library, which tells when to wait no longer; ./epaxos --build --unproved, at the top of its repository, makes one")
-        self.calls = _loaded(path)
+        self.calls = _loaded(_library())
         if not 0 <= me < replicas < 256:
             raise Fault("OutOfRange")
         waits = _STRUCTS["ep_waits"](seed % 2**64, granularity, initial, told, longest, replicas, me)
@@ -1067,6 +1094,7 @@ class Patience:
 GIVE_UP, RECOVER, TOLD = 3, 4, 4
 
 
+@functools.cache
 def _loaded(path):
     """The library at the path, with the types of its calls."""
     try:
@@ -1081,24 +1109,11 @@ def _loaded(path):
     return library
 
 
-LIBRARY, PROCESS = "library", "process"
-
-
-def _core(named):
-    """Where the core runs."""
-    if named is None:
-        named = LIBRARY if _library() and not os.environ.get("EPAXOS") else PROCESS
-    if named == LIBRARY and not _library():
-        raise OpenFault("there is no core: no library; ./epaxos --build --unproved, at the top of its repository, makes one")
-    return {LIBRARY: _Library, PROCESS: _Process}[named]
-
-
 def _library():
-    """Where the library is: in the folder that is named, or beside this file, as in a release, or where a build puts it, the proved one first. None where it isn't."""
+    """Where the library is: in the folder that is named, or beside this file, as in a release, or where a build puts it, the proved one first."""
     named = os.environ.get("EPAXOS_LIBRARY")
     places = [named] if named else [HERE, f"{TOP}/out", f"{TOP}/out/unproved", f"{sys.prefix}/lib"]
-    return next((f"{it}/libepaxos.so" for it in places if os.path.isfile(f"{it}/libepaxos.so")), None)
-
-
-def _program():
-    return os.environ.get("EPAXOS") or (f"{TOP}/epaxos" if os.path.isfile(f"{TOP}/epaxos") else "epaxos")
+    for it in places:
+        if os.path.isfile(f"{it}/libepaxos.so"):
+            return f"{it}/libepaxos.so"
+    raise OpenFault("there is no core: no libepaxos.so; ./epaxos --build --unproved, at the top of its repository, makes one in minutes")

@@ -1,4 +1,4 @@
-"""A replica of the library at the sizes that the format allows, where nothing may be out of memory: a map of 100,000 keys, opened, told and closed; 3,000 entries,
+"""A replica at the sizes that the format allows, where nothing may be out of memory: a map of 100,000 keys, opened, told and closed; 3,000 entries,
 of more than 64 kB, by one `ready`; and a log of 5,000 entries, gone on from.
 
     python3 large.py
@@ -8,7 +8,7 @@ import hashlib
 import struct
 import sys
 
-from epaxos import LIBRARY, LONGEST_VALUE, Instance, Replica, put, seal
+from epaxos import LONGEST_VALUE, Instance, Replica, put, seal
 
 KEYS, COMMANDS, VALUE = 100_000, 1_990, b"v" * 1_000
 MAP = {b"key %06d" % at: b"%d" % at for at in range(KEYS)}
@@ -41,7 +41,7 @@ def settle(replicas):
 
 def entries_of_one(begun):
     """So many entries that one `ready` lends, and more behind them: the log of a replica that goes on from them."""
-    with Replica.new(3, 0, opening=begun, core=LIBRARY) as replica:
+    with Replica.new(3, 0, opening=begun) as replica:
         first = replica.ready()
         log = first.log
         first.synced()
@@ -59,7 +59,7 @@ def entries_of_one(begun):
         for number in range(1, 1_011):
             replica.recover(Instance(2, number))
         log += replica.ready().log
-    with Replica.open(3, 0, log, opening=begun, told=0, core=LIBRARY) as replica:
+    with Replica.open(3, 0, log, opening=begun, told=0) as replica:
         ready = replica.ready()
         same("the log of a replica that goes on from 5,000 entries", ready.log == log, True)
         output = ready.synced()
@@ -69,7 +69,7 @@ def entries_of_one(begun):
 
 def closed(begun):
     """What three replicas close the generation with."""
-    replicas = [Replica.new(3, me, opening=begun, core=LIBRARY) for me in range(3)]
+    replicas = [Replica.new(3, me, opening=begun) for me in range(3)]
     for replica in replicas:
         replica.ready().synced()
     replicas[0].propose(1, 1, put(b"more", b"1"))
@@ -85,7 +85,7 @@ def closed(begun):
     same("the openings that close a map of 100,000 keys", openings == wanted, True)
     for replica in replicas:
         replica.end()
-    with Replica.new(3, 2, opening=openings[0], core=LIBRARY) as replica:
+    with Replica.new(3, 2, opening=openings[0]) as replica:
         replica.ready().synced()
         same("the map of the next generation", replica.contents() == of_map, True)
 

@@ -2,13 +2,14 @@
 """Three replicas in one process, with a file each for a log: python3 three.py FOLDER
 
 Begins them in the folder, or goes on with those that are there. Each of three clients puts 20 values, at a replica of its own; the keys are the same ones
-for all. Then the maps are compared.
+for all. After each round one more client reads, at each replica in turn. Then the maps are compared, with one another
+and with what a command over all keys tells.
 """
 
 import os
 import sys
 
-from epaxos import Replica, put
+from epaxos import Instance, Replica, TxAnswer, put, tx
 
 PUTS, KEYS = 20, 3
 
@@ -53,12 +54,23 @@ def settle(replicas, frames, told):
             output = ready.synced()
             frames.extend(output.frames)
             for receipt in output.receipts:
-                told[receipt.client, receipt.request] = receipt.stamp
+                told[receipt.client, receipt.request] = receipt
         if not frames:
             return
         for to, frame in frames:
             replicas[to][0].handle(frame)
         frames.clear()
+
+
+def read(replicas, me, key):
+    """A client's read at a replica, which writes nothing: once the client has asked, two tell what interferes."""
+    reader, other = replicas[me][0], replicas[(me + 1) % 3][0]
+    found = {*reader.interfering(key), *other.interfering(key)}
+    answer = reader.read(key, found)
+    if isinstance(answer, Instance):
+        # (where frames are under way a host asks again once that is executed; here all are handed over)
+        raise AssertionError(f"{answer} isn't executed")
+    return answer
 
 
 def starts(folder):
@@ -88,8 +100,14 @@ def main(folder):
         for me, (replica, _) in enumerate(replicas):
             replica.propose(first + me, request, put(b"key %d" % (request % KEYS), b"%d.%d" % (first + me, request)), seen[me])
         settle(replicas, frames, told)
-        seen = [told[first + me, request] for me in range(3)]
+        seen = [told[first + me, request].stamp for me in range(3)]
+        values = {read(replicas, me, b"key %d" % (request % KEYS)) for me in range(3)}
+        if len(values) > 1 or not values < {b"%d.%d" % (first + me, request) for me in range(3)}:
+            return f"what is read isn't what was put: {values}"
     keys = [b"key %d" % it for it in range(KEYS)]
+    # (all of one moment)
+    replicas[0][0].propose(first, PUTS + 1, tx(tell=keys), seen[0])
+    settle(replicas, frames, told)
     maps = [[replica.get(key) for key in keys] for replica, _ in replicas]
     for key, value in zip(keys, maps[0]):
         print(key.decode(), (value or b"").decode())
@@ -97,6 +115,8 @@ def main(folder):
         replica.end()
     if maps[0] != maps[1] or maps[1] != maps[2] or None in maps[0]:
         return "the maps differ"
+    if told[first, PUTS + 1].answer != TxAnswer(True, maps[0]):
+        return f"the keys are told to have {told[first, PUTS + 1].answer}"
     print("three replicas agree")
     return 0
 

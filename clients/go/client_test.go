@@ -93,38 +93,63 @@ func TestNothingIsDoneTwice(t *testing.T) {
 	} {
 		for how, wanted := range map[string]string{"write": it.write, "repeated": it.repeated, "read": it.read} {
 			t.Run(how+" "+it.answer, func(t *testing.T) {
-				first, second := newFake(t), newFake(t)
-				client, err := Open(context.Background(), []string{first.addr, second.addr}, Options{Timeout: 200 * time.Millisecond})
-				if err != nil {
-					t.Fatal(err)
-				}
-				defer client.Close()
-				first.answer.Store(it.answer)
-				second.answer.Store("+OK")
-				ctx, cancel := context.WithTimeout(context.Background(), 20*time.Second)
-				defer cancel()
-				switch how {
-				case "write":
-					err = client.Set(ctx, "x", "1", 0)
-				case "repeated":
-					err = client.Repeat().Set(ctx, "x", "1", 0)
-				case "read":
-					_, _, err = client.Get(ctx, "x")
-				}
-				var refusal *RefusedError
-				is := done
-				if errors.Is(err, ErrMaybeDone) {
-					is = maybe
-				} else if errors.As(err, &refusal) {
-					is = refused
-				}
-				one, other := first.asked(), second.asked()
-				if is != wanted || is == done && err != nil || len(one) != 1 || (len(other) == 1) != (is == done) {
-					t.Fatalf("%v; asked were %v and %v", err, one, other)
-				}
+				within(t, it.answer == "hang", func(timeout time.Duration) error {
+					return whatIsDone(t, it.answer, how, wanted, timeout)
+				})
 			})
 		}
 	}
+}
+
+// within tries it with a time until it is well: one in which nothing but what hangs takes longer, also where the machine is
+// slow; of what hangs first a short one.
+func within(t *testing.T, hangs bool, try func(time.Duration) error) {
+	t.Helper()
+	times := []time.Duration{200 * time.Millisecond, 2 * time.Second, 20 * time.Second}
+	if !hangs {
+		times = times[2:]
+	}
+	var err error
+	for _, it := range times {
+		if err = try(it); err == nil {
+			return
+		}
+	}
+	t.Fatal(err)
+}
+
+// whatIsDone has a command asked of two stores, of which the first one answers so, and tells what isn't as wanted.
+func whatIsDone(t *testing.T, answer, how, wanted string, timeout time.Duration) error {
+	first, second := newFake(t), newFake(t)
+	client, err := Open(context.Background(), []string{first.addr, second.addr}, Options{Timeout: timeout})
+	if err != nil {
+		return err
+	}
+	defer client.Close()
+	first.answer.Store(answer)
+	second.answer.Store("+OK")
+	ctx, cancel := context.WithTimeout(context.Background(), time.Minute)
+	defer cancel()
+	switch how {
+	case "write":
+		err = client.Set(ctx, "x", "1", 0)
+	case "repeated":
+		err = client.Repeat().Set(ctx, "x", "1", 0)
+	case "read":
+		_, _, err = client.Get(ctx, "x")
+	}
+	var refusal *RefusedError
+	is := "done"
+	if errors.Is(err, ErrMaybeDone) {
+		is = "maybe done"
+	} else if errors.As(err, &refusal) {
+		is = "refused"
+	}
+	one, other := first.asked(), second.asked()
+	if is != wanted || is == "done" && err != nil || len(one) != 1 || (len(other) == 1) != (is == "done") {
+		return fmt.Errorf("%v; asked were %v and %v", err, one, other)
+	}
+	return nil
 }
 
 // A store that was asked first and may still do the command isn't forgotten when the second one refuses it, or none is left.
@@ -137,13 +162,16 @@ func TestWhatMayBeDoneIsSaid(t *testing.T) {
 	first.answer.Store("")
 	for _, answer := range []string{"-OOM the command wasn't done: ..", "-TRYAGAIN the command wasn't done: ..", "hang"} {
 		second.answer.Store(answer)
-		client.at = 0
-		ctx, cancel := context.WithTimeout(context.Background(), 300*time.Millisecond)
-		err := client.Repeat().Set(ctx, "x", "1", 0)
-		cancel()
-		if !errors.Is(err, ErrMaybeDone) || answer == "hang" && !errors.Is(err, context.DeadlineExceeded) {
-			t.Errorf("%s: %v", answer, err)
-		}
+		within(t, true, func(timeout time.Duration) error {
+			client.at = 0
+			ctx, cancel := context.WithTimeout(context.Background(), timeout)
+			defer cancel()
+			err := client.Repeat().Set(ctx, "x", "1", 0)
+			if !errors.Is(err, ErrMaybeDone) || answer == "hang" && !errors.Is(err, context.DeadlineExceeded) {
+				return fmt.Errorf("%s: %v", answer, err)
+			}
+			return nil
+		})
 	}
 	client.Close()
 	if err := client.Set(context.Background(), "x", "1", 0); !errors.Is(err, ErrClosed) || errors.Is(err, ErrMaybeDone) {

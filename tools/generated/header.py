@@ -14,7 +14,8 @@ HANDLES = tuple(f"{TOP}/crates/ep_handle/src/{it}.rt" for it in ("handle", "pati
 BEGIN = "/* tools/generate writes what follows, from crates/ep_library/src. */\n"
 END = "/* What tools/generate writes ends here. */\n"
 # The files that have calls, in the order in which the header has them.
-CALLS = ("life", "proposing", "events", "executing", "syncing", "answering", "succeeding", "bound", "patience", "alone")
+CALLS = ("life", "proposing", "events", "executing", "syncing", "answering", "succeeding", "bound", "patience")
+CALLS += ("framing", "fronts", "references", "pairs", "planning", "alone")
 # How C names what isn't named alike.
 NAMES = {"Handle": "ep_replica", "PatienceHandle": "ep_patience", "CheckpointHandle": "ep_checkpoint", "Lent": "ep_bytes"}
 NUMBERS = {"u8": "uint8_t", "u16": "uint16_t", "u32": "uint32_t", "u64": "uint64_t", "usize": "size_t", "*mut u8": "void *", "*const u8": "const uint8_t *"}
@@ -56,6 +57,8 @@ def declared(kind, name):
         return f"const uint8_t *{name}, size_t {name}_len"
     if kind == "&mut [u8]":
         return f"uint8_t *{name}, size_t {name}_len"
+    if many := re.fullmatch(r"&\[(\w+)\]", kind):
+        return f"const struct {struct_name(many[1])} *{name}, size_t {name}_len"
     lent = re.fullmatch(r"&(mut )?(\w+)", kind)
     if lent and lent[2] in NUMBERS:
         return f"{'' if lent[1] else 'const '}{NUMBERS[lent[2]]} *{name}"
@@ -97,7 +100,8 @@ def status_names(names):
 
 def prototypes(text):
     """The calls of a source, as C declares them."""
-    for said, name, words, result in re.findall(r'((?:^///.*\n)+)#\[unsafe\(no_mangle\)\]\npub extern "C" fn (\w+)\(([^)]*)\)(?: -> (\w+))?', text, re.M):
+    form = r'((?:^///.*\n)+)(?:#\[tactic.*\n)?#\[unsafe\(no_mangle\)\]\npub extern "C" fn (\w+)\(([^)]*)\)(?: -> (\w+))?'
+    for said, name, words, result in re.findall(form, text, re.M):
         parameters = [it.split(": ", 1) for it in re.split(r",\s*", words.strip().rstrip(",")) if it]
         given = ", ".join(declared(kind, its) for its, kind in parameters if kind != "Global") or "void"
         head = f"{NUMBERS[result] if result else 'void'} {name}("

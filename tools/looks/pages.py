@@ -1,18 +1,24 @@
-"""Whether each page names only files that are there, and has no more bytes than it may.
+"""Whether each page names only files that are there, and has no more bytes than it may, nor all of them together.
 
 A page is a file NAME.md, wherever it stands. A name is the target of a link, or a text in `...` that has
 a `/` and begins with a folder of the repository, or the word after such a folder's name in an example of a shell. A text with a word for any name,
 as `crates/NAME`, with `my_..`, `*` or `..` stands for many, and has to fit at least one file; what a build makes (out/, target/) need not be there.
 An anchor of a link has to be the heading of its page, and a diagram for Mermaid a file examples/NAME.mmd.
+A page that a release has links to what that has, or to what is known to be of the sources alone.
 """
 
 import fnmatch
 import glob
 import os
 import re
+import sys
 
-# The most bytes that a page may have.
-MOST = {"README.md": 8192}
+TOOLS = os.path.dirname(os.path.dirname(os.path.realpath(__file__)))
+sys.path.append(TOOLS)
+from loaded import loaded
+
+# The most bytes that a page may have, and all together.
+MOST, MOST_OF_ALL = {"README.md": 8192}, 280_000
 # What a build makes.
 MADE = re.compile(r"(^|/)(out|target)(/|$)")
 # A part of a name that stands for any.
@@ -68,8 +74,8 @@ def names(text, folders):
                 yield word
 
 
-def wrong(page, found):
-    """What is wrong with a page."""
+def wrong(page, found, released, sources):
+    """What is wrong with a page. `released`: what a release has; `sources`: what is of the sources alone."""
     with open(page, encoding="utf-8") as file:
         text = file.read()
     size = len(text.encode())
@@ -90,6 +96,8 @@ def wrong(page, found):
         path = os.path.normpath(os.path.join(os.path.dirname(page), path)) if path else page
         if not is_there(path, found):
             yield f"{page} links to {target}, which isn't there"
+        elif page in released and path not in released and not path.startswith(sources):
+            yield f"{page} links to {target}, which a release doesn't have"
         elif place and path.endswith(".md") and place not in anchors(path):
             yield f"{page} links to {target}, and {path} has no such heading"
 
@@ -107,5 +115,10 @@ def held(path):
 def faults(files):
     """What is wrong with the pages."""
     found = with_folders(files)
+    release = loaded("make_release", f"{TOOLS}/release")
+    released = with_folders(release.copied())
+    size = sum(map(os.path.getsize, pages(files)))
+    if size > MOST_OF_ALL:
+        yield f"all pages together have {size} bytes, and may have {MOST_OF_ALL}"
     for page in pages(files):
-        yield from wrong(page, found)
+        yield from wrong(page, found, released, release.OF_SOURCES)

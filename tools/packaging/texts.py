@@ -4,8 +4,9 @@ import re
 
 # options whose value is one of a few, which the help has in words
 VALUES = {
-    ("replay", "emit"): ("report", "bundle"),
-    ("run", "emit"): ("report", "bundle"),
+    ("replay", "emit"): ("report", "json", "bundle"),
+    ("run", "emit"): ("report", "json", "bundle"),
+    ("audit", "emit"): ("report", "json"),
     ("run", "host"): ("lock", "ring"),
     ("upgrade", "to"): ("2", "3"),
     ("node", "replicas"): ("3", "5", "7"),
@@ -42,14 +43,16 @@ def man(version, date, overview, commands):
     parts.append(".SH COMMANDS")
     for it in commands:
         parts.append(f".SS epaxos {escaped(it.name)}\n.nf\n{escaped(it.text.strip())}\n.fi")
-    parts.append(".SH ENVIRONMENT\n.TP\n.B EPAXOS_QUIET\nWhere it is 1, no line says that what answers isn't proved.")
+    quiet = "Where it is 1, no line says that what answers isn't proved, nor how far long work is."
+    parts.append(f".SH ENVIRONMENT\n.TP\n.B EPAXOS_QUIET\n{quiet}")
     parts.append(".SH SEE ALSO\n.BR epaxos\\-store (1)")
     return "\n".join(parts) + "\n"
 
 
 def man_of_store(version, date, help_text):
     """The page of the store."""
-    first, _, rest = help_text.strip().partition("\n")
+    # (the program is called so in a release)
+    first, _, rest = re.sub(r"\bstore (?=--|recover)", "epaxos-store ", help_text.strip()).partition("\n")
     head = f'.TH EPAXOS\\-STORE 1 "{date}" "epaxos {version}"\n.SH NAME\n'
     name = "epaxos\\-store \\- a replica of a replicated store\n"
     return f"{head}{name}.SH DESCRIPTION\n.nf\n{escaped(first)}\n{escaped(rest)}\n.fi\n.SH SEE ALSO\n.BR epaxos (1)\n"

@@ -1,4 +1,4 @@
-//! Links the library libepaxos.a, where there is one, so that a replica's core runs in the program itself.
+//! Links the library libepaxos.a, which has the core of a replica. Without it nothing is built.
 #![forbid(unsafe_code)]
 
 use std::path::{Path, PathBuf};
@@ -13,8 +13,10 @@ const RELEASED: &str = "lib";
 const FILE: &str = "libepaxos.a";
 /// What a library that isn't proved has.
 const UNPROVED: &[u8] = b"ep_unproved";
+const NONE: &str = "there is no libepaxos.a, which has the core; ./epaxos --build --unproved, at the top of the \
+    repository, makes one in minutes; EPAXOS_LIBRARY names the folder of another one";
 
-/// The library: the one that is named, or that a build made. None where there is none, and none is named.
+/// The library: the one that is named, or that a release has, or that a build made.
 fn find() -> Option<PathBuf> {
     if let Some(named) = env::var_os(NAMED).filter(|it| !it.is_empty()) {
         return Some(Path::new(&named).join(FILE));
@@ -25,7 +27,7 @@ fn find() -> Option<PathBuf> {
         return Some(released);
     }
     let top = here.join("../../..");
-    println!("cargo:rerun-if-changed={}", top.join(PLACES[0]).display());
+    println!("cargo::rerun-if-changed={}", top.join(PLACES[0]).display());
     PLACES.map(|place| top.join(place).join(FILE)).into_iter().find(|it| it.is_file())
 }
 
@@ -40,17 +42,27 @@ fn fits() -> bool {
     is("CARGO_CFG_TARGET_OS", "linux") && is("CARGO_CFG_TARGET_ARCH", "x86_64")
 }
 
-fn main() {
-    println!("cargo:rerun-if-changed=build.rs");
-    println!("cargo:rerun-if-env-changed={NAMED}");
-    println!("cargo:rustc-check-cfg=cfg(has_library, library_is_unproved)");
-    let Some(library) = find().filter(|_| fits()) else { return };
-    println!("cargo:rerun-if-changed={}", library.display());
-    let bytes = fs::read(&library).unwrap_or_else(|error| panic!("{NAMED}: {}: {error}", library.display()));
-    println!("cargo:rustc-link-search=native={}", library.with_file_name("").display());
-    println!("cargo:rustc-link-lib=static=epaxos");
-    println!("cargo:rustc-cfg=has_library");
+/// Has cargo link the library, or says why it can't.
+fn link() -> Result<(), String> {
+    if !fits() {
+        return Err("the core is for Linux on x86-64 alone".into());
+    }
+    let library = find().ok_or(NONE)?;
+    println!("cargo::rerun-if-changed={}", library.display());
+    let bytes = fs::read(&library).map_err(|error| format!("{}: {error}", library.display()))?;
+    println!("cargo::rustc-link-search=native={}", library.with_file_name("").display());
+    println!("cargo::rustc-link-lib=static=epaxos");
     if has(&bytes, UNPROVED) {
-        println!("cargo:rustc-cfg=library_is_unproved");
+        println!("cargo::rustc-cfg=library_is_unproved");
+    }
+    Ok(())
+}
+
+fn main() {
+    println!("cargo::rerun-if-changed=build.rs");
+    println!("cargo::rerun-if-env-changed={NAMED}");
+    println!("cargo::rustc-check-cfg=cfg(library_is_unproved)");
+    if let Err(why) = link() {
+        println!("cargo::error={why}");
     }
 }

@@ -92,8 +92,9 @@ fn bytes_of(alloc: Global, journals: &Journals, receipts: &[Receipt]) -> Result<
     requires receipts { length receipts.now < 2 ^ 32 }
     ensures { IfOk result (λ bytes. bytes.items ≡ bundle_bytes journals.now receipts.now) }
 {
+    let map = journals.opening().contents().listing()?;
     let mut gathered = Noted::new(Vec::new(alloc));
-    match write_bundle(journals, receipts, &mut gathered) {
+    match write_bundle(journals, &map, receipts, &mut gathered) {
         Ok(()) => Ok(gathered.into_inner()),
         Err(_) => Err(AllocError),
     }

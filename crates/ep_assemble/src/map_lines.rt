@@ -22,7 +22,8 @@ pub(crate) fn text_of(
 {
     let mut text = Vec::new(alloc);
     push_head(&mut text, generation, count, map)?;
-    push_pairs(&mut text, map.entries())?;
+    let listing = map.listing()?;
+    push_pairs(&mut text, listing.entries())?;
     Ok(text)
 }
 

@@ -48,7 +48,7 @@ fn listed(store: &Store) -> Result<Contents, AllocError>
     let Ok(contents) = store.contents() else {
         return Err(AllocError);
     };
-    if contents.entries().len() as u64 > 4_294_967_295 {
+    if !contents.is_within(4_294_967_295) {
         return Err(AllocError);
     }
     Ok(contents)

@@ -68,6 +68,8 @@ pub(crate) fn first_difference(
 ) -> Result<Option<Key>, AllocError>
     ensures { IfOk result (λ key. MatchOption key (one.now ≡ other.now) (λ k. IsLeastDifference one.now other.now k)) }
 {
+    let one = one.listing()?;
+    let other = other.listing()?;
     let entries = one.entries();
     let others = other.entries();
     let place = same_start(entries, others);

@@ -98,7 +98,8 @@ fn closing_by(
         | CommandView::Del(_)
         | CommandView::Swap(_, _)
         | CommandView::Cas(_, _, _)
-        | CommandView::Opaque(_, _) => Ok(None),
+        | CommandView::Opaque(_, _)
+        | CommandView::Tx(_) => Ok(None),
     }
 }
 

@@ -2,7 +2,7 @@
 use Rattle.std.proofs.Common.{◌≡◌, ℕ, inl, inr, List, [], ◌∷◌, refl, sym, ap, subst, ◌∙◌, Contains, Option, Some, None, Bool, true, false}
 use Rattle.std.proofs.lemmas.Bool.{false≢true}
 use Rattle.std.specs.Prelude.{◌⊎◌, ◌↔◌, ◌||◌, IsTrue}
-use Rattle.ep_base.specs.Commands.{Command, Noop, Get, Put, Del, Swap, Cas, Seal, Opaque}
+use Rattle.ep_base.specs.Commands.{Command, Noop, Get, Put, Del, Swap, Cas, Seal, Opaque, Tx}
 use Rattle.ep_base.specs.Attributes.{same_list}
 use Rattle.ep_base.specs.Interference.{listed, keys_in, has_key, only_reads, is_seal, Interferes, Touches, FootprintLaw}
 use Rattle.ep_base.specs.Touched.{Touched}
@@ -59,7 +59,7 @@ puts_lem p body key value = (
   λ h. inl ((key, touched_there p key h, key_there key key refl), λ r. false≢true r.1),
 )
 
-reader_no_seal : (a : Command) → IsTrue (only_reads a) → is_seal a ≡ false
+pub reader_no_seal : (a : Command) → IsTrue (only_reads a) → is_seal a ≡ false
 reader_no_seal Noop e = absurd (false≢true e)
 reader_no_seal (Get k) e = refl
 reader_no_seal (Put k v) e = absurd (false≢true e)
@@ -68,6 +68,7 @@ reader_no_seal (Swap p) e = absurd (false≢true e)
 reader_no_seal (Cas k x n) e = absurd (false≢true e)
 reader_no_seal (Seal v) e = absurd (false≢true e)
 reader_no_seal (Opaque p b) e = refl
+reader_no_seal (Tx is) e = refl
 
 readers_lem : (a b : Command) → IsTrue (only_reads a) → IsTrue (only_reads b) → ¬ Interferes a b
 readers_lem a b ra rb h = elim h [

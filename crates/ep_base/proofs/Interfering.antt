@@ -6,7 +6,7 @@ use Rattle.std.specs.Bool.{Decides}
 use Rattle.std.specs.List.{HoldsAt}
 use Rattle.std.proofs.lemmas.Bool.Decides.{Decides-like, Decides-and, Decides-or, Decides-not, Decides-by_or}
 use Rattle.std.proofs.lemmas.List.Elements.{Decides-contains, Contains-get_or, at_from_Contains}
-use Rattle.ep_base.specs.Commands.{Command, Noop, Get, Put, Del, Swap, Cas, Seal, Opaque}
+use Rattle.ep_base.specs.Commands.{Command, Noop, Get, Put, Del, Swap, Cas, Seal, Opaque, Tx}
 use Rattle.ep_base.specs.Attributes.{same_list}
 use Rattle.ep_base.specs.Interference.{keys_of, has_key, share_key, only_reads, is_seal, meet, part, interfere, Meets, Parts, Interferes, InterferenceLaw}
 use Rattle.ep_base.specs.Sameness.{is_noop}
@@ -67,6 +67,7 @@ noop_is (Swap p) e = absurd (false≢true e)
 noop_is (Cas k x n) e = absurd (false≢true e)
 noop_is (Seal v) e = absurd (false≢true e)
 noop_is (Opaque p b) e = absurd (false≢true e)
+noop_is (Tx is) e = absurd (false≢true e)
 
 pub Interferes-seal : (v : List ℕ) (a : Command) → a ≢ Noop → Interferes (Seal v) a
 Interferes-seal v a n = inr (inl refl, λ h. elim h [ inl e ↦ false≢true e | inr e ↦ n (noop_is a e) ])

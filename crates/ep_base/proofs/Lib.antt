@@ -6,9 +6,13 @@ pub mod Bound
 pub mod Versions
 pub mod Keys
 pub mod Same
+pub mod Bodies
+pub mod Ascending
 pub mod Partitions
 pub mod Runs
 pub mod Interfering
+pub mod Many
+pub mod Saying
 pub mod Footprints
 pub mod Tests
 pub mod Lists

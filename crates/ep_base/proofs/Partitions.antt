@@ -1,21 +1,23 @@
 -- A command is its parts.
-use Rattle.std.proofs.Common.{◌≡◌, ℕ, ◌+◌, ◌*◌, ◌/◌, ◌%◌, ◌≤◌, List, [], ◌∷◌, ◌++◌, length, take, drop, length-append, Option, Some, None, Bool, true, false, cond, refl, sym, ap, subst, ◌∙◌, true≢false, arith}
+use Rattle.std.proofs.Common.{◌≡◌, ℕ, ◌+◌, ◌≤◌, List, [], ◌∷◌, ◌++◌, length, drop, length-append, Option, Some, None, Bool, true, false, cond, refl, sym, ap, subst, ◌∙◌, true≢false, arith}
 use Rattle.std.specs.Cmp.Derive.{both_true}
 use Rattle.std.specs.Prelude.{◌≢◌, ◌&&◌, not, eqb, nat_le}
-use Rattle.std.proofs.Math.Seq.{take-append_seam, drop-append_seam}
+use Rattle.std.proofs.Math.Seq.{drop-append_seam}
 use Rattle.std.proofs.lemmas.Bool.{eqb-true, leb-true, le-leb, and_parts}
 use Rattle.std.proofs.lemmas.List.{append-nil, nil_from_length}
 use Rattle.std.proofs.lemmas.Option.{same_Some}
 use Rattle.ep_base.specs.Attributes.{same_list}
-use Rattle.ep_base.specs.Commands.{Command, Noop, Get, Put, Del, Swap, Cas, Seal, Opaque}
+use Rattle.ep_base.specs.Commands.{Command, Noop, Get, Put, Del, Swap, Cas, Seal, Opaque, Tx}
 use Rattle.ep_base.specs.Interference.{keys_of, listed, only_reads, key_of, second_key_of}
 use Rattle.ep_base.specs.Ops.{reads, is_key_len, first_fits, second_fits, body_fits}
+use Rattle.ep_base.specs.Items.{item_keys}
 use Rattle.ep_base.specs.Partition.{PartsLaw}
-use Rattle.ep_base.specs.Parts.{Parts, parts_of, command_with, command_in, command_of, are_parts, lengths_fit, is_twice, body_said, key_if_any, key_bytes, part_bytes, part_at, expected_in, new_in, is_short, is_comparison, IsKey, IsSecond, IsShort, IsInRange}
+use Rattle.ep_base.specs.Parts.{Parts, parts_of, command_with, command_in, command_of, are_parts, lengths_fit, is_twice, body_said, key_if_any, key_bytes, part_bytes, part_at, expected_in, new_in, is_short, is_comparison, items_of, tx_bytes, are_items, IsKey, IsSecond, IsShort, IsInRange}
 use Rattle.ep_base.specs.Values.{most_value}
 use Rattle.ep_base.specs.declared.op.Op.{Op}
 use Rattle.ep_base.specs.declared.op.Op.TheVariants as op
 use Rattle.ep_base.proofs.Keys.{keys_listed}
+use Rattle.ep_base.proofs.Bodies.{part_again, tx_parts, tx_back, tx_again, tx_there, tx_len}
 use Rattle.ep_base.proofs.Same.{Decides-same_list}
 
 not_true : (b : Bool) → not b ≡ true → b ≡ true → ⊥
@@ -81,10 +83,6 @@ fits_from o k l b f = both_true (both_true f.first (both_true f.second f.body)) 
 
 -- Comparisons' bodies.
 
-pub part_again : (e : Option (List ℕ)) (rest : List ℕ) → part_at (part_bytes e ++ rest) ≡ e
-part_again None rest = refl
-part_again (Some v) rest = ap Some (ap (λ n. take n (v ++ rest)) (let e : length v / 256 * 256 + length v % 256 ≡ length v = omega arith in e) ∙ take-append_seam v rest)
-
 pub new_again : (e n : Option (List ℕ)) → new_in (part_bytes e ++ part_bytes n) ≡ n
 new_again e n =
     ap (λ (x : Option (List ℕ)). part_at (drop (length (part_bytes x)) (part_bytes e ++ part_bytes n))) (part_again e (part_bytes n))
@@ -138,6 +136,7 @@ back_with op.Cas k l b f = same_made op.Cas refl (sym (none_there l f.second)) (
 back_with op.Ask k l b f = same_made op.Ask refl (bytes_again l) refl
 back_with op.Act k l b f = same_made op.Act refl (bytes_again l) refl
 back_with op.Seal k l b f = same_made op.Seal (sym (none_there k f.first)) (sym (none_there l f.second)) refl
+back_with op.Tx k l b f = same_made op.Tx (sym (none_there k f.first)) (sym (none_there l f.second)) (tx_back b f.said)
 
 second_range : (k l : List ℕ) → nat_le (length l) 255 ≡ true → not (is_twice k l) ≡ true → IsSecond k (key_if_any l)
 second_range k [] e n = tt
@@ -153,6 +152,7 @@ range_with op.Cas k l b f = let c = compares b f.said in (key_there k f.first, (
 range_with op.Ask k l b f = (key_there k f.first, (second_range k l f.second f.once, leb-true (length b) most_value f.body))
 range_with op.Act k l b f = (key_there k f.first, (second_range k l f.second f.once, leb-true (length b) most_value f.body))
 range_with op.Seal k l b f = leb-true (length b) most_value f.body
+range_with op.Tx k l b f = (tx_parts b f.said).1
 
 pub back_is : (o : Op) (k l b : List ℕ) → are_parts (made o k l b) ≡ true → parts_of (command_with o k l b) ≡ made o k l b
 back_is o k l b e = back_with o k l b (fits o k l b e)
@@ -170,6 +170,7 @@ again_with (Del k) h = refl
 again_with (Swap p) h = refl
 again_with (Cas k e n) h = λ i. Cas k (part_again e (part_bytes n) i) (new_again e n i)
 again_with (Seal v) h = refl
+again_with (Tx is) h = ap Tx (tx_again is)
 again_with (Opaque p b) h = go p.reads refl p.second refl h.1.0
   where
     go : (r : Bool) → p.reads ≡ r → (s : Option (List ℕ)) → p.second ≡ s → IsSecond p.first s → command_with (cond r op.Ask op.Act) p.first (key_bytes s) b ≡ Opaque p b
@@ -207,6 +208,7 @@ fits_with (Cas k e n) h =
     fits_from op.Cas k [] (part_bytes e ++ part_bytes n)
     (record { first = key_from k h.0; second = refl; body = body_len e n h.1.0 h.1.1; once = refl; said = compares_from (part_bytes e ++ part_bytes n) (compares_both e n h.1.0 h.1.1) })
 fits_with (Seal v) h = fits_from op.Seal [] [] v (record { first = refl; second = refl; body = small v h; once = refl; said = refl })
+fits_with (Tx is) h = fits_from op.Tx [] [] (tx_bytes is) (record { first = refl; second = refl; body = tx_len is h; once = refl; said = tx_there is h })
 fits_with (Opaque p b) h = go p.reads
   where
     go : (r : Bool) → are_parts (made (cond r op.Ask op.Act) p.first (key_bytes p.second) b) ≡ true
@@ -252,6 +254,7 @@ first_is (Del k) h = any_key k h
 first_is (Swap p) h = any_key p.first h.0
 first_is (Cas k e n) h = any_key k h.0
 first_is (Seal v) h = refl
+first_is (Tx is) h = refl
 first_is (Opaque p b) h = any_key p.first h.0
 
 pub second_is : (c : Command) → IsInRange c → key_if_any (parts_of c).second ≡ second_key_of c
@@ -262,20 +265,22 @@ second_is (Del k) h = refl
 second_is (Swap p) h = any_key p.second h.1.0
 second_is (Cas k e n) h = refl
 second_is (Seal v) h = refl
+second_is (Tx is) h = refl
 second_is (Opaque p b) h = any_second p.first p.second h.1.0
 
-pub keys_lem : (c : Command) → IsInRange c → keys_of c ≡ listed (key_if_any (parts_of c).first) ++ listed (key_if_any (parts_of c).second)
-keys_lem c h = keys_listed c ∙ (λ i. listed (sym (first_is c h) i) ++ listed (sym (second_is c h) i))
+pub keys_lem : (c : Command) → IsInRange c → keys_of c ≡ listed (key_if_any (parts_of c).first) ++ listed (key_if_any (parts_of c).second) ++ item_keys (items_of c)
+keys_lem c h = keys_listed c ∙ (λ i. listed (sym (first_is c h) i) ++ listed (sym (second_is c h) i) ++ item_keys (items_of c))
 
-pub reads_lem : (c : Command) → only_reads c ≡ reads (parts_of c).op
-reads_lem Noop = refl
-reads_lem (Get k) = refl
-reads_lem (Put k v) = refl
-reads_lem (Del k) = refl
-reads_lem (Swap p) = refl
-reads_lem (Cas k e n) = refl
-reads_lem (Seal v) = refl
-reads_lem (Opaque p b) = go p.reads
+pub reads_lem : (c : Command) → IsInRange c → items_of c ≡ [] → only_reads c ≡ reads (parts_of c).op
+reads_lem Noop h e = refl
+reads_lem (Get k) h e = refl
+reads_lem (Put k v) h e = refl
+reads_lem (Del k) h e = refl
+reads_lem (Swap p) h e = refl
+reads_lem (Cas k x n) h e = refl
+reads_lem (Seal v) h e = refl
+reads_lem (Tx is) h e = absurd (true≢false (sym h ∙ ap are_items e))
+reads_lem (Opaque p b) h e = go p.reads
   where
     go : (r : Bool) → r ≡ reads (cond r op.Ask op.Act)
     go true = refl

@@ -1,19 +1,20 @@
 -- The tests of equality decide it.
-use Rattle.std.proofs.Common.{◌≡◌, ℕ, List, [], Option, Some, None, refl, ap, ◌∙◌}
+use Rattle.std.proofs.Common.{◌≡◌, ℕ, List, [], ◌∷◌, Option, Some, None, refl, ap, ◌∙◌}
 use Rattle.std.specs.Prelude.{Bool, true, false, ◌&&◌, eqb}
 use Rattle.std.specs.Bool.{Decides}
 use Rattle.std.specs.Cmp.Lexicographic.{pointwise_decides}
 use Rattle.std.proofs.lemmas.Bool.{false≢true, eqb-false}
 use Rattle.std.proofs.lemmas.Bool.Decides.{Decides-like, Decides-and, Decides-eqb}
 use Rattle.ep_base.specs.declared.attrs.Attrs.{Attrs}
-use Rattle.ep_base.specs.Commands.{Command, Noop, Get, Put, Del, Swap, Cas, Seal, Opaque}
+use Rattle.ep_base.specs.Commands.{Command, Noop, Get, Put, Del, Swap, Cas, Seal, Opaque, Tx}
 use Rattle.ep_base.specs.declared.decree.Decree.{Decree}
 use Rattle.ep_base.specs.declared.reply.Reply.{Reply}
-use Rattle.ep_base.specs.declared.reply.Reply.TheVariants.{Absent, Present, Closed, Ordered}
+use Rattle.ep_base.specs.declared.reply.Reply.TheVariants.{Absent, Present, Closed, Ordered, Done, Undone}
 use Rattle.ep_base.specs.declared.reply.Answer.{Answer}
 use Rattle.ep_base.specs.declared.reply.Answer.TheVariants.{Lost, Told}
 use Rattle.ep_base.specs.Attributes.{same_list, same_attrs}
-use Rattle.ep_base.specs.Sameness.{same_keys, same_option, same_bool, same_touched, same_command, same_decree, same_reply, same_answer}
+use Rattle.ep_base.specs.Sameness.{same_keys, same_option, same_bool, same_touched, same_asked, same_item, same_items, same_options, same_command, same_decree, same_reply, same_answer}
+use Rattle.ep_base.specs.Items.{Item}
 use Rattle.ep_base.specs.Touched.{Touched}
 use Rattle.ep_base.specs.TwoKeys.{TwoKeys}
 
@@ -44,6 +45,7 @@ kind (Swap p) = 4
 kind (Cas k e n) = 5
 kind (Seal v) = 6
 kind (Opaque p b) = 7
+kind (Tx is) = 8
 
 abbrev key_or_none : Command → List ℕ
 key_or_none Noop = []
@@ -54,6 +56,7 @@ key_or_none (Swap p) = p.first
 key_or_none (Cas k e n) = k
 key_or_none (Seal v) = []
 key_or_none (Opaque p b) = p.first
+key_or_none (Tx is) = []
 
 abbrev value_or_none : Command → List ℕ
 value_or_none Noop = []
@@ -64,6 +67,7 @@ value_or_none (Swap p) = []
 value_or_none (Cas k e n) = []
 value_or_none (Seal v) = v
 value_or_none (Opaque p b) = b
+value_or_none (Tx is) = []
 
 abbrev no_keys : TwoKeys
 no_keys = record { first = []; second = [] }
@@ -77,6 +81,7 @@ keys_or_none (Swap p) = p
 keys_or_none (Cas k e n) = no_keys
 keys_or_none (Seal v) = no_keys
 keys_or_none (Opaque p b) = no_keys
+keys_or_none (Tx is) = no_keys
 
 abbrev expected_or_none : Command → Option (List ℕ)
 expected_or_none Noop = None
@@ -87,6 +92,7 @@ expected_or_none (Swap p) = None
 expected_or_none (Cas k e n) = e
 expected_or_none (Seal v) = None
 expected_or_none (Opaque p b) = p.second
+expected_or_none (Tx is) = None
 
 abbrev new_or_none : Command → Option (List ℕ)
 new_or_none Noop = None
@@ -97,6 +103,7 @@ new_or_none (Swap p) = None
 new_or_none (Cas k e n) = n
 new_or_none (Seal v) = None
 new_or_none (Opaque p b) = None
+new_or_none (Tx is) = None
 
 abbrev no_touch : Touched
 no_touch = record { first = []; second = None; reads = false }
@@ -110,6 +117,7 @@ touched_or_none (Swap p) = no_touch
 touched_or_none (Cas k e n) = no_touch
 touched_or_none (Seal v) = no_touch
 touched_or_none (Opaque p b) = p
+touched_or_none (Tx is) = no_touch
 
 abbrev option_kind : Option (List ℕ) → ℕ
 option_kind None = 0
@@ -155,6 +163,76 @@ Decides-same_touched p q =
     let parts = Decides-and (same_list p.first q.first) (same_option p.second q.second && same_bool p.reads q.reads) (Decides-same_list p.first q.first) rest in
     Decides-like (same_touched p q) (λ h. touched_from_parts p q h.0 h.1.0 h.1.1) (λ e. (ap (λ (x : Touched). x.first) e, (ap (λ (x : Touched). x.second) e, ap (λ (x : Touched). x.reads) e))) parts
 
+abbrev items_or_none : Command → List Item
+items_or_none Noop = []
+items_or_none (Get k) = []
+items_or_none (Put k v) = []
+items_or_none (Del k) = []
+items_or_none (Swap p) = []
+items_or_none (Cas k e n) = []
+items_or_none (Seal v) = []
+items_or_none (Opaque p b) = []
+items_or_none (Tx is) = is
+
+abbrev asked_kind : Option (Option (List ℕ)) → ℕ
+asked_kind None = 0
+asked_kind (Some o) = 1
+
+abbrev asked_in : Option (Option (List ℕ)) → Option (List ℕ)
+asked_in None = None
+asked_in (Some o) = o
+
+Decides-same_asked : (a b : Option (Option (List ℕ))) → Decides (same_asked a b) (a ≡ b)
+Decides-same_asked None None = (λ _. refl, λ _. refl)
+Decides-same_asked (Some o) (Some p) = Decides-like (same_option o p) (ap Some) (ap asked_in) (Decides-same_option o p)
+Decides-same_asked None (Some p) = apart asked_kind refl
+Decides-same_asked (Some o) None = apart asked_kind refl
+
+item_from_parts : (i j : Item) → i.key ≡ j.key → i.guard ≡ j.guard → i.told ≡ j.told → i.write ≡ j.write → i ≡ j
+item_from_parts i j k g t w = λ n. record { key = k n; guard = g n; told = t n; write = w n }
+
+Decides-same_item : (i j : Item) → Decides (same_item i j) (i ≡ j)
+Decides-same_item i j =
+    let last = Decides-and (same_bool i.told j.told) (same_asked i.write j.write) (Decides-same_bool i.told j.told) (Decides-same_asked i.write j.write) in
+    let rest = Decides-and (same_asked i.guard j.guard) (same_bool i.told j.told && same_asked i.write j.write) (Decides-same_asked i.guard j.guard) last in
+    let parts = Decides-and (same_list i.key j.key) (same_asked i.guard j.guard && (same_bool i.told j.told && same_asked i.write j.write)) (Decides-same_list i.key j.key) rest in
+    Decides-like (same_item i j) (λ h. item_from_parts i j h.0 h.1.0 h.1.1.0 h.1.1.1)
+    (λ e. (ap (λ (x : Item). x.key) e, (ap (λ (x : Item). x.guard) e, (ap (λ (x : Item). x.told) e, ap (λ (x : Item). x.write) e))))
+    parts
+
+-- lists, by a test of what they have
+
+module _ {X : Type 0} where
+  abbrev list_kind : List X → ℕ
+  list_kind [] = 0
+  list_kind (x ∷ xs) = 1
+
+  abbrev head_or : X → List X → X
+  head_or d [] = d
+  head_or d (x ∷ xs) = x
+
+  abbrev tail_of : List X → List X
+  tail_of [] = []
+  tail_of (x ∷ xs) = xs
+
+  cons_from : (x y : X) (xs ys : List X) → x ≡ y → xs ≡ ys → (x ∷ xs) ≡ (y ∷ ys)
+  cons_from x y xs ys e f = λ i. e i ∷ f i
+
+  Decides-cons : (s : Bool) (t : Bool) (x y : X) (xs ys : List X) → Decides s (x ≡ y) → Decides t (xs ≡ ys) → Decides (s && t) ((x ∷ xs) ≡ (y ∷ ys))
+  Decides-cons s t x y xs ys d e = Decides-like (s && t) (λ h. cons_from x y xs ys h.0 h.1) (λ is. (ap (head_or x) is, ap tail_of is)) (Decides-and s t d e)
+
+Decides-same_items : (is js : List Item) → Decides (same_items is js) (is ≡ js)
+Decides-same_items [] [] = (λ _. refl, λ _. refl)
+Decides-same_items (i ∷ is) (j ∷ js) = Decides-cons (same_item i j) (same_items is js) i j is js (Decides-same_item i j) (Decides-same_items is js)
+Decides-same_items [] (j ∷ js) = apart list_kind refl
+Decides-same_items (i ∷ is) [] = apart list_kind refl
+
+pub Decides-same_options : (os ps : List (Option (List ℕ))) → Decides (same_options os ps) (os ≡ ps)
+Decides-same_options [] [] = (λ _. refl, λ _. refl)
+Decides-same_options (o ∷ os) (p ∷ ps) = Decides-cons (same_option o p) (same_options os ps) o p os ps (Decides-same_option o p) (Decides-same_options os ps)
+Decides-same_options [] (p ∷ ps) = apart list_kind refl
+Decides-same_options (o ∷ os) [] = apart list_kind refl
+
 pub Decides-same_command : (a b : Command) → Decides (same_command a b) (a ≡ b)
 Decides-same_command Noop Noop = (λ _. refl, λ _. refl)
 Decides-same_command (Get k) (Get l) = Decides-like (same_list k l) (ap Get) (ap key_or_none) (Decides-same_list k l)
@@ -171,6 +249,7 @@ Decides-same_command (Seal v) (Seal w) = Decides-like (same_list v w) (ap Seal) 
 Decides-same_command (Opaque p b) (Opaque q c) =
     let parts = Decides-and (same_touched p q) (same_list b c) (Decides-same_touched p q) (Decides-same_list b c) in
     Decides-like (same_touched p q && same_list b c) (λ h. cc) (λ e. (ap touched_or_none e, ap value_or_none e)) parts
+Decides-same_command (Tx is) (Tx js) = Decides-like (same_items is js) (ap Tx) (ap items_or_none) (Decides-same_items is js)
 Decides-same_command a b = apart kind refl
 
 pub decree_from_parts : (d e : Decree) → d.command ≡ e.command → d.attrs ≡ e.attrs → d ≡ e
@@ -189,18 +268,32 @@ reply_kind Absent = 0
 reply_kind (Present v) = 1
 reply_kind Closed = 2
 reply_kind Ordered = 3
+reply_kind (Done os) = 4
+reply_kind (Undone os) = 5
 
 abbrev told_value : Reply → List ℕ
 told_value Absent = []
 told_value (Present v) = v
 told_value Closed = []
 told_value Ordered = []
+told_value (Done os) = []
+told_value (Undone os) = []
+
+abbrev told_values : Reply → List (Option (List ℕ))
+told_values Absent = []
+told_values (Present v) = []
+told_values Closed = []
+told_values Ordered = []
+told_values (Done os) = os
+told_values (Undone os) = os
 
 pub Decides-same_reply : (r s : Reply) → Decides (same_reply r s) (r ≡ s)
 Decides-same_reply Absent Absent = (λ _. refl, λ _. refl)
 Decides-same_reply (Present v) (Present w) = Decides-like (same_list v w) (ap Present) (ap told_value) (Decides-same_list v w)
 Decides-same_reply Closed Closed = (λ _. refl, λ _. refl)
 Decides-same_reply Ordered Ordered = (λ _. refl, λ _. refl)
+Decides-same_reply (Done os) (Done ps) = Decides-like (same_options os ps) (ap Done) (ap told_values) (Decides-same_options os ps)
+Decides-same_reply (Undone os) (Undone ps) = Decides-like (same_options os ps) (ap Undone) (ap told_values) (Decides-same_options os ps)
 Decides-same_reply r s = apart reply_kind refl
 
 abbrev answer_kind : Answer → ℕ

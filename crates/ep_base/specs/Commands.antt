@@ -1,5 +1,6 @@
 -- What a replica may be asked to do.
 use Rattle.std.specs.Prelude.{ℕ, List, Option}
+use Rattle.ep_base.specs.Items.{Item}
 use Rattle.ep_base.specs.Touched.{Touched}
 use Rattle.ep_base.specs.TwoKeys.{TwoKeys}
 
@@ -20,3 +21,5 @@ pub data Command : Type 0 where
   Seal : (value : List ℕ) → Command
   -- is a machine's outside: it is put in order by its footprint, leaves the map, and means what its body says there
   Opaque : (footprint : Touched) (body : List ℕ) → Command
+  -- writes what its items say, if each guard holds, and tells what they ask for
+  Tx : (items : List Item) → Command

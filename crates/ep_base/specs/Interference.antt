@@ -1,7 +1,8 @@
 -- Which commands interfere (EPaxos, section 4.1): those whose order matters.
 use Rattle.std.specs.Prelude.{◌≡◌, ◌≢◌, ◌⊎◌, ◌↔◌, ℕ, List, [], ◌∷◌, Option, Some, None, Bool, true, false, not, ◌&&◌, ◌||◌, IsTrue, Contains, length, ltb}
-use Rattle.ep_base.specs.Commands.{Command, Noop, Get, Put, Del, Swap, Cas, Seal, Opaque}
+use Rattle.ep_base.specs.Commands.{Command, Noop, Get, Put, Del, Swap, Cas, Seal, Opaque, Tx}
 use Rattle.ep_base.specs.Attributes.{same_list}
+use Rattle.ep_base.specs.Items.{item_keys, none_writes}
 use Rattle.ep_base.specs.Sameness.{is_noop}
 use Rattle.ep_base.specs.Touched.{Touched}
 
@@ -24,8 +25,9 @@ keys_of (Swap keys) = keys.first ∷ keys.second ∷ []
 keys_of (Cas key expected new) = key ∷ []
 keys_of (Seal value) = []
 keys_of (Opaque p body) = keys_in p
+keys_of (Tx items) = item_keys items
 
--- the first of them
+-- the first of them, where they are at most two
 abbrev pub key_of : Command → Option (List ℕ)
 key_of Noop = None
 key_of (Get key) = Some key
@@ -35,6 +37,7 @@ key_of (Swap keys) = Some keys.first
 key_of (Cas key expected new) = Some key
 key_of (Seal value) = None
 key_of (Opaque p body) = Some p.first
+key_of (Tx items) = None
 
 -- the second of them
 abbrev pub second_key_of : Command → Option (List ℕ)
@@ -46,8 +49,9 @@ second_key_of (Swap keys) = Some keys.second
 second_key_of (Cas key expected new) = None
 second_key_of (Seal value) = None
 second_key_of (Opaque p body) = p.second
+second_key_of (Tx items) = None
 
--- a get only reads, and so does a machine's command that says so
+-- a get only reads, and so does a machine's command that says so, and one over many keys of which none is written
 abbrev pub only_reads : Command → Bool
 only_reads Noop = false
 only_reads (Get key) = true
@@ -57,6 +61,7 @@ only_reads (Swap keys) = false
 only_reads (Cas key expected new) = false
 only_reads (Seal value) = false
 only_reads (Opaque p body) = p.reads
+only_reads (Tx items) = none_writes items
 
 abbrev pub is_swap : Command → Bool
 is_swap Noop = false
@@ -67,6 +72,7 @@ is_swap (Swap keys) = true
 is_swap (Cas key expected new) = false
 is_swap (Seal value) = false
 is_swap (Opaque p body) = false
+is_swap (Tx items) = false
 
 abbrev pub is_seal : Command → Bool
 is_seal Noop = false
@@ -77,8 +83,21 @@ is_seal (Swap keys) = false
 is_seal (Cas key expected new) = false
 is_seal (Seal value) = true
 is_seal (Opaque p body) = false
+is_seal (Tx items) = false
 
--- what neither version 1 nor version 2 has: compare-and-set, seals, and commands of machines outside
+-- it is over many keys
+abbrev pub is_many : Command → Bool
+is_many Noop = false
+is_many (Get key) = false
+is_many (Put key value) = false
+is_many (Del key) = false
+is_many (Swap keys) = false
+is_many (Cas key expected new) = false
+is_many (Seal value) = false
+is_many (Opaque p body) = false
+is_many (Tx items) = true
+
+-- what neither version 1 nor version 2 has: compare-and-set, seals, commands of machines outside, and commands over many keys
 abbrev pub is_late : Command → Bool
 is_late Noop = false
 is_late (Get key) = false
@@ -88,6 +107,7 @@ is_late (Swap keys) = false
 is_late (Cas key expected new) = true
 is_late (Seal value) = true
 is_late (Opaque p body) = true
+is_late (Tx items) = true
 
 -- nor have they values of more than 1,024 bytes
 abbrev pub is_long : Command → Bool
@@ -99,6 +119,7 @@ is_long (Swap keys) = false
 is_long (Cas key expected new) = false
 is_long (Seal value) = false
 is_long (Opaque p body) = false
+is_long (Tx items) = false
 
 abbrev pub has_key : List ℕ → List (List ℕ) → Bool
 has_key k [] = false

@@ -3,6 +3,7 @@ pub mod Ballots
 pub mod Quorums
 pub mod TwoKeys
 pub mod Touched
+pub mod Items
 pub mod Commands
 pub mod Ops
 pub mod Views

@@ -1,7 +1,7 @@
 -- The ops of commands: their numbers, and how long the keys and the body of each may be.
 use Rattle.std.specs.Prelude.{ℕ, Bool, true, false, ◌&&◌, ◌==◌, nat_le}
 use Rattle.ep_base.specs.declared.op.Op.{Op}
-use Rattle.ep_base.specs.declared.op.Op.TheVariants.{Noop, Get, Put, Del, Swap, Cas, Ask, Act, Seal}
+use Rattle.ep_base.specs.declared.op.Op.TheVariants.{Noop, Get, Put, Del, Swap, Cas, Ask, Act, Seal, Tx}
 use Rattle.ep_base.specs.Values.{most_value}
 
 abbrev pub op_number : Op → ℕ
@@ -14,8 +14,9 @@ op_number Cas = 6
 op_number Ask = 7
 op_number Act = 8
 op_number Seal = 9
+op_number Tx = 10
 
--- a command of this op only reads
+-- a command of this op only reads; one over many keys does where no item writes
 abbrev pub reads : Op → Bool
 reads Noop = false
 reads Get = true
@@ -26,6 +27,7 @@ reads Cas = false
 reads Ask = true
 reads Act = false
 reads Seal = false
+reads Tx = false
 
 abbrev pub is_key_len : ℕ → Bool
 is_key_len n = nat_le 1 n && nat_le n 255
@@ -33,6 +35,10 @@ is_key_len n = nat_le 1 n && nat_le n 255
 -- a comparison's body is two parts, of 1 byte or 5 and a value
 abbrev pub is_comparison_len : ℕ → Bool
 is_comparison_len n = nat_le 2 n && nat_le n 131080
+
+-- the items of a command over many keys: their count, and at least one of 3 bytes
+abbrev pub is_items_len : ℕ → Bool
+is_items_len n = nat_le 5 n && nat_le n 131080
 
 -- the first key may have so many bytes; none says that there is none
 abbrev pub first_fits : Op → ℕ → Bool
@@ -45,6 +51,7 @@ first_fits Cas n = is_key_len n
 first_fits Ask n = is_key_len n
 first_fits Act n = is_key_len n
 first_fits Seal n = n == 0
+first_fits Tx n = n == 0
 
 -- the second key may; a machine's command has it or not
 abbrev pub second_fits : Op → ℕ → Bool
@@ -57,6 +64,7 @@ second_fits Cas n = n == 0
 second_fits Ask n = nat_le n 255
 second_fits Act n = nat_le n 255
 second_fits Seal n = n == 0
+second_fits Tx n = n == 0
 
 -- the body may
 abbrev pub body_fits : Op → ℕ → Bool
@@ -69,3 +77,4 @@ body_fits Cas n = is_comparison_len n
 body_fits Ask n = nat_le n most_value
 body_fits Act n = nat_le n most_value
 body_fits Seal n = nat_le n most_value
+body_fits Tx n = is_items_len n

@@ -1,12 +1,13 @@
 -- Tests of equality, by cases. That they decide it is proved.
-use Rattle.std.specs.Prelude.{ℕ, List, Option, Some, None, Bool, true, false, not, ◌&&◌}
-use Rattle.ep_base.specs.Commands.{Command, Noop, Get, Put, Del, Swap, Cas, Seal, Opaque}
+use Rattle.std.specs.Prelude.{ℕ, List, [], ◌∷◌, Option, Some, None, Bool, true, false, not, ◌&&◌}
+use Rattle.ep_base.specs.Commands.{Command, Noop, Get, Put, Del, Swap, Cas, Seal, Opaque, Tx}
 use Rattle.ep_base.specs.declared.decree.Decree.{Decree}
 use Rattle.ep_base.specs.declared.reply.Reply.{Reply}
-use Rattle.ep_base.specs.declared.reply.Reply.TheVariants.{Absent, Present, Closed, Ordered}
+use Rattle.ep_base.specs.declared.reply.Reply.TheVariants.{Absent, Present, Closed, Ordered, Done, Undone}
 use Rattle.ep_base.specs.declared.reply.Answer.{Answer}
 use Rattle.ep_base.specs.declared.reply.Answer.TheVariants.{Lost, Told}
 use Rattle.ep_base.specs.Attributes.{same_list, same_attrs}
+use Rattle.ep_base.specs.Items.{Item}
 use Rattle.ep_base.specs.Touched.{Touched}
 use Rattle.ep_base.specs.TwoKeys.{TwoKeys}
 
@@ -18,12 +19,31 @@ same_option None None = true
 same_option (Some v) (Some w) = same_list v w
 same_option _ _ = false
 
+abbrev pub same_asked : Option (Option (List ℕ)) → Option (Option (List ℕ)) → Bool
+same_asked None None = true
+same_asked (Some o) (Some p) = same_option o p
+same_asked _ _ = false
+
 abbrev pub same_bool : Bool → Bool → Bool
 same_bool true b = b
 same_bool false b = not b
 
 abbrev pub same_touched : Touched → Touched → Bool
 same_touched p q = same_list p.first q.first && (same_option p.second q.second && same_bool p.reads q.reads)
+
+abbrev pub same_item : Item → Item → Bool
+same_item i j = same_list i.key j.key && (same_asked i.guard j.guard && (same_bool i.told j.told && same_asked i.write j.write))
+
+abbrev pub same_items : List Item → List Item → Bool
+same_items [] [] = true
+same_items (i ∷ is) (j ∷ js) = same_item i j && same_items is js
+same_items _ _ = false
+
+-- the same values, or none, in the same order
+abbrev pub same_options : List (Option (List ℕ)) → List (Option (List ℕ)) → Bool
+same_options [] [] = true
+same_options (o ∷ os) (p ∷ ps) = same_option o p && same_options os ps
+same_options _ _ = false
 
 abbrev pub same_command : Command → Command → Bool
 same_command Noop Noop = true
@@ -34,6 +54,7 @@ same_command (Swap p) (Swap q) = same_keys p q
 same_command (Cas k e n) (Cas l f o) = same_list k l && (same_option e f && same_option n o)
 same_command (Seal v) (Seal w) = same_list v w
 same_command (Opaque p b) (Opaque q c) = same_touched p q && same_list b c
+same_command (Tx is) (Tx js) = same_items is js
 same_command _ _ = false
 
 abbrev pub same_decree : Decree → Decree → Bool
@@ -44,6 +65,8 @@ same_reply Absent Absent = true
 same_reply (Present v) (Present w) = same_list v w
 same_reply Closed Closed = true
 same_reply Ordered Ordered = true
+same_reply (Done os) (Done ps) = same_options os ps
+same_reply (Undone os) (Undone ps) = same_options os ps
 same_reply _ _ = false
 
 abbrev pub same_answer : Answer → Answer → Bool
@@ -60,3 +83,4 @@ is_noop (Swap p) = false
 is_noop (Cas k e n) = false
 is_noop (Seal v) = false
 is_noop (Opaque p b) = false
+is_noop (Tx is) = false

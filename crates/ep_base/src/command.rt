@@ -1,13 +1,13 @@
 //! Commands, and which of them interfere.
 
-ghost use Rattle.std.specs.Prelude.{◌≡◌, ◌<◌, ◌≤◌, ◌+◌, ◌++◌, ◌↔◌, ◌⊎◌, IsTrue, IfOk, Bool, true, length, ◌&&◌, if◌then◌else◌};
+ghost use Rattle.std.specs.Prelude.{◌≡◌, ◌<◌, ◌≤◌, ◌+◌, ◌++◌, ◌↔◌, ◌⊎◌, IsTrue, IfOk, Bool, true, false, length, ◌&&◌, if◌then◌else◌};
 ghost use Rattle.ep_base.specs.Ops.{is_key_len};
 ghost use Rattle.std.specs.Option.{option_copied};
 ghost use Rattle.std.specs.Prelude.{Option, Some, None};
-ghost use Rattle.ep_base.specs.Commands.{Noop, Get, Put, Del, Swap, Cas, Seal, Opaque};
-ghost use Rattle.ep_base.specs.Interference.{only_reads, is_swap, is_late, is_long, is_seal, keys_of, key_of, second_key_of, has_key, listed};
+ghost use Rattle.ep_base.specs.Commands.{Noop, Get, Put, Del, Swap, Cas, Seal, Opaque, Tx};
+ghost use Rattle.ep_base.specs.Interference.{only_reads, is_swap, is_late, is_long, is_many, is_seal, keys_of, key_of, second_key_of, has_key, listed};
 ghost use Rattle.ep_base.specs.Partition.{PartsLaw};
-ghost use Rattle.ep_base.specs.Parts.{is_short, parts_of, command_in, command_of, are_parts, lengths_fit, is_twice, body_said, cut, key_if_any, IsInRange};
+ghost use Rattle.ep_base.specs.Parts.{is_short, parts_of, command_in, command_of, are_parts, items_of, lengths_fit, is_twice, body_said, cut, is_tx, items_in, key_if_any, IsInRange};
 ghost use Rattle.ep_base.specs.Sameness.{same_command, is_noop};
 ghost use Rattle.ep_base.specs.Values.{most_value};
 ghost use Rattle.ep_base.specs.Views.{means, touched};
@@ -15,6 +15,7 @@ ghost use Rattle.ep_base.specs.Views.{means, touched};
 use crate::command_fault::CommandFault;
 use crate::command_view::{CommandView, Touching};
 use crate::comparison::{comparison_run, expected_and_new, is_comparison, is_short};
+use crate::items::{Items, has_item, is_tx, none_writes};
 use crate::op::{Op, is_key_len, is_same_op};
 use crate::value::Value;
 use bytes::Bytes;
@@ -132,6 +133,14 @@ impl Command {
         Command::of_parts(alloc, Op::Seal, [].as_slice(), [].as_slice(), value)
     }
 
+    /// The command over many keys with this body; `OutOfRange` unless it is one.
+    pub fn tx(alloc: Global, body: &[u8]) -> Result<Command, CommandFault>
+        ensures ok { IfOk result (λ c. c ≡ Tx (items_in body.now)) }
+        ensures out_of_range { result ≡ Err CommandFault.OutOfRange ↔ (is_tx body.now ≡ false) }
+    {
+        Command::of_parts(alloc, Op::Tx, [].as_slice(), [].as_slice(), body)
+    }
+
     /// The command of a machine outside that touches these keys, with this body; `OutOfRange` unless each key has 1 to 255
     /// bytes, two differ, and the body has at most 65,535.
     pub fn opaque(
@@ -169,6 +178,7 @@ impl Command {
     }
 
     /// The command of these parts, which are copied into one run of bytes; `OutOfRange` if they are no command's.
+    #[inline(always)]
     pub fn of_parts(
         alloc: Global,
         op: Op,
@@ -268,7 +278,8 @@ impl Command {
         &self.run.as_slice()[first..first + self.second as usize]
     }
 
-    /// The body: a put's or a seal's value, a comparison's two values, or what a machine outside is told.
+    /// The body: a put's or a seal's value, a comparison's two values, the items of a command over many keys, or what a machine
+    /// outside is told.
     #[inline(always)]
     pub fn body(&self) -> &[u8]
         ensures { result.now ≡ (parts_of self.now).body }
@@ -303,6 +314,7 @@ impl Command {
             Op::Ask => CommandView::Opaque(self.touching(true), self.body()),
             Op::Act => CommandView::Opaque(self.touching(false), self.body()),
             Op::Seal => CommandView::Seal(self.body()),
+            Op::Tx => CommandView::Tx(self.body()),
         }
     }
 
@@ -318,7 +330,20 @@ impl Command {
         }
     }
 
-    /// The keys that the command names, in order: none for a no-op or a seal, two for a swap, one or two for a machine's, else one.
+    /// What a command over many keys says of each; no other has items.
+    #[inline(always)]
+    pub fn items(&self) -> Items<'_>
+        ensures { result ≡ items_of self.now }
+    {
+        if self.is_many() {
+            Items::of(self.body())
+        } else {
+            Items::none()
+        }
+    }
+
+    /// The keys that the command names, in order, but for those of items: none for a no-op or a seal, two for a swap, one or two for
+    /// a machine's, else one.
     #[inline(always)]
     pub fn keys(&self) -> (Option<&[u8]>, Option<&[u8]>)
         ensures first { option_copied result.0 ≡ key_of self.now }
@@ -332,15 +357,15 @@ impl Command {
     pub fn names(&self, key: &[u8]) -> bool
         ensures { result ≡ has_key key.now (keys_of self.now) }
     {
-        is_key(self.first(), key) || is_key(self.second(), key)
+        is_key(self.first(), key) || is_key(self.second(), key) || has_item(self.items(), key)
     }
 
-    /// Whether the command only reads: it is a get, or a machine's that says so.
+    /// Whether the command only reads: it is a get, a machine's that says so, or one over many keys that writes none.
     #[inline(always)]
     pub fn only_reads(&self) -> bool
         ensures { result ≡ only_reads self.now }
     {
-        self.op.reads()
+        self.op.reads() || (self.is_many() && none_writes(self.items()))
     }
 
     /// Whether the command is a swap.
@@ -351,13 +376,13 @@ impl Command {
         matches!(self.op, Op::Swap)
     }
 
-    /// Whether neither version 1 nor version 2 has the command: it is a comparison, a seal, or a command of a machine
-    /// outside.
+    /// Whether neither version 1 nor version 2 has the command: it is a comparison, a seal, a command of a machine
+    /// outside, or one over many keys.
     #[inline(always)]
     pub fn is_late(&self) -> bool
         ensures { result ≡ is_late self.now }
     {
-        matches!(self.op, Op::Cas | Op::Ask | Op::Act | Op::Seal)
+        matches!(self.op, Op::Cas | Op::Ask | Op::Act | Op::Seal | Op::Tx)
     }
 
     /// Whether the command is a put of more than 1,024 bytes, which neither version 1 nor version 2 has.
@@ -366,6 +391,15 @@ impl Command {
         ensures { result ≡ is_long self.now }
     {
         matches!(self.op, Op::Put) && Value::LONGEST_EARLY < self.body().len()
+    }
+
+    /// Whether the command is over many keys.
+    #[inline(always)]
+    pub fn is_many(&self) -> bool
+        ensures value { result ≡ is_many self.now }
+        ensures body { is_many self.now ≡ true → is_tx (parts_of self.now).body ≡ true }
+    {
+        matches!(self.op, Op::Tx)
     }
 
     /// Whether the command is a seal.
@@ -453,6 +487,7 @@ fn is_said(op: Op, body: &[u8]) -> bool
 {
     match op {
         Op::Cas => is_comparison(body),
+        Op::Tx => is_tx(body),
         Op::Noop | Op::Get | Op::Put | Op::Del | Op::Swap | Op::Ask | Op::Act | Op::Seal => true,
     }
 }

@@ -30,4 +30,6 @@ pub enum CommandView<'a> {
     Seal(&'a [u8]),
     /// A command of a machine outside: what it touches, and its body.
     Opaque(Touching<'a>, &'a [u8]),
+    /// A command over many keys: its body. `Command::items` gives its items.
+    Tx(&'a [u8]),
 }

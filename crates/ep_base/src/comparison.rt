@@ -101,8 +101,8 @@ fn push_value(run: &mut Vec<u8>, value: &[u8]) -> Result<(), AllocError>
     run.extend_from_slice(value)
 }
 
-// The value of the part that the bytes begin with, which takes so many of them.
-fn value_in(bytes: &[u8], len: usize) -> Option<&[u8]>
+/// The value of the part that the bytes begin with, which takes so many of them.
+pub(crate) fn value_in(bytes: &[u8], len: usize) -> Option<&[u8]>
     requires len { len ≤ length bytes.now }
     requires spelled { take len bytes.now ≡ part_bytes (part_at bytes.now) }
     ensures { option_copied result ≡ part_at bytes.now }
@@ -110,8 +110,8 @@ fn value_in(bytes: &[u8], len: usize) -> Option<&[u8]>
     if len < 5 { None } else { Some(&bytes[5..len]) }
 }
 
-// How many bytes the value or none takes that the bytes begin with, if they do.
-fn part_len(bytes: &[u8]) -> Option<usize>
+/// How many bytes the value or none takes that the bytes begin with, if they do.
+pub(crate) fn part_len(bytes: &[u8]) -> Option<usize>
     ensures { IsPartLen bytes.now result }
 {
     if bytes.is_empty() {

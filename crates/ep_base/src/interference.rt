@@ -2,9 +2,11 @@
 
 ghost use Rattle.std.specs.Prelude.{◌≡◌, ◌↔◌, IsTrue};
 ghost use Rattle.ep_base.specs.Interference.{interfere, Interferes, InterferenceLaw, FootprintLaw, keys_of, listed, share_key, meet, part};
+ghost use Rattle.ep_base.specs.Items.{item_keys};
 ghost use Rattle.ep_base.specs.Parts.{key_if_any};
 
 use crate::command::Command;
+use crate::items::Items;
 
 /// Whether the order of the two matters: they name a key in common and do not both only read (EPaxos, section 4.1), or one of them is a seal and neither a no-op.
 #[inline(always)]
@@ -42,7 +44,20 @@ fn part(a: &Command, b: &Command) -> bool
 fn share_key(a: &Command, b: &Command) -> bool
     ensures { result ≡ share_key (keys_of a.now) (keys_of b.now) }
 {
-    is_named(a.first(), b) || is_named(a.second(), b)
+    is_named(a.first(), b) || is_named(a.second(), b) || is_one_named(a.items(), b)
+}
+
+// Whether the key of an item is a key of the command.
+fn is_one_named(items: Items<'_>, b: &Command) -> bool
+    ensures { result ≡ share_key (item_keys items.entry) (keys_of b.now) }
+{
+    let mut items = items;
+    while let Some(item) = items.next() {
+        if b.names(item.key) {
+            return true;
+        }
+    }
+    false
 }
 
 // Whether the bytes, if there are any, are a key of the command.

@@ -44,7 +44,7 @@ op_gives : (v : Version) (l : Left) → AreBytes l.bytes → Gives (λ o. number
 op_gives v l h =
     whole (step (field 1 2 (highest_op v) l) (λ n m. Ok (op_of n, m)) h (field_gives 1 wide1 2 (highest_op v) l h)
     (λ n m p k.
-    let high : highest_op v ≤ 9 = op_low v in
+    let high : highest_op v ≤ 10 = op_low v in
     let low : 2 ≤ n = p.least in
     let most : n ≤ highest_op v = p.most in
     let back : op_number (op_of n) ≡ n = op_found n (omega arith) (omega arith) in

@@ -22,7 +22,7 @@ fn highest_op(version: Version) -> u8
     match version.kind() {
         VersionKind::V1 => 4,
         VersionKind::V2 => 5,
-        VersionKind::V3(_) => 9,
+        VersionKind::V3(_) => 10,
     }
 }
 
@@ -34,7 +34,7 @@ fn read_op_number<S: Source>(
     version: Version,
 ) -> Result<u8, BundleFault>
     ensures bytes { (zs : List ℕ) → S.left source.old ≡ Some zs → Reads (field 1 2 (highest_op version) (record { at = place.old; bytes = zs })) result place.new (S.left source.new) }
-    ensures range { IfOk result (λ n. (1 ≤ n) × (n ≤ 9)) }
+    ensures range { IfOk result (λ n. (1 ≤ n) × (n ≤ 10)) }
     ensures told { FailsAsTold is_read_failed result (S.has_failed source.old) (S.has_failed source.new) }
 {
     field_u8(source, place, 2, highest_op(version))
@@ -43,7 +43,7 @@ fn read_op_number<S: Source>(
 /// The op of this number.
 #[tactic(auto, using(crate::proofs::ReadCommands::op_is))]
 fn known_op(number: u8) -> Op
-    requires { (1 ≤ number) × (number ≤ 9) }
+    requires { (1 ≤ number) × (number ≤ 10) }
     ensures { result ≡ op_of number }
 {
     match Op::of_number(number) {

@@ -38,6 +38,7 @@ mod respelled_writing;
 mod respelling;
 mod room;
 mod upgrading;
+mod values;
 mod write_laws;
 mod writing;
 
@@ -66,6 +67,6 @@ pub use write_laws::{
     learn_fits, learn_opening,
 };
 pub use writing::{
-    put_command, put_entry, put_frame, put_instance, put_pairs, put_receipt, put_receipts,
-    put_value, write_bundle, write_contents, write_entry, write_journal,
+    put_answer, put_command, put_entry, put_frame, put_instance, put_pairs, put_receipt,
+    put_receipts, put_told, put_value, write_bundle, write_contents, write_entry, write_journal,
 };

@@ -10,7 +10,7 @@ ghost use Rattle.ep_bundle.specs.Reading.{map_ok, is_read_failed, Reads, run};
 use crate::bundle_fault::BundleFault;
 use crate::fields::{field_u8, field_u32, read_run};
 use ep_base::{Key, Source, Value, Version, VersionKind};
-use ep_exec::Contents;
+use ep_exec::{Contents, Listing};
 use std::alloc::Global;
 
 /// A key of this many bytes, 1 to 255; at fault where it doesn't stand above those of the map.
@@ -18,7 +18,7 @@ fn read_key<S: Source>(
     alloc: Global,
     source: &mut S,
     place: &mut u64,
-    before: &Contents,
+    before: &Listing,
     len: u8,
 ) -> Result<Key, BundleFault>
     requires { 1 ≤ len }
@@ -58,7 +58,7 @@ fn read_pair<S: Source>(
     alloc: Global,
     source: &mut S,
     place: &mut u64,
-    map: &mut Contents,
+    map: &mut Listing,
 ) -> Result<(), BundleFault>
     ensures bytes { (zs : List ℕ) → S.left source.old ≡ Some zs → (key value : List ℕ) → OnOk result (entries_in map.new ≡ entries_in map.old ++ (key, value) ∷ []) → Reads (pair (entries_in map.old) (record { at = place.old; bytes = zs })) (map_ok (λ _. (key, value)) result) place.new (S.left source.new) }
     ensures one { OnOk result ((key : List ℕ) × (value : List ℕ) × (entries_in map.new ≡ entries_in map.old ++ (key, value) ∷ [])) }
@@ -86,11 +86,11 @@ fn read_contents<S: Source>(
     ensures many { IfOk result (λ m. length (entries_in m) ≡ count) }
     ensures told { FailsAsTold is_read_failed result (S.has_failed source.old) (S.has_failed source.new) }
 {
-    let mut map = Contents::new(alloc);
+    let mut map = Listing::new(alloc);
     for _ in 0..count {
         read_pair(alloc, source, place, &mut map)?;
     }
-    Ok(map)
+    Ok(Contents::of(alloc, map))
 }
 
 /// The map that a generation opens with, of at most 4,000,000,000 keys; versions 1 and 2 have none.

@@ -1,18 +1,19 @@
 //! Instances and answers.
 
-ghost use Rattle.std.specs.Prelude.{◌≡◌, ℕ, List, Some, Ok, true};
+ghost use Rattle.std.specs.Prelude.{◌≡◌, ◌≤◌, ℕ, List, Option as Maybe, Some, true, IfOk};
 ghost use Rattle.ep_base.specs.Devices.{FailsAsTold};
 ghost use Rattle.ep_base.specs.Quorums.{size};
 ghost use Rattle.ep_base.specs.Versions.{highest_in};
-ghost use Rattle.ep_base.specs.declared.reply.Answer.TheVariants.{Told};
-ghost use Rattle.ep_base.specs.declared.reply.Reply.TheVariants.{Present};
-ghost use Rattle.ep_bundle.specs.Reading.{and_then, field, is_read_failed, Compares, Reads};
-ghost use Rattle.ep_bundle.specs.Stages.{answer, highest_code, instance, plain_answer, replica, reply_by, value, value_length};
+ghost use Rattle.ep_bundle.specs.Reading.{field, is_read_failed, Compares, Reads};
+ghost use Rattle.ep_bundle.specs.Stages.{answer, highest_code, instance, plain_answer, replica, reply_by, told_answer, told_in};
 
 use crate::bundle_fault::BundleFault;
-use crate::fields::{field_u8, field_u16, field_u32, read_over};
+use crate::fields::{field_u8, field_u16};
 use crate::room::Room;
-use ep_base::{Answer, InstanceId, ReplicaId, Reply, Size, Source, Value, Version, VersionKind};
+use crate::values::{read_same_told, read_same_value, read_told, read_value};
+use ep_base::{
+    Answer, InstanceId, ReplicaId, Reply, Size, Source, ToldValues, Value, Version, VersionKind,
+};
 
 /// A replica of the cluster.
 pub(crate) fn read_replica<S: Source>(
@@ -56,48 +57,6 @@ pub fn read_instance<S: Source>(
     InstanceId::new(replica, number).map_err(|_| BundleFault::BadBundle(at))
 }
 
-/// How many bytes a value has: its length takes 2 bytes, or 4 in version 3.
-fn read_value_len<S: Source>(
-    source: &mut S,
-    place: &mut u64,
-    version: Version,
-) -> Result<u32, BundleFault>
-    ensures bytes { (zs : List ℕ) → S.left source.old ≡ Some zs → Reads (value_length version (record { at = place.old; bytes = zs })) result place.new (S.left source.new) }
-    ensures told { FailsAsTold is_read_failed result (S.has_failed source.old) (S.has_failed source.new) }
-{
-    match version.kind() {
-        VersionKind::V1 | VersionKind::V2 => read_short_len(source, place),
-        VersionKind::V3(_) => field_u32(source, place, 0, 65_535),
-    }
-}
-
-/// The same in versions 1 and 2.
-fn read_short_len<S: Source>(source: &mut S, place: &mut u64) -> Result<u32, BundleFault>
-    ensures bytes { (zs : List ℕ) → S.left source.old ≡ Some zs → Reads (field 2 0 1024 (record { at = place.old; bytes = zs })) result place.new (S.left source.new) }
-    ensures told { FailsAsTold is_read_failed result (S.has_failed source.old) (S.has_failed source.new) }
-{
-    match field_u16(source, place, 0, 1024) {
-        Ok(len) => Ok(len as u32),
-        Err(fault) => Err(fault),
-    }
-}
-
-/// A value, with its length before it; by way of what the room has to spare.
-fn read_value<S: Source>(
-    source: &mut S,
-    place: &mut u64,
-    version: Version,
-    room: &mut Room,
-) -> Result<Value, BundleFault>
-    ensures bytes { (zs : List ℕ) → S.left source.old ≡ Some zs → Reads (value version (record { at = place.old; bytes = zs })) result place.new (S.left source.new) }
-    ensures told { FailsAsTold is_read_failed result (S.has_failed source.old) (S.has_failed source.new) }
-{
-    let len = read_value_len(source, place, version)?;
-    read_over(source, place, len as usize, &mut room.spare)?;
-    // The length is in range, so only memory can be refused.
-    Value::new(room.alloc, &room.spare).map_err(|_| BundleFault::Memory)
-}
-
 /// The answer of a code that no value follows.
 fn plain_answer(code: u8) -> Answer
     ensures { result ≡ plain_answer code }
@@ -107,6 +66,17 @@ fn plain_answer(code: u8) -> Answer
         2 => Answer::Lost,
         3 => Answer::Told(Reply::Closed),
         _ => Answer::Told(Reply::Ordered),
+    }
+}
+
+/// The answer of a code that told values follow.
+fn told_answer(code: u8, told: ToldValues) -> Answer
+    ensures { result ≡ told_answer code told }
+{
+    if code == 5 {
+        Answer::Told(Reply::Done(told))
+    } else {
+        Answer::Told(Reply::Undone(told))
     }
 }
 
@@ -125,16 +95,20 @@ fn read_reply<S: Source>(
         let value = read_value(source, place, version, room)?;
         return Ok(Answer::Told(Reply::Present(value)));
     }
-    Ok(plain_answer(code))
+    if code < 5 {
+        return Ok(plain_answer(code));
+    }
+    let told = read_told(source, place, version, room)?;
+    Ok(told_answer(code, told))
 }
 
-/// The highest code of an answer: versions 1 and 2 have no closed maps, and no commands of machines outside.
+/// The highest code of an answer: versions 1 and 2 have no closed maps, no commands of machines outside, and none over many keys.
 fn highest_code(version: Version) -> u8
     ensures { result ≡ highest_code version }
 {
     match version.kind() {
         VersionKind::V1 | VersionKind::V2 => 2,
-        VersionKind::V3(_) => 4,
+        VersionKind::V3(_) => 6,
     }
 }
 
@@ -145,6 +119,7 @@ fn read_code<S: Source>(
     version: Version,
 ) -> Result<u8, BundleFault>
     ensures bytes { (zs : List ℕ) → S.left source.old ≡ Some zs → Reads (field 1 0 (highest_code version) (record { at = place.old; bytes = zs })) result place.new (S.left source.new) }
+    ensures range { IfOk result (λ x. x ≤ 6) }
     ensures told { FailsAsTold is_read_failed result (S.has_failed source.old) (S.has_failed source.new) }
 {
     field_u8(source, place, 0, highest_code(version))
@@ -164,32 +139,28 @@ pub(crate) fn read_answer<S: Source>(
     read_reply(source, place, version, code, room)
 }
 
-/// Whether the answer is the reply of this value.
-fn tells(answer: &Answer, value: &[u8]) -> bool
-    ensures yes { result ≡ true → answer.now ≡ Told (Present value.now) }
-    ensures other { answer.now ≡ Told (Present value.now) → result ≡ true }
+/// The values that the answer tells of many keys; none where it is another one.
+fn told_in(answer: &Answer) -> &[Option<Value>]
+    ensures { result.now ≡ told_in answer.now }
 {
     match answer {
-        Answer::Told(Reply::Present(told)) => told.as_slice() == value,
-        _ => false,
+        Answer::Told(Reply::Done(told)) => told.as_slice(),
+        Answer::Told(Reply::Undone(told)) => told.as_slice(),
+        _ => &[],
     }
 }
 
-/// Whether a value, which is read with its length before it, is the one that the answer tells. It is read over what `spare` had.
-fn read_same_value<S: Source>(
-    source: &mut S,
-    place: &mut u64,
-    version: Version,
-    answer: &Answer,
-    spare: &mut Vec<u8>,
-) -> Result<bool, BundleFault>
-    ensures bytes { (zs : List ℕ) → S.left source.old ≡ Some zs → Compares answer.now (and_then (value version (record { at = place.old; bytes = zs })) (λ x l. Ok (Told (Present x), l))) result place.new (S.left source.new) }
-    ensures told { FailsAsTold is_read_failed result (S.has_failed source.old) (S.has_failed source.new) }
+/// Whether the answer has this code, 5 or 6, whatever it tells.
+fn has_code(answer: &Answer, code: u8) -> bool
+    requires { (5 ≤ code) × (code ≤ 6) }
+    ensures yes { result ≡ true → answer.now ≡ told_answer code (told_in answer.now) }
+    ensures other { (os : List (Maybe (List ℕ))) → answer.now ≡ told_answer code os → result ≡ true }
 {
-    let len = read_value_len(source, place, version)?;
-    read_over(source, place, len as usize, spare)?;
-    let same = tells(answer, spare);
-    Ok(same)
+    match answer {
+        Answer::Told(Reply::Done(_)) => code == 5,
+        Answer::Told(Reply::Undone(_)) => code == 6,
+        _ => false,
+    }
 }
 
 /// Whether an answer, which is read, is this one; `spare` is as for `read_same_value`.
@@ -207,6 +178,11 @@ pub(crate) fn read_same_answer<S: Source>(
     if code == 1 {
         return read_same_value(source, place, version, told, spare);
     }
-    let same = plain_answer(code).is_same(told);
-    Ok(same)
+    if code < 5 {
+        let same = plain_answer(code).is_same(told);
+        return Ok(same);
+    }
+    let same = read_same_told(source, place, version, told_in(told), spare)?;
+    let here = has_code(told, code);
+    Ok(same & here)
 }

@@ -10,7 +10,7 @@ use std::alloc::{AllocError, Global};
 pub fn program<'a>(alloc: Global, rows: &[CommandRow]) -> Result<Command<'a>, AllocError> {
     let mut program = Command::new(alloc, "epaxos")
         .about("A replicated key-value core without a leader")
-        .version("0.1.0")
+        .version("1.0.0")
         .subcommand_required(true);
     for row in rows {
         program = with_command(alloc, program, row)?;

@@ -33,13 +33,13 @@ use Rattle.ep_looks.proofs.Reading.{ahead_reads_are_linearizable_lem}
 use Rattle.ep_looks.proofs.WholeReading.{ahead_whole_reads_are_linearizable_lem}
 use Rattle.ep_node.specs.Crashes.{Start, handed_out, standing, IsBeginning}
 use Rattle.ep_node.specs.CrashLives.{Generations, newborn, LifeMove, AreLifeMoves, life_after, Stood, stand_on, taken_in, turns_of, IsLifeInRealTime}
-use Rattle.ep_node.proofs.CrashLives.{crashing_lives_are_linearizable_lem}
+use Rattle.ep_node.proofs.CrashLives.{taken_both, acts_taken, crashing_lives_are_linearizable_lem}
 use Rattle.ep_node.proofs.CrashMoves.{begins_trans, take_begins, takes_begin, in_begins, numbered_take}
 use Rattle.ep_node.proofs.LifeStays.{numbered_after}
 use Rattle.ep_crash_looks.specs.CrashReads.{stood}
 use Rattle.ep_crash_looks.specs.CrashLifeReads.{generations_at, nodes_at, state_at, outlast, life_of, life_to, in_life, IsKept, IsCrashLifeRead, node_reply, CrashLifeReadsAreLinearizable, IsCrashLifeWholeRead, CrashLifeWholeReadsAreLinearizable, KeepsCrashTime, CrashLifeReadsKeepRealTime}
 use Rattle.ep_crash_looks.proofs.GoingOn.{goes_on}
-use Rattle.ep_crash_looks.proofs.LifeStanding.{turns_both, taken_both, are_parts, acts_taken, taken_turn, opened_still, moves_parts, after_both, map_stays, out_grows, Keeps, outlasting}
+use Rattle.ep_crash_looks.proofs.LifeStanding.{turns_both, are_parts, taken_turn, opened_still, moves_parts, after_both, map_stays, out_grows, Keeps, outlasting}
 use Rattle.ep_crash_looks.proofs.Standing.{parts, standing_on, standing_after, stood_all, stood_later}
 
 take_both : {X : Type 0} (a k : ℕ) (xs : List X) → take a xs ++ take k (drop a xs) ≡ take (a + k) xs

@@ -3,3 +3,4 @@ pub mod CrashReading
 pub mod GoingOn
 pub mod LifeStanding
 pub mod CrashLifeReading
+pub mod Asking

@@ -2,15 +2,14 @@
 use Rattle.std.proofs.Common.{◌≡◌, ℕ, suc, ◌+◌, ◌≤◌, Bool, true, false, ◌&&◌, cond, eqb, ltb, inl, inr, List, [], ◌∷◌, ◌++◌, length, take, refl, sym, ap, subst, ◌∙◌, arith, append_assoc}
 use Rattle.std.proofs.lemmas.Bool.{eq-eqb, eqb-true, ne_eqb, cases_eq, cases_lt, false≢true, and_parts}
 use Rattle.std.proofs.lemmas.List.{take-take, take_all, length-take}
-use Rattle.ep_rules.specs.Generations.{Opens, Steps, Life, turned, lived, acts_in}
-use Rattle.ep_rules.specs.Journals.{Entry, AreNumbered, Scheduled, of, act_of, acts_of}
+use Rattle.ep_rules.specs.Generations.{Steps, Life, lived}
+use Rattle.ep_rules.specs.Journals.{Entry, AreNumbered, Scheduled, of, act_of}
 use Rattle.ep_rules.specs.Worlds.{In}
-use Rattle.ep_node.specs.Crashes.{Cluster, Take, HandOut, ComeBack, mover, moved, with_at, without, is_beyond, standing}
-use Rattle.ep_node.specs.CrashLives.{Generations, LifeMove, Within, OpensNext, IsLifeMove, opened_next, after_move, AreLifeMoves, life_after, Stood, Took, Opened, is_lost, stand_on, taken_in, turn_of, turns_of, start_of}
-use Rattle.ep_node.proofs.CrashLives.{at_gen, Same, same_on}
+use Rattle.ep_node.specs.Crashes.{Cluster, Take, HandOut, ComeBack, moved, with_at, without, is_beyond, standing}
+use Rattle.ep_node.specs.CrashLives.{Generations, LifeMove, Within, OpensNext, after_move, AreLifeMoves, life_after, Stood, Took, Opened, is_lost, stand_on, taken_in, turn_of, turns_of}
+use Rattle.ep_node.proofs.CrashLives.{has_over, has_kept, lived_over, has_after, Same, same_after, out_on}
 use Rattle.ep_node.proofs.CrashMoves.{numbered_take}
 use Rattle.ep_node.proofs.CrashOrders.{without_both, low, low_take}
-use Rattle.ep_node.proofs.CrashTraces.{out_next}
 use Rattle.ep_crash_looks.specs.CrashLifeReads.{outlast}
 use Rattle.ep_crash_looks.proofs.Standing.{Parts}
 
@@ -19,16 +18,6 @@ use Rattle.ep_crash_looks.proofs.Standing.{Parts}
 pub turns_both : (xs ys : List Stood) → turns_of (xs ++ ys) ≡ turns_of xs ++ turns_of ys
 turns_both [] ys = refl
 turns_both (x ∷ xs) ys = ap (λ ts. turn_of x ∷ ts) (turns_both xs ys)
-
-pub taken_both : (g : ℕ) (xs ys : List Stood) → taken_in g (xs ++ ys) ≡ taken_in g xs ++ taken_in g ys
-taken_both g [] ys = refl
-taken_both g (Opened h r q ∷ xs) ys = taken_both g xs ys
-taken_both g (Took h a ∷ xs) ys = go (eqb h g) (taken_both g xs ys)
-  where
-    go : (b : Bool) → taken_in g (xs ++ ys) ≡ taken_in g xs ++ taken_in g ys →
-        cond b (a ∷ taken_in g (xs ++ ys)) (taken_in g (xs ++ ys)) ≡ cond b (a ∷ taken_in g xs) (taken_in g xs) ++ taken_in g ys
-    go true rec = ap (λ l. a ∷ l) rec
-    go false rec = rec
 
 stand_both : (m : LifeMove) (xs ys : List Stood) → stand_on m (xs ++ ys) ≡ outlast m xs ++ stand_on m ys
 stand_both (Within g (Take r e)) xs ys = append_assoc xs ys (Took g (record { replica = r; entry = e }) ∷ [])
@@ -47,16 +36,6 @@ are_parts = record { both = stand_both; outlast_both = outlast_both }
 
 -- Acts and turns.
 
-pub acts_taken : (g : ℕ) (xs : List Stood) → acts_in g (turns_of xs) ≡ acts_of (taken_in g xs)
-acts_taken g [] = refl
-acts_taken g (Opened h r q ∷ xs) = acts_taken g xs
-acts_taken g (Took h a ∷ xs) = go (eqb h g) (acts_taken g xs)
-  where
-    go : (b : Bool) → acts_in g (turns_of xs) ≡ acts_of (taken_in g xs) →
-        cond b (act_of a ∷ acts_in g (turns_of xs)) (acts_in g (turns_of xs)) ≡ acts_of (cond b (a ∷ taken_in g xs) (taken_in g xs))
-    go true rec = ap (λ l. act_of a ∷ l) rec
-    go false rec = rec
-
 pub taken_turn : (g : ℕ) (a : Scheduled) (xs : List Stood) → In a (taken_in g xs) → In (Steps g (act_of a)) (turns_of xs)
 taken_turn g a [] k = absurd k
 taken_turn g a (Opened h r q ∷ xs) k = inr (taken_turn g a xs k)
@@ -69,62 +48,23 @@ taken_turn g a (Took h b ∷ xs) k = go (eqb h g) refl k (taken_turn g a xs)
 
 -- Who has opened what.
 
-abbrev opened_by : (ℕ → ℕ → Bool) → List Stood → ℕ → ℕ → Bool
-opened_by o [] = o
-opened_by o (Took g a ∷ xs) = opened_by o xs
-opened_by o (Opened g r q ∷ xs) = opened_by (opened_next g r o) xs
-
-opened_more : (o : ℕ → ℕ → Bool) (xs : List Stood) (g r q : ℕ) → opened_by o (xs ++ (Opened g r q ∷ [])) ≡ opened_next g r (opened_by o xs)
-opened_more o [] g r q = refl
-opened_more o (Took h a ∷ xs) g r q = opened_more o xs g r q
-opened_more o (Opened h p s ∷ xs) g r q = opened_more (opened_next h p o) xs g r q
-
-opened_same : (o : ℕ → ℕ → Bool) (xs : List Stood) (g : ℕ) (a : Scheduled) → opened_by o (xs ++ (Took g a ∷ [])) ≡ opened_by o xs
-opened_same o [] g a = refl
-opened_same o (Took h b ∷ xs) g a = opened_same o xs g a
-opened_same o (Opened h p s ∷ xs) g a = opened_same (opened_next h p o) xs g a
-
-opened_kept : (g r n : ℕ) (o : ℕ → ℕ → Bool) (xs : List Stood) → opened_by o (without (is_lost g r n) xs) ≡ opened_by o xs
-opened_kept g r n o [] = refl
-opened_kept g r n o (Opened h p q ∷ xs) = opened_kept g r n (opened_next h p o) xs
-opened_kept g r n o (Took h a ∷ xs) = go (eqb g h && is_beyond r n a) (opened_kept g r n o xs)
-  where
-    go : (b : Bool) → opened_by o (without (is_lost g r n) xs) ≡ opened_by o xs → opened_by o (cond b (without (is_lost g r n) xs) (Took h a ∷ without (is_lost g r n) xs)) ≡ opened_by o xs
-    go true rec = rec
-    go false rec = rec
-
-opened_outlast : (o : ℕ → ℕ → Bool) (m : LifeMove) (xs : List Stood) → opened_by o (outlast m xs) ≡ opened_by o xs
+opened_outlast : (o : ℕ → ℕ → Bool) (m : LifeMove) (xs : List Stood) → has_over o (outlast m xs) ≡ has_over o xs
 opened_outlast o (Within g (Take r e)) xs = refl
 opened_outlast o (Within g (HandOut r n)) xs = refl
-opened_outlast o (Within g (ComeBack r n)) xs = opened_kept g r n o xs
+opened_outlast o (Within g (ComeBack r n)) xs = has_kept g r n o xs
 opened_outlast o (OpensNext g r q since) xs = refl
 
-opened_outlasts : (o : ℕ → ℕ → Bool) (ms : List LifeMove) (xs : List Stood) → opened_by o (standing outlast xs ms) ≡ opened_by o xs
+opened_outlasts : (o : ℕ → ℕ → Bool) (ms : List LifeMove) (xs : List Stood) → has_over o (standing outlast xs ms) ≡ has_over o xs
 opened_outlasts o [] xs = refl
 opened_outlasts o (m ∷ ms) xs = opened_outlasts o ms (outlast m xs) ∙ opened_outlast o m xs
-
-opened_on : (f : ℕ → ℕ) (l : Generations) (m : LifeMove) (o : ℕ → ℕ → Bool) (xs : List Stood) → opened_by o xs ≡ l.has_opened → opened_by o (stand_on m xs) ≡ (after_move f l m).has_opened
-opened_on f l (Within g (Take r e)) o xs is = opened_same o xs g (record { replica = r; entry = e }) ∙ is
-opened_on f l (Within g (HandOut r n)) o xs is = is
-opened_on f l (Within g (ComeBack r n)) o xs is = opened_kept g r n o xs ∙ is
-opened_on f l (OpensNext g r q since) o xs is = opened_more o xs g r q ∙ ap (opened_next g r) is
-
-opened_after : (f : ℕ → ℕ) (l : Generations) (ms : List LifeMove) (o : ℕ → ℕ → Bool) (xs : List Stood) → opened_by o xs ≡ l.has_opened → opened_by o (standing stand_on xs ms) ≡ (life_after f l ms).has_opened
-opened_after f l [] o xs is = is
-opened_after f l (m ∷ ms) o xs is = opened_after f (after_move f l m) ms o (stand_on m xs) (opened_on f l m o xs is)
-
-lived_opened : (f : ℕ → ℕ) (l : Life) (xs : List Stood) → (lived f l (turns_of xs)).has_opened ≡ opened_by l.has_opened xs
-lived_opened f l [] = refl
-lived_opened f l (Took g a ∷ xs) = lived_opened f (turned f l (Steps g (act_of a))) xs
-lived_opened f l (Opened g r q ∷ xs) = lived_opened f (turned f l (Opens g r q)) xs
 
 -- no crash takes an opening
 pub opened_still : (f : ℕ → ℕ) (l : Life) (first : Generations) (early late : List LifeMove) → l.has_opened ≡ first.has_opened →
     (lived f l (turns_of (standing outlast (standing stand_on [] early) late))).has_opened ≡ (life_after f first early).has_opened
 opened_still f l first early late is =
-    lived_opened f l (standing outlast (standing stand_on [] early) late)
+    lived_over f l (standing outlast (standing stand_on [] early) late)
     ∙ opened_outlasts l.has_opened late (standing stand_on [] early)
-    ∙ opened_after f first early l.has_opened [] is
+    ∙ has_after f first early l.has_opened [] is
 
 -- Moves, one after the other.
 
@@ -139,21 +79,13 @@ after_both f (m ∷ early) late l = after_both f early late (after_move f l m)
 -- what a generation was opened with stays
 pub map_stays : (f : ℕ → ℕ) (l : Generations) (ms : List LifeMove) → AreLifeMoves f l ms → (g r : ℕ) → l.has_opened g r ≡ true →
     ((life_after f l ms).has_opened g r ≡ true) × ((life_after f l ms).map g r ≡ l.map g r)
-map_stays f l [] k g r is = (is, refl)
-map_stays f l (m ∷ ms) k g r is =
-    let one : Same l (after_move f l m) g r = same_on f l m k.0 g r is in
-    let t = map_stays f (after_move f l m) ms k.1 g r one.has in
-    (t.0, t.1 ∙ one.map)
+map_stays f l ms k g r is = let s : Same l (life_after f l ms) g r = same_after f l ms k g r is in (s.has, s.map)
 
 -- what was handed out of only grows
-out_more : (f : ℕ → ℕ) (l : Generations) (m : LifeMove) → IsLifeMove f l m → (g r : ℕ) → (l.cluster g).out r ≤ ((after_move f l m).cluster g).out r
-out_more f l (OpensNext h p q since) k g r = omega arith
-out_more f l (Within h m) k g r = at_gen (λ j c. (l.cluster j).out r ≤ c.out r) h (moved (l.cluster h) m) l.cluster (out_next (start_of l h (mover m)) (f h) (l.cluster h) m k.1 r) (λ j e. omega arith) g
-
 pub out_grows : (f : ℕ → ℕ) (l : Generations) (ms : List LifeMove) → AreLifeMoves f l ms → (g r : ℕ) → (l.cluster g).out r ≤ ((life_after f l ms).cluster g).out r
 out_grows f l [] k g r = omega arith
 out_grows f l (m ∷ ms) k g r =
-    let now = out_more f l m k.0 g r in
+    let now = out_on f l m k.0 g r in
     let rest = out_grows f (after_move f l m) ms k.1 g r in
     omega arith
 

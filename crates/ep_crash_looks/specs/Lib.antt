@@ -1,2 +1,3 @@
 pub mod CrashReads
 pub mod CrashLifeReads
+pub mod AskedReads

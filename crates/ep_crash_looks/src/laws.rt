@@ -1,5 +1,6 @@
 //! Laws of reads that write nothing, of nodes that crash and come back.
 
+ghost use Rattle.ep_crash_looks.specs.AskedReads.{AskedReadsAreLinearizable};
 ghost use Rattle.ep_crash_looks.specs.CrashLifeReads.{
   CrashLifeReadsAreLinearizable,
   CrashLifeReadsKeepRealTime,
@@ -20,6 +21,12 @@ pub fn crash_reads_are_linearizable()
 /// taken.
 pub fn crash_life_reads_are_linearizable()
     ensures { CrashLifeReadsAreLinearizable }
+{}
+
+/// So is what a read of one key is told by the calls of nodes: each node that is looked at tells what interferes with
+/// the read; the reader, which is given all of that, tells a reply once all its entries are on its disk.
+pub fn asked_reads_are_linearizable()
+    ensures { AskedReadsAreLinearizable }
 {}
 
 /// A read of any keys takes effect where its reply is taken, if all that is found after that, in whatever memory, was executed

@@ -7,6 +7,7 @@
 mod laws;
 
 pub use laws::{
-    crash_life_reads_are_linearizable, crash_life_reads_keep_real_time,
-    crash_life_whole_reads_are_linearizable, crash_reads_are_linearizable,
+    asked_reads_are_linearizable, crash_life_reads_are_linearizable,
+    crash_life_reads_keep_real_time, crash_life_whole_reads_are_linearizable,
+    crash_reads_are_linearizable,
 };

@@ -1,5 +1,5 @@
 -- How far things are listed, by the least next one: those before it.
-use Rattle.std.proofs.Common.{◌≡◌, ◌≢◌, ◌↔◌, inl, inr, ℕ, suc, ◌+◌, ◌-◌, ◌<◌, ◌≤◌, Bool, true, false, eqb, ltb, List, [], ◌∷◌, ◌++◌, length, Option, Some, None, refl, sym, ap, subst, ◌∙◌, arith, append-nil, append_assoc}
+use Rattle.std.proofs.Common.{◌≡◌, ◌≢◌, ◌↔◌, inl, inr, ℕ, ◌+◌, ◌-◌, ◌<◌, ◌≤◌, Bool, true, false, eqb, ltb, List, [], ◌∷◌, ◌++◌, length, Option, Some, None, refl, sym, ap, subst, ◌∙◌, arith, append-nil, append_assoc}
 use Rattle.std.proofs.lemmas.List.{length-append}
 use Rattle.std.proofs.lemmas.Bool.{eqb-true, eqb-false, ltb-true, ltb-false}
 use Rattle.ep_base.specs.Deps.{IsRising}
@@ -25,7 +25,7 @@ abbrev pub left_after : Option ℕ → ℕ
 left_after None = 0
 left_after (Some n) = 500000 - n
 
-rising_more : (is : List ℕ) (n : ℕ) → IsRising is → ((i : ℕ) → In i is → i < n) → IsRising (is ++ n ∷ [])
+pub rising_more : (is : List ℕ) (n : ℕ) → IsRising is → ((i : ℕ) → In i is → i < n) → IsRising (is ++ n ∷ [])
 rising_more [] n rises all = (tt, tt)
 rising_more (i ∷ []) n rises all = (let lt : i < n = all i (inl refl) in lt, (tt, tt))
 rising_more (i ∷ j ∷ is) n rises all = (rises.0, rising_more (j ∷ is) n rises.1 (λ x h. all x (inr h)))

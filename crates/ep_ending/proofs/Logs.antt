@@ -1,5 +1,5 @@
 -- The journal of a replica, known by its parts.
-use Rattle.std.proofs.Common.{◌≡◌, ◌<◌, ℕ, List}
+use Rattle.std.proofs.Common.{◌≡◌, ◌<◌, ℕ}
 use Rattle.ep_base.specs.Quorums.{size}
 use Rattle.ep_journal.specs.Entries.{Log, Collected, entries_at}
 use Rattle.ep_ending.specs.Endings.{log_at}

@@ -1,7 +1,7 @@
 -- What would end what is open in a cluster, as lines.
-use Rattle.std.specs.Prelude.{◌≡◌, ◌↔◌, ℕ, zero, suc, ◌<◌, ◌≤◌, List, [], ◌++◌, length, Option, Some, None}
+use Rattle.std.specs.Prelude.{◌≡◌, ◌↔◌, ℕ, ◌<◌, List, [], ◌∷◌, ◌++◌, length, Option, Some, None}
 use Rattle.ep_base.specs.Deps.{IsRising}
-use Rattle.ep_base.specs.Instances.{instance_of, highest_number}
+use Rattle.ep_base.specs.Instances.{leader_of, IsInstance}
 use Rattle.ep_base.specs.Places.{Has}
 use Rattle.ep_base.specs.Quorums.{size}
 use Rattle.ep_base.specs.declared.decree.Decree.{Decree}
@@ -67,36 +67,43 @@ IsNextIn c after found = IsLeastBelow c after (size c.faults) found
 -- What is owed.
 
 -- the journal commits the instance and doesn't execute it
-pub record IsOwed (l : Log) (i : ℕ) : Type 0 where
+pub record IsOwedBy (l : Log) (i : ℕ) : Type 0 where
   pub decree : Decree
   pub committed : committed_in (state_of l).records i ≡ Some decree
   pub left : ¬ Has (state_of l).executed i
 
--- the line of an instance of the journal's replica: none where it isn't owed; else that it is to be executed, or what it reaches and has to be committed first
-pub data TellsOwed (l : Log) (i : ℕ) (line : List ℕ) : Type 0 where
-  settled : ¬ IsOwed l i → line ≡ [] → TellsOwed l i line
-  owed : (missing : Option ℕ) → IsOwed l i → IsMissing (graph_in (state_of l).records) i missing → line ≡ owed_line l.me i missing → TellsOwed l i line
+-- the instance's leader has committed and not executed it
+abbrev pub IsOwed : Collected → ℕ → Type 0
+IsOwed c i = IsInstance i × (leader_of i < size c.faults) × IsOwedBy (log_at c (leader_of i)) i
 
--- the text has this line more
-abbrev pub AddsLine : Log → ℕ → List ℕ → List ℕ → Type 0
-AddsLine l i old new = (line : List ℕ) × TellsOwed l i line × (new ≡ old ++ line)
+-- it is to be executed, or what it reaches has to be committed first
+abbrev pub IsOwedLine : Log → ℕ → List ℕ → Type 0
+IsOwedLine l i line = (missing : Option ℕ) × IsMissing (graph_in (state_of l).records) i missing × (line ≡ owed_line l.me i missing)
 
--- the text has the lines of the own instances of numbers up to n more
-abbrev pub OwedTo : Log → ℕ → List ℕ → List ℕ → Type 0
-OwedTo l zero old new = new ≡ old
-OwedTo l (suc n) old new = (mid : List ℕ) × OwedTo l n old mid × AddsLine l (instance_of l.me (suc n)) mid new
+-- the text is a line for each of them
+abbrev pub AreOwedLines : Collected → List ℕ → List ℕ → Type 0
+AreOwedLines c [] text = text ≡ []
+AreOwedLines c (i ∷ is) text = (line : List ℕ) × (rest : List ℕ) × IsOwedLine (log_at c (leader_of i)) i line × AreOwedLines c is rest × (text ≡ line ++ rest)
 
--- and none of a greater number is owed
-abbrev pub AddsOwed : Log → List ℕ → List ℕ → Type 0
-AddsOwed l old new = (n : ℕ) × OwedTo l n old new × ((k : ℕ) → k ≤ highest_number → IsOwed l (instance_of l.me k) → k ≤ n)
+-- the text has a line more for each instance of these, in rising order
+abbrev pub AddsOwedOf : Collected → (ℕ → Type 0) → List ℕ → List ℕ → Type 0
+AddsOwedOf c P old new = (is : List ℕ) × IsRising is × ((i : ℕ) → In i is ↔ P i) × ((text : List ℕ) × AreOwedLines c is text × (new ≡ old ++ text))
 
--- the text has the lines of each replica below n more
-abbrev pub OwedBelow : Collected → ℕ → List ℕ → List ℕ → Type 0
-OwedBelow c zero old new = new ≡ old
-OwedBelow c (suc n) old new = (mid : List ℕ) × OwedBelow c n old mid × AddsOwed (log_at c n) mid new
+-- all that is owed
+abbrev pub AddsOwed : Collected → List ℕ → List ℕ → Type 0
+AddsOwed c old new = AddsOwedOf c (IsOwed c) old new
+
+-- what is owed of the instances before this one
+abbrev pub AddsOwedBefore : Collected → ℕ → List ℕ → List ℕ → Type 0
+AddsOwedBefore c end old new = AddsOwedOf c (λ i. IsOwed c i × (i < end)) old new
+
+-- the text has the instance's line more, if the journal owes it
+pub data AddsIfOwed (l : Log) (i : ℕ) (old new : List ℕ) : Type 0 where
+  settled : ¬ IsOwedBy l i → new ≡ old → AddsIfOwed l i old new
+  owed : (line : List ℕ) → IsOwedBy l i → IsOwedLine l i line → new ≡ old ++ line → AddsIfOwed l i old new
 
 -- The whole.
 
 -- the text has more: what would end what is open, and then what is owed
 abbrev pub AddsEndings : Collected → List ℕ → List ℕ → Type 0
-AddsEndings c old new = (mid : List ℕ) × AddsOpen c old mid × OwedBelow c (size c.faults) mid new
+AddsEndings c old new = (mid : List ℕ) × AddsOpen c old mid × AddsOwed c mid new

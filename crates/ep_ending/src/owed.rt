@@ -1,9 +1,9 @@
 //! The instances that their leaders have committed and not executed.
 
-ghost use Rattle.std.specs.Prelude.{◌≡◌, ◌≤◌, ◌↔◌, ◌++◌, Some, None, IsTrue, OnOk};
+ghost use Rattle.std.specs.Prelude.{◌≡◌, ◌<◌, ◌≤◌, ◌↔◌, ◌++◌, ℕ, suc, List, Some, None, IsTrue, OnOk};
 ghost use Rattle.ep_base.specs.Instances.{instance_of, highest_number};
 ghost use Rattle.ep_base.specs.Quorums.{size};
-ghost use Rattle.ep_ending.specs.Endings.{IsOwed, AddsLine, AddsOwed, OwedBelow};
+ghost use Rattle.ep_ending.specs.Endings.{IsOwedBy, IsOwedLine, AddsIfOwed, AddsOwed, AddsOwedBefore};
 ghost use Rattle.ep_ending.specs.Lines.{owed_line};
 
 use crate::opened::journal_at;
@@ -22,7 +22,7 @@ fn instance_at(replica: ReplicaId, number: u16) -> InstanceId
 
 /// Whether the entries commit the instance and don't execute it.
 fn is_owed(journal: &Journal, instance: InstanceId) -> bool
-    ensures { IsTrue result ↔ IsOwed journal.now instance }
+    ensures { IsTrue result ↔ IsOwedBy journal.now instance }
 {
     journal.committed(instance).is_some() && !journal.has_executed(instance)
 }
@@ -93,22 +93,21 @@ fn push_owed(
     journal: &Journal,
     instance: InstanceId,
 ) -> Result<(), AllocError>
-    requires { IsOwed journal.now instance }
-    ensures { OnOk result (AddsLine journal.now instance text.old.items text.new.items) }
+    ensures { OnOk result ((line : List ℕ) × IsOwedLine journal.now instance line × (text.new.items ≡ text.old.items ++ line)) }
 {
     let missing = journal.missing(alloc, instance)?;
     push_execution(text, journal.me(), instance, missing)
 }
 
 /// Appends the line of the instance, if its execution is owed.
-#[tactic(auto, using(crate::proofs::Owing::nothing_owed))]
+#[tactic(auto, using(crate::proofs::Owing::is_settled, crate::proofs::Owing::is_told))]
 fn push_if_owed(
     alloc: Global,
     text: &mut Vec<u8>,
     journal: &Journal,
     instance: InstanceId,
 ) -> Result<(), AllocError>
-    ensures { OnOk result (AddsLine journal.now instance text.old.items text.new.items) }
+    ensures { OnOk result (AddsIfOwed journal.now instance text.old.items text.new.items) }
 {
     if is_owed(journal, instance) {
         push_owed(alloc, text, journal, instance)
@@ -117,10 +116,18 @@ fn push_if_owed(
     }
 }
 
-/// Appends the lines of the executions that a replica owes.
-fn push_all_owed(alloc: Global, text: &mut Vec<u8>, journal: &Journal) -> Result<(), AllocError>
-    ensures { OnOk result (AddsOwed journal.now text.old.items text.new.items) }
+/// Appends the lines of the executions that the replica of this number owes, after those of the replicas before it.
+fn push_all_owed(
+    alloc: Global,
+    text: &mut Vec<u8>,
+    journals: &Journals,
+    replica: u8,
+) -> Result<(), AllocError>
+    requires low { replica ≤ 6 }
+    requires there { replica < size journals.now.faults }
+    ensures { OnOk result ((first : List ℕ) → AddsOwedBefore journals.now (instance_of replica 0) first text.old.items → AddsOwedBefore journals.now (instance_of (suc replica) 0) first text.new.items) }
 {
+    let journal = journal_at(journals, replica);
     for number in 1..journal.highest() + 1 {
         push_if_owed(alloc, text, journal, instance_at(journal.me(), number))?;
     }
@@ -133,10 +140,10 @@ pub(crate) fn push_each_owed(
     text: &mut Vec<u8>,
     journals: &Journals,
 ) -> Result<(), AllocError>
-    ensures { OnOk result (OwedBelow journals.now (size journals.now.faults) text.old.items text.new.items) }
+    ensures { OnOk result (AddsOwed journals.now text.old.items text.new.items) }
 {
     for replica in 0..journals.size().count() {
-        push_all_owed(alloc, text, journal_at(journals, replica))?;
+        push_all_owed(alloc, text, journals, replica)?;
     }
     Ok(())
 }

@@ -31,5 +31,7 @@ fn words_of(answer: &Answer) -> &str {
         }
         Answer::Told(Reply::Closed) => "closed",
         Answer::Told(Reply::Ordered) => "ordered",
+        Answer::Told(Reply::Done(_)) => "done",
+        Answer::Told(Reply::Undone(_)) => "undone",
     }
 }

@@ -9,9 +9,9 @@ use Rattle.ep_rules.specs.Order.{seq_at, Ranks, Rises, IsReady, IsBlock, IsNext,
 use Rattle.ep_rules.proofs.Places.{has_or, has_left, has_filter, filter_has}
 use Rattle.ep_exec.specs.Found.{IsLeast, ranks_test, ranked}
 use Rattle.ep_exec.specs.Cut.{cut_attrs, cut}
-use Rattle.ep_exec.specs.Ready.{is_out, ranked_left_of, block_in}
+use Rattle.ep_exec.specs.Ready.{is_out, ranked_left_of}
 use Rattle.ep_exec.specs.Walk.{AreComponents}
-use Rattle.ep_exec.proofs.Clear.{out_yes}
+use Rattle.ep_exec.proofs.Clear.{out_yes, out_then}
 
 -- Attributes.
 
@@ -31,15 +31,11 @@ ranked_cut : (g : Graph) (skipped ys : List ℕ) (x : ℕ) → ranked (cut g ski
 ranked_cut g skipped [] x = refl
 ranked_cut g skipped (y ∷ ys) x = rw (test_cut g skipped x y, ranked_cut g skipped ys x) refl
 
-ranked_left_cut : (g : Graph) (skipped done block js : List ℕ) → ranked_left_of (cut g skipped) done block js ≡ ranked_left_of g done block js
+pub ranked_left_cut : (g : Graph) (skipped done block js : List ℕ) → ranked_left_of (cut g skipped) done block js ≡ ranked_left_of g done block js
 ranked_left_cut g skipped done block [] = refl
 ranked_left_cut g skipped done block (j ∷ js) =
     ap (λ b. ranked_left_of (cut g skipped) done (cond (is_out done j && is_out block j) b block) js) (ranked_cut g skipped block j)
     ∙ ranked_left_cut g skipped done (cond (is_out done j && is_out block j) (ranked g block j) block) js
-
-pub block_cut : (g : Graph) (skipped done : List ℕ) (o : Option (List ℕ)) → block_in (cut g skipped) done o ≡ block_in g done o
-block_cut g skipped done None = refl
-block_cut g skipped done (Some c) = ranked_left_cut g skipped done [] c
 
 pub some_of : (o : Option Attrs) → ¬ (o ≡ None) → (a : Attrs) × (o ≡ Some a)
 some_of None n = absurd (n refl)
@@ -48,8 +44,12 @@ some_of (Some a) n = (a, refl)
 some_none : (o : Option Attrs) (a : Attrs) → o ≡ Some a → o ≡ None → ⊥
 some_none o a e n = let t : Some a ≡ None = sym e ∙ n in absurd (cc)
 
-pub none_within : (executed : List ℕ) (i : ℕ) → Has [] i → Has executed i
-none_within executed i h = absurd (omega arith)
+-- what the root reaches by what is left isn't skipped
+pub reached_left : (g : Graph) (skipped : List ℕ) {i j : ℕ} → ¬ Has skipped i → Reaches (cut g skipped) i j → ¬ Has skipped j
+reached_left g skipped n itself = n
+reached_left g skipped n (onward {j = j} {k = k} a r e q) =
+    let c = cut_some skipped (g j) a e in
+    out_then skipped k (has_filter (is_out skipped) (c.0).deps k (subst (λ xs. Has xs k) c.2 q)).1
 
 module _ (g : Graph) (skipped : List ℕ) (closed : IsClosed g skipped) where
   -- Reach.

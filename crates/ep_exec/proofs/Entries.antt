@@ -13,6 +13,7 @@ use Rattle.std.specs.Map.{lookup, KeepsOthers}
 use Rattle.ep_base.specs.Attributes.{same_list}
 use Rattle.ep_rules.specs.OneMap.{Contents, value_at, with_key}
 use Rattle.ep_rules.proofs.Commuting.{is_key, value_with}
+pub use Rattle.ep_exec.specs.Layers.{said_or}
 use Rattle.ep_exec.specs.Table.{Entry, HavePlaces, over, has_place, restored}
 use Rattle.ep_space.specs.Index.{is_at}
 
@@ -40,11 +41,6 @@ with_key_own m k = same_contents _ _ (λ q. value_with m k (value_at m k) q ∙ 
 -- a change is taken back by what the key had
 pub with_key_back : (m : Contents) (k : List ℕ) (o : Option (List ℕ)) → with_key (with_key m k o) k (value_at m k) ≡ m
 with_key_back m k o = with_key_again m k o (value_at m k) ∙ with_key_own m k
-
--- what is said of a key, or else what it has
-abbrev pub said_or : Option (Option (List ℕ)) → Option (List ℕ) → Option (List ℕ)
-said_or None v = v
-said_or (Some o) v = o
 
 pub value_of : (m : Contents) (es : List Entry) (q : List ℕ) → value_at (over m es) q ≡ said_or (lookup (is_at q) es) (value_at m q)
 value_of m [] q = refl

@@ -17,4 +17,13 @@ pub mod Rising
 pub mod Sorting
 pub mod Placed
 pub mod Nexts
+pub mod Standing
 pub mod Mixed
+pub mod Telling
+pub mod Writing
+pub mod Below
+pub mod Layered
+pub mod Agreement
+pub mod Gathered
+pub mod Merged
+pub mod Settled

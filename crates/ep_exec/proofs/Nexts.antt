@@ -5,14 +5,14 @@ use Rattle.std.proofs.lemmas.List.{at_drop_more}
 use Rattle.std.proofs.lemmas.Bool.{lt-ltb}
 use Rattle.ep_base.specs.Places.{place, Has}
 use Rattle.ep_rules.specs.Graph.{Graph}
-use Rattle.ep_exec.specs.Ready.{is_out, Waiting, waits_for, ready_by, ready_in, settled_by, settled_of}
+use Rattle.ep_exec.specs.Ready.{is_out, waits_for}
 use Rattle.ep_exec.specs.Walk.{deps_at, lists}
 
 pub out_no : (xs : List ℕ) (i : ℕ) → Has xs i → is_out xs i ≡ false
 out_no xs i h = ap (λ (b : Bool). cond b false true) (lt-ltb (place xs i) (length xs) h)
 
 -- what is left begins with the next one
-next : {X Y : Type 0} (F : List X → Y) (xs : List X) (i : ℕ) (x : X) → i < length xs → x ≡ get_or xs i x → F (drop i xs) ≡ F (x ∷ drop (i + 1) xs)
+pub next : {X Y : Type 0} (F : List X → Y) (xs : List X) (i : ℕ) (x : X) → i < length xs → x ≡ get_or xs i x → F (drop i xs) ≡ F (x ∷ drop (i + 1) xs)
 next {X = X} F xs i x lt is = at_drop_more F xs i x lt ∙ ap (λ (y : X). F (y ∷ drop (i + 1) xs)) (sym is)
 
 -- one that passes is added
@@ -43,21 +43,6 @@ next_members vs i v all more now lt is here made h =
     ∙ append_assoc all v.items rest
     ∙ ap (λ (ys : List ℕ). all ++ ys) (sym (next members vs i v lt is))
     ∙ h
-
--- what a look at a component makes ready, and what it settles
-pub next_ready : (done : List ℕ) (ws : List Waiting) (i : ℕ) (w : Waiting) (old new ready more whole : List ℕ) → i < length ws → w ≡ get_or ws i w → more ≡ ready ++ ready_by done old w → new ≡ settled_by done old w
-    → ready ++ ready_in done old (drop i ws) ≡ whole → more ++ ready_in done new (drop (i + 1) ws) ≡ whole
-next_ready done ws i w old new ready more whole lt is made settles h =
-    let rest : List Waiting = drop (i + 1) ws in
-    (λ t. made t ++ ready_in done (settles t) rest)
-    ∙ append_assoc ready (ready_by done old w) (ready_in done (settled_by done old w) rest)
-    ∙ ap (λ (ys : List ℕ). ready ++ ys) (sym (next (ready_in done old) ws i w lt is))
-    ∙ h
-
-pub next_settled : (done : List ℕ) (ws : List Waiting) (i : ℕ) (w : Waiting) (old new whole : List ℕ) → i < length ws → w ≡ get_or ws i w → new ≡ settled_by done old w
-    → settled_of done old (drop i ws) ≡ whole → settled_of done new (drop (i + 1) ws) ≡ whole
-next_settled done ws i w old new whole lt is settles h =
-    ap (λ (s : List ℕ). settled_of done s (drop (i + 1) ws)) settles ∙ sym (next (settled_of done old) ws i w lt is) ∙ h
 
 -- what one more instance waits for
 pub next_waits : (g : Graph) (xs own : List ℕ) (i x : ℕ) (old more : List ℕ) → own ≡ xs → i < length xs → x ≡ get_or xs i x → more ≡ old ++ filter (is_out own) (deps_at (g x))

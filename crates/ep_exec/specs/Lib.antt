@@ -7,6 +7,7 @@ pub mod Marks
 pub mod Found
 pub mod Walk
 pub mod Ready
+pub mod Queue
 pub mod Refusal
 pub mod Cut
 pub mod Missing
@@ -14,3 +15,7 @@ pub mod Taking
 pub mod Sorting
 pub mod Bytes
 pub mod Merging
+pub mod Many
+pub mod Layers
+pub mod Agreeing
+pub mod Settling

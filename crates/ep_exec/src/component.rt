@@ -2,7 +2,7 @@
 
 ghost use Rattle.std.specs.Prelude.{◌≡◌, ◌++◌, drop, filter, map, IfOk, OnOk};
 ghost use Rattle.ep_exec.specs.Cut.{left_in};
-ghost use Rattle.ep_exec.specs.Ready.{is_out, waits_for, waiting_of, passed, with_passed, is_clear};
+ghost use Rattle.ep_exec.specs.Ready.{is_out, waits_for, waiting_of, passed, with_passed, first_of};
 ghost use Rattle.ep_exec.specs.Walk.{deps_at, lists};
 
 use crate::executed::Executed;
@@ -14,7 +14,7 @@ use ep_space::Space;
 use std::alloc::{AllocError, Global};
 use std::marker::Model;
 
-/// The members of a component, and what they depend on outside of it. As many of these as `passed` says are settled by now.
+/// The members of a component, and what they depend on outside of it. As many of these as `passed` says are passed.
 #[derive(Drop)]
 pub struct Component {
     members: Vec<InstanceId>,
@@ -60,27 +60,31 @@ impl Component {
         &self.members
     }
 
-    /// Whether all that it waits for is settled.
-    pub fn is_clear(&self, settled: &Marked) -> bool
-        ensures { result ≡ is_clear settled.now self.now }
+    /// The first that it still waits for.
+    pub fn first_wait(&self) -> Option<InstanceId>
+        ensures { result ≡ first_of self.now.waits }
     {
-        pass_from(settled, &self.waits, self.passed) >= self.waits.len()
+        if self.passed < self.waits.len() {
+            Some(self.waits[self.passed])
+        } else {
+            None
+        }
     }
 
-    /// Passes what is settled by now, up to the first that it still waits for.
-    pub fn pass(&mut self, settled: &Marked)
-        ensures { self.new ≡ with_passed settled.now self.old }
+    /// Passes what is in the order by now, up to the first that isn't.
+    pub fn pass(&mut self, order: &Marked)
+        ensures { self.new ≡ with_passed order.now self.old }
     {
-        self.passed = pass_from(settled, &self.waits, self.passed);
+        self.passed = pass_from(order, &self.waits, self.passed);
     }
 }
 
-/// The place of the first from this place on that isn't settled, or the list's length.
-fn pass_from(settled: &Marked, waits: &[InstanceId], from: usize) -> usize
-    ensures { drop result waits.now ≡ passed settled.now (drop from waits.now) }
+/// The place of the first from this place on that isn't in the order, or the list's length.
+fn pass_from(order: &Marked, waits: &[InstanceId], from: usize) -> usize
+    ensures { drop result waits.now ≡ passed order.now (drop from waits.now) }
 {
     let mut place = from;
-    while place < waits.len() && settled.contains(waits[place]) {
+    while place < waits.len() && order.contains(waits[place]) {
         place += 1;
     }
     place

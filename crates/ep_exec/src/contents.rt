@@ -1,135 +1,184 @@
-//! What the keys of a map have, in rising order of keys.
+//! What the keys of a map have.
 
-ghost use Rattle.std.specs.Prelude.{◌≡◌, ◌↔◌, ◌++◌, ◌∷◌, [], ℕ, List, IsTrue, true, OnOk, OnErr, IfOk, IfErr};
-ghost use Rattle.std.specs.Arc.{arc_value};
+ghost use Rattle.std.specs.Prelude.{◌≡◌, ◌≤◌, ◌↔◌, ◌⊎◌, ℕ, List, None, length, IsTrue, true, false, IfOk, IfErr};
 ghost use Rattle.std.specs.Option.{option_copied};
-ghost use Rattle.std.specs.Ordering.{is_lt};
-ghost use Rattle.std.specs.FinMap.{entries as entries_in, find, from_sorted, is_sorted};
-ghost use Rattle.ep_exec.specs.Taking.{IsNotTaken};
-ghost use Rattle.ep_exec.specs.Shared.{items_of};
-ghost use Rattle.ep_exec.specs.Table.{key_cmp};
+ghost use Rattle.std.specs.FinMap.{entries};
 ghost use Rattle.ep_rules.specs.OneMap.{empty, value_at};
+ghost use Rattle.ep_exec.specs.Layers.{layers_of, stacked};
+ghost use Rattle.ep_exec.specs.Sorting.{IsBad};
+ghost use Rattle.ep_exec.specs.Table.{over};
 
+use crate::agreeing::agree_in;
+use crate::changes::Changes;
 use crate::contents_fault::ContentsFault;
-use ep_base::{Key, Value};
+use crate::ground::Ground;
+use crate::layers::{all_gathered, count, gathered, shared, told};
+use crate::listing::Listing;
+use crate::merging::merged;
+use ep_base::Value;
 use std::alloc::{AllocError, Global};
-use std::cmp::Ordering;
 use std::marker::Model;
+use std::mem;
 use std::sync::Arc;
 
-/// What the keys of an open map have: each key that has a value once, in strictly rising order of keys. Keys are ordered by their bytes from
-/// the first one on, and a key comes before the longer ones that begin with it.
+/// What the keys of an open map have: a listing, and over it layers, each of them the changes of one or more
+/// generations that ended. A look-up asks the newest layer first, and the listing last.
 ///
-/// Copies share their entries: a copy takes the same time and memory however many there are.
+/// A copy shares the listing and the layers: it takes the same time and memory however many keys there are. What a
+/// generation changed becomes a layer, and nothing of the size of the map is moved. Where there are 8 layers, or as
+/// many changes as an eighth of the keys, they are put into the listing by `settle_some`, some keys at a time, while
+/// newer layers come on top.
 pub struct Contents {
     alloc: Global,
-    // (no key has a value where there is none)
-    shared: Option<Arc<Vec<(Key, Value)>>>,
+    ground: Ground,
+    // (with more than 4,000,000,000 keys there is none)
+    layers: Vec<Arc<Changes>>,
 }
 
 // (by hand, so that no crate above proves again how the parts are dropped)
 impl Drop for Contents {
     fn drop(self) {
-        let Contents { alloc: _, shared } = self;
-        drop(shared);
+        let Contents {
+            alloc: _,
+            ground,
+            layers,
+        } = self;
+        drop(ground);
+        drop(layers);
     }
 }
 
 impl Model for Contents {
-    ghost use Rattle.std.specs.Prelude.{◌≡◌, true};
-    ghost use Rattle.std.specs.FinMap.{from_sorted, is_sorted};
+    ghost use Rattle.std.specs.Prelude.{◌≡◌, ◌≤◌, ◌⊎◌, [], length};
+    ghost use Rattle.std.specs.FinMap.{entries};
     ghost use Rattle.ep_rules.specs.OneMap as one_map;
-    ghost use Rattle.ep_exec.specs.Shared.{items_of};
-    ghost use Rattle.ep_exec.specs.Table.{contents_code, key_cmp};
+    ghost use Rattle.ep_exec.specs.Layers.{layers_of, stacked};
+    ghost use Rattle.ep_exec.specs.Table.{contents_code};
 
     ghost Value = { one_map.Contents };
 
     ghost coded = { contents_code };
 
-    ghost view = { λ c. from_sorted (items_of c.shared) };
+    ghost view = { λ c. stacked c.ground (layers_of c.layers.items) };
 
-    ghost invariant = { λ c. is_sorted key_cmp (items_of c.shared) ≡ true };
+    ghost invariant = { λ c. (layers_of c.layers.items ≡ []) ⊎ (length (entries (stacked c.ground (layers_of c.layers.items))) ≤ 4000000000) };
 }
 
 impl Contents {
     /// No key has a value.
-    #[tactic(auto, using(crate::proofs::Rising::none_is_empty))]
     pub fn new(alloc: Global) -> Contents
         ensures { result ≡ empty }
     {
+        Contents::of(alloc, Listing::new(alloc))
+    }
+
+    /// What the keys have in this listing.
+    pub fn of(alloc: Global, listing: Listing) -> Contents
+        ensures { result ≡ listing }
+    {
         Contents {
             alloc,
-            shared: None,
+            ground: Ground::of(alloc, listing),
+            layers: Vec::new(alloc),
         }
-    }
-
-    /// These entries, whose keys rise strictly.
-    pub(crate) fn of_sorted(alloc: Global, items: Vec<(Key, Value)>) -> Result<Contents, AllocError>
-        requires { is_sorted key_cmp items.items ≡ true }
-        ensures { IfOk result (λ c. c ≡ from_sorted items.items) }
-    {
-        let shared = Some(Arc::new(alloc, items)?);
-        Ok(Contents { alloc, shared })
-    }
-
-    /// Whether the key is above all that are there, so that it may be the next one.
-    #[tactic(auto, using(crate::proofs::Rising::list_is))]
-    pub fn is_below(&self, key: &Key) -> bool
-        ensures { (value : List ℕ) → result ≡ is_sorted key_cmp (entries_in self.now ++ (key.now, value) ∷ []) }
-    {
-        is_above(listed(&self.shared), key)
-    }
-
-    /// Takes one more key, with what it has; `NotAbove` unless the key is above all that are there. As it was at an `Err`.
-    #[tactic(auto, using(crate::proofs::Rising::pushed, crate::proofs::Rising::still_sorted, crate::proofs::Rising::list_is))]
-    pub fn push(&mut self, key: Key, value: Value) -> Result<(), ContentsFault>
-        ensures ok { OnOk result (entries_in self.new ≡ entries_in self.old ++ (key, value) ∷ []) }
-        ensures above { OnOk result (is_sorted key_cmp (entries_in self.old ++ (key, value) ∷ []) ≡ true) }
-        ensures refused { IfErr result (λ fault. IsNotTaken self.old key value fault) }
-        ensures err { OnErr result (self.new ≡ self.old) }
-    {
-        if !is_above(listed(&self.shared), &key) {
-            return Err(ContentsFault::NotAbove);
-        }
-        add(self.alloc, &mut self.shared, (key, value))?;
-        Ok(())
-    }
-
-    #[tactic(auto, using(crate::proofs::Rising::list_is))]
-    /// The keys, strictly rising, each with what it has.
-    pub fn entries(&self) -> &[(Key, Value)]
-        ensures { result.now ≡ entries_in self.now }
-    {
-        listed(&self.shared)
     }
 
     /// What the key has.
     pub fn get(&self, key: &[u8]) -> Option<&Value>
         ensures { option_copied result ≡ value_at self.now key.now }
     {
-        found(listed(&self.shared), key)
+        match told(&self.layers, key) {
+            Some(value) => value.as_ref(),
+            None => self.ground.get(key),
+        }
+    }
+
+    /// Whether it is seen at once that no key has a value.
+    pub(crate) fn is_bare(&self) -> bool
+        ensures { (k : List ℕ) → result ≡ true → value_at self.now k ≡ None }
+    {
+        self.layers.is_empty() && self.ground.is_bare()
+    }
+
+    /// Whether at most so many keys have a value.
+    pub fn is_within(&self, most: usize) -> bool
+        requires { 4000000000 ≤ most }
+        ensures { IsTrue result ↔ (length (entries self.now) ≤ most) }
+    {
+        !self.layers.is_empty() || self.ground.is_within(most)
+    }
+
+    /// The keys in rising order, each with what it has: a copy, where there are layers, and otherwise the same
+    /// entries in memory.
+    pub fn listing(&self) -> Result<Listing, AllocError>
+        ensures { IfOk result (λ l. l ≡ self.now) }
+    {
+        self.ground.listing(&self.layers)
+    }
+
+    /// Makes one listing of all, where there are layers: a copy, however few changes there are. As it was at an
+    /// `Err`.
+    pub fn settle(&mut self) -> Result<(), AllocError>
+        ensures { self.new ≡ self.old }
+    {
+        let listing = self.listing()?;
+        self.ground = Ground::of(self.alloc, listing);
+        self.layers = Vec::new(self.alloc);
+        Ok(())
+    }
+
+    /// Goes on with putting layers into the listing, where it is time for that, by some keys. A store does so at each
+    /// command, so that it's done when three or four generations have ended.
+    pub(crate) fn settle_some(&mut self)
+        ensures { self.new ≡ self.old }
+    {
+        self.ground.settle_some();
     }
 
     /// The same again, with the same entries in memory.
     pub fn copy(&self, alloc: Global) -> Result<Contents, AllocError>
         ensures { IfOk result (λ c. c ≡ self.now) }
     {
-        let shared = match &self.shared {
-            None => None,
-            Some(items) => Some(Arc::try_clone(items)?),
-        };
-        Ok(Contents { alloc, shared })
+        let layers = shared(alloc, &self.layers)?;
+        let ground = self.ground.copy(alloc)?;
+        Ok(Contents {
+            alloc,
+            ground,
+            layers,
+        })
     }
 
-    /// The entries: they are moved, where no copy shares them.
-    #[tactic(auto, using(crate::proofs::Rising::list_is))]
-    pub(crate) fn into_items(self) -> Result<Vec<(Key, Value)>, AllocError>
-        ensures { IfOk result (λ items. items.items ≡ entries_in self) }
+    /// The same again, as `copy` gives it; but what was done of putting layers into the listing goes with that one,
+    /// and this one begins anew. As it was at an `Err`.
+    pub fn hand_on(&mut self, alloc: Global) -> Result<Contents, AllocError>
+        ensures result { IfOk result (λ c. c ≡ self.old) }
+        ensures same { self.new ≡ self.old }
     {
-        let Contents { alloc, shared } = self;
-        match shared {
-            None => Ok(Vec::new(alloc)),
-            Some(items) => unshared(alloc, items),
+        let copy = self.copy(alloc)?;
+        Ok(mem::replace(self, copy))
+    }
+
+    /// The contents with these changes; `OutOfRange` where a key that then has a value isn't of 1 to 255 bytes.
+    pub(crate) fn changed(self, changes: Changes) -> Result<Contents, ContentsFault>
+        ensures ok { IfOk result (λ c. c ≡ over self changes.entries) }
+        ensures refused { IfErr result (λ fault. IsBad (entries (over self changes.entries)) fault) }
+    {
+        if changes.is_empty() {
+            drop(changes);
+            return Ok(self);
+        }
+        let Contents {
+            alloc,
+            ground,
+            layers,
+        } = self;
+        let mut layers = layers;
+        let changes = gathered(alloc, &mut layers, changes)?;
+        if is_small(&ground, &layers, &changes) {
+            remade(alloc, ground, layers, changes)
+        } else {
+            let contents = layered(alloc, ground, layers, changes)?;
+            Ok(contents)
         }
     }
 
@@ -137,120 +186,66 @@ impl Contents {
     pub fn is_same(&self, other: &Contents) -> bool
         ensures { IsTrue result ↔ (self.now ≡ other.now) }
     {
-        are_same(self.entries(), other.entries())
+        agree(self, other, &self.ground, &self.layers)
+            && agree(self, other, &other.ground, &other.layers)
     }
 }
 
-/// The entries.
-fn listed(shared: &Option<Arc<Vec<(Key, Value)>>>) -> &[(Key, Value)]
-    ensures { result.now ≡ items_of shared.now }
+/// Whether each key of these has the same in both maps.
+fn agree(one: &Contents, other: &Contents, ground: &Ground, layers: &[Arc<Changes>]) -> bool
+    ensures same { result ≡ true → (q : List ℕ) → (value_at (stacked ground.now (layers_of layers.now)) q ≡ None) ⊎ (value_at one.now q ≡ value_at other.now q) }
+    ensures own { one.now ≡ other.now → result ≡ true }
 {
-    match shared {
-        None => <&[(Key, Value)]>::default(),
-        Some(items) => items.as_slice(),
-    }
+    ground.is_agreed(one, other) && agree_in(one, other, layers)
 }
 
-/// The entries, for one owner.
-fn unshared(alloc: Global, items: Arc<Vec<(Key, Value)>>) -> Result<Vec<(Key, Value)>, AllocError>
-    ensures { IfOk result (λ own. own.items ≡ (arc_value items).items) }
+/// Whether there are so few keys and changes that one listing is made of all at once; in any case where the map may
+/// have more than 4,000,000,000 keys.
+fn is_small(ground: &Ground, layers: &[Arc<Changes>], changes: &Changes) -> bool
+    ensures { result ≡ false → length (entries (over (stacked ground.now (layers_of layers.now)) changes.now.entries)) ≤ 4000000000 }
 {
-    match Arc::try_unwrap(items) {
-        Ok(own) => Ok(own),
-        Err(shared) => copied(alloc, shared.as_slice()),
-    }
+    let many = count(layers).saturating_add(changes.len());
+    let all = many.saturating_add(ground.at_most());
+    all <= 8_192 || all > 3_000_000_000
 }
 
-/// One entry more, in a list of its own where the list is shared. As it was at an `Err`.
-fn add(
+/// The changes as one layer more.
+fn layered(
     alloc: Global,
-    shared: &mut Option<Arc<Vec<(Key, Value)>>>,
-    entry: (Key, Value),
-) -> Result<(), AllocError>
-    ensures ok { OnOk result (items_of shared.new ≡ items_of shared.old ++ entry ∷ []) }
-    ensures err { OnErr result (items_of shared.new ≡ items_of shared.old) }
+    ground: Ground,
+    layers: Vec<Arc<Changes>>,
+    changes: Changes,
+) -> Result<Contents, AllocError>
+    requires { length (entries (over (stacked ground (layers_of layers.items)) changes.entries)) ≤ 4000000000 }
+    ensures { IfOk result (λ c. c ≡ over (stacked ground (layers_of layers.items)) changes.entries) }
 {
-    if let Some(items) = shared {
-        if let Some(own) = Arc::get_mut(items) {
-            own.reserve(1)?;
-            own.push_reserved(entry);
-            return Ok(());
-        }
-    }
-    let mut items = copied(alloc, listed(shared))?;
-    items.push(entry)?;
-    *shared = Some(Arc::new(alloc, items)?);
-    Ok(())
+    let mut ground = ground;
+    let mut layers = layers;
+    layers.reserve(1)?;
+    let layer = Arc::new(alloc, changes)?;
+    layers.push_reserved(layer);
+    ground.sink(&mut layers);
+    Ok(Contents {
+        alloc,
+        ground,
+        layers,
+    })
 }
 
-/// What the key has among entries whose keys rise strictly.
-fn found<'a>(items: &'a [(Key, Value)], key: &[u8]) -> Option<&'a Value>
-    requires { is_sorted key_cmp items.now ≡ true }
-    ensures { option_copied result ≡ find key_cmp key.now items.now }
+/// All of it as one listing.
+fn remade(
+    alloc: Global,
+    ground: Ground,
+    layers: Vec<Arc<Changes>>,
+    changes: Changes,
+) -> Result<Contents, ContentsFault>
+    ensures ok { IfOk result (λ c. c ≡ over (stacked ground (layers_of layers.items)) changes.entries) }
+    ensures refused { IfErr result (λ fault. IsBad (entries (over (stacked ground (layers_of layers.items)) changes.entries)) fault) }
 {
-    match items.binary_search_by(|entry| compared(entry, key)) {
-        Ok(index) => Some(&items[index].1),
-        Err(_) => None,
-    }
-}
-
-/// How the entry's key stands to the other one.
-fn compared(entry: &(Key, Value), key: &[u8]) -> Ordering
-    ensures { result ≡ key_cmp entry.now.0 key.now }
-{
-    entry.0.as_slice().cmp(key)
-}
-
-/// Whether the key is above the last one, and so above all.
-#[tactic(auto, using(crate::proofs::Rising::first_key))]
-fn is_above(items: &[(Key, Value)], key: &Key) -> bool
-    requires { is_sorted key_cmp items.now ≡ true }
-    ensures { (value : List ℕ) → result ≡ is_sorted key_cmp (items.now ++ (key.now, value) ∷ []) }
-{
-    let Some(last) = items.last() else {
-        return true;
-    };
-    is_below(&last.0, key)
-}
-
-/// Whether the first key stands below the other one.
-fn is_below(key: &Key, other: &Key) -> bool
-    ensures { result ≡ is_lt (key_cmp key.now other.now) }
-{
-    key.as_slice().cmp(other.as_slice()).is_lt()
-}
-
-/// The same entries again.
-fn copied(alloc: Global, items: &[(Key, Value)]) -> Result<Vec<(Key, Value)>, AllocError>
-    ensures { IfOk result (λ copy. copy.items ≡ items.now) }
-{
-    let mut copy = Vec::with_capacity(alloc, items.len())?;
-    for (key, value) in items {
-        let key = key.copy(alloc)?;
-        let value = value.copy(alloc)?;
-        copy.push((key, value))?;
-    }
-    Ok(copy)
-}
-
-/// Whether both lists are one.
-#[tactic(auto, using(crate::proofs::Rising::same_start, crate::proofs::Rising::same_here, crate::proofs::Rising::not_as_long))]
-fn are_same(items: &[(Key, Value)], others: &[(Key, Value)]) -> bool
-    ensures { IsTrue result ↔ (items.now ≡ others.now) }
-{
-    if items.len() != others.len() {
-        return false;
-    }
-    let mut same = true;
-    for index in (0..items.len()).rev() {
-        same = same && is_one(&items[index], &others[index]);
-    }
-    same
-}
-
-/// Whether both keys are one, and both values.
-fn is_one(entry: &(Key, Value), other: &(Key, Value)) -> bool
-    ensures { IsTrue result ↔ (entry.now ≡ other.now) }
-{
-    entry.0.is_same(&other.0) && entry.1.is_same(&other.1)
+    let changes = all_gathered(alloc, layers, changes)?;
+    let (listing, older) = ground.into_parts();
+    let changes = all_gathered(alloc, older, changes)?;
+    let items = merged(alloc, listing, changes)?;
+    let listing = Listing::of_sorted(alloc, items)?;
+    Ok(Contents::of(alloc, listing))
 }

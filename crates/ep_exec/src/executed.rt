@@ -1,14 +1,16 @@
 //! The instances that a replica has executed.
 
-ghost use Rattle.std.specs.Prelude.{◌≡◌, ◌<◌, ◌≤◌, ◌+◌, ◌↔◌, [], ◌∷◌, ◌++◌, IsTrue, IfOk, OnOk, length};
+ghost use Rattle.std.specs.Prelude.{◌≡◌, ◌<◌, ◌≤◌, ◌+◌, ◌↔◌, ℕ, [], ◌∷◌, ◌++◌, IsTrue, IfNone, IfOk, OnOk, length};
 ghost use Rattle.std.specs.Vec.{vec_len, vec_capacity};
 ghost use Rattle.ep_base.specs.Places.{Has};
+ghost use Rattle.ep_exec.specs.Found.{IsLeast};
 ghost use Rattle.ep_exec.specs.Kept.{HasRoom};
 ghost use Rattle.ep_exec.specs.Marks.{AreMarks};
 ghost use Rattle.ep_exec.specs.Ready.{are_in};
 ghost use Rattle.ep_space.specs.Entries.{slot};
 
 use crate::marks::{is_marked, slot_of, widen, widen_for};
+use crate::ready::lesser;
 use ep_base::InstanceId;
 use std::alloc::{AllocError, Global};
 use std::marker::Model;
@@ -80,6 +82,20 @@ impl Executed {
             }
         }
         true
+    }
+
+    /// The least of the list that isn't in the set, or none.
+    pub fn least_left(&self, list: &[InstanceId]) -> Option<InstanceId>
+        ensures least { IsLeast (λ i. ¬ Has self.now.list i) list.now result }
+        ensures all { IfNone result ((i : ℕ) → Has list.now i → Has self.now.list i) }
+    {
+        let mut best = None;
+        for instance in list {
+            if !self.contains(*instance) {
+                best = Some(lesser(best, *instance));
+            }
+        }
+        best
     }
 
     /// The instances, in the order in which they were added.

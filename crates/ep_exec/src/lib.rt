@@ -7,22 +7,31 @@
 //! Start with `planning.rt` and `store.rt`. The walk that finds components has a stack of its own, so that long chains of
 //! dependencies don't recurse; specs/Walk.antt says what it keeps to.
 //!
-//! The walk and the map's table may be made anew freely, as long as `plan`, `plan_left` and `Store` keep their clauses.
+//! The walk and the map's table may be made anew freely, as long as `plan_left` and `Store` keep their clauses.
 #![tactic(auto)]
 
+mod agreeing;
+mod changes;
 mod component;
 mod contents;
 mod contents_fault;
 mod executed;
+mod gathering;
 mod graph;
+mod ground;
+mod layers;
 mod level;
+mod listing;
+mod many;
 mod marked;
 mod marks;
 mod merging;
 mod plan_fault;
 mod planning;
+mod queue;
 mod reach;
 mod ready;
+mod slices;
 mod store;
 mod table;
 mod trial;
@@ -31,8 +40,9 @@ mod walk;
 pub use contents::Contents;
 pub use contents_fault::ContentsFault;
 pub use executed::Executed;
+pub use listing::Listing;
 pub use plan_fault::PlanFault;
-pub use planning::{plan, plan_left};
+pub use planning::plan_left;
 pub use reach::missing;
 pub use store::Store;
 pub use trial::Trial;

@@ -10,8 +10,7 @@ ghost use Rattle.ep_exec.specs.Held.{held};
 
 use crate::contents::Contents;
 use crate::contents_fault::ContentsFault;
-use crate::merging::merged;
-use crate::table::{self, Table, apply_open, sealed, unchanged, value_of};
+use crate::table::{self, Table, apply_open, reply_open, sealed, unchanged, value_of};
 use crate::trial::Trial;
 use ep_base::{Command, Key, Reply, Value};
 use std::alloc::{AllocError, Global};
@@ -61,6 +60,20 @@ impl Store {
         })
     }
 
+    /// The same map, which goes on with what was done of putting layers into the listing of these contents (see
+    /// `Contents::hand_on`).
+    pub fn carry_on(&mut self, contents: Contents)
+        requires { self.old ≡ opened contents }
+        ensures { self.new ≡ self.old }
+    {
+        let alloc = self.alloc;
+        *self = Store {
+            alloc,
+            table: unchanged(alloc, contents),
+            seal: None,
+        };
+    }
+
     /// What the key has.
     pub fn get(&self, key: &Key) -> Option<&Value>
         ensures { option_copied result ≡ value_at self.now.contents key.now }
@@ -79,10 +92,22 @@ impl Store {
         if self.seal.is_some() {
             return Ok(Reply::Closed);
         }
+        self.table.base.settle_some();
         let seal = sealed(self.alloc, command)?;
         let reply = apply_open(self.alloc, &mut self.table, command)?;
         self.seal = seal;
         Ok(reply)
+    }
+
+    /// What the map would reply to the command, of which nothing is done.
+    pub fn reply(&self, command: &Command) -> Result<Reply, AllocError>
+        requires { is_noop command.now ≡ false }
+        ensures { IfOk result (λ r. r ≡ reply self.now command.now) }
+    {
+        match &self.seal {
+            Some(_) => Ok(Reply::Closed),
+            None => reply_open(self.alloc, &self.table, command),
+        }
     }
 
     /// The value of the seal that closed the map, if one did.
@@ -92,7 +117,8 @@ impl Store {
         self.seal.as_ref()
     }
 
-    /// What the keys have, in rising order of keys: a copy. `OutOfRange` where a key isn't of 1 to 255 bytes, as each command's are.
+    /// What the keys have: a copy of the changes, over what the map began with. `OutOfRange` where a key isn't of 1
+    /// to 255 bytes, as each command's are.
     pub fn contents(&self) -> Result<Contents, ContentsFault>
         ensures ok { IfOk result (λ c. c ≡ self.now.contents) }
         ensures refused { IfErr result (λ fault. IsBad (entries self.now.contents) fault) }
@@ -101,16 +127,20 @@ impl Store {
         copy.into_contents()
     }
 
-    /// The same, of which the map becomes a part: where nobody else has the contents that it began with, nothing of these is copied.
+    /// The same, of which the map becomes a part: it takes the time of the changes, however many keys there are (see
+    /// `Contents`).
     pub fn into_contents(self) -> Result<Contents, ContentsFault>
         ensures ok { IfOk result (λ c. c ≡ self.contents) }
         ensures refused { IfErr result (λ fault. IsBad (entries self.contents) fault) }
     {
-        let Store { alloc, table, seal } = self;
+        let Store {
+            alloc: _,
+            table,
+            seal,
+        } = self;
         drop(seal);
-        let items = merged(alloc, table)?;
-        let contents = Contents::of_sorted(alloc, items)?;
-        Ok(contents)
+        let Table { base, changes } = table;
+        base.changed(changes)
     }
 
     /// The same map again.

@@ -4,6 +4,7 @@ ghost use Rattle.std.specs.Prelude.{◌≡◌, ℕ, List, None, true, false, IfO
 ghost use Rattle.std.specs.Map.{lookup};
 ghost use Rattle.std.specs.Option.{option_copied, option_flatten};
 ghost use Rattle.ep_base.specs.Commands.{Swap, Cas};
+ghost use Rattle.ep_base.specs.Interference.{is_many};
 ghost use Rattle.ep_base.specs.Parts.{IsShort};
 ghost use Rattle.ep_rules.specs.OneMap.{Contents, value_at, with_key, written, read, told, sealed_by};
 ghost use Rattle.ep_space.specs.Index.{is_at};
@@ -11,13 +12,12 @@ ghost use Rattle.ep_base.specs.Sameness.{same_option};
 ghost use Rattle.ep_exec.specs.Held.{held};
 ghost use Rattle.ep_exec.specs.Table.{HavePlaces, has_place, over, restored};
 
+use crate::changes::{Changes, copied, copy_changes};
 use crate::contents::Contents;
+use crate::many::{reply_many, transact};
 use ep_base::{Command, CommandView, Key, Reply, Value};
 use indexmap::IndexMap;
 use std::alloc::{AllocError, Global};
-
-/// Keys that were written, each with its value, or with none.
-pub type Changes = IndexMap<Vec<u8>, Option<Value>>;
 
 /// What keys have: what the changes say, and of other keys what the contents say with which the map began. These are shared, and stay as they are.
 #[derive(Drop)]
@@ -39,19 +39,12 @@ pub fn value_of<'a>(table: &'a Table, key: &[u8]) -> Option<&'a Value>
     }
 }
 
-/// Whether the contents say nothing of any key.
-fn is_bare(base: &Contents) -> bool
-    ensures { (k : List ℕ) → result ≡ true → value_at base.now k ≡ None }
-{
-    base.entries().is_empty()
-}
-
 /// What the contents say of a key that has no place among the changes, as a copy; none of one that has. A key that has a place needs no memory.
 fn below(alloc: Global, table: &Table, key: &[u8]) -> Result<Option<Value>, AllocError>
     ensures none { IfOk result (λ was. lookup (is_at key.now) table.now.changes.entries ≡ None → was ≡ value_at table.now.base key.now) }
     ensures absent { OnErr result (has_place table.now.changes.entries key.now ≡ false) }
 {
-    if is_bare(&table.base) {
+    if table.base.is_bare() {
         return Ok(None);
     }
     if table.changes.contains_key(key) {
@@ -109,16 +102,6 @@ fn clear(alloc: Global, table: &mut Table, key: &[u8]) -> Result<Option<Value>, 
     set(alloc, table, name, None)
 }
 
-/// A value again.
-pub fn copied(alloc: Global, found: Option<&Value>) -> Result<Option<Value>, AllocError>
-    ensures { IfOk result (λ v. v ≡ option_copied found.entry) }
-{
-    match found {
-        Some(value) => Ok(Some(value.copy(alloc)?)),
-        None => Ok(None),
-    }
-}
-
 /// What a reply says of a key.
 pub fn told(value: Option<Value>) -> Reply
     ensures { result ≡ told value }
@@ -127,38 +110,6 @@ pub fn told(value: Option<Value>) -> Reply
         Some(value) => Reply::Present(value),
         None => Reply::Absent,
     }
-}
-
-/// Gives the key this value again, or none.
-fn add(
-    alloc: Global,
-    changes: &mut Changes,
-    key: &[u8],
-    value: Option<&Value>,
-) -> Result<(), AllocError>
-    ensures { OnOk result ((m : Contents) → over m changes.new.entries ≡ with_key (over m changes.old.entries) key.now (option_copied value.entry)) }
-{
-    let name = Vec::from_slice(alloc, key)?;
-    let value = copied(alloc, value)?;
-    match changes.insert(name, value) {
-        Ok(was) => {
-            done(was);
-            Ok(())
-        }
-        Err(_) => Err(AllocError),
-    }
-}
-
-/// The same changes again.
-fn copy_changes(alloc: Global, changes: &Changes) -> Result<Changes, AllocError>
-    ensures { IfOk result (λ c. (m : Contents) → over m c.entries ≡ over m changes.now.entries) }
-{
-    let mut copy = IndexMap::new(alloc);
-    for index in (0..changes.len()).rev() {
-        let (key, value) = changes.get_index(index).unwrap();
-        add(alloc, &mut copy, key.as_slice(), value.as_ref())?;
-    }
-    Ok(copy)
 }
 
 /// The same table again, over the same contents in memory.
@@ -296,7 +247,7 @@ pub fn has_value(table: &Table, key: &[u8], expected: Option<&[u8]>) -> bool
 }
 
 /// A new value of these bytes, or none again.
-fn made(alloc: Global, bytes: Option<&[u8]>) -> Result<Option<Value>, AllocError>
+pub fn made(alloc: Global, bytes: Option<&[u8]>) -> Result<Option<Value>, AllocError>
     requires { IsShort (option_copied bytes) }
     ensures { IfOk result (λ v. v ≡ option_copied bytes.entry) }
 {
@@ -332,6 +283,35 @@ pub fn compare(
     }
 }
 
+/// Does a command over many keys on an open map.
+fn transact_open(alloc: Global, table: &mut Table, command: &Command) -> Result<Reply, AllocError>
+    requires { is_many command.now ≡ true }
+    ensures reply { IfOk result (λ r. r ≡ read (held table.old) command.now) }
+    ensures ok { OnOk result (held table.new ≡ written (held table.old) command.now) }
+    ensures err { OnErr result (held table.new ≡ held table.old) }
+{
+    let mut undo = Vec::new(alloc);
+    let reply = transact(alloc, table, &mut undo, command)?;
+    sweep_all(table, undo.as_slice());
+    Ok(reply)
+}
+
+/// What an open map would reply to the command.
+pub fn reply_open(alloc: Global, table: &Table, command: &Command) -> Result<Reply, AllocError>
+    ensures { IfOk result (λ r. r ≡ read (held table.now) command.now) }
+{
+    match command.view() {
+        CommandView::Noop | CommandView::Seal(_) => Ok(Reply::Absent),
+        CommandView::Opaque(_, _) => Ok(Reply::Ordered),
+        CommandView::Tx(_) => reply_many(alloc, table, command),
+        CommandView::Get(key)
+        | CommandView::Put(key, _)
+        | CommandView::Del(key)
+        | CommandView::Swap(key, _)
+        | CommandView::Cas(key, _, _) => Ok(told(copied(alloc, value_of(table, key))?)),
+    }
+}
+
 /// Does a command on an open map, but for closing it: a no-op and a seal change nothing.
 pub fn apply_open(alloc: Global, table: &mut Table, command: &Command) -> Result<Reply, AllocError>
     ensures reply { IfOk result (λ r. r ≡ read (held table.old) command.now) }
@@ -341,6 +321,7 @@ pub fn apply_open(alloc: Global, table: &mut Table, command: &Command) -> Result
     match command.view() {
         CommandView::Noop | CommandView::Seal(_) => Ok(Reply::Absent),
         CommandView::Opaque(_, _) => Ok(Reply::Ordered),
+        CommandView::Tx(_) => transact_open(alloc, table, command),
         CommandView::Get(key) => Ok(told(copied(alloc, value_of(table, key))?)),
         CommandView::Put(key, bytes) => {
             let name = Vec::from_slice(alloc, key)?;
@@ -367,7 +348,8 @@ pub fn sealed(alloc: Global, command: &Command) -> Result<Option<Value>, AllocEr
         | CommandView::Del(_)
         | CommandView::Swap(_, _)
         | CommandView::Cas(_, _, _)
-        | CommandView::Opaque(_, _) => Ok(None),
+        | CommandView::Opaque(_, _)
+        | CommandView::Tx(_) => Ok(None),
     }
 }
 

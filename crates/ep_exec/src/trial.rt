@@ -9,10 +9,11 @@ ghost use Rattle.ep_exec.specs.Held.{held};
 ghost use Rattle.ep_exec.specs.Table.{HavePlaces, first_of, restored};
 ghost use Rattle.ep_exec.specs.Tries.{tried};
 
+use crate::changes::copied;
+use crate::many::transact;
 use crate::store::Store;
 use crate::table::{
-    Change, Table, compare_noted, copied, exchange, sealed, sweep_all, take_back, told, value_of,
-    write,
+    Change, Table, compare_noted, exchange, sealed, sweep_all, take_back, told, value_of, write,
 };
 use ep_base::{Answer, Command, CommandView, Reply, Value};
 use std::alloc::{AllocError, Global};
@@ -70,6 +71,7 @@ impl Trial {
         if is_closed(&self.before, &self.since) {
             return Ok(closed_answer(command));
         }
+        self.table.base.settle_some();
         let seal = sealed(self.alloc, command)?;
         let answer = try_open(self.alloc, &mut self.table, &mut self.undo, command)?;
         self.since = seal;
@@ -153,6 +155,7 @@ fn try_open(
         CommandView::Noop => Ok(Answer::Lost),
         CommandView::Seal(_) => Ok(Answer::Told(Reply::Absent)),
         CommandView::Opaque(_, _) => Ok(Answer::Told(Reply::Ordered)),
+        CommandView::Tx(_) => Ok(Answer::Told(transact(alloc, table, undo, command)?)),
         CommandView::Get(key) => Ok(Answer::Told(told(copied(alloc, value_of(table, key))?))),
         CommandView::Put(key, bytes) => {
             let value = Value::known(alloc, bytes)?;

@@ -61,6 +61,14 @@ impl Allowed {
         shown: 60,
     };
 
+    /// What a command over many keys says of each.
+    pub(crate) const ITEMS: Allowed = Allowed {
+        form: b"a count of two bytes from 1 to 1024, then so many keys, rising, and nothing more: each a length from 1, flags (1 told, 2 guarded, 4 put, 8 del; at least one, not both put and del, and at most 16 told), the key, of a guard a 0, or a 1, a length of four bytes to 65535, and so many bytes, and of a put a length of four bytes to 65535, and so many bytes",
+        low: 0,
+        high: 0,
+        shown: 60,
+    };
+
     /// A replica of so many, other than the journal's own.
     pub(crate) fn other_replica(count: u64) -> Allowed {
         Allowed {

@@ -222,10 +222,9 @@ fn pass_early_command(walk: &mut Walk<'_>, terms: &Terms) {
 
 /// What the length of the op's first key may be.
 fn key_lengths(op: u64) -> Allowed {
-    if op == 9 {
-        Allowed::one(0)
-    } else {
-        Allowed::range(1, 255)
+    match op {
+        9 | 10 => Allowed::one(0),
+        _ => Allowed::range(1, 255),
     }
 }
 
@@ -243,28 +242,33 @@ fn body_lengths(op: u64) -> Allowed {
     match op {
         3 | 7 | 8 | 9 => Allowed::range(0, 65_535),
         6 => Allowed::range(2, 131_080),
+        10 => Allowed::range(5, 131_080),
         _ => Allowed::one(0),
+    }
+}
+
+/// What the op's body may be.
+fn bodies(op: u64) -> Allowed {
+    match op {
+        6 => Allowed::TWO_PARTS,
+        10 => Allowed::ITEMS,
+        _ => Allowed::ANY,
     }
 }
 
 /// A command of version 3.
 fn pass_command(walk: &mut Walk<'_>) {
     let op = walk.number(
-        b"op (2 get, 3 put, 4 del, 5 swap, 6 cas, 7 ask, 8 act, 9 seal)",
+        b"op (2 get, 3 put, 4 del, 5 swap, 6 cas, 7 ask, 8 act, 9 seal, 10 tx)",
         1,
-        Allowed::range(2, 9),
+        Allowed::range(2, 10),
     );
     let key = walk.number(b"length of the key", 1, key_lengths(op));
     let second = walk.number(b"length of the second key", 1, second_key_lengths(op));
     let body = walk.number(b"length of the body", 4, body_lengths(op));
     walk.run(b"key", key as usize, Allowed::ANY);
     walk.run(b"second key", second as usize, Allowed::OTHER_KEY);
-    let allowed = if op == 6 {
-        Allowed::TWO_PARTS
-    } else {
-        Allowed::ANY
-    };
-    walk.run(b"body", body as usize, allowed);
+    walk.run(b"body", body as usize, bodies(op));
 }
 
 fn pass_frame(walk: &mut Walk<'_>, terms: &Terms) {
@@ -288,11 +292,12 @@ fn pass_instance(walk: &mut Walk<'_>, terms: &Terms) {
 fn pass_answer(walk: &mut Walk<'_>, terms: &Terms) {
     if terms.is_late() {
         let code = walk.number(
-            b"code of an answer (0 absent, 1 present, 2 lost, 3 closed, 4 ordered)",
+            b"code of an answer (0 absent, 1 present, 2 lost, 3 closed, 4 ordered, 5 done, 6 undone)",
             1,
-            Allowed::range(0, 4),
+            Allowed::range(0, 6),
         );
         pass_value(walk, code, 4, 65_535);
+        pass_told(walk, code);
     } else {
         let code = walk.number(
             b"code of an answer (0 absent, 1 present, 2 lost)",
@@ -312,6 +317,21 @@ fn pass_value(walk: &mut Walk<'_>, code: u64, bytes: usize, most: u64) {
             Allowed::range(0, most),
         );
         walk.run(b"answer's value", len as usize, Allowed::ANY);
+    }
+}
+
+/// What the answer of this code tells of each key, if it is one to a command over many keys.
+fn pass_told(walk: &mut Walk<'_>, code: u64) {
+    if code == 5 || code == 6 {
+        let keys = walk.number(b"number of told keys", 2, Allowed::range(0, 16));
+        for _ in 0..keys {
+            let mark = walk.number(
+                b"mark of a told key (0 absent, 1 present)",
+                1,
+                Allowed::range(0, 1),
+            );
+            pass_value(walk, mark, 4, 65_535);
+        }
     }
 }
 

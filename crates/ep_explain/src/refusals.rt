@@ -107,6 +107,12 @@ fn tell_why(line: &mut Wording, refusal: &Refusal<'_>) {
             b"is the section's second line for this frame, after line #",
             &[u64::from(before)],
         ),
+        Why::SecondItem(before) => line.tell(
+            b"spells a key that has such an item already, by word #: a key has at most one if, one get, and one put or del",
+            &[u64::from(before)],
+        ),
+        Why::Told => line.say(b"is the 17th get: a tx tells at most 16 keys"),
+        Why::Keys => line.say(b"spells the 1025th key: a tx names at most 1024"),
         _ => {}
     }
 }
@@ -145,6 +151,7 @@ fn name_of(operand: Operand) -> &'static [u8] {
         Operand::Key | Operand::OtherKey => b"a key",
         Operand::Value | Operand::MaybeValue => b"a value",
         Operand::Body => b"a body",
+        Operand::Item => b"an item, if K E, get K, put K V or del K",
         _ => b"",
     }
 }
@@ -164,9 +171,12 @@ fn tell_lacking(line: &mut Wording, refusal: &Refusal<'_>) {
             b"an instance R.I, of a replica R and a number I, 1 to #",
             &[most(refusal)],
         ),
-        Operand::Key | Operand::OtherKey | Operand::Value | Operand::MaybeValue | Operand::Body => {
-            line.say(name_of(refusal.operand));
-        }
+        Operand::Key
+        | Operand::OtherKey
+        | Operand::Value
+        | Operand::MaybeValue
+        | Operand::Body
+        | Operand::Item => line.say(name_of(refusal.operand)),
         _ => tell_range(line, refusal),
     }
 }
@@ -215,6 +225,12 @@ fn tell_unlike(line: &mut Wording, refusal: &Refusal<'_>) {
         Operand::Propose => {
             line.say(b"isn't propose: ");
             tell_line(line, refusal);
+        }
+        Operand::Item => {
+            line.say(b"begins no item of tx: if K E, get K, put K V or del K");
+            if refusal.word.starts_with(b"#") {
+                line.say(b"; comments stand on lines of their own");
+            }
         }
         _ if refusal.size.is_some() => {
             line.say(b"is unknown; a line begins with ");

@@ -192,7 +192,7 @@ record CommandIs (p : Parts) : Type 0 where
   parts_are : command_parts (command_in (command_parts_of p)) ≡ command_parts_of p
   op_is : op_number (command_parts (command_in (command_parts_of p))).op ≡ p.header.op
 
-command_found : (p : Parts) → 1 ≤ p.header.op → p.header.op ≤ 9 → are_parts (command_parts_of p) ≡ true → GoodRuns p → CommandIs p
+command_found : (p : Parts) → 1 ≤ p.header.op → p.header.op ≤ 10 → are_parts (command_parts_of p) ≡ true → GoodRuns p → CommandIs p
 command_found p lo hi e r =
     let q = command_parts_of p in
     let c = command_in q in

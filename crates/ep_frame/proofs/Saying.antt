@@ -8,7 +8,7 @@ use Rattle.ep_base.specs.Generations.{HasItsGeneration}
 use Rattle.ep_base.specs.Instances.{number_of}
 use Rattle.ep_base.specs.Versions.{version_number, generation_of, version_of, highest_in, most_deps_in, knows, AreDepsIn}
 use Rattle.ep_base.specs.Commands.{Command}
-use Rattle.ep_base.specs.Commands.{Noop, Get, Put, Del, Swap, Cas, Seal, Opaque}
+use Rattle.ep_base.specs.Commands.{Noop, Get, Put, Del, Swap, Cas, Seal, Opaque, Tx}
 use Rattle.ep_base.specs.declared.version.Version.{Version}
 use Rattle.ep_base.specs.declared.version_kind.VersionKind.TheVariants.{V1, V2, V3}
 use Rattle.ep_base.proofs.Versions.{deps_in_last}
@@ -21,7 +21,7 @@ use Rattle.ep_frame.specs.Fields.{is_early_put, second_len_from, body_len_from}
 
 -- each version's limits are within those of the last one
 
-pub op_low : (v : Version) → highest_op v ≤ 9
+pub op_low : (v : Version) → highest_op v ≤ 10
 op_low V1 = omega arith
 op_low V2 = omega arith
 op_low (V3 g) = omega arith
@@ -124,8 +124,9 @@ op_again op.Cas = refl
 op_again op.Ask = refl
 op_again op.Act = refl
 op_again op.Seal = refl
+op_again op.Tx = refl
 
-pub op_found : (n : ℕ) → 1 ≤ n → n ≤ 9 → op_number (op_of n) ≡ n
+pub op_found : (n : ℕ) → 1 ≤ n → n ≤ 10 → op_number (op_of n) ≡ n
 op_found zero lo hi = absurd (omega arith)
 op_found (suc zero) lo hi = refl
 op_found (suc (suc zero)) lo hi = refl
@@ -136,7 +137,8 @@ op_found (suc (suc (suc (suc (suc (suc zero)))))) lo hi = refl
 op_found (suc (suc (suc (suc (suc (suc (suc zero))))))) lo hi = refl
 op_found (suc (suc (suc (suc (suc (suc (suc (suc zero)))))))) lo hi = refl
 op_found (suc (suc (suc (suc (suc (suc (suc (suc (suc zero))))))))) lo hi = refl
-op_found (suc (suc (suc (suc (suc (suc (suc (suc (suc (suc n)))))))))) lo hi = absurd (omega arith)
+op_found (suc (suc (suc (suc (suc (suc (suc (suc (suc (suc zero)))))))))) lo hi = refl
+op_found (suc (suc (suc (suc (suc (suc (suc (suc (suc (suc (suc n))))))))))) lo hi = absurd (omega arith)
 
 pub op_one : (o : Op) → 1 ≤ op_number o
 op_one op.Noop = omega arith
@@ -148,6 +150,7 @@ op_one op.Cas = omega arith
 op_one op.Ask = omega arith
 op_one op.Act = omega arith
 op_one op.Seal = omega arith
+op_one op.Tx = omega arith
 
 -- how long what fits an op may be
 
@@ -167,6 +170,7 @@ first_high op.Cas n e = key_high n e
 first_high op.Ask n e = key_high n e
 first_high op.Act n e = key_high n e
 first_high op.Seal n e = at_zero n 255 e
+first_high op.Tx n e = at_zero n 255 e
 
 pub second_high : (o : Op) (n : ℕ) → second_fits o n ≡ true → n ≤ 255
 second_high op.Noop n e = at_zero n 255 e
@@ -178,6 +182,7 @@ second_high op.Cas n e = at_zero n 255 e
 second_high op.Ask n e = leb-true n 255 e
 second_high op.Act n e = leb-true n 255 e
 second_high op.Seal n e = at_zero n 255 e
+second_high op.Tx n e = at_zero n 255 e
 
 value_high : (n : ℕ) → leb n 65535 ≡ true → n ≤ 131080
 value_high n e = let h = leb-true n 65535 e in omega (arith, h)
@@ -192,10 +197,11 @@ body_high op.Cas n e = leb-true n 131080 (and_parts (leb 2 n) (leb n 131080) e).
 body_high op.Ask n e = value_high n e
 body_high op.Act n e = value_high n e
 body_high op.Seal n e = value_high n e
+body_high op.Tx n e = leb-true n 131080 (and_parts (leb 5 n) (leb n 131080) e).1
 
 -- what a version has keeps to its limits
 
-op_high : (r : Bool) → op_number (cond r op.Ask op.Act) ≤ 9
+op_high : (r : Bool) → op_number (cond r op.Ask op.Act) ≤ 10
 op_high true = omega arith
 op_high false = omega arith
 
@@ -208,6 +214,7 @@ op_within V1 (Swap p) e = absurd (true≢false (sym e))
 op_within V1 (Cas k x y) e = absurd (true≢false (sym e))
 op_within V1 (Seal x) e = absurd (true≢false (sym e))
 op_within V1 (Opaque p b) e = absurd (true≢false (sym e))
+op_within V1 (Tx is) e = absurd (true≢false (sym e))
 op_within V2 Noop e = omega arith
 op_within V2 (Get k) e = omega arith
 op_within V2 (Put k x) e = omega arith
@@ -216,6 +223,7 @@ op_within V2 (Swap p) e = omega arith
 op_within V2 (Cas k x y) e = absurd (true≢false (sym e))
 op_within V2 (Seal x) e = absurd (true≢false (sym e))
 op_within V2 (Opaque p b) e = absurd (true≢false (sym e))
+op_within V2 (Tx is) e = absurd (true≢false (sym e))
 op_within (V3 g) Noop e = omega arith
 op_within (V3 g) (Get k) e = omega arith
 op_within (V3 g) (Put k x) e = omega arith
@@ -224,6 +232,7 @@ op_within (V3 g) (Swap p) e = omega arith
 op_within (V3 g) (Cas k x y) e = omega arith
 op_within (V3 g) (Seal x) e = omega arith
 op_within (V3 g) (Opaque p b) e = op_high p.reads
+op_within (V3 g) (Tx is) e = omega arith
 
 not_long : (n : ℕ) → not (ltb 1024 n) ≡ true → n ≤ 1024
 not_long n e = ltb-false 1024 n (go (ltb 1024 n) e)
@@ -241,6 +250,7 @@ short_within V1 (Swap p) e = omega arith
 short_within V1 (Cas k x y) e = absurd (true≢false (sym e))
 short_within V1 (Seal x) e = absurd (true≢false (sym e))
 short_within V1 (Opaque p b) e = absurd (true≢false (sym e))
+short_within V1 (Tx is) e = absurd (true≢false (sym e))
 short_within V2 Noop e = omega arith
 short_within V2 (Get k) e = omega arith
 short_within V2 (Put k x) e = not_long (length x) e
@@ -249,6 +259,7 @@ short_within V2 (Swap p) e = omega arith
 short_within V2 (Cas k x y) e = absurd (true≢false (sym e))
 short_within V2 (Seal x) e = absurd (true≢false (sym e))
 short_within V2 (Opaque p b) e = absurd (true≢false (sym e))
+short_within V2 (Tx is) e = absurd (true≢false (sym e))
 short_within (V3 g) c e = tt
 
 early_again : (most : ℕ) (is : List ℕ) → AllByRecursion (λ i. number_of i ≤ most) is → are_early most is ≡ true
@@ -278,6 +289,7 @@ op_known V1 (Swap p) h s = absurd (omega (arith, h))
 op_known V1 (Cas k x y) h s = absurd (omega (arith, h))
 op_known V1 (Seal x) h s = absurd (omega (arith, h))
 op_known V1 (Opaque p b) h s = absurd (not_either p.reads 4 (omega arith) h)
+op_known V1 (Tx is) h s = absurd (omega (arith, h))
 op_known V2 Noop h s = refl
 op_known V2 (Get k) h s = refl
 op_known V2 (Put k x) h s = short (length x) s
@@ -286,6 +298,7 @@ op_known V2 (Swap p) h s = refl
 op_known V2 (Cas k x y) h s = absurd (omega (arith, h))
 op_known V2 (Seal x) h s = absurd (omega (arith, h))
 op_known V2 (Opaque p b) h s = absurd (not_either p.reads 5 (omega arith) h)
+op_known V2 (Tx is) h s = absurd (omega (arith, h))
 op_known (V3 g) c h s = refl
 
 early_found : (most : ℕ) (is : List ℕ) → are_early most is ≡ true → AllByRecursion (λ i. number_of i ≤ most) is

@@ -58,7 +58,7 @@ seq_allowed h = if has_attributes h then within 1 1000000 h.seq else h.seq == 0
 abbrev pub highest_op : Version → ℕ
 highest_op V1 = 4
 highest_op V2 = 5
-highest_op (V3 g) = 9
+highest_op (V3 g) = 10
 
 abbrev pub op_allowed : Version → Header → Bool
 op_allowed v h = if has_command h then within 1 (highest_op v) h.op else h.op == 0
@@ -74,6 +74,7 @@ op_of n =
     else if n == 7 then op.Ask
     else if n == 8 then op.Act
     else if n == 9 then op.Seal
+    else if n == 10 then op.Tx
     else op.Noop
 
 abbrev pub key_len_allowed : Header → Bool
@@ -196,7 +197,7 @@ are_in (V3 g) is = true
 abbrev pub has_same_keys : Header → List ℕ → Bool
 has_same_keys h b = is_twice (take h.key_len (drop (header_len h.version) b)) (take h.second_len (drop (second_place h) b))
 
--- the body is none of the op's: the command is a comparison, and its body isn't what it expects and what is new, with nothing left over
+-- the body doesn't fit the op: a comparison's is what it expects and what is new, that of a command over many keys its items, with nothing left over
 abbrev pub has_other_body : Header → List ℕ → Bool
 has_other_body h b = not (body_said (op_of h.op) (take h.body_len (drop (body_place h) b)))
 
@@ -204,7 +205,7 @@ has_other_body h b = not (body_said (op_of h.op) (take h.body_len (drop (body_pl
 abbrev pub deps_allowed : Version → List ℕ → Bool
 deps_allowed v is = are_deps is && are_in v is
 
--- the length is that of the fields, the deps are in order, two keys differ, and a comparison's body is one
+-- the length is that of the fields, the deps are in order, two keys differ, and the body fits the op
 unfoldable pub rest_fault : Header → List ℕ → Result (Unit {0}) FrameFault
 rest_fault h b =
     if not (length b == frame_len h) then Err Length

@@ -29,8 +29,9 @@ pub enum FrameFault {
     /// The two keys are the same.
     #[error("the two keys are the same")]
     SameKey,
-    /// The body of a comparison is not what it expects and what is new, with nothing left over.
-    #[error("the body is no comparison's")]
+    /// The body doesn't fit the op: a comparison's is what it expects and what is new, that of a command over many keys its
+    /// items, with nothing left over.
+    #[error("the body does not fit the op")]
     Body,
     /// The frame is of the state's version, but of another generation. `Frame::read` never tells it.
     #[error("of another generation")]

@@ -69,6 +69,7 @@ fn command_from(bytes: &[u8], run: Bytes) -> Command
 }
 
 // The command, which shares the frame's bytes.
+#[inline(always)]
 fn command_in(bytes: &Bytes) -> Result<Command, AllocError>
     requires whole { length bytes.now ≡ frame_len (header_at bytes.now) }
     requires readable { Readable (parts_at bytes.now) }
@@ -80,6 +81,7 @@ fn command_in(bytes: &Bytes) -> Result<Command, AllocError>
     Ok(command_from(all, run))
 }
 
+#[inline(always)]
 fn attrs_in(alloc: Global, bytes: &[u8]) -> Result<Attrs, AllocError>
     requires long { 40 ≤ length bytes.now }
     requires whole { length bytes.now ≡ frame_len (header_at bytes.now) }
@@ -94,6 +96,7 @@ fn attrs_in(alloc: Global, bytes: &[u8]) -> Result<Attrs, AllocError>
     })
 }
 
+#[inline(always)]
 fn decree_in(alloc: Global, bytes: &Bytes) -> Result<Decree, AllocError>
     requires long { 40 ≤ length bytes.now }
     requires whole { length bytes.now ≡ frame_len (header_at bytes.now) }

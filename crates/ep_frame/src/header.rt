@@ -46,7 +46,7 @@ pub struct Header {
     /// The sequence number, 1 to 1,000,000; 0 in a message without attributes.
     pub seq: u32,
     /// The command: 1 no-op, 2 get, 3 put, 4 del; from version 2 on also 5 swap; in version 3 also 6 compare-and-set, 7 ask,
-    /// 8 act, 9 seal; 0 in a message without a command.
+    /// 8 act, 9 seal, 10 tx; 0 in a message without a command.
     pub op: u8,
     /// How many bytes the key, of two the first one, has, 1 to 255; 0 without a key.
     pub key_len: u8,
@@ -57,7 +57,7 @@ pub struct Header {
     /// The generation, 1 or more; 0 in versions 1 and 2, which have none.
     pub generation: u32,
     /// How many bytes the body has: of a put, an ask, an act or a seal 0 to 65,535, in versions 1 and 2 to 1,024; of a
-    /// compare-and-set 2 to 131,080; else 0.
+    /// compare-and-set 2 to 131,080, of a tx 5 to 131,080; else 0.
     pub body_len: u32,
 }
 
@@ -67,7 +67,7 @@ fn check(allowed: bool, fault: FrameFault) -> Result<(), FrameFault>
     if allowed { Ok(()) } else { Err(fault) }
 }
 
-/// The op of this number: 1 to 9 in the order of the ops. Where there is no command, and the number is 0, it is the no-op.
+/// The op of this number: 1 to 10 in the order of the ops. Where there is no command, and the number is 0, it is the no-op.
 pub(crate) fn made_op(number: u8) -> Op
     ensures { result ≡ op_of number }
 {
@@ -80,6 +80,7 @@ pub(crate) fn made_op(number: u8) -> Op
         7 => Op::Ask,
         8 => Op::Act,
         9 => Op::Seal,
+        10 => Op::Tx,
         _ => Op::Noop,
     }
 }
@@ -91,7 +92,7 @@ fn highest_op(version: Version) -> u8
     match version.kind() {
         VersionKind::V1 => 4,
         VersionKind::V2 => 5,
-        VersionKind::V3(_) => 9,
+        VersionKind::V3(_) => 10,
     }
 }
 

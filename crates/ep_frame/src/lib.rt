@@ -34,6 +34,7 @@ pub use frame_mut::{FrameMut, OriginMut};
 pub use header::Header;
 pub use kind::Kind;
 pub use laws::one_spelling;
+pub use numbers::{u8_at, u16_at, u32_at, u64_at};
 pub use origin::Origin;
 pub use round::Round;
 pub use telling::Telling;

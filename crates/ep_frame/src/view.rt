@@ -17,7 +17,7 @@ use crate::header::{Header, body_len_at, generation_at, header_len, made_op, sec
 use crate::numbers::{u8_at, u16_at, u32_at, u64_at};
 use crate::origin::Origin;
 use bytes::Bytes;
-use ep_base::{InstanceId, Op, ReplicaId, Stamp, Version, VersionKind, is_comparison};
+use ep_base::{InstanceId, Op, ReplicaId, Stamp, Version, VersionKind, is_comparison, is_tx};
 use std::marker::Model;
 
 /// The bytes of a frame, borrowed. A frame spells one message, in one version, from one sender and with one origin.
@@ -111,7 +111,7 @@ fn has_same_keys(header: &Header, bytes: &[u8]) -> bool
     !second.is_empty() && second == key
 }
 
-// Whether the command is a comparison, and its body is none.
+// Whether the body doesn't fit the op: the command is a comparison or one over many keys, and this is no such body.
 #[tactic(auto, using(crate::proofs::Deps::part_of))]
 fn has_other_body(header: &Header, bytes: &[u8]) -> bool
     requires { length bytes.now ≡ frame_len header.now }
@@ -127,11 +127,13 @@ fn is_said(op: Op, body: &[u8]) -> bool
 {
     match op {
         Op::Cas => is_comparison(body),
+        Op::Tx => is_tx(body),
         Op::Noop | Op::Get | Op::Put | Op::Del | Op::Swap | Op::Ask | Op::Act | Op::Seal => true,
     }
 }
 
-/// Whether the length is that of the fields, the dependencies are in order, two keys differ, and a comparison's body is one.
+/// Whether the length is that of the fields, the dependencies are in order, two keys differ, and the body
+/// fits the op.
 #[tactic(auto, using(std::proofs::lemmas::List::take_rest, crate::proofs::Limits::same_deps), unfolding(crate::specs::Faults::rest_fault))]
 fn check_rest(header: &Header, bytes: &[u8]) -> Result<(), FrameFault>
     ensures { result ≡ rest_fault header.now bytes.now }

@@ -6,3 +6,4 @@ mod Writing
 mod Puts
 mod Longer
 pub mod Heirs
+mod Followed

@@ -61,4 +61,6 @@ undone_grows n n' request.ExecuteAll (inl p) = passed n n' p
 undone_grows n n' request.ExecuteAll (inr part) = grows n.replica n'.replica (executes_each n.replica n'.replica part.0 part.1)
 undone_grows n n' (request.Ready after most) h = absurd h
 undone_grows n n' (request.Handled r) h = absurd h
+undone_grows n n' (request.Interfering key) h = absurd h
+undone_grows n n' (request.Read key found) h = absurd h
 undone_grows n n' (request.Malformed m) h = absurd h

@@ -7,7 +7,7 @@ use Rattle.ep_node.specs.Nodes.{Logged}
 use Rattle.ep_replica.specs.Kept.{Kept}
 use Rattle.ep_serve.specs.Acting.{TakesNear}
 use Rattle.ep_serve.specs.declared.due.Due.{Due}
-use Rattle.ep_serve.specs.declared.due.Due.TheVariants.{Taken, Refused, Value, Open, Leads, Synced, State, Ready, Handled, Malformed}
+use Rattle.ep_serve.specs.declared.due.Due.TheVariants.{Taken, Refused, Value, Open, Leads, Synced, State, Ready, Handled, Interfering, Read, Malformed}
 use Rattle.ep_wire.specs.declared.take_fault.TakeFault.{TakeFault}
 use Rattle.ep_hosted.specs.Taking.{refusal_of}
 
@@ -29,7 +29,11 @@ taken k event State k' (inr near) none = absurd near.1
 taken k event (Ready after most) k' (inl far) none = absurd (let e = far.1 in cc)
 taken k event (Ready after most) k' (inr near) none = absurd near.1
 taken k event (Handled r) k' (inl far) none = absurd (let e = far.1 in cc)
+taken k event (Interfering key) k' (inl far) none = absurd (let e = far.1 in cc)
+taken k event (Read key found) k' (inl far) none = absurd (let e = far.1 in cc)
 taken k event (Handled r) k' (inr near) none = absurd near.1
+taken k event (Interfering key) k' (inr near) none = absurd near.1
+taken k event (Read key found) k' (inr near) none = absurd near.1
 taken k event (Malformed m) k' (inl far) none = absurd (let e = far.1 in cc)
 taken k event (Malformed m) k' (inr near) none = absurd near.1
 
@@ -49,6 +53,8 @@ refused k event Synced refusal k' so is = absurd (let e : None ≡ Some refusal 
 refused k event State refusal k' so is = absurd (let e : None ≡ Some refusal = is in cc)
 refused k event (Ready after most) refusal k' so is = absurd (let e : None ≡ Some refusal = is in cc)
 refused k event (Handled r) refusal k' so is = absurd (let e : None ≡ Some refusal = is in cc)
+refused k event (Interfering key) refusal k' so is = absurd (let e : None ≡ Some refusal = is in cc)
+refused k event (Read key found) refusal k' so is = absurd (let e : None ≡ Some refusal = is in cc)
 refused k event (Malformed m) refusal k' so is = absurd (let e : None ≡ Some refusal = is in cc)
 
 pub taken_if : (k : Kept) (event : Happening) (due : Due) (result : Result Unit TakeFault) (k' : Kept) → TakesNear k event due k' → OnOk result (refusal_of due ≡ None) → OnOk result (TakesNear k event (Taken (length k.entries) 1) k')

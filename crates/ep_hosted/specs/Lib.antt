@@ -6,3 +6,4 @@ pub mod Asking
 pub mod Telling
 pub mod Succeeding
 pub mod Bound
+pub mod Following

@@ -35,6 +35,8 @@ refusal_of due.Synced = None
 refusal_of due.State = None
 refusal_of (due.Ready after most) = None
 refusal_of (due.Handled r) = None
+refusal_of (due.Interfering key) = None
+refusal_of (due.Read key found) = None
 refusal_of (due.Malformed m) = None
 
 -- the event's step was taken, the next entry, whose client has seen no stamp too far ahead

@@ -13,7 +13,7 @@ pub struct HostedCheckpoint {
 }
 
 impl HostedCheckpoint {
-    ghost use Rattle.std.specs.Prelude.{◌≤◌, ◌++◌, [], length, max, OnOk, OnErr};
+    ghost use Rattle.std.specs.Prelude.{◌≡◌, ◌≤◌, ◌++◌, [], length, max, OnOk, OnErr};
     ghost use Rattle.ep_opening.specs.Pieces.{longest_field};
 
     /// It has given nothing yet.
@@ -25,6 +25,13 @@ impl HostedCheckpoint {
             checkpoint,
             piece: Vec::new(alloc),
         }
+    }
+
+    /// Lets go what is left of the generation before.
+    pub fn let_go(&mut self)
+        ensures { (self.new.checkpoint ≡ self.old.checkpoint) × (self.new.piece.items ≡ self.old.piece.items) }
+    {
+        self.checkpoint.let_go();
     }
 
     /// Gives the next bytes: at most `most` of them, or 189,004 where that is more; none where all was given, and else some. They are `piece` then. At an `Err`

@@ -12,6 +12,7 @@ mod asking;
 mod blocks;
 mod bound;
 mod call;
+mod following;
 mod heir;
 mod hosted;
 mod hosted_checkpoint;

@@ -24,7 +24,7 @@ fn contents_of(replica: &Replica) -> Result<Contents, AllocError>
     let Ok(contents) = replica.journal().contents() else {
         return Err(AllocError);
     };
-    if contents.entries().len() > MOST_KEYS {
+    if !contents.is_within(MOST_KEYS) {
         drop(contents);
         return Err(AllocError);
     }
@@ -36,8 +36,9 @@ fn bytes_of(alloc: Global, contents: &Contents) -> Result<Vec<u8>, AllocError>
     requires { length (entries contents.now) < 2 ^ 32 }
     ensures { IfOk result (λ bytes. bytes.items ≡ contents_bytes contents.now) }
 {
+    let map = contents.listing()?;
     let mut sink = Noted::new(Vec::new(alloc));
-    match write_contents(contents, &mut sink) {
+    match write_contents(&map, &mut sink) {
         Ok(()) => Ok(sink.into_inner()),
         Err(_) => Err(AllocError),
     }

@@ -12,7 +12,7 @@ impl Hosted {
     ghost use Rattle.ep_hosted.specs.Telling.{HasPrepared, HasTold, IsUnprepared, IsWithheld, MayTell};
 
     /// Whether answers are held.
-    fn is_holding(&self) -> bool
+    pub(crate) fn is_holding(&self) -> bool
         ensures some { result ≡ true → self.now.held ≢ None }
         ensures none { result ≡ false → self.now.held ≡ None }
     {
@@ -20,7 +20,7 @@ impl Hosted {
     }
 
     /// Whether all that it took is lent, or on the disk.
-    fn is_all_lent(&self) -> bool
+    pub(crate) fn is_all_lent(&self) -> bool
         ensures yes { result ≡ true → IsQuiet self.now.node }
         ensures no { result ≡ false → ¬ IsQuiet self.now.node }
     {

@@ -1,6 +1,6 @@
 //! The node of the next generation.
 
-ghost use Rattle.std.specs.Prelude.{IfOk, IfErr};
+ghost use Rattle.std.specs.Prelude.{◌≡◌, IfOk, IfErr};
 ghost use Rattle.std.specs.Option.{option_map};
 ghost use Rattle.ep_hosted.specs.Succeeding.{IsBegunBy, IsUnbegunBy};
 
@@ -57,10 +57,11 @@ impl Hosted {
         Ok(())
     }
 
-    /// The node of the next generation in this one's place, once a seal was executed and all is on the disk, of this heir's cluster and number.
-    /// With no log it is new; with the bytes of one, as after a start, it goes on from there. It begins with the map as it is: where nobody else
-    /// has what this generation opened with, nothing of that is copied. Its log names the heir's digest, by which the host finds the opening
-    /// again, and comes first, as after `open`. And the file that it opened with, which shares its entries: to be written when there is time.
+    /// The node of the next generation in this one's place, once a seal was executed and all is on the disk, of this
+    /// heir's cluster and number. With no log it is new; with the bytes of one, as after a start, it goes on from
+    /// there. It begins with the map as it is, of which nothing is copied. Its log names the heir's digest, by which
+    /// the host finds the opening again, and comes first, as after `open`. And the file that it opened with, which
+    /// shares its entries: to be written when there is time.
     ///
     /// At `Err` this node is gone; its log is on the disk. Ask `check_succeed` before: then only memory can be refused, or the log.
     pub fn succeed(
@@ -94,16 +95,30 @@ impl Hosted {
         ensures err { IfErr result (IsLost self heir.now (option_map (λ v. v.items) log)) }
     {
         let (file, _device) = self.into_node().into_closing(alloc, heir.cluster);
-        let Ok(file) = file else {
+        let Ok(mut file) = file else {
             drop(log);
             return Err(SucceedFault::Memory);
         };
         match begun(alloc, heir, &file, log) {
-            Ok(next) => Ok((next, file)),
+            Ok(mut next) => {
+                next.carry_on(alloc, &mut file);
+                Ok((next, file))
+            }
             Err(fault) => {
                 drop(file);
                 Err(fault)
             }
+        }
+    }
+
+    /// The same node, whose map goes on with what was done of putting the file's layers into the listing.
+    fn carry_on(&mut self, alloc: Global, file: &mut OpeningFile)
+        requires { self.old.node.replica.opening ≡ file.old.opening }
+        ensures same { self.new ≡ self.old }
+        ensures file { file.new ≡ file.old }
+    {
+        if let Ok(opening) = file.hand_on(alloc) {
+            self.node.carry_on(opening);
         }
     }
 }

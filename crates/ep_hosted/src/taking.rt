@@ -33,6 +33,8 @@ fn refusal_of(due: &Due) -> Option<TakeFault>
         | Due::State
         | Due::Ready { .. }
         | Due::Handled(_)
+        | Due::Interfering(_)
+        | Due::Read { .. }
         | Due::Malformed(_) => None,
     }
 }

@@ -3,7 +3,7 @@ use Rattle.std.proofs.Common.{◌≡◌, ℕ, ◌≤◌, length, ltb, nltb→le,
 use Rattle.std.specs.List.{AllByRecursion}
 use Rattle.ep_base.specs.Sameness.{is_noop}
 use Rattle.ep_base.specs.Versions.{knows, IsVoteIn}
-use Rattle.ep_base.specs.Commands.{Command, Noop, Get, Put, Del, Swap, Cas, Seal, Opaque}
+use Rattle.ep_base.specs.Commands.{Command, Noop, Get, Put, Del, Swap, Cas, Seal, Opaque, Tx}
 use Rattle.ep_base.specs.declared.decree.Decree.{Decree}
 use Rattle.ep_base.specs.declared.reply.Answer.TheVariants.{Lost, Told}
 use Rattle.ep_base.specs.declared.version.Version.{Version}
@@ -70,6 +70,7 @@ short_written m (Swap p) all h =
 short_written m (Cas k x y) all h = absurd (true≢false (sym h))
 short_written m (Seal x) all h = all
 short_written m (Opaque p b) all h = all
+short_written m (Tx is) all h = absurd (true≢false (sym h))
 
 seals_nothing : (c : Command) → knows V2 c ≡ true → sealed_by c ≡ None
 seals_nothing Noop h = refl
@@ -80,6 +81,7 @@ seals_nothing (Swap p) h = refl
 seals_nothing (Cas k x y) h = refl
 seals_nothing (Seal x) h = absurd (true≢false (sym h))
 seals_nothing (Opaque p b) h = refl
+seals_nothing (Tx is) h = refl
 
 early_under : (o : Option (List ℕ)) (m : Contents) (c : Command) → o ≡ None → AreShort m → knows V2 c ≡ true → IsEarly (after_under o m c)
 early_under None m c e all h = record { unsealed = seals_nothing c h; short = short_written m c all h }
@@ -101,6 +103,7 @@ answer_open m (Swap p) all h = told_early (value_at m p.first) (all p.first)
 answer_open m (Cas k x y) all h = told_early (value_at m k) (all k)
 answer_open m (Seal x) all h = tt
 answer_open m (Opaque p b) all h = absurd (true≢false (sym h))
+answer_open m (Tx is) all h = absurd (true≢false (sym h))
 
 answer_early : (s : Store) (c : Command) → IsEarly s → knows V2 c ≡ true → IsEarlyAnswer (answer s c)
 answer_early s c e h = subst (λ (o : Option (List ℕ)). IsEarlyAnswer (cond (is_noop c) Lost (Told (reply_under o s.contents c)))) (sym e.unsealed) (answer_open s.contents c e.short h)

@@ -23,3 +23,4 @@ pub mod Upgraded
 pub mod UpgradedLogs
 pub mod Fronts
 pub mod OneFrame
+pub mod Carrying

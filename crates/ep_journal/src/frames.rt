@@ -108,6 +108,7 @@ fn upgrade_each(alloc: Global, frames: &mut [Frame]) -> Result<(), AllocError>
 }
 
 /// The frames of what the change sends, in this version, as those of the entry with this mark.
+#[inline(always)]
 pub(crate) fn written(
     alloc: Global,
     cell: &Cell<'_>,
@@ -133,6 +134,7 @@ pub(crate) fn written(
 }
 
 /// The frames of what is told, by rising receiver.
+#[inline(always)]
 fn written_of(alloc: Global, cell: &Cell<'_>, told: &Told<'_>) -> Result<Frames, AllocError>
     requires number { 1 ≤ told.now.mark.number }
     requires fit { AllFit cell.now.me (to_receivers cell.now.faults cell.now.me cell.now.instance told.now.to (says told.now.telling.now.instance told.now.telling.now.said)) }
@@ -147,6 +149,7 @@ fn written_of(alloc: Global, cell: &Cell<'_>, told: &Told<'_>) -> Result<Frames,
 }
 
 /// The frame of what is told to this replica alone.
+#[inline(always)]
 fn written_to(
     alloc: Global,
     cell: &Cell<'_>,

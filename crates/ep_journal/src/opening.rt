@@ -49,8 +49,8 @@ impl Opening {
         ensures in_range { IsOk result ↔ ((since ≤ 281474976710655) × (length (entries contents) ≤ 4000000000)) }
         ensures value { IfOk result (λ o. o ≡ record { contents = contents; since = since }) }
     {
-        let keys = contents.entries().len();
-        if since > 281_474_976_710_655 || keys > 4_000_000_000 {
+        let few = contents.is_within(4_000_000_000);
+        if since > 281_474_976_710_655 || !few {
             return Err(OutOfRange);
         }
         Ok(Opening { contents, since })
@@ -62,6 +62,34 @@ impl Opening {
         ensures in_range { length (entries self.now.contents) ≤ 4000000000 }
     {
         &self.contents
+    }
+
+    /// Makes one listing of the contents, where there are layers (see `Contents::settle`). As it was at an `Err`.
+    pub fn settle(&mut self) -> Result<(), AllocError>
+        ensures { self.new ≡ self.old }
+    {
+        self.contents.settle()
+    }
+
+    /// What the keys have, and no longer the stamp.
+    pub(crate) fn into_contents(self) -> Contents
+        ensures { result ≡ self.contents }
+    {
+        let Opening { contents, since: _ } = self;
+        contents
+    }
+
+    /// The same again, which takes what was done of putting layers into the listing with it (see
+    /// `Contents::hand_on`). As it was at an `Err`.
+    pub fn hand_on(&mut self, alloc: Global) -> Result<Opening, AllocError>
+        ensures result { IfOk result (λ o. o ≡ self.old) }
+        ensures same { self.new ≡ self.old }
+    {
+        let contents = self.contents.hand_on(alloc)?;
+        Ok(Opening {
+            contents,
+            since: self.since,
+        })
     }
 
     /// The stamp that the clocks go on from.

@@ -1,8 +1,6 @@
 //! What a replica is, by its parts, and its step.
 
 ghost use Rattle.std.specs.Prelude.{◌≡◌, ◌<◌, ◌≤◌, ◌+◌, ℕ, None, Some, Ok, IfOk, IfErr, IfSome, IsErr, OnErr};
-ghost use Rattle.std.specs.FinMap.{entries};
-ghost use Rattle.ep_exec.specs.Sorting.{IsBad};
 ghost use Rattle.ep_phase.specs.Changes.{change_of, sends};
 ghost use Rattle.ep_base.specs.Instances.{instance_of};
 ghost use Rattle.ep_base.specs.Versions.{highest_for};
@@ -28,7 +26,7 @@ use crate::step_fault::StepFault;
 use crate::taken::Taken;
 use crate::versioned::check_version;
 use ep_base::{Command, InstanceId, ReplicaId, Version, spared_by};
-use ep_exec::{Contents, ContentsFault, Executed, Store};
+use ep_exec::{Executed, Store};
 use ep_frame::Frame;
 use ep_phase::{Cell, Lead, next_instance};
 use ep_space::{Space, SpaceFull};
@@ -42,6 +40,14 @@ pub struct Parts {
     pub lead: Lead,
     pub executed: Executed,
     pub store: Store,
+}
+
+/// What a replica is, without its map.
+#[derive(Drop)]
+pub struct Rest {
+    pub space: Space,
+    pub lead: Lead,
+    pub executed: Executed,
 }
 
 /// The next instance for the command: `SpaceFull` if the least free number is above the highest that the version has for it.
@@ -87,10 +93,9 @@ impl Parts {
         })
     }
 
-    /// What the keys of the map have, and no longer the rest.
-    pub fn into_contents(self) -> Result<Contents, ContentsFault>
-        ensures ok { IfOk result (λ c. c ≡ self.store.contents) }
-        ensures refused { IfErr result (λ fault. IsBad (entries self.store.contents) fault) }
+    /// The map, and the rest.
+    pub fn into_store(self) -> (Store, Rest)
+        ensures { result.0 ≡ self.store }
     {
         let Parts {
             me: _,
@@ -99,10 +104,12 @@ impl Parts {
             executed,
             store,
         } = self;
-        drop(space);
-        drop(lead);
-        drop(executed);
-        store.into_contents()
+        let rest = Rest {
+            space,
+            lead,
+            executed,
+        };
+        (store, rest)
     }
 
     /// Takes the step of an event with this mark: what came of it; or why it is refused. `None` as the mark says that the
@@ -148,6 +155,7 @@ impl Parts {
     }
 
     /// Proposes the command in the next instance; the proposal names this replica as the spared one, if it names one.
+    #[inline(always)]
     fn propose(
         &mut self,
         alloc: Global,
@@ -170,6 +178,7 @@ impl Parts {
     }
 
     /// Handles the frame, if it is for this replica and all that it names is of the cluster.
+    #[inline(always)]
     fn handle(
         &mut self,
         alloc: Global,

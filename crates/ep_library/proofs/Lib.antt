@@ -1,2 +1,4 @@
 mod Auditing
+mod Bodies
 mod Heirs
+mod Heads

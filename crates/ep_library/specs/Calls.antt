@@ -1,7 +1,8 @@
 -- What each call does, by its status and by the replica before and after it, if any.
-use Rattle.std.specs.Prelude.{◌≡◌, ◌⊎◌, ℕ, List, Option, None, Result, Ok, Err}
+use Rattle.std.specs.Prelude.{◌≡◌, ◌⊎◌, ℕ, List, Option, None, Result, Ok, Err, true, false}
 use Rattle.std.specs.Option.{MatchOption}
-use Rattle.ep_base.specs.Parts.{IsInRange}
+use Rattle.ep_base.specs.Commands.{Tx}
+use Rattle.ep_base.specs.Parts.{is_tx, items_in, IsInRange}
 use Rattle.ep_base.specs.declared.command.Command.{Command}
 use Rattle.ep_base.specs.declared.command_fault.CommandFault.{CommandFault}
 use Rattle.ep_hosted.specs.Hosting.{Hosting}
@@ -37,6 +38,13 @@ Asks status old call command new = ((¬ IsNamed call) × Stays out_of_range stat
 -- there was no memory for the command, it is none, or it is proposed
 abbrev pub Proposes : ℕ → Option Hosting → Call → Command → Option Hosting → Type 0
 Proposes status old call command new = Stays memory status old new ⊎ (((¬ IsInRange command) × Stays out_of_range status old new) ⊎ Asks status old call command new)
+
+-- there was no memory for the command over many keys, the body is none of one, or it is proposed
+abbrev pub ProposesMany : ℕ → Option Hosting → Call → List ℕ → Option Hosting → Type 0
+ProposesMany status old call body new =
+    Stays memory status old new
+    ⊎ (((is_tx body ≡ false) × Stays out_of_range status old new)
+    ⊎ ((is_tx body ≡ true) × Asks status old call (Tx (items_in body)) new))
 
 -- a frame was handled, or wasn't, as the status says
 abbrev pub Hears : ℕ → Hosting → List ℕ → Hosting → Type 0

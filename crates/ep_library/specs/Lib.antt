@@ -10,3 +10,8 @@ pub mod Opening
 pub mod Patience
 pub mod Succeeding
 pub mod Bound
+pub mod Framing
+pub mod Fronts
+pub mod Planning
+pub mod Pairs
+pub mod References

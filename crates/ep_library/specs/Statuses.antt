@@ -73,6 +73,15 @@ too_short = 39
 abbrev pub refused : ℕ
 refused = 41
 
+abbrev pub bad_frame : ℕ
+bad_frame = 14
+
+abbrev pub opening_short : ℕ
+opening_short = 60
+
+abbrev pub opening_wrong : ℕ
+opening_wrong = 62
+
 -- why no command was made
 abbrev pub command_status : CommandFault → ℕ
 command_status command.Memory = memory

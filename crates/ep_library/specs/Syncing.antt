@@ -2,6 +2,7 @@
 use Rattle.std.specs.Prelude.{◌≡◌, ◌⊎◌, ℕ, Bool, true, false, List, length, Option, Some, None}
 use Rattle.std.specs.Vec.{vec_ptr}
 use Rattle.ep_hosted.specs.Asking.{HasAsked, IsUnasked}
+use Rattle.ep_hosted.specs.Following.{HasFollowed, HasPreparedAll}
 use Rattle.ep_hosted.specs.Hosting.{Buffer, Hosting}
 use Rattle.ep_hosted.specs.Telling.{HasAnswered, HasLent, HasNoted, HasPrepared, HasTold, IsUnnoted, IsUnprepared, IsUntold, IsWithheld}
 use Rattle.ep_hosted.specs.declared.ask_fault.AskFault.{AskFault}
@@ -56,6 +57,17 @@ Answers status h told most k run = ((status ≡ done) × HasAnswered h told most
 -- answers were made of what is lent, and are held; or none were, as the status says
 abbrev pub Prepares : ℕ → Hosting → ℕ → ℕ → Hosting → Type 0
 Prepares status h told most k = ((status ≡ done) × HasPrepared h told most k) ⊎ ((fault : PrepareFault) × (status ≡ prepare_status fault) × IsUnprepared h fault × (k ≡ h))
+
+-- the same, and what the entries did
+abbrev pub TellsAll : ℕ → Hosting → ℕ → ℕ → Hosting → Lent → Type 0
+TellsAll status h told most k run =
+    ((status ≡ done) × HasFollowed h told most k × IsRun k.answers run)
+    ⊎ ((fault : TellFault) × (status ≡ tell_status fault) × IsUntold h fault × (k ≡ h))
+
+abbrev pub PreparesAll : ℕ → Hosting → ℕ → ℕ → Hosting → Type 0
+PreparesAll status h told most k =
+    ((status ≡ done) × HasPreparedAll h told most k)
+    ⊎ ((fault : PrepareFault) × (status ≡ prepare_status fault) × IsUnprepared h fault × (k ≡ h))
 
 -- they are told; or there are none; or they aren't yet, as the status says
 abbrev pub Releases : ℕ → Hosting → Hosting → Lent → Type 0

@@ -23,9 +23,9 @@ use std::alloc::{AllocError, Global};
 /// Which library this is: EP_VERSION of the header that it was built with. Another number is another set of calls.
 #[unsafe(no_mangle)]
 pub extern "C" fn ep_version() -> u32
-    ensures { result ≡ 6 }
+    ensures { result ≡ 8 }
 {
-    6
+    8
 }
 
 /// Copies the text, if there is room, with this status.

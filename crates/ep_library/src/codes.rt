@@ -153,7 +153,7 @@ fn open_status(fault: OpenFault) -> u8
 }
 
 /// Why an opening isn't read.
-fn opening_status(fault: OpeningFault) -> u8
+pub(crate) fn opening_status(fault: OpeningFault) -> u8
     ensures value { result ≡ opening_status fault }
     ensures fault { result ≢ 0 }
 {

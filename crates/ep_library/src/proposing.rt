@@ -1,10 +1,11 @@
 //! What clients ask for.
 
 ghost use Rattle.std.specs.Prelude.{◌≡◌, Some, IfOk, OnErr};
-ghost use Rattle.ep_base.specs.Commands.{Get, Put, Del, Swap, Cas, Opaque, Seal};
+ghost use Rattle.ep_base.specs.Commands.{Get, Put, Del, Swap, Cas, Opaque, Seal, Tx};
+ghost use Rattle.ep_base.specs.Parts.{items_in, is_tx};
 ghost use Rattle.ep_base.specs.Views.{touched};
 ghost use Rattle.ep_library.specs.Arguments.{named_in, part, touched_in, IsNamed};
-ghost use Rattle.ep_library.specs.Calls.{proposal, Asks, Made, Proposes};
+ghost use Rattle.ep_library.specs.Calls.{proposal, Asks, Made, Proposes, ProposesMany};
 
 use crate::call::Call;
 use crate::codes::command_status;
@@ -207,6 +208,18 @@ pub extern "C" fn ep_propose_opaque(
         call,
         Command::opaque(alloc, &touching_of(touching), body),
     )
+}
+
+/// A client asks for a command over 1 to 1,024 keys, as the body says (docs/FORMATS.md, section 1): what each of some
+/// keys must have, which at most 16 keys the answer tells, and what is written. If each has what it must, all is
+/// written, and the answer is EP_REPLY_DONE; else nothing is, and it is EP_REPLY_UNDONE. `ep_write_tx` writes bodies.
+/// Statuses are those of `ep_propose_get`; EP_OUT_OF_RANGE, too: the body is none.
+#[tactic(auto, using(crate::proofs::Bodies::proposes_many))]
+#[unsafe(no_mangle)]
+pub extern "C" fn ep_propose_tx(alloc: Global, handle: &mut Handle, call: &Call, body: &[u8]) -> u8
+    ensures { ProposesMany result handle.old.value call.now body.now handle.new.value }
+{
+    propose(alloc, handle, call, Command::tx(alloc, body))
 }
 
 /// A client closes the map, and so ends the generation. The value is yours: say who takes part in the next one. Statuses are those of `ep_propose_get`.

@@ -46,7 +46,7 @@ fn open_place(fault: OpenFault) -> Place
 }
 
 /// Where an opening isn't read.
-fn opening_place(fault: OpeningFault) -> Place
+pub(crate) fn opening_place(fault: OpeningFault) -> Place
     ensures { result ≡ opening_place fault }
 {
     match fault {

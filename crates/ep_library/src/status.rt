@@ -30,6 +30,18 @@ pub(crate) const NOT_MINE: u8 = 13;
 pub(crate) const BAD_FRAME: u8 = 14;
 /// The seen stamp is too far ahead, or the replica's stamps are used up.
 pub(crate) const STAMP_FULL: u8 = 15;
+/// No generation is in the folder.
+pub(crate) const NO_GENERATION: u8 = 16;
+/// The replica is new, and generation `at` is in its folder.
+pub(crate) const HAS_GENERATION: u8 = 17;
+/// The replica has begun the log of generation `at`, whose opening isn't in its folder: it mustn't act in any up to it.
+pub(crate) const LEFT: u8 = 18;
+/// The opening is of a generation before `at`, which is in the folder.
+pub(crate) const OLDER: u8 = 19;
+/// Generation `at` has another opening in the folder.
+pub(crate) const OTHER_FILE: u8 = 20;
+/// Of this generation the folder has neither an opening nor a reference that can be read, and a later one rests on it.
+pub(crate) const BROKEN: u8 = 21;
 /// There is no replica: none was opened, it was freed, or another thread is in a call with it, which has to be kept out.
 pub(crate) const NO_REPLICA: u8 = 32;
 /// There is a replica already.

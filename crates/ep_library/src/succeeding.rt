@@ -184,12 +184,16 @@ fn succeeds(
     }
 }
 
-/// Goes on in the next generation, once a seal was executed here, all is on the disk and nothing is lent: the replica is then that of the next generation, new, with the map as it
-/// is, of which nothing is copied where nobody else has what this generation opened with. ep_ready lends the header of its log, which names the digest. Behind `checkpoint` is then the
-/// file that it opened with, which shares the map: write it when there is time, and free it before the next ep_succeed, which has to copy the map else. After a start the replica goes
-/// through the generations since the last whole opening by this call, with the log of each. EP_NO_REPLICA, EP_UNSYNCED; EP_NOT_SEALED; EP_LAST_GENERATION; EP_HAS_CHECKPOINT; EP_LOG_EXISTS;
-/// EP_OUT_OF_RANGE: `digest` hasn't 32 bytes, `replicas` isn't 3, 5 or 7, or `replica` isn't below it: all is as it was. EP_MEMORY, and each other status from EP_NO_LOG on, by which the log is
-/// refused, where `place` becomes the numbers that the status names: the replica, or the checkpoint, may be gone; what was said to be on the disk is there, and ep_open goes on from it.
+/// Goes on in the next generation, once a seal was executed here, all is on the disk and nothing is lent: the replica
+/// is then that of the next generation, new, with the map as it is, of which nothing is copied. ep_ready lends the
+/// header of its log, which names the digest. Behind `checkpoint` is then the file that it opened with, which shares
+/// the map, and what is left of this generation: write it, and let the rest go (ep_checkpoint_rest), when there is
+/// time. After a start the replica goes through the generations since the last whole opening by this call, with the
+/// log of each. EP_NO_REPLICA, EP_UNSYNCED; EP_NOT_SEALED; EP_LAST_GENERATION; EP_HAS_CHECKPOINT; EP_LOG_EXISTS;
+/// EP_OUT_OF_RANGE: `digest` hasn't 32 bytes, `replicas` isn't 3, 5 or 7, or `replica` isn't below it: all is as it
+/// was. EP_MEMORY, and each other status from EP_NO_LOG on, by which the log is refused, where `place` becomes the
+/// numbers that the status names: the replica, or the checkpoint, may be gone; what was said to be on the disk is
+/// there, and ep_open goes on from it.
 #[unsafe(no_mangle)]
 pub extern "C" fn ep_succeed(
     alloc: Global,
@@ -254,6 +258,24 @@ pub extern "C" fn ep_checkpoint_next(
             let status = gives(alloc, &mut begun, most, piece);
             *checkpoint = CheckpointHandle::of(begun);
             status
+        }
+    }
+}
+
+/// Lets go what is left of the generation before, which goes with the checkpoint else: when there is time, and by any
+/// thread, since that takes the longer the more the generation did. EP_DONE, also where nothing is left;
+/// EP_NO_CHECKPOINT.
+#[unsafe(no_mangle)]
+pub extern "C" fn ep_checkpoint_rest(alloc: Global, checkpoint: &mut CheckpointHandle) -> u8
+    ensures { WithCheckpoint result checkpoint.old.value checkpoint.new.value (λ h k. (result ≡ 0) × (k.checkpoint ≡ h.checkpoint)) }
+{
+    let held = mem::replace(checkpoint, CheckpointHandle::empty());
+    match held.into_box(alloc) {
+        None => NO_CHECKPOINT,
+        Some(mut begun) => {
+            begun.let_go();
+            *checkpoint = CheckpointHandle::of(begun);
+            DONE
         }
     }
 }

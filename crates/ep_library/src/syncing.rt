@@ -2,7 +2,8 @@
 
 ghost use Rattle.std.specs.Prelude.{◌≡◌, ◌≢◌, option_copied};
 ghost use Rattle.ep_library.specs.Calls.{Unless};
-ghost use Rattle.ep_library.specs.Syncing.{flag, Answers, Asks, IsRun, IsRunOf, Lends, Prepares, Releases, Syncs};
+ghost use Rattle.ep_library.specs.Syncing.{flag, Answers, Asks, IsRun, IsRunOf};
+ghost use Rattle.ep_library.specs.Syncing.{Lends, Prepares, PreparesAll, Releases, Syncs, TellsAll};
 
 use crate::codes::{ask_status, prepare_status, sync_status, tell_status};
 use crate::lent::Lent;
@@ -13,7 +14,7 @@ use std::alloc::Global;
 use std::mem;
 
 /// What C is told of whether something is so.
-fn flag(is_so: bool) -> u8
+pub(crate) fn flag(is_so: bool) -> u8
     ensures { result ≡ flag is_so }
 {
     if is_so { 1 } else { 0 }
@@ -166,6 +167,74 @@ pub extern "C" fn ep_prepare(alloc: Global, handle: &mut Handle, told: u32, most
         None => NO_REPLICA,
         Some(mut hosted) => {
             let status = prepares(alloc, &mut hosted, told, most);
+            *handle = Handle::of(hosted);
+            status
+        }
+    }
+}
+
+/// The replica tells what waits, and what its entries did.
+fn tells_all(alloc: Global, hosted: &mut Hosted, told: u32, most: u8, bytes: &mut Lent) -> u8
+    ensures told { TellsAll result hosted.old told most hosted.new bytes.new }
+    ensures untold { result ≢ 0 → bytes.new ≡ bytes.old }
+{
+    match hosted.answer_all(alloc, told, most) {
+        Ok(()) => {
+            point(hosted.answers(), bytes);
+            DONE
+        }
+        Err(fault) => tell_status(fault),
+    }
+}
+
+/// Lends what `ep_answers` lends, and behind it one answer more, of kind 13: what the entries after the first `told`
+/// proposed and executed, in their order. For each proposal 1, the client (4), the request (4) and the instance that it
+/// took (3); for each instance that was executed, whoever proposed its command, 2, the instance (3), the command as a
+/// proposal has it (op, lengths of both keys and of the body, and these), and its answer as a receipt has it. Statuses
+/// are those of `ep_answers`.
+#[unsafe(no_mangle)]
+pub extern "C" fn ep_answers_all(
+    alloc: Global,
+    handle: &mut Handle,
+    told: u32,
+    most: u8,
+    answers: &mut Lent,
+) -> u8
+    ensures told { Unless result handle.old.value handle.new.value (λ h k. TellsAll result h told most k answers.new) }
+    ensures untold { result ≢ 0 → answers.new ≡ answers.old }
+{
+    let held = mem::replace(handle, Handle::empty());
+    match held.into_box(alloc) {
+        None => NO_REPLICA,
+        Some(mut hosted) => {
+            let status = tells_all(alloc, &mut hosted, told, most, answers);
+            *handle = Handle::of(hosted);
+            status
+        }
+    }
+}
+
+/// The replica makes answers, with what its entries did, and holds them.
+fn prepares_all(alloc: Global, hosted: &mut Hosted, told: u32, most: u8) -> u8
+    ensures { PreparesAll result hosted.old told most hosted.new }
+{
+    match hosted.prepare_all(alloc, told, most) {
+        Ok(()) => DONE,
+        Err(fault) => prepare_status(fault),
+    }
+}
+
+/// Makes what `ep_answers_all` would lend if all that was taken were on the disk, and holds it until `ep_told` asks for
+/// it then, as `ep_prepare` does, whose statuses it has.
+#[unsafe(no_mangle)]
+pub extern "C" fn ep_prepare_all(alloc: Global, handle: &mut Handle, told: u32, most: u8) -> u8
+    ensures { Unless result handle.old.value handle.new.value (λ h k. PreparesAll result h told most k) }
+{
+    let held = mem::replace(handle, Handle::empty());
+    match held.into_box(alloc) {
+        None => NO_REPLICA,
+        Some(mut hosted) => {
+            let status = prepares_all(alloc, &mut hosted, told, most);
             *handle = Handle::of(hosted);
             status
         }

@@ -1,11 +1,12 @@
 -- What interferes with a command that only reads one key interferes with whatever else does.
-use Rattle.std.proofs.Common.{◌≡◌, ℕ, ◌⊎◌, inl, inr, List, [], ◌∷◌, Bool, true, false, refl, sym, ap, subst, ◌∙◌, Contains}
+use Rattle.std.proofs.Common.{◌≡◌, ℕ, ◌⊎◌, inl, inr, List, [], ◌∷◌, Bool, true, false, refl, sym, subst, ◌∙◌, Contains}
 use Rattle.std.proofs.lemmas.Bool.{false≢true, cases_Bool}
 use Rattle.std.specs.Prelude.{◌||◌}
 use Rattle.ep_base.specs.Attributes.{same_list}
-use Rattle.ep_base.specs.Commands.{Command, Noop, Get, Put, Del, Swap, Cas, Seal, Opaque}
-use Rattle.ep_base.specs.Interference.{listed, keys_of, is_seal, interfere, Meets, Parts, Interferes}
+use Rattle.ep_base.specs.Commands.{Command}
+use Rattle.ep_base.specs.Interference.{keys_of, is_seal, interfere, Meets, Parts, Interferes}
 use Rattle.ep_base.specs.Sameness.{is_noop}
+use Rattle.ep_base.proofs.Footprints.{reader_no_seal}
 use Rattle.ep_base.proofs.Interfering.{Decides-has_key, Decides-interfere, Interferes-symmetric, Interferes-noop}
 use Rattle.ep_base.proofs.Same.{Decides-same_list}
 use Rattle.ep_rules.proofs.Sealing.{noop_is}
@@ -29,14 +30,7 @@ record OneKey (c : Command) : Type 0 where
   no_seal : is_seal c ≡ false
 
 one_key : (c : Command) → ReadsOneKey c → OneKey c
-one_key Noop r = absurd (false≢true r.only)
-one_key (Get k) r = record { key = k; keys = refl; no_seal = refl }
-one_key (Put k v) r = absurd (false≢true r.only)
-one_key (Del k) r = absurd (false≢true r.only)
-one_key (Swap p) r = absurd (false≢true r.only)
-one_key (Cas k x n) r = absurd (false≢true r.only)
-one_key (Seal v) r = absurd (false≢true r.only)
-one_key (Opaque p b) r = record { key = p.first; keys = ap (λ o. p.first ∷ listed o) r.one; no_seal = refl }
+one_key c r = record { key = r.one.0; keys = r.one.1; no_seal = reader_no_seal c r.only }
 
 only_one : (k l : List ℕ) → Contains (l ∷ []) k → k ≡ l
 only_one k l c = go (same_list k l) refl ((Decides-has_key k (l ∷ [])).1 c)

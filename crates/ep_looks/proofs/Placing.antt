@@ -1,13 +1,14 @@
 -- Reads put among operations.
 use Rattle.std.proofs.Common.{◌≡◌, ◌⊎◌, ℕ, zero, suc, ◌<◌, ◌≤◌, Bool, true, false, cond, eqb, inl, inr, Option, Some, None, List, [], ◌∷◌, length, take, get_or, refl, sym, ap, subst, ◌∙◌, arith}
 use Rattle.std.proofs.lemmas.Bool.{false≢true, eqb-true, eq-eqb, ne_eqb}
-use Rattle.ep_base.specs.Commands.{Command, Noop, Get, Put, Del, Swap, Cas, Seal, Opaque}
+use Rattle.ep_base.specs.Commands.{Command, Noop, Get, Put, Del, Swap, Cas, Seal, Opaque, Tx}
 use Rattle.ep_base.specs.Interference.{only_reads}
 use Rattle.ep_base.specs.Places.{place, Has}
 use Rattle.ep_base.specs.declared.reply.Reply.TheVariants.{Absent}
 use Rattle.ep_base.proofs.Places.{Has-empty, Has-first, Has-head, Has-tail, Has-cons_cases}
 use Rattle.ep_rules.specs.OneMap.{Contents, Store, after, after_under, reply, replies, after_commands}
 use Rattle.ep_rules.specs.Operations.{Operation, instances_of, commands_of}
+use Rattle.ep_rules.proofs.Commuting.{tx_reads}
 use Rattle.ep_rules.proofs.Places.{Once}
 use Rattle.ep_looks.specs.WithReads.{Item, Done, Asked, operations_in, reads_in, commands_in, place_done, place_asked}
 
@@ -23,6 +24,7 @@ read_under None m (Swap p) e = absurd (false≢true e)
 read_under None m (Cas k x n) e = absurd (false≢true e)
 read_under None m (Seal v) e = absurd (false≢true e)
 read_under None m (Opaque p b) e = refl
+read_under None m (Tx is) e = ap (λ (x : Contents). record { contents = x; seal = None }) (tx_reads m is e)
 
 read_stays : (s : Store) (c : Command) → only_reads c ≡ true → after s c ≡ s
 read_stays s c e = read_under s.seal s.contents c e

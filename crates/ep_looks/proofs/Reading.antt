@@ -2,7 +2,7 @@
 use Rattle.std.proofs.Common.{◌≡◌, ℕ, ◌<◌, ◌≤◌, true, false, Option, is_some, List, ◌++◌, take, drop, refl, sym, ap, subst, ◌∙◌, arith}
 use Rattle.std.proofs.lemmas.Bool.{false≢true}
 use Rattle.std.proofs.lemmas.List.{take-append-drop}
-use Rattle.ep_base.specs.Commands.{Command, Noop, Get, Put, Del, Swap, Cas, Seal, Opaque}
+use Rattle.ep_base.specs.Commands.{Command, Noop, Get, Put, Del, Swap, Cas, Seal, Opaque, Tx}
 use Rattle.ep_base.specs.Interference.{only_reads}
 use Rattle.ep_base.specs.Places.{Has}
 use Rattle.ep_base.specs.Quorums.{size}
@@ -33,6 +33,7 @@ reader_real (Swap p) e = refl
 reader_real (Cas k x n) e = refl
 reader_real (Seal v) e = refl
 reader_real (Opaque p b) e = refl
+reader_real (Tx is) e = refl
 
 -- an instance that isn't in the history of a run isn't in that of a beginning
 pub out_of_part : (base : Store) (f n : ℕ) (acts : List Act) (i : ℕ) → (Has (instances_of (history_of base f acts)) i → ⊥) → Has (instances_of (history_of base f (take n acts))) i → ⊥

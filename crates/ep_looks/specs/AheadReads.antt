@@ -1,6 +1,6 @@
 -- Reads whose looks may be ahead of the run: at states that replicas reached by steps which the run hasn't, as a crash took them.
 use Rattle.std.specs.Prelude.{◌≡◌, ℕ, ◌<◌, ◌≤◌, true, List, take, Option, Some, is_some}
-use Rattle.ep_base.specs.Interference.{key_of, only_reads}
+use Rattle.ep_base.specs.Interference.{keys_of, only_reads}
 use Rattle.ep_rules.specs.Closing.{store_of}
 use Rattle.ep_base.specs.Places.{Has}
 use Rattle.ep_base.specs.Quorums.{size}
@@ -53,6 +53,6 @@ AheadWholeReadsAreLinearizable =
     (base : Store) (f : ℕ) → 0 < f → size f ≤ 256 → (acts : List Act) → IsRun f (opening base) acts → (r : Read) (seen : ℕ → Option State) → IsAheadWholeRead base f acts r seen →
     reply (store_of (world_at base f acts r.asked) r.reader) r.command ≡ reply (after_commands base (commands_of (history_at base f acts r.asked))) r.command
 
--- What a look finds for a read of one key rests on the key alone, so one answer serves all reads of the key.
+-- What a look finds for a command that only reads rests on its keys alone, so one answer serves all reads of the same keys.
 abbrev pub LooksGoByKey : Type 0
-LooksGoByKey = (s : State) (c d : Command) → ReadsOneKey c → ReadsOneKey d → key_of c ≡ key_of d → found s c ≡ found s d
+LooksGoByKey = (s : State) (c d : Command) → only_reads c ≡ true → only_reads d ≡ true → keys_of c ≡ keys_of d → found s c ≡ found s d

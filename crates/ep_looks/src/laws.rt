@@ -82,7 +82,7 @@ pub fn ahead_whole_reads_are_linearizable()
     ensures { AheadWholeReadsAreLinearizable }
 {}
 
-/// What a look finds for a read of one key rests on the key alone: one answer serves all reads of the key.
+/// What a look finds for a command that only reads rests on its keys alone: one answer serves all reads of the same keys.
 pub fn looks_go_by_key()
     ensures { LooksGoByKey }
 {}

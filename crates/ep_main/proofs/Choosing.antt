@@ -1,5 +1,5 @@
 -- What the words after the options of a run ask for.
-use Rattle.std.proofs.Common.{◌≡◌, inl, inr, ℕ, Option, Some, None, Result, Ok, Err, IfOk, codes, refl, sym, subst, ◌∙◌}
+use Rattle.std.proofs.Common.{◌≡◌, inl, inr, ℕ, Option, Some, None, Result, Ok, IfOk, codes, refl, sym, subst, ◌∙◌}
 use Rattle.clap.specs.Walk.{Text}
 use Rattle.ep_script.specs.Grammar.{number_in}
 use Rattle.ep_main.specs.Options.{Options}

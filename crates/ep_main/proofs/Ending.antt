@@ -1,5 +1,5 @@
 -- How the program ends, by what became of what it was asked for.
-use Rattle.std.proofs.Common.{◌≡◌, ◌⊎◌, ◌≤◌, ◌<◌, inl, inr, ℕ, Bool, List, Option, Result, Ok, Err, sym, ◌∙◌, subst, map, string_bytes, arith, ⊎_elim}
+use Rattle.std.proofs.Common.{◌≡◌, ◌≤◌, ◌<◌, inl, inr, ℕ, Bool, List, Option, Result, Ok, Err, sym, ◌∙◌, subst, map, string_bytes, arith, ⊎_elim}
 use Rattle.std.proofs.lemmas.Bool.{cases_lt}
 use Rattle.ep_base.specs.Versions.{version_number}
 use Rattle.std.specs.Prelude.{IfOk, IsErrAnd}
@@ -7,7 +7,7 @@ use Rattle.ep_base.specs.Devices.{FailsAsTold}
 use Rattle.ep_main.specs.Faults.{of_bundle, is_read, is_write}
 use Rattle.ep_cli.proofs.Printed.{not_made, put_to}
 use Rattle.ep_cli.specs.Endings.{IsOutOfMemory, TellsWhy}
-use Rattle.ep_cli.specs.Outputs.{Input, Output, Wrote, WroteNothing, became}
+use Rattle.ep_cli.specs.Outputs.{Input, Output, WroteNothing, became}
 use Rattle.ep_cli.specs.Printed.{IsPut, IsTextPut, Makes}
 use Rattle.ep_cli.specs.declared.made.Made.{Made}
 use Rattle.ep_bundle.specs.Journals.{Contents, Finds}
@@ -21,7 +21,7 @@ use Rattle.ep_main.specs.Upgrades.{IsThirdFault, IsUnread, IsUnupgraded, Reads, 
 use Rattle.ep_bundle.specs.declared.bundle_fault.BundleFault.{BundleFault}
 use Rattle.ep_bundle.specs.declared.bundle_fault.BundleFault.TheVariants as bundle
 use Rattle.ep_main.specs.Runs.{Plays, Leaves, Runs, RunsInThreads, Finishes, Rewrites, StopsBy, Prints, Does, Concludes, Declines, Ends, IsVerdict, Replays, Emits, Audits, Upgrades, Versions, Helps, IsHelped, Performs, version_line}
-use Rattle.ep_main.specs.Words.{AskFor, IsAsked, IsChainAsked, IsHelp, IsHelpTask, IsTask}
+use Rattle.ep_main.specs.Words.{AskFor, IsHelp, IsHelpTask, IsTask}
 use Rattle.ep_main.specs.declared.target.Target.{Target}
 use Rattle.ep_main.specs.declared.target.Target.TheVariants.{Second, Third}
 use Rattle.ep_main.specs.declared.job.Job.{Job}
@@ -31,6 +31,7 @@ use Rattle.ep_main.specs.declared.asked.Asked.TheVariants.{Replay, Run, Audit, U
 use Rattle.ep_cli.specs.declared.words_fault.WordsFault.{WordsFault}
 use Rattle.ep_cli.specs.declared.words_fault.WordsFault.TheVariants as declined
 use Rattle.ep_main.specs.declared.asked.Emit.TheVariants.{Report, Bundle}
+use Rattle.ep_main.specs.declared.form.Form.{Form}
 use Rattle.ep_main.specs.Options.{Options}
 use Rattle.ep_main.specs.declared.engine_fault.EngineFault.{EngineFault}
 use Rattle.ep_main.specs.declared.engine_fault.EngineFault.TheVariants.{Script, BadBundle, NotARun, Memory, Read, Write}
@@ -42,15 +43,15 @@ pub record IsTold (outcome : Result Status EngineFault) (reader : Input) (out : 
   pub read : FailsAsTold is_read outcome reader.had_failed reader.failed
   pub written : FailsAsTold is_write outcome out.had_failed out.failed
 
-replays : (outcome : Result Status EngineFault) (status : Status) (zs : List ℕ) (reader : Input) (out fault : Output) → Plays outcome zs out → IsTold outcome reader out → Concludes outcome status fault → Replays status zs reader out fault
-replays (Ok said) status zs reader out fault p t c = subst (λ s. Replays s zs reader out fault) (sym (c.0 ∙ p.0)) (p.1, c.1)
-replays (Err (Script line)) status zs reader out fault p t c =
-    subst (λ s. Replays s zs reader out fault) (sym c.0) (record { line = line; script = p.0; silent = p.1; told = c.1 })
-replays (Err (BadBundle offset)) status zs reader out fault p t c = absurd p
-replays (Err (NotARun replica entry)) status zs reader out fault p t c = absurd p
-replays (Err Memory) status zs reader out fault p t c = subst (λ s. Replays s zs reader out fault) (sym c.0) (record { silent = p; told = c.1 })
-replays (Err Read) status zs reader out fault p t c = subst (λ s. Replays s zs reader out fault) (sym c.0) (inl ((t.read, t.written), p, c.1))
-replays (Err Write) status zs reader out fault p t c = subst (λ s. Replays s zs reader out fault) (sym c.0) (inr ((t.read, t.written), c.1))
+replays : (form : Form) (outcome : Result Status EngineFault) (status : Status) (zs : List ℕ) (reader : Input) (out fault : Output) → Plays form outcome zs out → IsTold outcome reader out → Concludes outcome status fault → Replays form status zs reader out fault
+replays form (Ok said) status zs reader out fault p t c = subst (λ s. Replays form s zs reader out fault) (sym (c.0 ∙ p.0)) (p.1, c.1)
+replays form (Err (Script line)) status zs reader out fault p t c =
+    subst (λ s. Replays form s zs reader out fault) (sym c.0) (record { line = line; script = p.0; silent = p.1; told = c.1 })
+replays form (Err (BadBundle offset)) status zs reader out fault p t c = absurd p
+replays form (Err (NotARun replica entry)) status zs reader out fault p t c = absurd p
+replays form (Err Memory) status zs reader out fault p t c = subst (λ s. Replays form s zs reader out fault) (sym c.0) (record { silent = p; told = c.1 })
+replays form (Err Read) status zs reader out fault p t c = subst (λ s. Replays form s zs reader out fault) (sym c.0) (inl ((t.read, t.written), p, c.1))
+replays form (Err Write) status zs reader out fault p t c = subst (λ s. Replays form s zs reader out fault) (sym c.0) (inr ((t.read, t.written), c.1))
 
 emits : (outcome : Result Status EngineFault) (status : Status) (zs : List ℕ) (reader : Input) (out fault : Output) → Leaves outcome zs out → IsTold outcome reader out → Concludes outcome status fault → Emits status zs reader out fault
 emits (Ok said) status zs reader out fault p t c = subst (λ s. Emits s zs reader out fault) (sym (c.0 ∙ p.0)) (p.1, c.1)
@@ -78,20 +79,20 @@ runs options (Err Memory) status zs reader out fault p t c = subst (λ s. RunsIn
 runs options (Err Read) status zs reader out fault p t c = subst (λ s. RunsInThreads options s zs reader out fault) (sym c.0) (inl ((t.read, t.written), p, c.1))
 runs options (Err Write) status zs reader out fault p t c = subst (λ s. RunsInThreads options s zs reader out fault) (sym c.0) (inr ((t.read, t.written), c.1))
 
-audits : (outcome : Result Status EngineFault) (status : Status) (zs : List ℕ) (reader : Input) (out fault : Output) → Finishes outcome zs out → IsTold outcome reader out → Concludes outcome status fault → Audits status zs reader out fault
-audits (Ok Done) status zs reader out fault p t c = subst (λ s. Audits s zs reader out fault) (sym c.0) (p, c.1)
-audits (Ok AuditRefused) status zs reader out fault p t c = subst (λ s. Audits s zs reader out fault) (sym c.0) (p, c.1)
-audits (Ok Refused) status zs reader out fault p t c = absurd p.says
-audits (Ok OutOfMemory) status zs reader out fault p t c = absurd p.says
-audits (Ok Failed) status zs reader out fault p t c = absurd p.says
-audits (Err (Script line)) status zs reader out fault p t c = absurd p
-audits (Err (BadBundle offset)) status zs reader out fault p t c =
-    subst (λ s. Audits s zs reader out fault) (sym c.0) (inl (record { offset = offset; read = p.0; silent = p.1; told = c.1 }))
-audits (Err (NotARun replica entry)) status zs reader out fault p t c =
-    subst (λ s. Audits s zs reader out fault) (sym c.0) (inr (record { replica = replica; entry = entry; read = p.0; silent = p.1; told = c.1 }))
-audits (Err Memory) status zs reader out fault p t c = subst (λ s. Audits s zs reader out fault) (sym c.0) (record { silent = p; told = c.1 })
-audits (Err Read) status zs reader out fault p t c = subst (λ s. Audits s zs reader out fault) (sym c.0) (inl ((t.read, t.written), p, c.1))
-audits (Err Write) status zs reader out fault p t c = subst (λ s. Audits s zs reader out fault) (sym c.0) (inr ((t.read, t.written), c.1))
+audits : (form : Form) (outcome : Result Status EngineFault) (status : Status) (zs : List ℕ) (reader : Input) (out fault : Output) → Finishes form outcome zs out → IsTold outcome reader out → Concludes outcome status fault → Audits form status zs reader out fault
+audits form (Ok Done) status zs reader out fault p t c = subst (λ s. Audits form s zs reader out fault) (sym c.0) (p, c.1)
+audits form (Ok AuditRefused) status zs reader out fault p t c = subst (λ s. Audits form s zs reader out fault) (sym c.0) (p, c.1)
+audits form (Ok Refused) status zs reader out fault p t c = absurd p.says
+audits form (Ok OutOfMemory) status zs reader out fault p t c = absurd p.says
+audits form (Ok Failed) status zs reader out fault p t c = absurd p.says
+audits form (Err (Script line)) status zs reader out fault p t c = absurd p
+audits form (Err (BadBundle offset)) status zs reader out fault p t c =
+    subst (λ s. Audits form s zs reader out fault) (sym c.0) (inl (record { offset = offset; read = p.0; silent = p.1; told = c.1 }))
+audits form (Err (NotARun replica entry)) status zs reader out fault p t c =
+    subst (λ s. Audits form s zs reader out fault) (sym c.0) (inr (record { replica = replica; entry = entry; read = p.0; silent = p.1; told = c.1 }))
+audits form (Err Memory) status zs reader out fault p t c = subst (λ s. Audits form s zs reader out fault) (sym c.0) (record { silent = p; told = c.1 })
+audits form (Err Read) status zs reader out fault p t c = subst (λ s. Audits form s zs reader out fault) (sym c.0) (inl ((t.read, t.written), p, c.1))
+audits form (Err Write) status zs reader out fault p t c = subst (λ s. Audits form s zs reader out fault) (sym c.0) (inr ((t.read, t.written), c.1))
 
 upgrades :
     (target : Target) (outcome : Result Status EngineFault) (status : Status) (zs : List ℕ) (reader : Input) (out fault : Output) → Rewrites target outcome zs out → IsTold outcome reader out → Concludes outcome status fault → Upgrades target status zs reader out fault
@@ -126,10 +127,10 @@ versions (Err Write) status out fault p t c = subst (λ s. Versions s out fault)
 pub performs :
     (asked : Asked) (outcome : Result Status EngineFault) (status : Status) (zs : List ℕ) (reader : Input) (out fault : Output) → Does asked outcome zs out →
     IsTold outcome reader out → Concludes outcome status fault → Performs asked status zs reader out fault
-performs (Replay Report) outcome status zs reader out fault d t c = replays outcome status zs reader out fault d t c
+performs (Replay (Report form)) outcome status zs reader out fault d t c = replays form outcome status zs reader out fault d t c
 performs (Replay Bundle) outcome status zs reader out fault d t c = emits outcome status zs reader out fault d t c
 performs (Run options) outcome status zs reader out fault d t c = runs options outcome status zs reader out fault d t c
-performs Audit outcome status zs reader out fault d t c = audits outcome status zs reader out fault d t c
+performs (Audit form) outcome status zs reader out fault d t c = audits form outcome status zs reader out fault d t c
 performs (Upgrade target) outcome status zs reader out fault d t c = upgrades target outcome status zs reader out fault d t c
 performs Version outcome status zs reader out fault d t c = versions outcome status out fault d t.written c
 performs (Help text) outcome status zs reader out fault d t c = helps outcome status (string_bytes text) out fault d t.written c
@@ -137,7 +138,7 @@ performs (Help text) outcome status zs reader out fault d t c = helps outcome st
 pub is_helped : (asked : Asked) (status : Status) (zs : List ℕ) (reader : Input) (out fault : Output) → IsHelp asked → Performs asked status zs reader out fault → IsHelped status out fault
 is_helped (Replay emit) status zs reader out fault help p = absurd help
 is_helped (Run options) status zs reader out fault help p = absurd help
-is_helped Audit status zs reader out fault help p = absurd help
+is_helped (Audit form) status zs reader out fault help p = absurd help
 is_helped (Upgrade target) status zs reader out fault help p = absurd help
 is_helped Version status zs reader out fault help p = absurd help
 is_helped (Help text) Done zs reader out fault help p = ((string_bytes text, p.0), p.1)
@@ -168,8 +169,8 @@ stops_more P Q Write out more stop = stop
 -- Of a bundle that isn't read nothing is made.
 
 pub finishes :
-    (b : BundleFault) (r : Result Made EngineFault) (zs : List ℕ) (place : ℕ) (left : Option (List ℕ)) → IsErrAnd r (λ e. e ≡ of_bundle b) → Finds (Reads zs) (Err b) place left → Makes (Does Audit) r zs
-finishes b r zs place left is found = not_made (Does Audit) r (of_bundle b) zs is (λ out silent. finds (Reads zs) b place left out found silent)
+    (form : Form) (b : BundleFault) (r : Result Made EngineFault) (zs : List ℕ) (place : ℕ) (left : Option (List ℕ)) → IsErrAnd r (λ e. e ≡ of_bundle b) → Finds (Reads zs) (Err b) place left → Makes (Does (Audit form)) r zs
+finishes form b r zs place left is found = not_made (Does (Audit form)) r (of_bundle b) zs is (λ out silent. finds (Reads zs) b place left out found silent)
 
 pub second_not_read :
     (b : BundleFault) (r : Result Made EngineFault) (zs : List ℕ) (place : ℕ) (left : Option (List ℕ)) → IsErrAnd r (λ e. e ≡ of_bundle b) → Finds (ReadsEarly zs) (Err b) place left →
@@ -208,10 +209,10 @@ third_refused e zs c rs end out read early late silent = ⊎_elim
 
 -- where the output fails, nothing more is promised
 free : (asked : Asked) (zs : List ℕ) (out : Output) → Does asked (Err Write) zs out
-free (Replay Report) zs out = tt
+free (Replay (Report form)) zs out = tt
 free (Replay Bundle) zs out = tt
 free (Run options) zs out = tt
-free Audit zs out = tt
+free (Audit form) zs out = tt
 free (Upgrade target) zs out = tt
 free Version zs out = tt
 free (Help text) zs out = tt
@@ -231,7 +232,7 @@ version_put asked r zs out is put = subst (λ (a : Asked). Does a r zs out) (sym
 abbrev pub IsHelpText : Asked → List ℕ → Type 0
 IsHelpText (Replay emit) bytes = ⊥
 IsHelpText (Run options) bytes = ⊥
-IsHelpText Audit bytes = ⊥
+IsHelpText (Audit form) bytes = ⊥
 IsHelpText (Upgrade target) bytes = ⊥
 IsHelpText Version bytes = ⊥
 IsHelpText (Help text) bytes = bytes ≡ string_bytes text
@@ -243,7 +244,7 @@ help_put asked other bytes r zs out is text put = subst (λ (a : Asked). Does a 
     go : (a : Asked) → IsHelpText a bytes → Does a r zs out
     go (Replay emit) h = absurd h
     go (Run options) h = absurd h
-    go Audit h = absurd h
+    go (Audit form) h = absurd h
     go (Upgrade target) h = absurd h
     go Version h = absurd h
     go (Help text) h = text_put (string_bytes text) r out (subst (λ (l : List ℕ). IsTextPut Write l Done r out) h put)
@@ -272,10 +273,10 @@ declines declined.Memory status out fault told silent = subst (λ s. Declines s 
 
 -- nothing is done of what is asked for, since memory was refused
 out_of_memory : (want : Asked) (zs : List ℕ) (reader : Input) (out fault : Output) (words : List (List ℕ)) → AskFor want words → IsOutOfMemory out fault → Performs want OutOfMemory zs reader out fault
-out_of_memory (Replay Report) zs reader out fault words ask memory = memory
+out_of_memory (Replay (Report form)) zs reader out fault words ask memory = memory
 out_of_memory (Replay Bundle) zs reader out fault words ask memory = memory
 out_of_memory (Run options) zs reader out fault words ask memory = memory
-out_of_memory Audit zs reader out fault words ask memory = memory
+out_of_memory (Audit form) zs reader out fault words ask memory = memory
 out_of_memory (Upgrade target) zs reader out fault words ask memory = memory
 out_of_memory Version zs reader out fault words ask memory = memory
 out_of_memory (Help text) zs reader out fault words ask memory = absurd ask
@@ -311,9 +312,9 @@ ends_as task other status reader out fault is ends = subst (λ t. EndsBy t statu
 
 -- of the same names
 pub files_as :
-    {S : Type 0} (text : S → List ℕ) (slice files : List S) (status : Status) (out fault : Output) → slice ≡ files → ChainsFiles (map text slice) status out fault →
-    ChainsFiles (map text files) status out fault
-files_as {S} text slice files status out fault same chains = subst (λ (l : List S). ChainsFiles (map text l) status out fault) same chains
+    (form : Form) {S : Type 0} (text : S → List ℕ) (slice files : List S) (status : Status) (out fault : Output) → slice ≡ files → ChainsFiles form (map text slice) status out fault →
+    ChainsFiles form (map text files) status out fault
+files_as form {S} text slice files status out fault same chains = subst (λ (l : List S). ChainsFiles form (map text l) status out fault) same chains
 
 pub works_asked :
     (task : Job) (want : Asked) (status : Status) (zs : List ℕ) (reader : Input) (out fault : Output) → task ≡ Streams want → Works task status zs reader out fault →
@@ -322,19 +323,19 @@ works_asked task want status zs reader out fault is works = subst (λ t. Works t
 
 pub task_helped : (task : Job) (status : Status) (zs : List ℕ) (reader : Input) (out fault : Output) → IsHelpTask task → Works task status zs reader out fault → IsHelped status out fault
 task_helped (Streams asked) status zs reader out fault help works = is_helped asked status zs reader out fault help works
-task_helped (Chain files) status zs reader out fault help works = absurd help
+task_helped (Chain form files) status zs reader out fault help works = absurd help
 
 pub task_done :
     (task : Job) (words : List (List ℕ)) (status : Status) (zs : List ℕ) (reader : Input) (out fault : Output) → IsTask task words → Works task status zs reader out fault →
     tasks.Does words status zs reader out fault
 task_done (Streams asked) words status zs reader out fault is works = inl (asked, is, works)
-task_done (Chain files) words status zs reader out fault is works = inr (map string_bytes files.items, is, works)
+task_done (Chain form files) words status zs reader out fault is works = inr (form, map string_bytes files.items, is, works)
 
 pub task_ends :
     (task : Job) (words : List (List ℕ)) (status : Status) (reader : Input) (out fault : Output) → IsTask task words → EndsBy task status reader out fault →
     EndsSo words status reader out fault
 task_ends (Streams asked) words status reader out fault is ends = inl ends
-task_ends (Chain files) words status reader out fault is ends = inr (map string_bytes files.items, is, ends.0, ends.1)
+task_ends (Chain form files) words status reader out fault is ends = inr (form, map string_bytes files.items, is, ends.0, ends.1)
 
 -- on a fault output that stayed as it was before
 pub concludes_from :

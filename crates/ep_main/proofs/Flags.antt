@@ -1,5 +1,5 @@
 -- Whether a device failed, as a fault tells it that was made of another.
-use Rattle.std.proofs.Common.{◌≡◌, ℕ, Bool, true, false, List, Result, Ok, Err, refl, sym, ◌∙◌, ap, subst}
+use Rattle.std.proofs.Common.{◌≡◌, ℕ, Bool, false, List, Result, Ok, Err, refl, sym, ◌∙◌, ap}
 use Rattle.std.specs.Prelude.{◌||◌, IfErr, IsErrAnd}
 use Rattle.ep_base.specs.Devices.{FailsAsTold}
 use Rattle.ep_bundle.specs.Reading.{is_read_failed as is_bundle_read}
@@ -16,6 +16,7 @@ use Rattle.ep_main.specs.Runs.{IsVerdict}
 use Rattle.ep_run.specs.declared.ran.Ran.{Ran}
 use Rattle.ep_main.specs.declared.asked.Emit.{Emit}
 use Rattle.ep_main.specs.declared.asked.Emit.TheVariants.{Report, Bundle}
+use Rattle.ep_main.specs.declared.form.Form.{Form}
 use Rattle.ep_main.specs.declared.engine_fault.EngineFault.{EngineFault}
 use Rattle.ep_cli.specs.declared.status.Status.{Status}
 use Rattle.ep_cli.specs.declared.status.Status.TheVariants.{Done, AuditRefused, Refused, OutOfMemory, Failed}
@@ -65,19 +66,19 @@ pub bundle_unwritten : {A : Type 0} (b : BundleFault) (r : Result A EngineFault)
 bundle_unwritten b r is = as_err (of_bundle b) r is (write_of_bundle b)
 
 -- what an audit says is a verdict
-pub says_verdict : (journals : Collected) (receipts : List Receipt) (status : Status) (text : List ℕ) → Says journals receipts status text → IsVerdict status
-says_verdict journals receipts Done text says = tt
-says_verdict journals receipts AuditRefused text says = tt
-says_verdict journals receipts Refused text says = absurd says
-says_verdict journals receipts OutOfMemory text says = absurd says
-says_verdict journals receipts Failed text says = absurd says
+pub says_verdict : (form : Form) (journals : Collected) (receipts : List Receipt) (status : Status) (text : List ℕ) → Says form journals receipts status text → IsVerdict status
+says_verdict form journals receipts Done text says = tt
+says_verdict form journals receipts AuditRefused text says = tt
+says_verdict form journals receipts Refused text says = absurd says
+says_verdict form journals receipts OutOfMemory text says = absurd says
+says_verdict form journals receipts Failed text says = absurd says
 
 pub run_verdict : (emit : Emit) (ran : Ran) (status : Status) (text : List ℕ) → SaysOfRun emit ran status text → IsVerdict status
-run_verdict Report ran Done text says = tt
-run_verdict Report ran AuditRefused text says = tt
-run_verdict Report ran Refused text says = absurd says
-run_verdict Report ran OutOfMemory text says = absurd says
-run_verdict Report ran Failed text says = absurd says
+run_verdict (Report form) ran Done text says = tt
+run_verdict (Report form) ran AuditRefused text says = tt
+run_verdict (Report form) ran Refused text says = absurd says
+run_verdict (Report form) ran OutOfMemory text says = absurd says
+run_verdict (Report form) ran Failed text says = absurd says
 run_verdict Bundle ran Done text says = tt
 run_verdict Bundle ran AuditRefused text says = tt
 run_verdict Bundle ran Refused text says = absurd says

@@ -3,6 +3,7 @@ mod Linked
 mod Choosing
 pub mod Ending
 mod Flags
+mod Judged
 mod Making
 mod Ranges
 mod Rewriting

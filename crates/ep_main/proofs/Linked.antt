@@ -1,5 +1,5 @@
 -- Files of a chain, and what is said of them.
-use Rattle.std.proofs.Common.{◌≡◌, ◌+◌, ◌≤◌, ◌<◌, inl, inr, ℕ, zero, suc, List, [], ◌∷◌, ◌++◌, Option, Some, None, Result, Ok, Err, IfOk, length, get_or, map, slice_index_or, take, take_all, append-nil, append_assoc, codes, sym, ap, ap₂, subst, ◌∙◌, arith}
+use Rattle.std.proofs.Common.{◌≡◌, ◌+◌, ◌≤◌, ◌<◌, inl, inr, ℕ, zero, suc, List, [], ◌∷◌, ◌++◌, Option, Some, None, Result, Ok, Err, IfOk, length, get_or, map, take, take_all, append-nil, append_assoc, codes, sym, ap, ap₂, subst, ◌∙◌, arith}
 use Rattle.std.specs.Prelude.{IfErr, OnOk}
 use Rattle.std.proofs.lemmas.List.Elements.{All-append}
 use Rattle.std.proofs.lemmas.Option.{slice_get-get_or, slice_get_within}
@@ -17,11 +17,12 @@ use Rattle.ep_audit.specs.declared.chain_fault.ChainFault.{ChainFault}
 use Rattle.ep_audit.specs.Verdicts.{summary_of}
 use Rattle.ep_audit.specs.declared.verdict.Verdict.{Verdict}
 use Rattle.ep_main.specs.ChainLines.{IsRefusal, IsUnreadLate}
-use Rattle.ep_main.specs.Chains.{AreRead, Chains, EndsOfFiles, IsBadFile, IsOfBytes, IsLinkOf, IsNoFile, IsNoLink, IsStopped, IsToldChain, IsWritten, ReadsLate, SaysOfChain, chain_text, file_line, life_text, link_text, links_text}
+use Rattle.ep_main.specs.Chains.{AreRead, Chains, EndsOfFiles, IsBadFile, IsOfBytes, IsLinkOf, IsNoFile, IsNoLink, IsStopped, IsWritten, ReadsLate, SaysOfChain, chain_text, file_line, life_text, link_text, links_text}
 use Rattle.ep_report.specs.Lives.{life_in}
-use Rattle.ep_cli.specs.Endings.{IsOutOfMemory, TurnsAway}
+use Rattle.ep_cli.specs.Endings.{TurnsAway}
 use Rattle.ep_cli.specs.Outputs.{Output, Told, WroteNothing}
 use Rattle.ep_main.specs.Runs.{Concludes}
+use Rattle.ep_main.specs.declared.form.Form.{Form}
 use Rattle.ep_main.specs.declared.engine_fault.EngineFault.{EngineFault}
 use Rattle.ep_main.specs.declared.engine_fault.EngineFault.TheVariants.{Memory}
 use Rattle.ep_cli.specs.declared.status.Status.{Status}
@@ -86,15 +87,15 @@ links_more (suc k) (x ∷ ls) (y ∷ vs) l dl v dv less same at_l at_v =
 -- What was written, by what the audit says.
 
 pub chains_written :
-    (links : List ChainLink) (status result : Status) (text : List ℕ) (out fault : Output) → SaysOfChain links status text → IsWritten status text result out fault → Chains links result out fault
-chains_written links Done result text out fault says (inl (is, wrote, kept, silent, same)) =
-    subst (λ s. Chains links s out fault) (sym is) (record { text = text; says = says; wrote = wrote; silent = silent })
-chains_written links AuditRefused result text out fault says (inl (is, wrote, kept, silent, same)) =
-    subst (λ s. Chains links s out fault) (sym is) (record { text = text; says = says; wrote = wrote; silent = silent })
-chains_written links Refused result text out fault says (inl h) = absurd says
-chains_written links OutOfMemory result text out fault says (inl h) = absurd says
-chains_written links Failed result text out fault says (inl h) = absurd says
-chains_written links status result text out fault says (inr (is, failed, told)) = subst (λ s. Chains links s out fault) (sym is) (failed, told)
+    (form : Form) (links : List ChainLink) (status result : Status) (text : List ℕ) (out fault : Output) → SaysOfChain form links status text → IsWritten status text result out fault → Chains form links result out fault
+chains_written form links Done result text out fault says (inl (is, wrote, kept, silent, same)) =
+    subst (λ s. Chains form links s out fault) (sym is) (record { text = text; says = says; wrote = wrote; silent = silent })
+chains_written form links AuditRefused result text out fault says (inl (is, wrote, kept, silent, same)) =
+    subst (λ s. Chains form links s out fault) (sym is) (record { text = text; says = says; wrote = wrote; silent = silent })
+chains_written form links Refused result text out fault says (inl h) = absurd says
+chains_written form links OutOfMemory result text out fault says (inl h) = absurd says
+chains_written form links Failed result text out fault says (inl h) = absurd says
+chains_written form links status result text out fault says (inr (is, failed, told)) = subst (λ s. Chains form links s out fault) (sym is) (failed, told)
 
 -- a fault's generation is one of them
 
@@ -104,20 +105,20 @@ fault_less ls k (parted l p v c fault reached before good is) = slice_get_within
 fault_less ls k (unclosed verdicts v count linked there none more) = omega arith
 
 pub ends_written :
-    (links : List ChainLink) (status result : Status) (text : List ℕ) (out fault : Output) → SaysOfChain links status text → IsWritten status text result out fault → EndsOfFiles result out fault
-ends_written links Done result text out fault says (inl (is, wrote, kept, silent, same)) = subst (λ s. EndsOfFiles s out fault) (sym is) (kept, same)
-ends_written links AuditRefused result text out fault says (inl (is, wrote, kept, silent, same)) = subst (λ s. EndsOfFiles s out fault) (sym is) (kept, same)
-ends_written links Refused result text out fault says (inl h) = absurd says
-ends_written links OutOfMemory result text out fault says (inl h) = absurd says
-ends_written links Failed result text out fault says (inl h) = absurd says
-ends_written links status result text out fault says (inr (is, failed, told)) = subst (λ s. EndsOfFiles s out fault) (sym is) (inl (failed, told))
+    (form : Form) (links : List ChainLink) (status result : Status) (text : List ℕ) (out fault : Output) → SaysOfChain form links status text → IsWritten status text result out fault → EndsOfFiles result out fault
+ends_written form links Done result text out fault says (inl (is, wrote, kept, silent, same)) = subst (λ s. EndsOfFiles s out fault) (sym is) (kept, same)
+ends_written form links AuditRefused result text out fault says (inl (is, wrote, kept, silent, same)) = subst (λ s. EndsOfFiles s out fault) (sym is) (kept, same)
+ends_written form links Refused result text out fault says (inl h) = absurd says
+ends_written form links OutOfMemory result text out fault says (inl h) = absurd says
+ends_written form links Failed result text out fault says (inl h) = absurd says
+ends_written form links status result text out fault says (inr (is, failed, told)) = subst (λ s. EndsOfFiles s out fault) (sym is) (inl (failed, told))
 
 -- Memory was refused.
 
-pub chains_none : (links : List ChainLink) (e : EngineFault) (result : Status) (out fault : Output) → e ≡ Memory → Concludes (Err e) result fault → WroteNothing out → Chains links result out fault
-chains_none links e result out fault is concludes silent =
+pub chains_none : (form : Form) (links : List ChainLink) (e : EngineFault) (result : Status) (out fault : Output) → e ≡ Memory → Concludes (Err e) result fault → WroteNothing out → Chains form links result out fault
+chains_none form links e result out fault is concludes silent =
     let why : Concludes (Err Memory) result fault = subst (λ (x : EngineFault). Concludes (Err x) result fault) is concludes in
-    subst (λ s. Chains links s out fault) (sym why.0) (record { silent = silent; told = why.1 })
+    subst (λ s. Chains form links s out fault) (sym why.0) (record { silent = silent; told = why.1 })
 
 pub ends_none : (e : EngineFault) (result : Status) (out fault : Output) → e ≡ Memory → Concludes (Err e) result fault → out.failed ≡ out.had_failed → EndsOfFiles result out fault
 ends_none e result out fault is concludes kept =

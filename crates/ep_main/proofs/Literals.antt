@@ -15,10 +15,12 @@ use Rattle.clap.specs.Kinds.{IsAmong}
 use Rattle.clap.specs.Takes.{takes}
 use Rattle.clap.proofs.OnLiterals.{clap_on_literals}
 use Rattle.ep_main.specs.Options.{Options, plain}
-use Rattle.ep_main.specs.Words.{AskFor, AskForHelp, Chooses, IsAsked, IsMet, IsShown, AuditWords, IsAuditTask, IsBundleAudit, IsChainAudit, IsHelpTask, IsMetTask, IsShownTask, IsTask, MetReplay, MetRun, MetAudit, MetChain, MetUpgrade, Names, NamesHost, NamesTarget, RunWords, audit_words, emit_word, epaxos, host_word, met, met_audit, met_to, met_with, run_words}
+use Rattle.ep_main.specs.Words.{AskFor, AskForHelp, Chooses, IsAsked, IsMet, IsShown, AuditWords, IsAuditIn, IsAuditTask, IsBundleAudit, IsChainAudit, IsChainFound, IsHelpTask, IsMetTask, IsShownTask, IsTask, MetReplay, MetRun, MetAudit, MetChain, MetUpgrade, Names, NamesForm, NamesHost, NamesTarget, RunWords, audit_words, emit_word, epaxos, host_word, met, met_audit, met_to, met_with, run_words}
 use Rattle.ep_main.specs.declared.asked.Asked.{Asked}
 use Rattle.ep_main.specs.declared.asked.Asked.TheVariants.{Replay, Run, Audit, Upgrade, Version, Help}
 use Rattle.ep_main.specs.declared.asked.Emit.TheVariants.{Report, Bundle}
+use Rattle.ep_main.specs.declared.form.Form.{Form}
+use Rattle.ep_main.specs.declared.form.Form.TheVariants.{Lines, Json}
 use Rattle.ep_main.specs.declared.asked.Emit.{Emit}
 use Rattle.ep_main.specs.declared.host.Host.{Host}
 use Rattle.ep_main.specs.declared.host.Host.TheVariants.{Lock, Ring}
@@ -61,6 +63,26 @@ takes_bundle : (name : Text) → takes epaxos (name ∷ codes "replay" ∷ codes
 unfolding clap_on_literals
 takes_bundle name = refl
 
+takes_json : (name : Text) → takes epaxos (name ∷ codes "replay" ∷ codes "--emit" ∷ codes "json" ∷ []) ≡ true
+unfolding clap_on_literals
+takes_json name = refl
+
+takes_json_equals : (name : Text) → takes epaxos (name ∷ codes "replay" ∷ codes "--emit=json" ∷ []) ≡ true
+unfolding clap_on_literals
+takes_json_equals name = refl
+
+met_json : (name : Text) → met (subcommand_of epaxos (name ∷ codes "replay" ∷ codes "--emit" ∷ codes "json" ∷ [])) ≡ Some (codes "replay", Some (codes "json"))
+unfolding clap_on_literals
+met_json name = refl
+
+met_json_equals : (name : Text) → met (subcommand_of epaxos (name ∷ codes "replay" ∷ codes "--emit=json" ∷ [])) ≡ Some (codes "replay", Some (codes "json"))
+unfolding clap_on_literals
+met_json_equals name = refl
+
+takes_audit_json : (name : Text) → takes epaxos (name ∷ codes "audit" ∷ codes "--emit" ∷ codes "json" ∷ []) ≡ true
+unfolding clap_on_literals
+takes_audit_json name = refl
+
 takes_audit : (name : Text) → takes epaxos (name ∷ codes "audit" ∷ []) ≡ true
 unfolding clap_on_literals
 takes_audit name = refl
@@ -77,15 +99,19 @@ met_bundle : (name : Text) → met (subcommand_of epaxos (name ∷ codes "replay
 unfolding clap_on_literals
 met_bundle name = refl
 
--- the words after the options of `audit`, where none is given
-abbrev no_words : AuditWords
-no_words = record { chain = Some (codes "false"); files = None }
+-- the words after the options of `audit`, where at most `--emit` is given
+abbrev words_of_audit : Option Text → AuditWords
+words_of_audit emit = record { chain = Some (codes "false"); emit = emit; files = None }
 
-met_bare : (name : Text) → met_audit (subcommand_of epaxos (name ∷ codes "audit" ∷ [])) ≡ Some (codes "audit", no_words)
+met_bare : (name : Text) → met_audit (subcommand_of epaxos (name ∷ codes "audit" ∷ [])) ≡ Some (codes "audit", words_of_audit None)
 unfolding clap_on_literals
 met_bare name = refl
 
-no_chain : no_words.chain ≡ Some (codes "true") → ⊥
+met_audit_json : (name : Text) → met_audit (subcommand_of epaxos (name ∷ codes "audit" ∷ codes "--emit" ∷ codes "json" ∷ [])) ≡ Some (codes "audit", words_of_audit (Some (codes "json")))
+unfolding clap_on_literals
+met_audit_json name = refl
+
+no_chain : Some (codes "false") ≡ Some (codes "true") → ⊥
 no_chain bad = let e : Some (codes "false") ≡ Some (codes "true") = bad in cc
 
 takes_upgrade : (name : Text) → takes epaxos (name ∷ codes "upgrade" ∷ []) ≡ true
@@ -123,15 +149,18 @@ takes_host Ring name = refl
 
 takes_emitting : (emit : Emit) (name : Text) → takes epaxos (name ∷ codes "run" ∷ codes "--emit" ∷ emit_word emit ∷ []) ≡ true
 unfolding clap_on_literals
-takes_emitting Report name = refl
+takes_emitting (Report Lines) name = refl
+takes_emitting (Report Json) name = refl
 takes_emitting Bundle name = refl
 
 takes_both :
     (host : Host) (emit : Emit) (name : Text) → takes epaxos (name ∷ codes "run" ∷ codes "--host" ∷ host_word host ∷ codes "--emit" ∷ emit_word emit ∷ []) ≡ true
 unfolding clap_on_literals
-takes_both Lock Report name = refl
+takes_both Lock (Report Lines) name = refl
+takes_both Lock (Report Json) name = refl
 takes_both Lock Bundle name = refl
-takes_both Ring Report name = refl
+takes_both Ring (Report Lines) name = refl
+takes_both Ring (Report Json) name = refl
 takes_both Ring Bundle name = refl
 
 -- the words after `--host` and `--emit`, and none after the others
@@ -151,7 +180,8 @@ met_host Ring name = refl
 met_emitting :
     (emit : Emit) (name : Text) → met_with (subcommand_of epaxos (name ∷ codes "run" ∷ codes "--emit" ∷ emit_word emit ∷ [])) ≡ Some (codes "run", words_with None (Some (emit_word emit)))
 unfolding clap_on_literals
-met_emitting Report name = refl
+met_emitting (Report Lines) name = refl
+met_emitting (Report Json) name = refl
 met_emitting Bundle name = refl
 
 met_both :
@@ -159,9 +189,11 @@ met_both :
     met_with (subcommand_of epaxos (name ∷ codes "run" ∷ codes "--host" ∷ host_word host ∷ codes "--emit" ∷ emit_word emit ∷ []))
     ≡ Some (codes "run", words_with (Some (host_word host)) (Some (emit_word emit)))
 unfolding clap_on_literals
-met_both Lock Report name = refl
+met_both Lock (Report Lines) name = refl
+met_both Lock (Report Json) name = refl
 met_both Lock Bundle name = refl
-met_both Ring Report name = refl
+met_both Ring (Report Lines) name = refl
+met_both Ring (Report Json) name = refl
 met_both Ring Bundle name = refl
 
 host_named : (host : Host) → NamesHost (Some (host_word host)) host
@@ -169,7 +201,8 @@ host_named Lock = inr refl
 host_named Ring = refl
 
 emit_named : (emit : Emit) → Names (Some (emit_word emit)) emit
-emit_named Report = inr refl
+emit_named (Report Lines) = inr refl
+emit_named (Report Json) = refl
 emit_named Bundle = refl
 
 run_met : (options o : Options) (words line : List Text) → options ≡ o → words ≡ line → MetRun o (subcommand_of epaxos line) → MetRun options (subcommand_of epaxos words)
@@ -180,22 +213,25 @@ run_met options o words line same is found =
 abbrev pub IsMatched : Asked → Type 0
 IsMatched (Replay emit) = Unit {0}
 IsMatched (Run options) = Unit {0}
-IsMatched Audit = Unit {0}
+IsMatched (Audit form) = Unit {0}
 IsMatched (Upgrade target) = Unit {0}
 IsMatched Version = ⊥
 IsMatched (Help text) = ⊥
 
 taken : (want : Asked) (words : List Text) → IsMatched want → AskFor want words → takes epaxos words ≡ true
-taken (Replay Report) words matched (name, inl is) = subst (λ (ws : List Text). takes epaxos ws ≡ true) (sym is) (takes_replay name)
-taken (Replay Report) words matched (name, inr (inl is)) = subst (λ (ws : List Text). takes epaxos ws ≡ true) (sym is) (takes_emit name)
-taken (Replay Report) words matched (name, inr (inr is)) = subst (λ (ws : List Text). takes epaxos ws ≡ true) (sym is) (takes_equals name)
+taken (Replay (Report Lines)) words matched (name, inl is) = subst (λ (ws : List Text). takes epaxos ws ≡ true) (sym is) (takes_replay name)
+taken (Replay (Report Lines)) words matched (name, inr (inl is)) = subst (λ (ws : List Text). takes epaxos ws ≡ true) (sym is) (takes_emit name)
+taken (Replay (Report Lines)) words matched (name, inr (inr is)) = subst (λ (ws : List Text). takes epaxos ws ≡ true) (sym is) (takes_equals name)
+taken (Replay (Report Json)) words matched (name, inl is) = subst (λ (ws : List Text). takes epaxos ws ≡ true) (sym is) (takes_json name)
+taken (Replay (Report Json)) words matched (name, inr is) = subst (λ (ws : List Text). takes epaxos ws ≡ true) (sym is) (takes_json_equals name)
 taken (Replay Bundle) words matched (name, inl is) = subst (λ (ws : List Text). takes epaxos ws ≡ true) (sym is) (takes_bundle name)
 taken (Replay Bundle) words matched (name, inr is) = subst (λ (ws : List Text). takes epaxos ws ≡ true) (sym is) (takes_bundle_equals name)
 taken (Run options) words matched (name, inl (same, is)) = subst (λ (ws : List Text). takes epaxos ws ≡ true) (sym is) (takes_run name)
 taken (Run options) words matched (name, inr (inl (same, is))) = subst (λ (ws : List Text). takes epaxos ws ≡ true) (sym is) (takes_host options.host name)
 taken (Run options) words matched (name, inr (inr (inl (same, is)))) = subst (λ (ws : List Text). takes epaxos ws ≡ true) (sym is) (takes_emitting options.emit name)
 taken (Run options) words matched (name, inr (inr (inr (same, is)))) = subst (λ (ws : List Text). takes epaxos ws ≡ true) (sym is) (takes_both options.host options.emit name)
-taken Audit words matched (name, is) = subst (λ (ws : List Text). takes epaxos ws ≡ true) (sym is) (takes_audit name)
+taken (Audit Lines) words matched (name, is) = subst (λ (ws : List Text). takes epaxos ws ≡ true) (sym is) (takes_audit name)
+taken (Audit Json) words matched (name, is) = subst (λ (ws : List Text). takes epaxos ws ≡ true) (sym is) (takes_audit_json name)
 taken (Upgrade Second) words matched (name, inl is) = subst (λ (ws : List Text). takes epaxos ws ≡ true) (sym is) (takes_upgrade name)
 taken (Upgrade Second) words matched (name, inr is) = subst (λ (ws : List Text). takes epaxos ws ≡ true) (sym is) (takes_second name)
 taken (Upgrade Third) words matched (name, is) = subst (λ (ws : List Text). takes epaxos ws ≡ true) (sym is) (takes_third name)
@@ -203,16 +239,18 @@ taken Version words matched ask = absurd matched
 taken (Help text) words matched ask = absurd matched
 
 is_met : (want : Asked) (words : List Text) → IsMatched want → AskFor want words → IsMet want (subcommand_of epaxos words)
-is_met (Replay Report) words matched (name, inl is) = subst (λ (ws : List Text). MetReplay Report (subcommand_of epaxos ws)) (sym is) (None, met_replay name, inl refl)
-is_met (Replay Report) words matched (name, inr (inl is)) = subst (λ (ws : List Text). MetReplay Report (subcommand_of epaxos ws)) (sym is) (Some (codes "report"), met_emit name, inr refl)
-is_met (Replay Report) words matched (name, inr (inr is)) = subst (λ (ws : List Text). MetReplay Report (subcommand_of epaxos ws)) (sym is) (Some (codes "report"), met_equals name, inr refl)
+is_met (Replay (Report Lines)) words matched (name, inl is) = subst (λ (ws : List Text). MetReplay (Report Lines) (subcommand_of epaxos ws)) (sym is) (None, met_replay name, inl refl)
+is_met (Replay (Report Lines)) words matched (name, inr (inl is)) = subst (λ (ws : List Text). MetReplay (Report Lines) (subcommand_of epaxos ws)) (sym is) (Some (codes "report"), met_emit name, inr refl)
+is_met (Replay (Report Lines)) words matched (name, inr (inr is)) = subst (λ (ws : List Text). MetReplay (Report Lines) (subcommand_of epaxos ws)) (sym is) (Some (codes "report"), met_equals name, inr refl)
+is_met (Replay (Report Json)) words matched (name, inl is) = subst (λ (ws : List Text). MetReplay (Report Json) (subcommand_of epaxos ws)) (sym is) (Some (codes "json"), met_json name, refl)
+is_met (Replay (Report Json)) words matched (name, inr is) = subst (λ (ws : List Text). MetReplay (Report Json) (subcommand_of epaxos ws)) (sym is) (Some (codes "json"), met_json_equals name, refl)
 is_met (Replay Bundle) words matched (name, inl is) = subst (λ (ws : List Text). MetReplay Bundle (subcommand_of epaxos ws)) (sym is) (Some (codes "bundle"), met_bundle name, refl)
 is_met (Replay Bundle) words matched (name, inr is) = subst (λ (ws : List Text). MetReplay Bundle (subcommand_of epaxos ws)) (sym is) (Some (codes "bundle"), met_bundle_equals name, refl)
 is_met (Run options) words matched (name, inl (same, is)) =
-    run_met options (plain Lock Report) words (name ∷ codes "run" ∷ []) same is
+    run_met options (plain Lock (Report Lines)) words (name ∷ codes "run" ∷ []) same is
     (words_with None None, met_run name, record { host = inl refl; capacity = refl; turns = refl; emit = inl refl })
 is_met (Run options) words matched (name, inr (inl (same, is))) =
-    run_met options (plain options.host Report) words (name ∷ codes "run" ∷ codes "--host" ∷ host_word options.host ∷ []) same is
+    run_met options (plain options.host (Report Lines)) words (name ∷ codes "run" ∷ codes "--host" ∷ host_word options.host ∷ []) same is
     (words_with (Some (host_word options.host)) None, met_host options.host name, record { host = host_named options.host; capacity = refl; turns = refl; emit = inl refl })
 is_met (Run options) words matched (name, inr (inr (inl (same, is)))) =
     run_met options (plain Lock options.emit) words (name ∷ codes "run" ∷ codes "--emit" ∷ emit_word options.emit ∷ []) same is
@@ -223,7 +261,10 @@ is_met (Run options) words matched (name, inr (inr (inr (same, is)))) =
       met_both options.host options.emit name,
       record { host = host_named options.host; capacity = refl; turns = refl; emit = emit_named options.emit },
     )
-is_met Audit words matched (name, is) = subst (λ (ws : List Text). MetAudit (subcommand_of epaxos ws)) (sym is) (no_words, met_bare name, record { chain = no_chain; files = refl })
+is_met (Audit Lines) words matched (name, is) =
+    subst (λ (ws : List Text). MetAudit Lines (subcommand_of epaxos ws)) (sym is) (words_of_audit None, met_bare name, record { chain = no_chain; files = refl }, inl refl)
+is_met (Audit Json) words matched (name, is) =
+    subst (λ (ws : List Text). MetAudit Json (subcommand_of epaxos ws)) (sym is) (words_of_audit (Some (codes "json")), met_audit_json name, record { chain = no_chain; files = refl }, refl)
 is_met (Upgrade Second) words matched (name, inl is) = subst (λ (ws : List Text). MetUpgrade Second (subcommand_of epaxos ws)) (sym is) (None, met_upgrade name, inl refl)
 is_met (Upgrade Second) words matched (name, inr is) = subst (λ (ws : List Text). MetUpgrade Second (subcommand_of epaxos ws)) (sym is) (Some (codes "2"), met_second name, inr refl)
 is_met (Upgrade Third) words matched (name, is) = subst (λ (ws : List Text). MetUpgrade Third (subcommand_of epaxos ws)) (sym is) (Some (codes "3"), met_third name, refl)
@@ -245,14 +286,14 @@ free = refl
 met_is_asked : (asked : Asked) (words : List Text) → IsMet asked (subcommand_of epaxos words) → IsAsked asked words
 met_is_asked (Replay emit) words met = met
 met_is_asked (Run options) words met = met
-met_is_asked Audit words met = met
+met_is_asked (Audit form) words met = met
 met_is_asked (Upgrade target) words met = met
 met_is_asked Version words met = absurd met
 met_is_asked (Help text) words met = absurd met
 
 task_met : (task : Job) (words : List Text) → IsMetTask task (subcommand_of epaxos words) → IsTask task words
 task_met (Streams asked) words met = met_is_asked asked words met
-task_met (Chain files) words met = met
+task_met (Chain form files) words met = met
 
 pub task_of_met :
     {X : Type 0} (app : App) (words : List Text) (found : Option (Text × List Row)) (r : Result Job WordsFault) → app ≡ epaxos →
@@ -278,7 +319,7 @@ shown_is_asked :
     (asked : Asked) (words : List Text) (kind : ErrorKind) → (kind ≡ OutOfMemory) ⊎ IsAmong kind (fault_of epaxos words) → IsShown asked kind → IsAsked asked words
 shown_is_asked (Replay emit) words kind known shown = absurd shown
 shown_is_asked (Run options) words kind known shown = absurd shown
-shown_is_asked Audit words kind known shown = absurd shown
+shown_is_asked (Audit form) words kind known shown = absurd shown
 shown_is_asked (Upgrade target) words kind known shown = absurd shown
 shown_is_asked Version words kind known shown = among words kind DisplayVersion version_is_no_memory shown known
 shown_is_asked (Help text) words kind known shown = among words kind DisplayHelp help_is_no_memory shown known
@@ -288,7 +329,7 @@ pub task_of_shown :
     (is_simple_and_free app ≡ true → (kind ≡ OutOfMemory) ⊎ IsAmong kind (fault_of app words)) → IfOk r (λ t. IsShownTask t kind) → IfOk r (λ t. IsTask t words)
 task_of_shown app words kind (Ok (Streams asked)) is has shown =
     shown_is_asked asked words kind (subst (λ a. is_simple_and_free a ≡ true → (kind ≡ OutOfMemory) ⊎ IsAmong kind (fault_of a words)) is has free) shown
-task_of_shown app words kind (Ok (Chain files)) is has shown = absurd shown
+task_of_shown app words kind (Ok (Chain form files)) is has shown = absurd shown
 task_of_shown app words kind (Err e) is has shown = tt
 
 help_alone : (name : Text) → fault_of epaxos (name ∷ codes "--help" ∷ []) ≡ DisplayHelp ∷ []
@@ -386,11 +427,11 @@ has_no_memory want r is = subst (λ r. MatchResult r (λ t. t ≡ Streams want) 
 
 answers :
     (want : Asked) (r : Result Job WordsFault) (found : Option (Text × List Row)) → ((emit : Emit) → MetReplay emit found → r ≡ Ok (Streams (Replay emit))) →
-    ((options : Options) → MetRun options found → r ≡ Ok (Streams (Run options))) → (MetAudit found → r ≡ Ok (Streams Audit)) → ((target : Target) → MetUpgrade target found → r ≡ Ok (Streams (Upgrade target))) → IsMet want found →
+    ((options : Options) → MetRun options found → r ≡ Ok (Streams (Run options))) → ((form : Form) → MetAudit form found → r ≡ Ok (Streams (Audit form))) → ((target : Target) → MetUpgrade target found → r ≡ Ok (Streams (Upgrade target))) → IsMet want found →
     MatchResult r (λ t. t ≡ Streams want) (λ d. d ≡ Memory)
 answers (Replay emit) r found replay run audit upgrade is = asks (Replay emit) r (replay emit is)
 answers (Run options) r found replay run audit upgrade is = asks (Run options) r (run options is)
-answers Audit r found replay run audit upgrade is = asks Audit r (audit is)
+answers (Audit form) r found replay run audit upgrade is = asks (Audit form) r (audit form is)
 answers (Upgrade target) r found replay run audit upgrade is = asks (Upgrade target) r (upgrade target is)
 answers Version r found replay run audit upgrade is = absurd is
 answers (Help text) r found replay run audit upgrade is = absurd is
@@ -399,13 +440,14 @@ answers (Help text) r found replay run audit upgrade is = absurd is
 pub asked_in_match :
     {X : Type 0} (want : Asked) (app : App) (words : List Text) (found : Option (Text × List Row)) (r : Result Job WordsFault) → app ≡ epaxos →
     (is_simple app ≡ true → X × (found ≡ subcommand_of app words)) → (is_simple_and_free app ≡ true → fault_of app words ≡ []) →
-    ((emit : Emit) → MetReplay emit found → r ≡ Ok (Streams (Replay emit))) → ((options : Options) → MetRun options found → r ≡ Ok (Streams (Run options))) → (MetAudit found → r ≡ Ok (Streams Audit)) →
+    ((emit : Emit) → MetReplay emit found → r ≡ Ok (Streams (Replay emit))) → ((options : Options) → MetRun options found → r ≡ Ok (Streams (Run options))) → ((form : Form) → MetAudit form found → r ≡ Ok (Streams (Audit form))) →
     ((target : Target) → MetUpgrade target found → r ≡ Ok (Streams (Upgrade target))) → AskFor want words → MatchResult r (λ t. t ≡ Streams want) (λ d. d ≡ Memory)
 asked_in_match (Replay emit) app words found r is has none replay run audit upgrade ask =
     answers (Replay emit) r found replay run audit upgrade (found_met (Replay emit) app words found tt is has ask)
 asked_in_match (Run options) app words found r is has none replay run audit upgrade ask =
     answers (Run options) r found replay run audit upgrade (found_met (Run options) app words found tt is has ask)
-asked_in_match Audit app words found r is has none replay run audit upgrade ask = answers Audit r found replay run audit upgrade (found_met Audit app words found tt is has ask)
+asked_in_match (Audit form) app words found r is has none replay run audit upgrade ask =
+    answers (Audit form) r found replay run audit upgrade (found_met (Audit form) app words found tt is has ask)
 asked_in_match (Upgrade target) app words found r is has none replay run audit upgrade ask =
     answers (Upgrade target) r found replay run audit upgrade (found_met (Upgrade target) app words found tt is has ask)
 asked_in_match Version app words found r is has none replay run audit upgrade ask =
@@ -435,28 +477,42 @@ pub asked_in_place :
     (kind ≡ DisplayVersion → r ≡ Ok (Streams Version)) → AskFor want words → MatchResult r (λ t. t ≡ Streams want) (λ d. d ≡ Memory)
 asked_in_place (Replay emit) app words kind r is passes has memory version ask = no_match (Replay emit) app words kind r tt is passes memory ask
 asked_in_place (Run options) app words kind r is passes has memory version ask = no_match (Run options) app words kind r tt is passes memory ask
-asked_in_place Audit app words kind r is passes has memory version ask = no_match Audit app words kind r tt is passes memory ask
+asked_in_place (Audit form) app words kind r is passes has memory version ask = no_match (Audit form) app words kind r tt is passes memory ask
 asked_in_place (Upgrade target) app words kind r is passes has memory version ask = no_match (Upgrade target) app words kind r tt is passes memory ask
 asked_in_place Version app words kind r is passes has memory version ask =
     versions_by kind (fault_of epaxos words) r (version_known words ask)
     (subst (λ a. is_simple_and_free a ≡ true → (kind ≡ OutOfMemory) ⊎ IsAmong kind (fault_of a words)) is has free) memory version
 asked_in_place (Help text) app words kind r is passes has memory version ask = absurd ask
 
-pub is_report : (what : Text) (o : Option Text) → Some what ≡ o → Names o Report → what ≡ codes "report"
+pub is_report : (what : Text) (o : Option Text) → Some what ≡ o → NamesForm o Lines → what ≡ codes "report"
 is_report what o is (inl none) = let e : Some what ≡ None = is ∙ none in cc
 is_report what o is (inr some) = let e : Some what ≡ Some (codes "report") = is ∙ some in cc
 
-pub named_as :
-    (emit : Emit) (what : Text) (o : Option Text) (r : Result Emit WordsFault) → Some what ≡ o → (what ≡ codes "report" → r ≡ Ok Report) → (what ≡ codes "bundle" → r ≡ Ok Bundle) →
-    Names o emit → r ≡ Ok emit
-named_as Report what o r is report bundle names = report (is_report what o is names)
-named_as Bundle what o r is report bundle names = bundle (let e : Some what ≡ Some (codes "bundle") = is ∙ names in cc)
+pub form_as :
+    (form : Form) (what : Text) (o : Option Text) (r : Result Form WordsFault) → Some what ≡ o → (what ≡ codes "report" → r ≡ Ok Lines) → (what ≡ codes "json" → r ≡ Ok Json) →
+    NamesForm o form → r ≡ Ok form
+form_as Lines what o r is lines json names = lines (is_report what o is names)
+form_as Json what o r is lines json names = json (let e : Some what ≡ Some (codes "json") = is ∙ names in cc)
 
-none_named : (emit : Emit) (o : Option Text) → None ≡ o → Names o emit → Report ≡ emit
-none_named Report o is names = refl
+none_forms : (form : Form) (o : Option Text) → None ≡ o → NamesForm o form → Lines ≡ form
+none_forms Lines o is names = refl
+none_forms Json o is names = let bad : None ≡ Some (codes "json") = is ∙ names in cc
+
+pub no_form : (form : Form) (o : Option Text) (r : Result Form WordsFault) → r ≡ Ok Lines → None ≡ o → NamesForm o form → r ≡ Ok form
+no_form form o r lines is names = subst (λ f. r ≡ Ok f) (none_forms form o is names) lines
+
+pub named_as :
+    (emit : Emit) (what : Text) (o : Option Text) (r : Result Emit WordsFault) → Some what ≡ o → (what ≡ codes "report" → r ≡ Ok (Report Lines)) → (what ≡ codes "json" → r ≡ Ok (Report Json)) →
+    (what ≡ codes "bundle" → r ≡ Ok Bundle) → Names o emit → r ≡ Ok emit
+named_as (Report Lines) what o r is report json bundle names = report (is_report what o is names)
+named_as (Report Json) what o r is report json bundle names = json (let e : Some what ≡ Some (codes "json") = is ∙ names in cc)
+named_as Bundle what o r is report json bundle names = bundle (let e : Some what ≡ Some (codes "bundle") = is ∙ names in cc)
+
+none_named : (emit : Emit) (o : Option Text) → None ≡ o → Names o emit → Report Lines ≡ emit
+none_named (Report form) o is names = ap (λ (f : Form). Report f) (none_forms form o is names)
 none_named Bundle o is names = let bad : None ≡ Some (codes "bundle") = is ∙ names in cc
 
-pub not_named : (emit : Emit) (o : Option Text) (r : Result Emit WordsFault) → r ≡ Ok Report → None ≡ o → Names o emit → r ≡ Ok emit
+pub not_named : (emit : Emit) (o : Option Text) (r : Result Emit WordsFault) → r ≡ Ok (Report Lines) → None ≡ o → Names o emit → r ≡ Ok emit
 not_named emit o r reports is names = subst (λ e. r ≡ Ok e) (none_named emit o is names) reports
 
 module _ {Z : Type 0} where
@@ -533,11 +589,11 @@ module _ {W : Type 0} (f : List Row → W) where
 abbrev to_word : List Row → Option Text
 to_word rows = first_of (codes "to") rows
 
-pub audit_named : (m : ArgMatches) → MetAudit (subcommand_rows_of m) → subcommand_name_of m ≡ Some (codes "audit")
-audit_named m (words, found, is) = said_named audit_words m (codes "audit") words found
+pub audit_named : (m : ArgMatches) (form : Form) → MetAudit form (subcommand_rows_of m) → subcommand_name_of m ≡ Some (codes "audit")
+audit_named m form (words, found, is, names) = said_named audit_words m (codes "audit") words found
 
-pub chain_named : (m : ArgMatches) (names : List Text) → MetChain names (subcommand_rows_of m) → subcommand_name_of m ≡ Some (codes "audit")
-chain_named m names (words, found, is) = said_named audit_words m (codes "audit") words found
+pub chain_named : (m : ArgMatches) (form : Form) (names : List Text) → MetChain form names (subcommand_rows_of m) → subcommand_name_of m ≡ Some (codes "audit")
+chain_named m form names (words, found, is, told) = said_named audit_words m (codes "audit") words found
 
 pub upgrade_named : (m : ArgMatches) (target : Target) → MetUpgrade target (subcommand_rows_of m) → subcommand_name_of m ≡ Some (codes "upgrade")
 upgrade_named m target (what, found, names) = said_named to_word m (codes "upgrade") what found
@@ -547,14 +603,16 @@ replay_named m emit (what, found, names) = said_named (first_of (codes "emit")) 
 
 -- the words after the options of `audit`
 pub bundle_met :
-    (m : ArgMatches) (rows : List Row) → subcommand_name_of m ≡ Some (codes "audit") → option_map (λ p. p.1) (subcommand_rows_of m) ≡ Some rows →
-    MetAudit (subcommand_rows_of m) → IsBundleAudit (audit_words rows)
-bundle_met m rows named has (words, found, is) = subst IsBundleAudit (sym (said_is audit_words m (codes "audit") (codes "audit") rows words named has found)) is
+    (m : ArgMatches) (form : Form) (rows : List Row) → subcommand_name_of m ≡ Some (codes "audit") → option_map (λ p. p.1) (subcommand_rows_of m) ≡ Some rows →
+    MetAudit form (subcommand_rows_of m) → IsBundleAudit (audit_words rows) × NamesForm (first_of (codes "emit") rows) form
+bundle_met m form rows named has (words, found, is, names) =
+    subst (λ (w : AuditWords). IsBundleAudit w × NamesForm w.emit form) (sym (said_is audit_words m (codes "audit") (codes "audit") rows words named has found)) (is, names)
 
 pub chain_met :
-    (m : ArgMatches) (rows : List Row) (names : List Text) → subcommand_name_of m ≡ Some (codes "audit") → option_map (λ p. p.1) (subcommand_rows_of m) ≡ Some rows →
-    MetChain names (subcommand_rows_of m) → IsChainAudit names (audit_words rows)
-chain_met m rows names named has (words, found, is) = subst (IsChainAudit names) (sym (said_is audit_words m (codes "audit") (codes "audit") rows words named has found)) is
+    (m : ArgMatches) (form : Form) (rows : List Row) (names : List Text) → subcommand_name_of m ≡ Some (codes "audit") → option_map (λ p. p.1) (subcommand_rows_of m) ≡ Some rows →
+    MetChain form names (subcommand_rows_of m) → IsChainAudit names (audit_words rows) × NamesForm (first_of (codes "emit") rows) form
+chain_met m form rows names named has (words, found, is, told) =
+    subst (λ (w : AuditWords). IsChainAudit names w × NamesForm w.emit form) (sym (said_is audit_words m (codes "audit") (codes "audit") rows words named has found)) (is, told)
 
 pub met_audit_by :
     (m : ArgMatches) (rows : List Row) → subcommand_name_of m ≡ Some (codes "audit") → option_map (λ p. p.1) (subcommand_rows_of m) ≡ Some rows →
@@ -696,11 +754,16 @@ chain_found words copies o is copied = sym is ∙ ap (λ (ws : List Text). Some 
 
 -- The task that the options of `audit` ask for.
 
+met_in_form :
+    (m : ArgMatches) (rows : List Row) (form : Form) (t : Job) → subcommand_name_of m ≡ Some (codes "audit") → option_map (λ p. p.1) (subcommand_rows_of m) ≡ Some rows →
+    IsAuditIn form t (audit_words rows) → NamesForm (first_of (codes "emit") rows) form → IsMetTask t (subcommand_rows_of m)
+met_in_form m rows form (Streams asked) named has is names = subst (λ (a : Asked). IsMet a (subcommand_rows_of m)) (sym is.0) (audit_words rows, met_audit_by m rows named has, is.1, names)
+met_in_form m rows form (Chain f files) named has is names = (audit_words rows, met_audit_by m rows named has, is.1, subst (NamesForm (first_of (codes "emit") rows)) (sym is.0) names)
+
 pub met_audit_task :
     (m : ArgMatches) (rows : List Row) (t : Job) → subcommand_name_of m ≡ Some (codes "audit") → option_map (λ p. p.1) (subcommand_rows_of m) ≡ Some rows →
     IsAuditTask t (audit_words rows) → IsMetTask t (subcommand_rows_of m)
-met_audit_task m rows (Streams asked) named has is = subst (λ (a : Asked). IsMet a (subcommand_rows_of m)) (sym is.0) (audit_words rows, met_audit_by m rows named has, is.1)
-met_audit_task m rows (Chain files) named has is = (audit_words rows, met_audit_by m rows named has, is)
+met_audit_task m rows t named has (form, is, names) = met_in_form m rows form t named has is names
 
 pub met_audit_tasks :
     (m : ArgMatches) (rows : List Row) (r : Result Job WordsFault) → subcommand_name_of m ≡ Some (codes "audit") → option_map (λ p. p.1) (subcommand_rows_of m) ≡ Some rows →
@@ -710,3 +773,22 @@ met_audit_tasks m rows (Err e) named has is = tt
 
 pub some_isnt : {A : Type 0} (given : A) (o : Option A) → Some given ≡ o → o ≡ None → ⊥
 some_isnt {A} given o is none = let bad : Some given ≡ None = is ∙ none in cc
+
+-- The form in which an audit is told.
+
+pub same_form : (form f : Form) (r : Result Form WordsFault) → r ≡ Ok f → r ≡ Ok form → form ≡ f
+same_form form f r is wants =
+    let same : Ok form ≡ Ok f = sym wants ∙ is in
+    cc
+
+-- of what it is told in
+pub audit_tasks :
+    (form : Form) (words : AuditWords) (r : Result Job WordsFault) → NamesForm words.emit form → IfOk r (λ t. IsAuditIn form t words) → IfOk r (λ t. IsAuditTask t words)
+audit_tasks form words (Ok t) names is = (form, is, names)
+audit_tasks form words (Err e) names is = tt
+
+pub chain_is_audit :
+    (form : Form) (words : AuditWords) (r : Result Job WordsFault) → words.chain ≡ Some (codes "true") → IfOk r (λ t. IsChainFound form t words.files) → IfOk r (λ t. IsAuditIn form t words)
+chain_is_audit form words (Ok (Streams asked)) chain found = absurd found
+chain_is_audit form words (Ok (Chain f files)) chain found = (found.0, record { chain = chain; files = found.1 })
+chain_is_audit form words (Err e) chain found = tt

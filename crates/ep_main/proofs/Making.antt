@@ -1,5 +1,5 @@
 -- What is made of what was read, before it is printed.
-use Rattle.std.proofs.Common.{◌≡◌, ℕ, Bool, false, List, Option, Result, Ok, Err, IfOk, IfErr, IsOk, refl, sym, ◌∙◌, ap, subst}
+use Rattle.std.proofs.Common.{◌≡◌, ℕ, Bool, false, List, Result, Ok, Err, IfOk, IfErr, IsOk, refl, sym, ◌∙◌, ap, subst}
 use Rattle.std.specs.Prelude.{◌||◌, IsErrAnd}
 use Rattle.ep_base.specs.Devices.{FailsAsTold}
 use Rattle.ep_bundle.specs.Reading.{Left}
@@ -7,7 +7,6 @@ use Rattle.ep_cli.proofs.Printed.{not_made}
 use Rattle.ep_cli.specs.Outputs.{Output, Wrote, WroteNothing}
 use Rattle.ep_cli.specs.Printed.{Makes}
 use Rattle.ep_cli.specs.declared.made.Made.{Made}
-use Rattle.ep_cli.specs.declared.status.Status.{Status}
 use Rattle.ep_cli.specs.declared.status.Status.TheVariants.{Done}
 use Rattle.ep_journal.specs.Entries.{Collected, journals_of}
 use Rattle.ep_journal.specs.Openings.{opens}
@@ -24,10 +23,11 @@ use Rattle.ep_main.specs.Upgrades.{Reads}
 use Rattle.ep_main.specs.declared.asked.Asked.TheVariants.{Replay, Run, Audit}
 use Rattle.ep_main.specs.declared.asked.Emit.{Emit}
 use Rattle.ep_main.specs.declared.asked.Emit.TheVariants.{Report, Bundle}
+use Rattle.ep_main.specs.declared.form.Form.{Form}
 use Rattle.ep_main.specs.declared.engine_fault.EngineFault.{EngineFault}
 use Rattle.ep_main.specs.declared.engine_fault.EngineFault.TheVariants.{Memory}
 use Rattle.ep_replay.specs.Outcome.{IsReplay}
-use Rattle.ep_report.specs.Judging.{IsSaid}
+use Rattle.ep_main.specs.Forms.{IsJudgedIn}
 use Rattle.ep_replay.specs.declared.replayed.Replayed.{Replayed}
 use Rattle.ep_rules.specs.Audits.{IsAccepted}
 use Rattle.ep_rules.specs.declared.receipt.Receipt.{Receipt}
@@ -51,18 +51,18 @@ memory_unwritten (Err e) is = ap is_write is
 
 -- of the same receipts, whether the audit accepts being known
 pub said_as :
-    (journals : Collected) (slice receipts : List Receipt) (found known : Bool) (text : List ℕ) → slice ≡ receipts → found ≡ known → IsSaid journals slice found text → IsSaid journals receipts known text
-said_as journals slice receipts found known text same is said = subst (λ (b : Bool). IsSaid journals receipts b text) is (subst (λ (rs : List Receipt). IsSaid journals rs found text) same said)
+    (form : Form) (journals : Collected) (slice receipts : List Receipt) (found known : Bool) (text : List ℕ) → slice ≡ receipts → found ≡ known → IsJudgedIn form journals slice found text → IsJudgedIn form journals receipts known text
+said_as form journals slice receipts found known text same is said = subst (λ (b : Bool). IsJudgedIn form journals receipts b text) is (subst (λ (rs : List Receipt). IsJudgedIn form journals rs found text) same said)
 
 pub audit_made :
-    (journals : Collected) (receipts : List Receipt) (end : Left) (zs : List ℕ) (r : Result Made EngineFault) → Reads zs (Ok ((journals, receipts), end)) →
-    IfOk r (λ m. Says journals receipts m.status m.text.items) → IfErr r (λ e. e ≡ Memory) → Makes (Does Audit) r zs
-audit_made journals receipts end zs (Ok made) read says memory = λ out wrote. record { journals = journals; receipts = receipts; end = end; read = read; text = made.text.items; says = says; wrote = wrote }
-audit_made journals receipts end zs (Err e) read says memory = λ out silent. subst (λ (x : EngineFault). Does Audit (Err x) zs out) (sym memory) silent
+    (form : Form) (journals : Collected) (receipts : List Receipt) (end : Left) (zs : List ℕ) (r : Result Made EngineFault) → Reads zs (Ok ((journals, receipts), end)) →
+    IfOk r (λ m. Says form journals receipts m.status m.text.items) → IfErr r (λ e. e ≡ Memory) → Makes (Does (Audit form)) r zs
+audit_made form journals receipts end zs (Ok made) read says memory = λ out wrote. record { journals = journals; receipts = receipts; end = end; read = read; text = made.text.items; says = says; wrote = wrote }
+audit_made form journals receipts end zs (Err e) read says memory = λ out silent. subst (λ (x : EngineFault). Does (Audit form) (Err x) zs out) (sym memory) silent
 
-pub audit_verdict : (journals : Collected) (receipts : List Receipt) (r : Result Made EngineFault) → IfOk r (λ m. Says journals receipts m.status m.text.items) → IfOk r (λ m. IsVerdict m.status)
-audit_verdict journals receipts (Ok made) says = says_verdict journals receipts made.status made.text.items says
-audit_verdict journals receipts (Err e) says = tt
+pub audit_verdict : (form : Form) (journals : Collected) (receipts : List Receipt) (r : Result Made EngineFault) → IfOk r (λ m. Says form journals receipts m.status m.text.items) → IfOk r (λ m. IsVerdict m.status)
+audit_verdict form journals receipts (Ok made) says = says_verdict form journals receipts made.status made.text.items says
+audit_verdict form journals receipts (Err e) says = tt
 
 -- A script that is run.
 
@@ -94,9 +94,9 @@ pub not_played : (emit : Emit) (s : ScriptFault) (r : Result Made EngineFault) (
 not_played emit s r zs is found = not_made (Does (Replay emit)) r (of_script s) zs is (go emit s found)
   where
     go : (emit : Emit) (s : ScriptFault) → IsScript (Err s) (script_of zs) → (out : Output) → WroteNothing out → Does (Replay emit) (Err (of_script s)) zs out
-    go Report script.Memory found out silent = silent
-    go Report script.ReadFailed found out silent = silent
-    go Report (script.Refused line) found out silent = (found, silent)
+    go (Report form) script.Memory found out silent = silent
+    go (Report form) script.ReadFailed found out silent = silent
+    go (Report form) (script.Refused line) found out silent = (found, silent)
     go Bundle script.Memory found out silent = silent
     go Bundle script.ReadFailed found out silent = silent
     go Bundle (script.Refused line) found out silent = (found, silent)
@@ -104,7 +104,7 @@ not_played emit s r zs is found = not_made (Does (Replay emit)) r (of_script s) 
 pub emitted_made :
     (emit : Emit) (plan : Plan) (played : Replayed) (text zs : List ℕ) (out : Output) → script_of zs ≡ Ok plan → IsReplay plan played →
     IsAccepted (opens played.journals.opening) played.journals.faults (journals_of played.journals) played.receipts.items → IsEmitted emit played text → Wrote out text → Does (Replay emit) (Ok Done) zs out
-emitted_made Report plan played text zs out read replay accepted is wrote =
+emitted_made (Report form) plan played text zs out read replay accepted is wrote =
     (refl, record { plan = plan; script = read; text = text; report = record { played = played; replay = replay; report = is }; wrote = wrote })
 emitted_made Bundle plan played text zs out read replay accepted is wrote =
     (refl, bundled played text zs out is (record { plan = plan; script = read; replay = replay }) accepted wrote)
@@ -114,5 +114,5 @@ pub stops_playing : (emit : Emit) (e : EngineFault) (zs : List ℕ) (out : Outpu
 stops_playing emit e zs out is silent = subst (λ (x : EngineFault). Does (Replay emit) (Err x) zs out) (sym is) (go emit)
   where
     go : (emit : Emit) → Does (Replay emit) (Err Memory) zs out
-    go Report = silent
+    go (Report form) = silent
     go Bundle = silent

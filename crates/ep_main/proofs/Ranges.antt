@@ -1,5 +1,5 @@
 -- What was read as a bundle of version 1 or 2 is read as one of any version, and is of version 1 or 2.
-use Rattle.std.proofs.Common.{◌≡◌, ◌≤◌, ℕ, zero, suc, Bool, true, false, cond, ltb, ◌||◌, List, [], Result, Ok, Err, refl, sym, ap, subst, ◌∙◌, arith}
+use Rattle.std.proofs.Common.{◌≡◌, ◌≤◌, ℕ, zero, suc, Bool, true, false, cond, ltb, ◌||◌, List, [], Ok, Err, refl, sym, ap, subst, ◌∙◌, arith}
 use Rattle.std.proofs.lemmas.Bool.Decides.{nat_tests}
 use Rattle.ep_base.specs.Quorums.{size}
 use Rattle.ep_base.specs.Versions.{version_number, version_of}

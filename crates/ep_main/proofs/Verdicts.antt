@@ -18,7 +18,7 @@ use Rattle.ep_main.specs.Options.{Options}
 use Rattle.ep_cli.specs.Outputs.{Output}
 use Rattle.ep_main.specs.Runs.{IsRan, IsRefusedRun, Runs}
 use Rattle.ep_main.specs.declared.asked.Emit.{Emit}
-use Rattle.ep_main.specs.declared.asked.Emit.TheVariants.{Report, Bundle}
+use Rattle.ep_main.specs.declared.asked.Emit.TheVariants.{Bundle}
 use Rattle.ep_cli.specs.declared.status.Status.{Status}
 use Rattle.ep_main.specs.declared.host.Host.{Host}
 use Rattle.ep_main.specs.declared.host.Host.TheVariants.{Lock, Ring}

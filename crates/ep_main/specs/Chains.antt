@@ -11,13 +11,16 @@ use Rattle.ep_bundle.specs.Texts.{fault_text}
 use Rattle.ep_bundle.specs.declared.bundle_fault.BundleFault.{BundleFault}
 use Rattle.ep_bundle.specs.declared.bundle_fault.BundleFault.TheVariants as bundle
 use Rattle.ep_report.specs.Lives.{Life, link_line}
-use Rattle.ep_report.specs.Reports.{text_of, chain_refusal_lines}
+use Rattle.ep_report_json.specs.Chains.{chain_json}
 use Rattle.ep_audit.specs.declared.chain_fault.ChainFault.{ChainFault}
 use Rattle.ep_audit.specs.Verdicts.{summary_of}
 use Rattle.ep_audit.specs.declared.verdict.Verdict.{Verdict}
 use Rattle.ep_cli.specs.Lines.{writing_failed}
 use Rattle.ep_device.specs.declared.system_fault.SystemFault.{SystemFault}
 use Rattle.ep_report.specs.Lives.{life_in}
+use Rattle.ep_main.specs.Forms.{chain_refusal_in}
+use Rattle.ep_main.specs.declared.form.Form.{Form}
+use Rattle.ep_main.specs.declared.form.Form.TheVariants.{Lines, Json}
 use Rattle.ep_cli.specs.Endings.{IsOutOfMemory, TurnsAway}
 use Rattle.ep_cli.specs.Outputs.{Output, Told, Wrote, WroteNothing}
 use Rattle.ep_cli.specs.declared.status.Status.{Status}
@@ -91,37 +94,42 @@ links_text (l ∷ ls) (v ∷ vs) = link_text l v ++ links_text ls vs
 abbrev pub chain_text : List ChainLink → List Verdict → List ℕ
 chain_text ls vs = codes "verdict accepted\n" ++ links_text ls vs
 
--- The first fault of these, and its lines.
-pub record IsFaultText (links : List ChainLink) (text : List ℕ) : Type 0 where
+-- what is said of a chain that is accepted
+abbrev pub chain_in : Form → List ChainLink → List Verdict → List ℕ
+chain_in Lines ls vs = chain_text ls vs
+chain_in Json ls vs = chain_json ls vs
+
+-- The first fault of these, and what is said of it.
+pub record IsFaultText (form : Form) (links : List ChainLink) (text : List ℕ) : Type 0 where
   pub place : ℕ
   pub fault : ChainFault
   pub refused : IsChainFault links place fault
   pub link : ChainLink
   pub there : slice_get links place ≡ Some link
-  pub told : text ≡ text_of (chain_refusal_lines (number_of link) fault)
+  pub told : text ≡ chain_refusal_in form (number_of link) fault
 
 -- the audit accepts, and the text has a line for each; or it refuses, and the text is that of the first fault
-abbrev pub SaysOfChain : List ChainLink → Status → List ℕ → Type 0
-SaysOfChain links Done text = (verdicts : List Verdict) × IsChained links verdicts × (text ≡ chain_text links verdicts)
-SaysOfChain links AuditRefused text = IsFaultText links text
-SaysOfChain links Refused text = ⊥
-SaysOfChain links OutOfMemory text = ⊥
-SaysOfChain links Failed text = ⊥
+abbrev pub SaysOfChain : Form → List ChainLink → Status → List ℕ → Type 0
+SaysOfChain form links Done text = (verdicts : List Verdict) × IsChained links verdicts × (text ≡ chain_in form links verdicts)
+SaysOfChain form links AuditRefused text = IsFaultText form links text
+SaysOfChain form links Refused text = ⊥
+SaysOfChain form links OutOfMemory text = ⊥
+SaysOfChain form links Failed text = ⊥
 
 -- What was written is what the audit says of them.
-pub record IsToldChain (links : List ChainLink) (status : Status) (out fault : Output) : Type 0 where
+pub record IsToldChain (form : Form) (links : List ChainLink) (status : Status) (out fault : Output) : Type 0 where
   pub text : List ℕ
-  pub says : SaysOfChain links status text
+  pub says : SaysOfChain form links status text
   pub wrote : Wrote out text
   pub silent : WroteNothing fault
 
 -- of these bundles, by the status
-abbrev pub Chains : List ChainLink → Status → Output → Output → Type 0
-Chains links Done out fault = IsToldChain links Done out fault
-Chains links AuditRefused out fault = IsToldChain links AuditRefused out fault
-Chains links Refused out fault = ⊥
-Chains links OutOfMemory out fault = IsOutOfMemory out fault
-Chains links Failed out fault = (out.failed ≡ true) × Told fault writing_failed
+abbrev pub Chains : Form → List ChainLink → Status → Output → Output → Type 0
+Chains form links Done out fault = IsToldChain form links Done out fault
+Chains form links AuditRefused out fault = IsToldChain form links AuditRefused out fault
+Chains form links Refused out fault = ⊥
+Chains form links OutOfMemory out fault = IsOutOfMemory out fault
+Chains form links Failed out fault = (out.failed ≡ true) × Told fault writing_failed
 
 -- the text was written, and that is the status; or the output has failed, which is told
 abbrev pub IsWritten : Status → List ℕ → Status → Output → Output → Type 0
@@ -130,11 +138,11 @@ IsWritten status text result out fault =
     ⊎ ((result ≡ Failed) × (out.failed ≡ true) × Told fault writing_failed)
 
 -- Each file is a bundle, and this became of them.
-pub record AreChained (names : List (List ℕ)) (status : Status) (out fault : Output) : Type 0 where
+pub record AreChained (form : Form) (names : List (List ℕ)) (status : Status) (out fault : Output) : Type 0 where
   pub links : List ChainLink
   pub count : length links ≡ length names
   pub read : AreRead links
-  pub chains : Chains links status out fault
+  pub chains : Chains form links status out fault
 
 -- A file isn't one, or memory was refused, which is told, and nothing was written on the output.
 pub record AreStopped (names : List (List ℕ)) (status : Status) (out fault : Output) : Type 0 where
@@ -144,8 +152,8 @@ pub record AreStopped (names : List (List ℕ)) (status : Status) (out fault : O
   pub told : TurnsAway why status fault
 
 -- of files with these names
-abbrev pub ChainsFiles : List (List ℕ) → Status → Output → Output → Type 0
-ChainsFiles names status out fault = AreChained names status out fault ⊎ AreStopped names status out fault
+abbrev pub ChainsFiles : Form → List (List ℕ) → Status → Output → Output → Type 0
+ChainsFiles form names status out fault = AreChained form names status out fault ⊎ AreStopped names status out fault
 
 -- whatever the files hold: the status is that of a failure exactly where the output failed in this run, or a file isn't read, and the line tells which, and why
 abbrev pub EndsOfFiles : Status → Output → Output → Type 0

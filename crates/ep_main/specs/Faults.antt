@@ -8,7 +8,7 @@ use Rattle.ep_script.specs.declared.script_fault.ScriptFault.TheVariants as scri
 use Rattle.ep_main.specs.declared.engine_fault.EngineFault.{EngineFault}
 use Rattle.ep_main.specs.declared.engine_fault.EngineFault.TheVariants.{Script, BadBundle, NotARun, Memory, Read, Write}
 use Rattle.ep_cli.specs.declared.status.Status.{Status}
-use Rattle.ep_cli.specs.declared.status.Status.TheVariants.{Done, AuditRefused, Refused, OutOfMemory, Failed}
+use Rattle.ep_cli.specs.declared.status.Status.TheVariants.{Refused, OutOfMemory, Failed}
 
 abbrev pub line_of : EngineFault → List ℕ
 line_of (Script line) = script_refused line

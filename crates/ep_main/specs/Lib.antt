@@ -3,6 +3,7 @@ pub mod Bundled
 pub mod ChainLines
 pub mod Chains
 pub mod Faults
+pub mod Forms
 pub mod Hosts
 pub mod Options
 pub mod Reported

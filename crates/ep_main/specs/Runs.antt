@@ -16,6 +16,7 @@ use Rattle.ep_main.specs.Upgrades.{IsUnread, IsRewritten, IsUnupgraded}
 use Rattle.ep_main.specs.declared.asked.Asked.{Asked}
 use Rattle.ep_main.specs.declared.asked.Asked.TheVariants.{Replay, Run, Audit, Upgrade, Version, Help}
 use Rattle.ep_main.specs.declared.asked.Emit.TheVariants.{Report, Bundle}
+use Rattle.ep_main.specs.declared.form.Form.{Form}
 use Rattle.ep_main.specs.declared.host.Host.{Host}
 use Rattle.ep_main.specs.declared.target.Target.{Target}
 use Rattle.ep_main.specs.declared.host.Host.TheVariants.{Lock, Ring}
@@ -27,11 +28,11 @@ use Rattle.ep_cli.specs.declared.status.Status.{Status}
 use Rattle.ep_cli.specs.declared.status.Status.TheVariants.{Done, AuditRefused, Refused, OutOfMemory, Failed}
 
 -- The bytes are a script, and what was written is its report.
-pub record IsReplayed (zs : List ℕ) (out : Output) : Type 0 where
+pub record IsReplayed (form : Form) (zs : List ℕ) (out : Output) : Type 0 where
   pub plan : Plan
   pub script : script_of zs ≡ Ok plan
   pub text : List ℕ
-  pub report : IsReport plan text
+  pub report : IsReport form plan text
   pub wrote : Wrote out text
 
 -- The bytes are a script for threads, and what was written is what the audit says of the journals and receipts that they left; of these the host keeps
@@ -79,12 +80,12 @@ abbrev pub HasFailed : Input → Output → Output → Type 0
 HasFailed reader out fault = (InputFailed reader out × WroteNothing out × Told fault reading_failed) ⊎ (OutputFailed reader out × Told fault writing_failed)
 
 -- a replay, of which a report is asked for: the audit refuses none
-abbrev pub Replays : Status → List ℕ → Input → Output → Output → Type 0
-Replays Done zs reader out fault = IsReplayed zs out × WroteNothing fault
-Replays AuditRefused zs reader out fault = ⊥
-Replays Refused zs reader out fault = IsScriptRefused (script_of zs) out fault
-Replays OutOfMemory zs reader out fault = IsOutOfMemory out fault
-Replays Failed zs reader out fault = HasFailed reader out fault
+abbrev pub Replays : Form → Status → List ℕ → Input → Output → Output → Type 0
+Replays form Done zs reader out fault = IsReplayed form zs out × WroteNothing fault
+Replays form AuditRefused zs reader out fault = ⊥
+Replays form Refused zs reader out fault = IsScriptRefused (script_of zs) out fault
+Replays form OutOfMemory zs reader out fault = IsOutOfMemory out fault
+Replays form Failed zs reader out fault = HasFailed reader out fault
 
 -- a replay, of which the bundle is asked for: the audit refuses none
 abbrev pub Emits : Status → List ℕ → Input → Output → Output → Type 0
@@ -103,12 +104,12 @@ RunsInThreads options OutOfMemory zs reader out fault = IsOutOfMemory out fault
 RunsInThreads options Failed zs reader out fault = HasFailed reader out fault
 
 -- an audit of a bundle
-abbrev pub Audits : Status → List ℕ → Input → Output → Output → Type 0
-Audits Done zs reader out fault = IsAudit Done zs out × WroteNothing fault
-Audits AuditRefused zs reader out fault = IsAudit AuditRefused zs out × WroteNothing fault
-Audits Refused zs reader out fault = IsBadBundle (IsUnread zs) out fault ⊎ IsNotARun (IsUnread zs) out fault
-Audits OutOfMemory zs reader out fault = IsOutOfMemory out fault
-Audits Failed zs reader out fault = HasFailed reader out fault
+abbrev pub Audits : Form → Status → List ℕ → Input → Output → Output → Type 0
+Audits form Done zs reader out fault = IsAudit form Done zs out × WroteNothing fault
+Audits form AuditRefused zs reader out fault = IsAudit form AuditRefused zs out × WroteNothing fault
+Audits form Refused zs reader out fault = IsBadBundle (IsUnread zs) out fault ⊎ IsNotARun (IsUnread zs) out fault
+Audits form OutOfMemory zs reader out fault = IsOutOfMemory out fault
+Audits form Failed zs reader out fault = HasFailed reader out fault
 
 -- an upgrade of a bundle to this version: it doesn't audit
 abbrev pub Upgrades : Target → Status → List ℕ → Input → Output → Output → Type 0
@@ -120,7 +121,7 @@ Upgrades target Failed zs reader out fault = HasFailed reader out fault
 
 -- the program's name and its version
 abbrev pub version_line : List ℕ
-version_line = codes "epaxos 0.1.0\n"
+version_line = codes "epaxos 1.0.0\n"
 
 -- the version
 abbrev pub Versions : Status → Output → Output → Type 0
@@ -147,10 +148,10 @@ IsHelped OutOfMemory out fault = IsOutOfMemory out fault
 IsHelped Failed out fault = (out.failed ≡ true) × Told fault writing_failed
 
 abbrev pub Performs : Asked → Status → List ℕ → Input → Output → Output → Type 0
-Performs (Replay Report) status zs reader out fault = Replays status zs reader out fault
+Performs (Replay (Report form)) status zs reader out fault = Replays form status zs reader out fault
 Performs (Replay Bundle) status zs reader out fault = Emits status zs reader out fault
 Performs (Run options) status zs reader out fault = RunsInThreads options status zs reader out fault
-Performs Audit status zs reader out fault = Audits status zs reader out fault
+Performs (Audit form) status zs reader out fault = Audits form status zs reader out fault
 Performs (Upgrade target) status zs reader out fault = Upgrades target status zs reader out fault
 Performs Version status zs reader out fault = Versions status out fault
 Performs (Help text) status zs reader out fault = Helps status (string_bytes text) out fault
@@ -182,14 +183,14 @@ IsVerdict Failed = ⊥
 
 -- Before a fault is told: what was written. Which device failed, the fault says itself.
 
-abbrev pub Plays : Result Status EngineFault → List ℕ → Output → Type 0
-Plays (Ok status) zs out = (status ≡ Done) × IsReplayed zs out
-Plays (Err (Script line)) zs out = (script_of zs ≡ Err line) × WroteNothing out
-Plays (Err (BadBundle offset)) zs out = ⊥
-Plays (Err (NotARun replica entry)) zs out = ⊥
-Plays (Err Memory) zs out = WroteNothing out
-Plays (Err Read) zs out = WroteNothing out
-Plays (Err Write) zs out = Unit {0}
+abbrev pub Plays : Form → Result Status EngineFault → List ℕ → Output → Type 0
+Plays form (Ok status) zs out = (status ≡ Done) × IsReplayed form zs out
+Plays form (Err (Script line)) zs out = (script_of zs ≡ Err line) × WroteNothing out
+Plays form (Err (BadBundle offset)) zs out = ⊥
+Plays form (Err (NotARun replica entry)) zs out = ⊥
+Plays form (Err Memory) zs out = WroteNothing out
+Plays form (Err Read) zs out = WroteNothing out
+Plays form (Err Write) zs out = Unit {0}
 
 abbrev pub Leaves : Result Status EngineFault → List ℕ → Output → Type 0
 Leaves (Ok status) zs out = (status ≡ Done) × IsBundled zs out
@@ -222,9 +223,9 @@ StopsBy Q Memory out = WroteNothing out
 StopsBy Q Read out = WroteNothing out
 StopsBy Q Write out = Unit {0}
 
-abbrev pub Finishes : Result Status EngineFault → List ℕ → Output → Type 0
-Finishes (Ok status) zs out = IsAudit status zs out
-Finishes (Err e) zs out = StopsBy (IsUnread zs) e out
+abbrev pub Finishes : Form → Result Status EngineFault → List ℕ → Output → Type 0
+Finishes form (Ok status) zs out = IsAudit form status zs out
+Finishes form (Err e) zs out = StopsBy (IsUnread zs) e out
 
 abbrev pub Rewrites : Target → Result Status EngineFault → List ℕ → Output → Type 0
 Rewrites target (Ok status) zs out = (status ≡ Done) × IsRewritten target zs out
@@ -240,10 +241,10 @@ Prints (Err Read) text out = ⊥
 Prints (Err Write) text out = Unit {0}
 
 abbrev pub Does : Asked → Result Status EngineFault → List ℕ → Output → Type 0
-Does (Replay Report) outcome zs out = Plays outcome zs out
+Does (Replay (Report form)) outcome zs out = Plays form outcome zs out
 Does (Replay Bundle) outcome zs out = Leaves outcome zs out
 Does (Run options) outcome zs out = Runs options outcome zs out
-Does Audit outcome zs out = Finishes outcome zs out
+Does (Audit form) outcome zs out = Finishes form outcome zs out
 Does (Upgrade target) outcome zs out = Rewrites target outcome zs out
 Does Version outcome zs out = Prints outcome version_line out
 Does (Help text) outcome zs out = Prints outcome (string_bytes text) out

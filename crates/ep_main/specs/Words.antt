@@ -10,6 +10,8 @@ use Rattle.ep_main.specs.declared.asked.Asked.TheVariants.{Replay, Run, Audit, U
 use Rattle.ep_script.specs.Grammar.{number_in}
 use Rattle.ep_main.specs.declared.asked.Emit.{Emit}
 use Rattle.ep_main.specs.declared.asked.Emit.TheVariants.{Report, Bundle}
+use Rattle.ep_main.specs.declared.form.Form.{Form}
+use Rattle.ep_main.specs.declared.form.Form.TheVariants.{Lines, Json}
 use Rattle.ep_main.specs.declared.host.Host.{Host}
 use Rattle.ep_main.specs.declared.host.Host.TheVariants.{Lock, Ring}
 use Rattle.ep_main.specs.declared.target.Target.{Target}
@@ -27,27 +29,31 @@ host_word Ring = codes "ring"
 
 -- the word for what is printed
 abbrev pub emit_word : Emit → Text
-emit_word Report = codes "report"
+emit_word (Report Lines) = codes "report"
+emit_word (Report Json) = codes "json"
 emit_word Bundle = codes "bundle"
 
 -- the words ask for this. The first one is the program's own name, and then: for a report `replay`, and perhaps `--emit report` or `--emit=report`;
--- for a bundle `replay`, and `--emit bundle` or `--emit=bundle`; for a run, with the limits that hold where none are given, `run`, perhaps `--host` and a
--- host, and then perhaps `--emit` and what is printed; for an audit `audit`; for an upgrade `upgrade`, perhaps with `--to` and a version; for the version `--version` or `-V`
+-- for a report as JSON `replay`, and `--emit json` or `--emit=json`; for a bundle `replay`, and `--emit bundle` or `--emit=bundle`; for a run, with the limits that hold where none are given, `run`, perhaps `--host` and a
+-- host, and then perhaps `--emit` and what is printed; for an audit `audit`, as JSON with `--emit json`; for an upgrade `upgrade`, perhaps with `--to` and a version; for the version `--version` or `-V`
 abbrev pub AskFor : Asked → List Text → Type 0
-AskFor (Replay Report) words =
+AskFor (Replay (Report Lines)) words =
     (name : Text)
     × ((words ≡ name ∷ codes "replay" ∷ [])
     ⊎ ((words ≡ name ∷ codes "replay" ∷ codes "--emit" ∷ codes "report" ∷ []) ⊎ (words ≡ name ∷ codes "replay" ∷ codes "--emit=report" ∷ [])))
+AskFor (Replay (Report Json)) words =
+    (name : Text) × ((words ≡ name ∷ codes "replay" ∷ codes "--emit" ∷ codes "json" ∷ []) ⊎ (words ≡ name ∷ codes "replay" ∷ codes "--emit=json" ∷ []))
 AskFor (Replay Bundle) words =
     (name : Text) × ((words ≡ name ∷ codes "replay" ∷ codes "--emit" ∷ codes "bundle" ∷ []) ⊎ (words ≡ name ∷ codes "replay" ∷ codes "--emit=bundle" ∷ []))
 AskFor (Run options) words =
     (name : Text)
-    × (((options ≡ plain Lock Report) × (words ≡ name ∷ codes "run" ∷ []))
-    ⊎ (((options ≡ plain options.host Report) × (words ≡ name ∷ codes "run" ∷ codes "--host" ∷ host_word options.host ∷ []))
+    × (((options ≡ plain Lock (Report Lines)) × (words ≡ name ∷ codes "run" ∷ []))
+    ⊎ (((options ≡ plain options.host (Report Lines)) × (words ≡ name ∷ codes "run" ∷ codes "--host" ∷ host_word options.host ∷ []))
     ⊎ (((options ≡ plain Lock options.emit) × (words ≡ name ∷ codes "run" ∷ codes "--emit" ∷ emit_word options.emit ∷ []))
     ⊎ ((options ≡ plain options.host options.emit)
     × (words ≡ name ∷ codes "run" ∷ codes "--host" ∷ host_word options.host ∷ codes "--emit" ∷ emit_word options.emit ∷ [])))))
-AskFor Audit words = (name : Text) × (words ≡ name ∷ codes "audit" ∷ [])
+AskFor (Audit Lines) words = (name : Text) × (words ≡ name ∷ codes "audit" ∷ [])
+AskFor (Audit Json) words = (name : Text) × (words ≡ name ∷ codes "audit" ∷ codes "--emit" ∷ codes "json" ∷ [])
 AskFor (Upgrade Second) words = (name : Text) × ((words ≡ name ∷ codes "upgrade" ∷ []) ⊎ (words ≡ name ∷ codes "upgrade" ∷ codes "--to" ∷ codes "2" ∷ []))
 AskFor (Upgrade Third) words = (name : Text) × (words ≡ name ∷ codes "upgrade" ∷ codes "--to" ∷ codes "3" ∷ [])
 AskFor Version words = (name : Text) × ((words ≡ name ∷ codes "--version" ∷ []) ⊎ (words ≡ name ∷ codes "-V" ∷ []))
@@ -88,8 +94,11 @@ run = with_rule turned emit
 abbrev pub chained : App
 chained = with_rule (new_app (codes "audit")) (record (new_rule (codes "chain")) { long = Some (codes "chain"); action = Some SetTrue })
 
+abbrev pub formed : App
+formed = with_rule chained emit
+
 abbrev pub audit : App
-audit = with_rule chained (record (new_rule (codes "FILE")) { action = Some Append })
+audit = with_rule formed (record (new_rule (codes "FILE")) { action = Some Append })
 
 abbrev pub replaying : App
 replaying = with_subcommand (on_top (λ s. record s { subcommand_required = true; has_version = true }) (new_app (codes "epaxos"))) replay.top
@@ -107,9 +116,14 @@ epaxos = with_subcommand auditing upgrade.top
 abbrev pub met : Option (Text × List Row) → Option (Text × Option Text)
 met = option_map (λ p. (p.0, first_of (codes "emit") p.1))
 
--- `--emit report`, or nothing; or `--emit bundle`
+-- `--emit report`, or nothing; or `--emit json`
+abbrev pub NamesForm : Option Text → Form → Type 0
+NamesForm what Lines = (what ≡ None) ⊎ (what ≡ Some (codes "report"))
+NamesForm what Json = what ≡ Some (codes "json")
+
+-- a form; or `--emit bundle`
 abbrev pub Names : Option Text → Emit → Type 0
-Names what Report = (what ≡ None) ⊎ (what ≡ Some (codes "report"))
+Names what (Report form) = NamesForm what form
 Names what Bundle = what ≡ Some (codes "bundle")
 
 -- a replay was met, of which this is to be printed
@@ -156,13 +170,14 @@ met_with = option_map (λ p. (p.0, run_words p.1))
 abbrev pub MetRun : Options → Option (Text × List Row) → Type 0
 MetRun options found = (words : RunWords) × (met_with found ≡ Some (codes "run", words)) × Chooses words options
 
--- the words after the options of `audit`: that of `--chain`, which is `true` where it is given, and the others
+-- the words after the options of `audit`: that of `--chain`, which is `true` where it is given, that after `--emit`, and the others
 pub record AuditWords : Type 0 where
   pub chain : Option Text
+  pub emit : Option Text
   pub files : Option (List Text)
 
 abbrev pub audit_words : List Row → AuditWords
-audit_words rows = record { chain = first_of (codes "chain") rows; files = all_of (codes "FILE") rows }
+audit_words rows = record { chain = first_of (codes "chain") rows; emit = first_of (codes "emit") rows; files = all_of (codes "FILE") rows }
 
 -- the audit of a bundle
 pub record IsBundleAudit (words : AuditWords) : Type 0 where
@@ -177,11 +192,11 @@ pub record IsChainAudit (names : List Text) (words : AuditWords) : Type 0 where
 abbrev pub met_audit : Option (Text × List Row) → Option (Text × AuditWords)
 met_audit = option_map (λ p. (p.0, audit_words p.1))
 
-abbrev pub MetAudit : Option (Text × List Row) → Type 0
-MetAudit found = (words : AuditWords) × (met_audit found ≡ Some (codes "audit", words)) × IsBundleAudit words
+abbrev pub MetAudit : Form → Option (Text × List Row) → Type 0
+MetAudit form found = (words : AuditWords) × (met_audit found ≡ Some (codes "audit", words)) × IsBundleAudit words × NamesForm words.emit form
 
-abbrev pub MetChain : List Text → Option (Text × List Row) → Type 0
-MetChain names found = (words : AuditWords) × (met_audit found ≡ Some (codes "audit", words)) × IsChainAudit names words
+abbrev pub MetChain : Form → List Text → Option (Text × List Row) → Type 0
+MetChain form names found = (words : AuditWords) × (met_audit found ≡ Some (codes "audit", words)) × IsChainAudit names words × NamesForm words.emit form
 
 -- `--to 2`, or nothing; or `--to 3`
 abbrev pub NamesTarget : Option Text → Target → Type 0
@@ -199,7 +214,7 @@ MetUpgrade target found = (what : Option Text) × (met_to found ≡ Some (codes 
 abbrev pub IsMet : Asked → Option (Text × List Row) → Type 0
 IsMet (Replay emit) found = MetReplay emit found
 IsMet (Run options) found = MetRun options found
-IsMet Audit found = MetAudit found
+IsMet (Audit form) found = MetAudit form found
 IsMet (Upgrade target) found = MetUpgrade target found
 IsMet Version found = ⊥
 IsMet (Help text) found = ⊥
@@ -208,7 +223,7 @@ IsMet (Help text) found = ⊥
 abbrev pub IsAsked : Asked → List Text → Type 0
 IsAsked (Replay emit) words = MetReplay emit (subcommand_of epaxos words)
 IsAsked (Run options) words = MetRun options (subcommand_of epaxos words)
-IsAsked Audit words = MetAudit (subcommand_of epaxos words)
+IsAsked (Audit form) words = MetAudit form (subcommand_of epaxos words)
 IsAsked (Upgrade target) words = MetUpgrade target (subcommand_of epaxos words)
 IsAsked Version words = IsAmong DisplayVersion (fault_of epaxos words)
 IsAsked (Help text) words = IsAmong DisplayHelp (fault_of epaxos words)
@@ -216,7 +231,7 @@ IsAsked (Help text) words = IsAmong DisplayHelp (fault_of epaxos words)
 abbrev pub IsHelp : Asked → Type 0
 IsHelp (Replay emit) = ⊥
 IsHelp (Run options) = ⊥
-IsHelp Audit = ⊥
+IsHelp (Audit form) = ⊥
 IsHelp (Upgrade target) = ⊥
 IsHelp Version = ⊥
 IsHelp (Help text) = Unit {0}
@@ -225,7 +240,7 @@ IsHelp (Help text) = Unit {0}
 abbrev pub IsShown : Asked → ErrorKind → Type 0
 IsShown (Replay emit) kind = ⊥
 IsShown (Run options) kind = ⊥
-IsShown Audit kind = ⊥
+IsShown (Audit form) kind = ⊥
 IsShown (Upgrade target) kind = ⊥
 IsShown Version kind = kind ≡ DisplayVersion
 IsShown (Help text) kind = kind ≡ DisplayHelp
@@ -233,37 +248,41 @@ IsShown (Help text) kind = kind ≡ DisplayHelp
 -- Tasks: what streams serve for, or a chain.
 
 -- the chain of files with these names
-abbrev pub IsChainOf : List Text → Job → Type 0
-IsChainOf names (Streams asked) = ⊥
-IsChainOf names (Chain files) = map string_bytes files.items ≡ names
+abbrev pub IsChainOf : Form → List Text → Job → Type 0
+IsChainOf form names (Streams asked) = ⊥
+IsChainOf form names (Chain f files) = (f ≡ form) × (map string_bytes files.items ≡ names)
 
 -- that of the files that were found
-abbrev pub IsChainFound : Job → Option (List Text) → Type 0
-IsChainFound (Streams asked) found = ⊥
-IsChainFound (Chain files) found = found ≡ Some (map string_bytes files.items)
+abbrev pub IsChainFound : Form → Job → Option (List Text) → Type 0
+IsChainFound form (Streams asked) found = ⊥
+IsChainFound form (Chain f files) found = (f ≡ form) × (found ≡ Some (map string_bytes files.items))
 
--- these words after the options of `audit` ask for this
+-- these words after the options of `audit` ask for this, to be told in this form
+abbrev pub IsAuditIn : Form → Job → AuditWords → Type 0
+IsAuditIn form (Streams asked) words = (asked ≡ Audit form) × IsBundleAudit words
+IsAuditIn form (Chain f files) words = (f ≡ form) × IsChainAudit (map string_bytes files.items) words
+
+-- they ask for this
 abbrev pub IsAuditTask : Job → AuditWords → Type 0
-IsAuditTask (Streams asked) words = (asked ≡ Audit) × IsBundleAudit words
-IsAuditTask (Chain files) words = IsChainAudit (map string_bytes files.items) words
+IsAuditTask t words = (form : Form) × IsAuditIn form t words × NamesForm words.emit form
 
 -- what was met is this
 abbrev pub IsMetTask : Job → Option (Text × List Row) → Type 0
 IsMetTask (Streams asked) found = IsMet asked found
-IsMetTask (Chain files) found = MetChain (map string_bytes files.items) found
+IsMetTask (Chain form files) found = MetChain form (map string_bytes files.items) found
 
 -- in the words the chain of files with these names is met
-abbrev pub IsChainAsked : List Text → List Text → Type 0
-IsChainAsked names words = MetChain names (subcommand_of epaxos words)
+abbrev pub IsChainAsked : Form → List Text → List Text → Type 0
+IsChainAsked form names words = MetChain form names (subcommand_of epaxos words)
 
 abbrev pub IsTask : Job → List Text → Type 0
 IsTask (Streams asked) words = IsAsked asked words
-IsTask (Chain files) words = IsChainAsked (map string_bytes files.items) words
+IsTask (Chain form files) words = IsChainAsked form (map string_bytes files.items) words
 
 abbrev pub IsHelpTask : Job → Type 0
 IsHelpTask (Streams asked) = IsHelp asked
-IsHelpTask (Chain files) = ⊥
+IsHelpTask (Chain form files) = ⊥
 
 abbrev pub IsShownTask : Job → ErrorKind → Type 0
 IsShownTask (Streams asked) kind = IsShown asked kind
-IsShownTask (Chain files) kind = ⊥
+IsShownTask (Chain form files) kind = ⊥

@@ -1,5 +1,6 @@
 //! What the program is asked for.
 
+use crate::form::Form;
 use crate::run_options::RunOptions;
 use crate::target::Target;
 
@@ -10,8 +11,8 @@ pub enum Asked {
     Replay(Emit),
     /// To run a script in threads, in this way.
     Run(RunOptions),
-    /// To audit a bundle.
-    Audit,
+    /// To audit a bundle, and to say so in this form.
+    Audit(Form),
     /// To upgrade a bundle to this version.
     Upgrade(Target),
     /// The program's name and its version.
@@ -23,8 +24,8 @@ pub enum Asked {
 /// What is printed of a run.
 #[derive(Clone, Copy, Debug, PartialEq, Eq)]
 pub enum Emit {
-    /// The report: what is committed, the history, the receipts, and what was refused.
-    Report,
+    /// The report, in this form: what is committed, the history, the receipts, and what was refused.
+    Report(Form),
     /// The bundle: the journals and the receipts, as bytes.
     Bundle,
 }

@@ -2,17 +2,20 @@
 
 ghost use Rattle.std.specs.Prelude.{◌≡◌, ◌<◌, ◌++◌, codes, length, map, string_bytes, IfOk, IfErr, OnOk};
 ghost use Rattle.ep_audit.specs.Chained.{IsChained, IsChainFault};
-ghost use Rattle.ep_main.specs.Chains.{Chains, ChainsFiles, EndsOfFiles, IsFaultText, IsWritten, SaysOfChain, chain_text, link_text};
+ghost use Rattle.ep_main.specs.Chains.{Chains, ChainsFiles, EndsOfFiles, IsFaultText, IsWritten, SaysOfChain, chain_in, chain_text, link_text};
 ghost use Rattle.ep_cli.specs.Outputs.{became};
 ghost use Rattle.ep_main.specs.declared.engine_fault.EngineFault.TheVariants.{Memory};
 
 use crate::chain_files::read_links;
 use crate::engine_fault::EngineFault;
+use crate::form::Form;
+use crate::forms::chain_refusal_in;
 use crate::program::concluded;
 use ep_audit::{ChainFault, ChainLink, ChainVerdictFault, Verdict, audit_chain};
 use ep_base::Sink;
 use ep_cli::{Made, Status, Streams, turned_away};
-use ep_report::{chain_refusal, life_of, push_link_line, told_contents};
+use ep_report::{life_of, push_link_line, told_contents};
+use ep_report_json::chain_json;
 use std::alloc::{AllocError, Global};
 use std::mem::forget;
 use std::rt::Files;
@@ -21,15 +24,16 @@ use std::rt::Files;
 /// told by one line on the fault output; where that fails, the status stays.
 pub(crate) fn print_chain<R: Files + AllocGlobal, S, W: Sink, F: Sink>(
     rt: &R,
+    form: Form,
     names: &[String],
     streams: &mut Streams<S, W, F>,
 ) -> Status
     ensures unread { streams.new.reader ≡ streams.old.reader }
-    ensures chains { ChainsFiles (map string_bytes names.now) result (became W.held W.has_failed streams.old.writer streams.new.writer) (became F.held F.has_failed streams.old.fault_writer streams.new.fault_writer) }
+    ensures chains { ChainsFiles form (map string_bytes names.now) result (became W.held W.has_failed streams.old.writer streams.new.writer) (became F.held F.has_failed streams.old.fault_writer streams.new.fault_writer) }
     ensures ends { EndsOfFiles result (became W.held W.has_failed streams.old.writer streams.new.writer) (became F.held F.has_failed streams.old.fault_writer streams.new.fault_writer) }
 {
     match read_links(rt, names) {
-        Ok(links) => write_chain(rt.alloc(), links, streams),
+        Ok(links) => write_chain(rt.alloc(), form, links, streams),
         Err(fault) => turned_away(fault, &mut streams.fault_writer),
     }
 }
@@ -37,14 +41,15 @@ pub(crate) fn print_chain<R: Files + AllocGlobal, S, W: Sink, F: Sink>(
 /// Writes what the audit of these says, in one go, or tells what stops it.
 fn write_chain<S, W: Sink, F: Sink>(
     alloc: Global,
+    form: Form,
     links: Vec<ChainLink>,
     streams: &mut Streams<S, W, F>,
 ) -> Status
     ensures unread { streams.new.reader ≡ streams.old.reader }
-    ensures chains { Chains links.items result (became W.held W.has_failed streams.old.writer streams.new.writer) (became F.held F.has_failed streams.old.fault_writer streams.new.fault_writer) }
+    ensures chains { Chains form links.items result (became W.held W.has_failed streams.old.writer streams.new.writer) (became F.held F.has_failed streams.old.fault_writer streams.new.fault_writer) }
     ensures ends { EndsOfFiles result (became W.held W.has_failed streams.old.writer streams.new.writer) (became F.held F.has_failed streams.old.fault_writer streams.new.fault_writer) }
 {
-    let judged = judge_chain(alloc, &links);
+    let judged = judge_chain(alloc, form, &links);
     // The system takes memory back at the process's end, all at once.
     forget(links);
     match judged {
@@ -65,13 +70,13 @@ fn write_judged<S, W: Sink, F: Sink>(judged: &Made, streams: &mut Streams<S, W, 
 }
 
 /// What the audit says of the chain.
-fn judge_chain(alloc: Global, links: &[ChainLink]) -> Result<Made, EngineFault>
-    ensures value { IfOk result (λ j. SaysOfChain links.now j.status j.text.items) }
+fn judge_chain(alloc: Global, form: Form, links: &[ChainLink]) -> Result<Made, EngineFault>
+    ensures value { IfOk result (λ j. SaysOfChain form links.now j.status j.text.items) }
     ensures memory { IfErr result (λ e. e ≡ Memory) }
 {
     match audit_chain(alloc, links) {
         Ok(verdicts) => {
-            let text = accepted_chain(alloc, links, &verdicts)?;
+            let text = told_chain(alloc, form, links, &verdicts)?;
             forget(verdicts);
             Ok(Made {
                 status: Status::Done,
@@ -80,9 +85,25 @@ fn judge_chain(alloc: Global, links: &[ChainLink]) -> Result<Made, EngineFault>
         }
         Err(ChainVerdictFault::Fault(place, fault)) => Ok(Made {
             status: Status::AuditRefused,
-            text: refused_chain(alloc, links, place, &fault)?,
+            text: refused_chain(alloc, form, links, place, &fault)?,
         }),
         Err(ChainVerdictFault::Memory) => Err(EngineFault::Memory),
+    }
+}
+
+/// What is said of a chain that is accepted.
+fn told_chain(
+    alloc: Global,
+    form: Form,
+    links: &[ChainLink],
+    verdicts: &[Verdict],
+) -> Result<Vec<u8>, AllocError>
+    requires { length verdicts.now ≡ length links.now }
+    ensures { IfOk result (λ t. t.items ≡ chain_in form links.now verdicts.now) }
+{
+    match form {
+        Form::Lines => accepted_chain(alloc, links, verdicts),
+        Form::Json => chain_json(alloc, links, verdicts),
     }
 }
 
@@ -119,18 +140,19 @@ fn push_link(
     push_link_line(text, &life, verdict.committed.len(), verdict.history.len())
 }
 
-/// The lines of a chain that is refused, for this fault of the generation at this place.
+/// What is said of a chain that is refused, for this fault of the generation at this place.
 fn refused_chain(
     alloc: Global,
+    form: Form,
     links: &[ChainLink],
     place: usize,
     fault: &ChainFault,
 ) -> Result<Vec<u8>, AllocError>
     requires there { place < length links.now }
     requires fault { IsChainFault links.now place fault.now }
-    ensures { IfOk result (λ t. IsFaultText links.now t.items) }
+    ensures { IfOk result (λ t. IsFaultText form links.now t.items) }
 {
     let link = &links[place];
-    let text = chain_refusal(alloc, link.journals.version().generation(), fault)?;
+    let text = chain_refusal_in(alloc, form, link.journals.version().generation(), fault)?;
     Ok(text)
 }

@@ -8,12 +8,14 @@ ghost use Rattle.clap.specs.Matches.{found_of};
 ghost use Rattle.clap.specs.Simple.{app_of, subcommand_rows_of};
 ghost use Rattle.clap.specs.declared.builder.command.Command.TheViews.{out-Command as fields_of};
 ghost use Rattle.ep_main.specs.Options.{Options};
-ghost use Rattle.ep_main.specs.Words.{AskFor, AskForHelp, Chooses, IsAuditTask, IsBundleAudit, IsChainAudit, IsChainFound, IsChainOf, IsHelp, IsHelpTask, IsMet, IsMetTask, IsShown, IsShownTask, IsTask, MetReplay, MetRun, MetAudit, MetChain, MetUpgrade, Names, NamesHost, NamesTarget, audit as audit_app, audit_words, auditing, bounded, chained, emit as emit_rule, hosted, limit_in, replay as replay_app, replaying, run as run_app, run_words, epaxos, turned, upgrade as upgrade_app};
+ghost use Rattle.ep_main.specs.Words.{AskFor, AskForHelp, Chooses, IsAuditTask, IsAuditIn, IsBundleAudit, IsChainAudit, IsChainFound, IsChainOf, IsHelp, IsHelpTask, IsMet, IsMetTask, IsShown, IsShownTask, IsTask, MetReplay, MetRun, MetAudit, MetChain, MetUpgrade, Names, NamesForm, NamesHost, NamesTarget, audit as audit_app, audit_words, auditing, bounded, chained, emit as emit_rule, formed, hosted, limit_in, replay as replay_app, replaying, run as run_app, run_words, epaxos, turned, upgrade as upgrade_app};
 ghost use Rattle.ep_main.specs.declared.asked.Asked.{Asked};
 ghost use Rattle.ep_main.specs.declared.asked.Asked.TheVariants.{Replay, Run, Audit, Upgrade, Version};
 ghost use Rattle.ep_cli.specs.declared.words_fault.WordsFault.TheVariants.{Memory};
 ghost use Rattle.ep_main.specs.declared.asked.Emit.{Emit};
 ghost use Rattle.ep_main.specs.declared.asked.Emit.TheVariants.{Report, Bundle};
+ghost use Rattle.ep_main.specs.declared.form.Form.{Form};
+ghost use Rattle.ep_main.specs.declared.form.Form.TheVariants.{Lines, Json};
 ghost use Rattle.ep_main.specs.declared.host.Host.{Host};
 ghost use Rattle.ep_main.specs.declared.host.Host.TheVariants.{Lock, Ring};
 ghost use Rattle.ep_main.specs.declared.target.Target.{Target};
@@ -22,6 +24,7 @@ ghost use Rattle.ep_main.specs.declared.job.Job.TheVariants.{Streams};
 ghost use Rattle.ep_script.specs.Grammar.{number_in as number_between};
 
 use crate::asked::{Asked, Emit};
+use crate::form::Form;
 use crate::host::Host;
 use crate::job::Job;
 use crate::run_options::RunOptions;
@@ -40,7 +43,8 @@ Input is standard input: redirect a file to it, or a pipe. On a terminal, epaxos
 /// What the help of `replay` says at its end.
 const AFTER_REPLAY: &str = "\
 Standard input, to its end, is a script: lines as in the example; docs/FORMATS.md, section 4, has all of them.
-Nothing is printed before the end is read.
+Nothing is printed before the end is read. With --emit json the report is one object on one line, for scripts (docs/CLI.md,
+section 5.3); with status 2, 3 and 4 nothing is printed then either.
 
 Example:
   printf 'replicas 3\\npropose 0 1 put x 1\\nflush\\nflush\\nexecute 0 0.1\\n' | epaxos replay
@@ -55,7 +59,9 @@ Exit status:
 const AFTER_RUN: &str = "\
 Standard input, to its end, is a script: lines as in the example; docs/FORMATS.md, section 4, has all of them.
 In each section every replica has, with --host lock, a thread that submits its lines, and one that hands on its frames;
-with --host ring one thread for both. Nothing is printed before the end is read, and all threads have ended.
+with --host ring one thread for both. Nothing is printed before the end is read, and all threads have ended. With --emit json
+the report is one object on one line, for scripts (docs/CLI.md, section 5.3); with status 2, 3 and 4 nothing is printed then
+either.
 
 Example:
   printf 'replicas 3\\npropose 0 1 put x 1\\nsection\\npropose 2 1 get x\\n' | epaxos run
@@ -75,8 +81,12 @@ Nothing is printed before the end is read.
 With --chain each FILE is such a bundle of version 3: generations, each of which opens with the map that the one before left.
 Each is audited, and then that its number, its opening and its clocks go on from the one before. Standard input is not read.
 
+With --emit json what is printed is one object on one line, for scripts (docs/CLI.md, section 5.3); with status 2, 3 and 4
+nothing is printed then either.
+
 Example:
   epaxos replay --emit bundle < examples/one_put.script | epaxos audit
+  epaxos replay --emit bundle < examples/one_put.script | epaxos audit --emit json
   epaxos audit --chain first.bundle second.bundle
 
 Exit status:
@@ -133,8 +143,8 @@ fn task_instead(alloc: Global, error: &Error) -> Result<Job, WordsFault>
 fn task_by(alloc: Global, matches: &ArgMatches<'_>) -> Result<Job, WordsFault>
     ensures replay { (emit : Emit) → MetReplay emit (subcommand_rows_of matches.now) → result ≡ Ok (Streams (Replay emit)) }
     ensures run { (options : Options) → MetRun options (subcommand_rows_of matches.now) → result ≡ Ok (Streams (Run options)) }
-    ensures audit { MetAudit (subcommand_rows_of matches.now) → result ≡ Ok (Streams Audit) }
-    ensures chain { (names : List Text) → MetChain names (subcommand_rows_of matches.now) → MatchResult result (IsChainOf names) (λ d. d ≡ Memory) }
+    ensures audit { (form : Form) → MetAudit form (subcommand_rows_of matches.now) → result ≡ Ok (Streams (Audit form)) }
+    ensures chain { (form : Form) (names : List Text) → MetChain form names (subcommand_rows_of matches.now) → MatchResult result (IsChainOf form names) (λ d. d ≡ Memory) }
     ensures upgrade { (target : Target) → MetUpgrade target (subcommand_rows_of matches.now) → result ≡ Ok (Streams (Upgrade target)) }
     ensures only { IfOk result (λ t. IsMetTask t (subcommand_rows_of matches.now)) }
 {
@@ -149,15 +159,25 @@ fn task_by(alloc: Global, matches: &ArgMatches<'_>) -> Result<Job, WordsFault>
 
 /// Which audit is asked for, by its options.
 fn audit_of(alloc: Global, options: &ArgMatches<'_>) -> Result<Job, WordsFault>
-    ensures audit { IsBundleAudit (audit_words (rows_of (found_of options.now))) → result ≡ Ok (Streams Audit) }
-    ensures chain { (names : List Text) → IsChainAudit names (audit_words (rows_of (found_of options.now))) → MatchResult result (IsChainOf names) (λ d. d ≡ Memory) }
+    ensures audit { (form : Form) → IsBundleAudit (audit_words (rows_of (found_of options.now))) → NamesForm (first_of (codes "emit") (rows_of (found_of options.now))) form → result ≡ Ok (Streams (Audit form)) }
+    ensures chain { (form : Form) (names : List Text) → IsChainAudit names (audit_words (rows_of (found_of options.now))) → NamesForm (first_of (codes "emit") (rows_of (found_of options.now))) form → MatchResult result (IsChainOf form names) (λ d. d ≡ Memory) }
     ensures only { IfOk result (λ t. IsAuditTask t (audit_words (rows_of (found_of options.now)))) }
 {
+    let form = form_of(alloc, options)?;
+    audit_in(alloc, form, options)
+}
+
+/// Which audit is asked for, to be told in this form.
+fn audit_in(alloc: Global, form: Form, options: &ArgMatches<'_>) -> Result<Job, WordsFault>
+    ensures audit { IsBundleAudit (audit_words (rows_of (found_of options.now))) → result ≡ Ok (Streams (Audit form)) }
+    ensures chain { (names : List Text) → IsChainAudit names (audit_words (rows_of (found_of options.now))) → MatchResult result (IsChainOf form names) (λ d. d ≡ Memory) }
+    ensures only { IfOk result (λ t. IsAuditIn form t (audit_words (rows_of (found_of options.now)))) }
+{
     if is_chain(options) {
-        return chain_of(alloc, options);
+        return chain_of(alloc, form, options);
     }
     match options.get_raw("FILE") {
-        None => Ok(Job::Streams(Asked::Audit)),
+        None => Ok(Job::Streams(Asked::Audit(form))),
         Some(_) => Err(WordsFault::Words(String::from_str(
             alloc,
             "error: a FILE stands with '--chain' alone\n\nFor more information, try '--help'.\n",
@@ -177,14 +197,14 @@ fn is_chain(options: &ArgMatches<'_>) -> bool
 }
 
 /// The chain of the files that are named.
-fn chain_of(alloc: Global, options: &ArgMatches<'_>) -> Result<Job, WordsFault>
-    ensures named { (names : List Text) → all_of (codes "FILE") (rows_of (found_of options.now)) ≡ Some names → MatchResult result (IsChainOf names) (λ d. d ≡ Memory) }
-    ensures only { IfOk result (λ t. IsChainFound t (all_of (codes "FILE") (rows_of (found_of options.now)))) }
+fn chain_of(alloc: Global, form: Form, options: &ArgMatches<'_>) -> Result<Job, WordsFault>
+    ensures named { (names : List Text) → all_of (codes "FILE") (rows_of (found_of options.now)) ≡ Some names → MatchResult result (IsChainOf form names) (λ d. d ≡ Memory) }
+    ensures only { IfOk result (λ t. IsChainFound form t (all_of (codes "FILE") (rows_of (found_of options.now)))) }
 {
     match options.get_raw("FILE") {
         Some(words) => {
             let names = copied(alloc, words)?;
-            Ok(Job::Chain(names))
+            Ok(Job::Chain(form, names))
         }
         None => Err(WordsFault::Words(String::from_str(
             alloc,
@@ -351,28 +371,58 @@ fn target_named(alloc: Global, name: &str) -> Result<Target, WordsFault>
     }
 }
 
+/// How an audit is to be told.
+fn form_of(alloc: Global, options: &ArgMatches<'_>) -> Result<Form, WordsFault>
+    ensures named { (form : Form) → NamesForm (first_of (codes "emit") (rows_of (found_of options.now))) form → result ≡ Ok form }
+    ensures only { IfOk result (NamesForm (first_of (codes "emit") (rows_of (found_of options.now)))) }
+{
+    match options.get_str("emit") {
+        Some(what) => form_named(alloc, what),
+        None => Ok(Form::Lines),
+    }
+}
+
+fn form_named(alloc: Global, what: &str) -> Result<Form, WordsFault>
+    ensures lines { what.now ≡ codes "report" → result ≡ Ok Lines }
+    ensures json { what.now ≡ codes "json" → result ≡ Ok Json }
+    ensures only { IfOk result (NamesForm (Some what.now)) }
+{
+    if what == "report" {
+        Ok(Form::Lines)
+    } else if what == "json" {
+        Ok(Form::Json)
+    } else {
+        Err(WordsFault::Words(format!(in alloc;
+            "error: invalid value {what:?} for '--emit <WHAT>'\n  [possible values: report, json]\n\nFor more information, try '--help'.\n"
+        )?))
+    }
+}
+
 fn emit_of(alloc: Global, options: &ArgMatches<'_>) -> Result<Emit, WordsFault>
     ensures named { (emit : Emit) → Names (first_of (codes "emit") (rows_of (found_of options.now))) emit → result ≡ Ok emit }
     ensures only { IfOk result (Names (first_of (codes "emit") (rows_of (found_of options.now)))) }
 {
     match options.get_str("emit") {
         Some(what) => emit_named(alloc, what),
-        None => Ok(Emit::Report),
+        None => Ok(Emit::Report(Form::Lines)),
     }
 }
 
 fn emit_named(alloc: Global, what: &str) -> Result<Emit, WordsFault>
-    ensures report { what.now ≡ codes "report" → result ≡ Ok Report }
+    ensures report { what.now ≡ codes "report" → result ≡ Ok (Report Lines) }
+    ensures json { what.now ≡ codes "json" → result ≡ Ok (Report Json) }
     ensures bundle { what.now ≡ codes "bundle" → result ≡ Ok Bundle }
     ensures only { IfOk result (Names (Some what.now)) }
 {
     if what == "report" {
-        Ok(Emit::Report)
+        Ok(Emit::Report(Form::Lines))
+    } else if what == "json" {
+        Ok(Emit::Report(Form::Json))
     } else if what == "bundle" {
         Ok(Emit::Bundle)
     } else {
         Err(WordsFault::Words(format!(in alloc;
-            "error: invalid value {what:?} for '--emit <WHAT>'\n  [possible values: report, bundle]\n\nFor more information, try '--help'.\n"
+            "error: invalid value {what:?} for '--emit <WHAT>'\n  [possible values: report, json, bundle]\n\nFor more information, try '--help'.\n"
         )?))
     }
 }
@@ -415,7 +465,8 @@ fn audit_command<'a>(alloc: Global) -> Result<Command<'a>, AllocError>
     ensures { IfOk result (λ c. (app_of c ≡ audit_app) × ((fields_of c).has_globals ≡ false)) }
 {
     let chained = chained_command(alloc)?;
-    filed_command(alloc, chained)
+    let formed = formed_command(alloc, chained)?;
+    filed_command(alloc, formed)
 }
 
 /// The command `audit` with its option `--chain` alone.
@@ -432,9 +483,22 @@ fn chained_command<'a>(alloc: Global) -> Result<Command<'a>, AllocError>
     command.arg(chain)
 }
 
+/// The same with its option `--emit`.
+fn formed_command<'a>(alloc: Global, command: Command<'a>) -> Result<Command<'a>, AllocError>
+    requires { (app_of command ≡ chained) × ((fields_of command).has_globals ≡ false) }
+    ensures { IfOk result (λ c. (app_of c ≡ formed) × ((fields_of c).has_globals ≡ false)) }
+{
+    let emit = Arg::new(alloc, "emit")
+        .long("emit")
+        .value_name("WHAT")
+        .help("What to print: report (the default), or json, the same as one object of JSON")
+        .action(ArgAction::Set);
+    command.arg(emit)
+}
+
 /// The same with the names of files, the last words.
 fn filed_command<'a>(alloc: Global, command: Command<'a>) -> Result<Command<'a>, AllocError>
-    requires { (app_of command ≡ chained) × ((fields_of command).has_globals ≡ false) }
+    requires { (app_of command ≡ formed) × ((fields_of command).has_globals ≡ false) }
     ensures { IfOk result (λ c. (app_of c ≡ audit_app) × ((fields_of c).has_globals ≡ false)) }
 {
     let files = Arg::new(alloc, "FILE")
@@ -451,7 +515,7 @@ fn replaying_program<'a>(alloc: Global) -> Result<Command<'a>, AllocError>
     let command = Command::new(alloc, "epaxos")
         .about("A replicated key-value core without a leader")
         .after_help(AFTER_ALL)
-        .version("0.1.0")
+        .version("1.0.0")
         .subcommand_required(true);
     command.subcommand(replay)
 }
@@ -462,7 +526,9 @@ fn replay_command<'a>(alloc: Global) -> Result<Command<'a>, AllocError>
     let emit = Arg::new(alloc, "emit")
         .long("emit")
         .value_name("WHAT")
-        .help("What to print: report (the default) or bundle")
+        .help(
+            "What to print: report (the default), json, the report as one object of JSON, or bundle",
+        )
         .action(ArgAction::Set);
     let command = Command::new(alloc, "replay")
         .about(
@@ -534,7 +600,9 @@ fn emitting_command<'a>(alloc: Global, command: Command<'a>) -> Result<Command<'
     let emit = Arg::new(alloc, "emit")
         .long("emit")
         .value_name("WHAT")
-        .help("What to print: report (the default) or bundle")
+        .help(
+            "What to print: report (the default), json, the report as one object of JSON, or bundle",
+        )
         .action(ArgAction::Set);
     command.arg(emit)
 }

@@ -21,8 +21,11 @@ pub(crate) fn gather_bundle(
     ensures value { IfOk result (λ bytes. bytes.items ≡ bundle_bytes journals.now receipts.now) }
     ensures memory { IfErr result (λ e. e ≡ Memory) }
 {
+    let Ok(map) = journals.opening().contents().listing() else {
+        return Err(EngineFault::Memory);
+    };
     let mut gathered = Noted::new(Vec::new(alloc));
-    match write_bundle(journals, receipts, &mut gathered) {
+    match write_bundle(journals, &map, receipts, &mut gathered) {
         Ok(()) => Ok(gathered.into_inner()),
         Err(_) => Err(EngineFault::Memory),
     }

@@ -16,6 +16,8 @@ mod chain_files;
 mod chaining;
 mod command_line;
 mod engine_fault;
+mod form;
+mod forms;
 mod gathering;
 mod host;
 mod job;

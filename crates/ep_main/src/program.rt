@@ -31,7 +31,7 @@ use std::thread::Threads;
 /// Does what the words ask for, of which the first is the program's own name, and answers how the program ends.
 ///
 /// `replay` reads a script to its end, plays it, audits what it leaves, and writes the report in one go, or, with `--emit
-/// bundle`, the bundle of that. `run` reads a script, runs it in threads, audits what they leave (with `--host ring` the audit
+/// json`, the report as JSON, or, with `--emit bundle`, the bundle of that. `run` reads a script, runs it in threads, audits what they leave (with `--host ring` the audit
 /// never refuses it), and writes the report, or the bundle, in one go. `audit` reads a bundle to its end, audits it, and writes
 /// what the audit says in one go; with `--chain` it reads bundles of version 3 from files, each to its end, audits them one after the
 /// other, and writes what the audit of the chain says in one go. `upgrade` reads a bundle to its end and writes it in version 2, or 3,
@@ -90,7 +90,7 @@ fn work<R: Files + AllocGlobal + Threads + Wait + Sync, S: Source, W: Sink, F: S
 {
     match task {
         Job::Streams(asked) => perform(rt, alloc, asked, streams),
-        Job::Chain(names) => print_chain(rt, &names, streams),
+        Job::Chain(form, names) => print_chain(rt, form, &names, streams),
     }
 }
 
@@ -134,8 +134,8 @@ fn attempt<R: Threads + Wait + Sync, S: Source, W: Sink, F>(
             let made = run_of(rt, alloc, &options, &mut streams.reader);
             put_made(made, EngineFault::Write, &mut streams.writer)
         }
-        Asked::Audit => {
-            let made = audit_of(alloc, &mut streams.reader);
+        Asked::Audit(form) => {
+            let made = audit_of(alloc, form, &mut streams.reader);
             put_made(made, EngineFault::Write, &mut streams.writer)
         }
         Asked::Upgrade(target) => {
@@ -143,7 +143,7 @@ fn attempt<R: Threads + Wait + Sync, S: Source, W: Sink, F>(
             put_made(made, EngineFault::Write, &mut streams.writer)
         }
         Asked::Version => put_text(
-            b"epaxos 0.1.0\n",
+            b"epaxos 1.0.0\n",
             Status::Done,
             EngineFault::Write,
             &mut streams.writer,

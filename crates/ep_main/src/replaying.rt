@@ -15,12 +15,14 @@ ghost use Rattle.ep_main.specs.declared.engine_fault.EngineFault.TheVariants.{Me
 
 use crate::asked::Emit;
 use crate::engine_fault::EngineFault;
+use crate::form::Form;
+use crate::forms::report_in;
 use crate::gathering::gather_bundle;
 use ep_audit::Summary;
 use ep_base::Source;
 use ep_cli::{Made, Status};
 use ep_replay::{Replayed, replay};
-use ep_report::{Findings, life_of, report, told_contents};
+use ep_report::{Findings, life_of, told_contents};
 use ep_script::read_script;
 use std::alloc::Global;
 use std::mem::forget;
@@ -58,7 +60,7 @@ fn emitted(alloc: Global, emit: Emit, played: &Replayed) -> Result<Vec<u8>, Engi
     ensures memory { IfErr result (λ e. e ≡ Memory) }
 {
     match emit {
-        Emit::Report => report_of(alloc, played),
+        Emit::Report(form) => report_of(alloc, form, played),
         Emit::Bundle => bundle_of(alloc, played),
     }
 }
@@ -73,9 +75,9 @@ fn bundle_of(alloc: Global, played: &Replayed) -> Result<Vec<u8>, EngineFault>
 }
 
 /// The report of what a script's run left. The audit accepts that, so none is made.
-fn report_of(alloc: Global, played: &Replayed) -> Result<Vec<u8>, EngineFault>
+fn report_of(alloc: Global, form: Form, played: &Replayed) -> Result<Vec<u8>, EngineFault>
     requires { IsAccepted (opens played.now.journals.opening) played.now.journals.faults (journals_of played.now.journals) played.now.receipts.items }
-    ensures value { IfOk result (λ text. IsReportOf played.now text.items) }
+    ensures value { IfOk result (λ text. IsReportOf form played.now text.items) }
     ensures memory { IfErr result (λ e. e ≡ Memory) }
 {
     let summary = Summary::of(alloc, &played.journals)?;
@@ -87,7 +89,7 @@ fn report_of(alloc: Global, played: &Replayed) -> Result<Vec<u8>, EngineFault>
         history: summary.history.as_slice(),
         receipts: played.receipts.as_slice(),
     };
-    let text = report(alloc, &found, played.refused.as_slice())?;
+    let text = report_in(alloc, form, &found, played.refused.as_slice())?;
     forget(summary);
     Ok(text)
 }

@@ -17,12 +17,14 @@ ghost use Rattle.ep_cli.specs.declared.status.Status.TheVariants.{Done};
 
 use crate::asked::Emit;
 use crate::engine_fault::EngineFault;
+use crate::form::Form;
+use crate::forms::{refusal_in, run_report_in};
 use crate::gathering::gather_bundle;
 use crate::host::Host;
 use crate::run_options::RunOptions;
 use ep_base::Source;
 use ep_cli::{Made, Status};
-use ep_report::{Findings, Losses, life_of, refusal, run_report, told_contents};
+use ep_report::{Findings, Losses, life_of, told_contents};
 use ep_run::{Ran, RunFault, run, run_rings};
 use ep_script::{RunScript, read_run};
 use std::alloc::Global;
@@ -77,15 +79,15 @@ fn judge_run(alloc: Global, emit: Emit, ran: &Ran) -> Result<Made, EngineFault>
     ensures memory { IfErr result (λ e. e ≡ Memory) }
 {
     match emit {
-        Emit::Report => judge_reported(alloc, ran),
+        Emit::Report(form) => judge_reported(alloc, form, ran),
         Emit::Bundle => judge_bundled(alloc, ran),
     }
 }
 
 /// The report of a run that the audit accepts, or its first fault.
-fn judge_reported(alloc: Global, ran: &Ran) -> Result<Made, EngineFault>
+fn judge_reported(alloc: Global, form: Form, ran: &Ran) -> Result<Made, EngineFault>
     requires { IsFinished ran.now.receipts.items ran.now.finished }
-    ensures value { IfOk result (λ j. SaysOfRun Report ran.now j.status j.text.items) }
+    ensures value { IfOk result (λ j. SaysOfRun (Report form) ran.now j.status j.text.items) }
     ensures accepted { IsOk ran.now.finished.verdict → IfOk result (λ j. j.status ≡ Done) }
     ensures memory { IfErr result (λ e. e ≡ Memory) }
 {
@@ -103,7 +105,7 @@ fn judge_reported(alloc: Global, ran: &Ran) -> Result<Made, EngineFault>
                 history: verdict.history.as_slice(),
                 receipts: ran.receipts.as_slice(),
             };
-            let text = run_report(alloc, &found, losses)?;
+            let text = run_report_in(alloc, form, &found, losses)?;
             Ok(Made {
                 status: Status::Done,
                 text,
@@ -111,7 +113,7 @@ fn judge_reported(alloc: Global, ran: &Ran) -> Result<Made, EngineFault>
         }
         Err(fault) => Ok(Made {
             status: Status::AuditRefused,
-            text: refusal(alloc, *fault)?,
+            text: refusal_in(alloc, form, *fault)?,
         }),
     }
 }

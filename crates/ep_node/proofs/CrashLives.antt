@@ -32,7 +32,7 @@ at_gen P g x was here there h = go (eqb g h) refl
 
 -- The entries of one generation.
 
-taken_both : (g : ℕ) (xs ys : List Stood) → taken_in g (xs ++ ys) ≡ taken_in g xs ++ taken_in g ys
+pub taken_both : (g : ℕ) (xs ys : List Stood) → taken_in g (xs ++ ys) ≡ taken_in g xs ++ taken_in g ys
 taken_both g [] ys = refl
 taken_both g (Took h a ∷ xs) ys = go (eqb h g) (taken_both g xs ys)
   where
@@ -119,7 +119,7 @@ standing_in g (Within h m ∷ ms) these = standing_in g ms (stand_on (Within h m
 
 -- Who has opened what.
 
-abbrev has_over : (ℕ → ℕ → Bool) → List Stood → ℕ → ℕ → Bool
+abbrev pub has_over : (ℕ → ℕ → Bool) → List Stood → ℕ → ℕ → Bool
 has_over o [] = o
 has_over o (Took g a ∷ xs) = has_over o xs
 has_over o (Opened g r q ∷ xs) = has_over (opened_next g r o) xs
@@ -129,7 +129,7 @@ has_both o [] ys = refl
 has_both o (Took g a ∷ xs) ys = has_both o xs ys
 has_both o (Opened g r q ∷ xs) ys = has_both (opened_next g r o) xs ys
 
-has_kept : (g r n : ℕ) (o : ℕ → ℕ → Bool) (xs : List Stood) → has_over o (kept_in g r n xs) ≡ has_over o xs
+pub has_kept : (g r n : ℕ) (o : ℕ → ℕ → Bool) (xs : List Stood) → has_over o (kept_in g r n xs) ≡ has_over o xs
 has_kept g r n o [] = refl
 has_kept g r n o (Opened h p q ∷ xs) = has_kept g r n (opened_next h p o) xs
 has_kept g r n o (Took h a ∷ xs) = go (eqb g h && is_beyond r n a) (has_kept g r n o xs)
@@ -138,7 +138,7 @@ has_kept g r n o (Took h a ∷ xs) = go (eqb g h && is_beyond r n a) (has_kept g
     go true rec = rec
     go false rec = rec
 
-lived_over : (f : ℕ → ℕ) (l : Life) (xs : List Stood) → (lived f l (turns_of xs)).has_opened ≡ has_over l.has_opened xs
+pub lived_over : (f : ℕ → ℕ) (l : Life) (xs : List Stood) → (lived f l (turns_of xs)).has_opened ≡ has_over l.has_opened xs
 lived_over f l [] = refl
 lived_over f l (Took g a ∷ xs) = lived_over f (turned f l (Steps g (act_of a))) xs
 lived_over f l (Opened g r q ∷ xs) = lived_over f (turned f l (Opens g r q)) xs
@@ -162,7 +162,7 @@ has_on f l (Within g (HandOut r n)) o these is = is
 has_on f l (Within g (ComeBack r n)) o these is = has_kept g r n o these ∙ is
 has_on f l (OpensNext g r q since) o these is = has_both o these (Opened g r q ∷ []) ∙ ap (λ was. opened_next g r was) is
 
-has_after : (f : ℕ → ℕ) (l : Generations) (ms : List LifeMove) (o : ℕ → ℕ → Bool) (these : List Stood) → has_over o these ≡ l.has_opened → has_over o (standing stand_on these ms) ≡ (life_after f l ms).has_opened
+pub has_after : (f : ℕ → ℕ) (l : Generations) (ms : List LifeMove) (o : ℕ → ℕ → Bool) (these : List Stood) → has_over o these ≡ l.has_opened → has_over o (standing stand_on these ms) ≡ (life_after f l ms).has_opened
 has_after f l [] o these is = is
 has_after f l (m ∷ ms) o these is = has_after f (after_move f l m) ms o (stand_on m these) (has_on f l m o these is)
 
@@ -189,7 +189,7 @@ same_on f l (OpensNext h p q since) k g r is = record { has = still_open h p l.h
     go x y true false ea eb = refl
     go x y false b ea eb = refl
 
-same_after : (f : ℕ → ℕ) (l : Generations) (ms : List LifeMove) → AreLifeMoves f l ms → (g r : ℕ) → l.has_opened g r ≡ true → Same l (life_after f l ms) g r
+pub same_after : (f : ℕ → ℕ) (l : Generations) (ms : List LifeMove) → AreLifeMoves f l ms → (g r : ℕ) → l.has_opened g r ≡ true → Same l (life_after f l ms) g r
 same_after f l [] k g r is = record { has = is; map = refl; since = refl }
 same_after f l (m ∷ ms) k g r is =
     let one : Same l (after_move f l m) g r = same_on f l m k.0 g r is in
@@ -278,7 +278,7 @@ fits_move f l these h (Within g m) k = record {
 }
 
 -- What was handed out of only grows.
-out_on : (f : ℕ → ℕ) (l : Generations) (m : LifeMove) → IsLifeMove f l m → (g r : ℕ) → (l.cluster g).out r ≤ ((after_move f l m).cluster g).out r
+pub out_on : (f : ℕ → ℕ) (l : Generations) (m : LifeMove) → IsLifeMove f l m → (g r : ℕ) → (l.cluster g).out r ≤ ((after_move f l m).cluster g).out r
 out_on f l (OpensNext h p q since) k = λ g r. omega arith
 out_on f l (Within h m) k =
     at_gen (λ j c. (r : ℕ) → (l.cluster j).out r ≤ c.out r) h (moved (l.cluster h) m) l.cluster (out_next (start_of l h (mover m)) (f h) (l.cluster h) m k.1) (λ j e r. omega arith)
@@ -525,7 +525,7 @@ came M f o out pre (Opened k p q ∷ xs) h g r before after = go (has_over o (pr
     go true e rec = came_here M f o out pre xs k p q g r h.0 (opens_it k p g r (has_over o pre) before (ap (λ was. was (suc g) r) (sym (has_both o pre (Opened k p q ∷ []))) ∙ e))
     go false e rec = subst (λ l. Came M f o out l g r) (append_assoc pre (Opened k p q ∷ []) xs) (rec e)
 
-acts_taken : (g : ℕ) (xs : List Stood) → acts_in g (turns_of xs) ≡ acts_of (taken_in g xs)
+pub acts_taken : (g : ℕ) (xs : List Stood) → acts_in g (turns_of xs) ≡ acts_of (taken_in g xs)
 acts_taken g [] = refl
 acts_taken g (Opened h r q ∷ xs) = acts_taken g xs
 acts_taken g (Took h a ∷ xs) = go (eqb h g) (acts_taken g xs)

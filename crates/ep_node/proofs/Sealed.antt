@@ -1,7 +1,7 @@
 -- Entries that leave a closed map have one that executed a seal.
 use Rattle.std.proofs.Common.{◌≡◌, ℕ, Bool, true, false, not, is_none, inl, inr, Option, Some, None, List, [], ◌∷◌, refl, sym, ◌∙◌}
 use Rattle.std.proofs.lemmas.Bool.{false≢true}
-use Rattle.ep_base.specs.Commands.{Command, Noop, Get, Put, Del, Swap, Cas, Seal, Opaque}
+use Rattle.ep_base.specs.Commands.{Command, Noop, Get, Put, Del, Swap, Cas, Seal, Opaque, Tx}
 use Rattle.ep_base.specs.Interference.{is_seal}
 use Rattle.ep_base.specs.Places.{Has}
 use Rattle.ep_base.specs.declared.decree.Decree.{Decree}
@@ -25,6 +25,7 @@ seals_it (Swap ks) h = absurd (false≢true h)
 seals_it (Cas k e n) h = absurd (false≢true h)
 seals_it (Seal v) h = refl
 seals_it (Opaque p b) h = absurd (false≢true h)
+seals_it (Tx is) h = absurd (false≢true h)
 
 closes_it : (seal : Option (List ℕ)) (m : Contents) (c : Command) → not (is_none seal) ≡ false → is_closed (after (record { contents = m; seal = seal }) c) ≡ true → is_seal c ≡ true
 closes_it None m c unshut closed = seals_it c closed

@@ -22,6 +22,8 @@ fn says_closed(reply: &Reply) -> bool
         Reply::Absent => false,
         Reply::Present(_) => false,
         Reply::Ordered => false,
+        Reply::Done(_) => false,
+        Reply::Undone(_) => false,
     }
 }
 

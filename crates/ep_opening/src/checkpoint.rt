@@ -15,13 +15,15 @@ use crate::stage::Stage;
 use crate::writing::{put_executed, put_front, put_lead};
 use ep_base::{Deps, Key, Noted, Sink, Value, WriteFailed};
 use ep_bundle::{put_pairs, put_u32};
+use ep_exec::Listing;
 use sha2::{Digest, Sha256};
 use std::alloc::{AllocError, Global};
 use std::marker::Model;
 use std::mem;
 
-/// An opening file whose bytes are given in pieces, one after the other, as somebody has time to write them. It shares its map's entries with whoever began
-/// with them, and needs neither them nor anything that they do.
+/// An opening file whose bytes are given in pieces, one after the other, as somebody has time to write them. It
+/// shares its map's entries with whoever began with them, and needs neither them nor anything that they do. Where the
+/// map has layers, the first piece takes a copy of it, which is one listing.
 pub struct Checkpoint {
     file: OpeningFile,
     hasher: Sha256,
@@ -53,20 +55,23 @@ impl Model for Checkpoint {
 }
 
 /// What stands before the map's entries.
-fn put_head<K: Sink>(sink: &mut K, file: &OpeningFile) -> Result<(), WriteFailed>
+fn put_head<K: Sink>(sink: &mut K, file: &OpeningFile, map: &Listing) -> Result<(), WriteFailed>
+    requires { map.now ≡ file.now.opening.contents }
     ensures { Puts (K.held sink.old) (K.held sink.new) (K.has_failed sink.old) (K.has_failed sink.new) result (head_bytes file.now) }
 {
     put_lead(sink)?;
     put_front(sink, file)?;
-    put_u32(sink, file.opening().contents().entries().len() as u32)
+    let _contents = file.opening().contents();
+    put_u32(sink, map.entries().len() as u32)
 }
 
 /// The bytes of what stands before the map's entries.
 fn head_of(alloc: Global, file: &OpeningFile) -> Result<Vec<u8>, AllocError>
     ensures { IfOk result (λ bytes. bytes.items ≡ head_bytes file.now) }
 {
+    let map = file.opening().contents().listing()?;
     let mut sink = Noted::new(Vec::new(alloc));
-    match put_head(&mut sink, file) {
+    match put_head(&mut sink, file, &map) {
         Ok(()) => Ok(sink.into_inner()),
         Err(_) => Err(AllocError),
     }
@@ -191,7 +196,8 @@ fn piece_from(
     ensures value { IfOk result (λ p. IsPiece file.now (Entries start) p.0.items p.1) }
     ensures short { IfOk result (λ p. IsShort most p.0.items) }
 {
-    let pairs = file.opening().contents().entries();
+    let map = file.opening().contents().listing()?;
+    let pairs = map.entries();
     if start >= pairs.len() {
         return last_piece(alloc, file, start, most);
     }
@@ -220,6 +226,13 @@ impl Checkpoint {
         &self.file
     }
 
+    /// Lets go what is left of the journal that the file closes (see `OpeningFile::let_go`).
+    pub fn let_go(&mut self)
+        ensures { self.new ≡ self.old }
+    {
+        self.file.let_go();
+    }
+
     /// Whether all was given.
     pub fn is_over(&self) -> bool
         ensures { IsTrue result ↔ (self.now.left ≡ []) }
@@ -244,6 +257,8 @@ impl Checkpoint {
     {
         match self.stage {
             Stage::Front => {
+                // (so what follows takes no copy)
+                self.file.settle()?;
                 let (bytes, stage) = first_piece(alloc, &self.file, most)?;
                 self.hasher.update(&bytes);
                 self.stage = stage;

@@ -16,7 +16,7 @@ use crate::opening_file::OpeningFile;
 use crate::past::Past;
 use ep_base::{Generation, Size, Value, Version};
 use ep_exec::Contents;
-use ep_journal::{Journal, Opening};
+use ep_journal::{Journal, Opening, Remainder};
 use std::alloc::{AllocError, Global};
 
 /// No seal closes a map of versions 1 and 2. A law, which costs nothing.
@@ -115,14 +115,22 @@ fn opening_of(journal: &Journal) -> Result<Opening, AllocError>
     }
 }
 
-/// The same, and no longer the journal.
-fn opening_from(journal: Journal) -> Result<Opening, AllocError>
-    ensures { IfOk result (IsLeft journal) }
+/// The same, and what is left of the journal.
+fn opening_from(journal: Journal) -> Result<(Opening, Remainder), AllocError>
+    ensures { IfOk result (λ o. IsLeft journal o.0) }
 {
     let since = journal.last_stamp();
-    match journal.into_contents() {
-        Ok(contents) => opening_with(contents, since),
-        Err(_) => Err(AllocError),
+    let (contents, left) = journal.into_contents();
+    let Ok(contents) = contents else {
+        drop(left);
+        return Err(AllocError);
+    };
+    match opening_with(contents, since) {
+        Ok(opening) => Ok((opening, left)),
+        Err(fault) => {
+            drop(left);
+            Err(fault)
+        }
     }
 }
 
@@ -154,7 +162,8 @@ pub fn closing_of(alloc: Global, journal: &Journal, next: Size) -> Result<Openin
     Ok(file_of(next, past, opening))
 }
 
-/// The same file, and no longer the journal, whose map becomes a part of it: where nobody else has what the journal opened with, nothing of that is copied.
+/// The same file, and no longer the journal, whose map becomes a part of it, with nothing copied of what the journal
+/// opened with. The file keeps what is left of the journal (see `OpeningFile::let_go`).
 pub fn closing_from(
     alloc: Global,
     journal: Journal,
@@ -181,7 +190,7 @@ fn closed_with(journal: Journal, next: Size, past: Past) -> Result<OpeningFile, 
     ensures err { IfErr result (λ fault. fault ≡ NoMemory) }
 {
     match opening_from(journal) {
-        Ok(opening) => Ok(file_of(next, past, opening)),
+        Ok((opening, left)) => Ok(file_of(next, past, opening).with(left)),
         Err(_) => {
             drop(past);
             Err(ClosingFault::Memory)

@@ -1,6 +1,6 @@
 //! What is written is read back; and what files say that close journals of one generation.
 
-ghost use Rattle.std.specs.Prelude.{◌≤◌, length};
+ghost use Rattle.std.specs.Prelude.{◌≡◌, ◌≤◌, length};
 ghost use Rattle.ep_base.specs.Deps.{IsDeps};
 ghost use Rattle.ep_base.specs.Generations.{IsGeneration};
 ghost use Rattle.ep_base.specs.Values.{most_value};
@@ -12,6 +12,7 @@ ghost use Rattle.ep_opening.specs.ReferenceReading.{ReferencesAreReadBack};
 use crate::opening_file::OpeningFile;
 use ep_base::{Deps, Generation, Size, Value};
 use ep_bundle::learn_opening;
+use ep_exec::Listing;
 
 fn learn_size(size: Size)
     ensures least { 1 ≤ size }
@@ -49,8 +50,10 @@ fn learn_executed(executed: &Deps)
     let _instances = executed.as_slice();
 }
 
-/// The fields of the file are in the ranges of their types, and keep the rules of files. A law; to call it costs a look at each key.
-pub fn learn_file(file: &OpeningFile)
+/// The fields of the file are in the ranges of their types, and keep the rules of files. A law; to call it costs a
+/// look at each key of its map.
+pub fn learn_file(file: &OpeningFile, map: &Listing)
+    requires { map.now ≡ file.now.opening.contents }
     ensures { IsFile file.now }
 {
     let size = file.size();
@@ -58,7 +61,7 @@ pub fn learn_file(file: &OpeningFile)
     let generation = file.generation();
     learn_generation(generation);
     let opening = file.opening();
-    learn_opening(opening);
+    learn_opening(opening, map);
     learn_seal(file);
     let executed = file.executed();
     learn_executed(executed);

@@ -6,7 +6,8 @@ ghost use Rattle.ep_opening.specs.Files.{HasItsPast, HasItsSeal, IsRuledOut};
 
 use crate::parts_fault::PartsFault;
 use ep_base::{Deps, Generation, Size, Value};
-use ep_journal::Opening;
+use ep_journal::{Opening, Remainder};
+use std::alloc::{AllocError, Global};
 use std::marker::Model;
 
 /// What the replicas of a generation open with; the value of the seal that began the generation, where it isn't the first; and the instances that
@@ -17,6 +18,8 @@ pub struct OpeningFile {
     opening: Opening,
     seal: Option<Value>,
     executed: Deps,
+    // what is left of the journal that it closes
+    left: Option<Remainder>,
 }
 
 // (by hand, so that no crate above proves again how the parts are dropped)
@@ -28,10 +31,12 @@ impl Drop for OpeningFile {
             opening,
             seal,
             executed,
+            left,
         } = self;
         drop(opening);
         drop(seal);
         drop(executed);
+        drop(left);
     }
 }
 
@@ -91,7 +96,24 @@ impl OpeningFile {
             opening,
             seal,
             executed,
+            left: None,
         })
+    }
+
+    /// The same file, which keeps what is left of the journal that it closes.
+    pub(crate) fn with(self, left: Remainder) -> OpeningFile
+        ensures { result ≡ self }
+    {
+        let mut file = self;
+        file.left = Some(left);
+        file
+    }
+
+    /// Lets go what is left of the journal that it closes, if there is any, which goes with the file else.
+    pub fn let_go(&mut self)
+        ensures { self.new ≡ self.old }
+    {
+        self.left = None;
     }
 
     /// How many replicas the cluster has.
@@ -113,6 +135,23 @@ impl OpeningFile {
         ensures { result.now ≡ self.now.opening }
     {
         &self.opening
+    }
+
+    /// Makes one listing of the opening's map, where there are layers (see `Contents::settle`). As it was at an
+    /// `Err`.
+    pub fn settle(&mut self) -> Result<(), AllocError>
+        ensures { self.new ≡ self.old }
+    {
+        self.opening.settle()
+    }
+
+    /// What its replicas open with, with what was done of it, for one of them (see `Contents::hand_on`). As it was at
+    /// an `Err`.
+    pub fn hand_on(&mut self, alloc: Global) -> Result<Opening, AllocError>
+        ensures result { IfOk result (λ o. o ≡ self.old.opening) }
+        ensures same { self.new ≡ self.old }
+    {
+        self.opening.hand_on(alloc)
     }
 
     /// The value of the seal that began it; none of the first generation.
@@ -141,6 +180,7 @@ impl OpeningFile {
             opening,
             seal: _,
             executed: _,
+            left: _,
         } = self;
         opening
     }

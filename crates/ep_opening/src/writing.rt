@@ -10,6 +10,7 @@ use crate::digest::digest_of;
 use crate::opening_file::OpeningFile;
 use ep_base::{Deps, InstanceId, Noted, Sink, Value, WriteFailed};
 use ep_bundle::{put_instance, put_run, put_u8, put_u32, put_u64, write_contents};
+use ep_exec::Listing;
 use std::alloc::{AllocError, Global};
 
 /// What says that this is an opening file, of version 3.
@@ -70,22 +71,24 @@ pub(crate) fn put_executed<K: Sink>(sink: &mut K, executed: &Deps) -> Result<(),
 }
 
 /// All but the digest.
-fn put_body<K: Sink>(sink: &mut K, file: &OpeningFile) -> Result<(), WriteFailed>
+fn put_body<K: Sink>(sink: &mut K, file: &OpeningFile, map: &Listing) -> Result<(), WriteFailed>
+    requires { map.now ≡ file.now.opening.contents }
     ensures { Puts (K.held sink.old) (K.held sink.new) (K.has_failed sink.old) (K.has_failed sink.new) result (body_bytes file.now) }
 {
     put_lead(sink)?;
     put_front(sink, file)?;
-    write_contents(file.opening().contents(), sink)?;
+    let _contents = file.opening().contents();
+    write_contents(map, sink)?;
     put_executed(sink, file.executed())
 }
 
 /// How many bytes the file has, or fewer.
-fn room(file: &OpeningFile) -> usize {
+fn room(file: &OpeningFile, map: &Listing) -> usize {
     let mut room = 59 + 3 * file.executed().len();
     if let Some(value) = file.seal() {
         room += 4 + value.len();
     }
-    for (key, value) in file.opening().contents().entries() {
+    for (key, value) in map.entries() {
         room = room.saturating_add(5 + key.as_slice().len() + value.len());
     }
     room
@@ -95,8 +98,9 @@ fn room(file: &OpeningFile) -> usize {
 fn body_of(alloc: Global, file: &OpeningFile) -> Result<Vec<u8>, AllocError>
     ensures { IfOk result (λ bytes. bytes.items ≡ body_bytes file.now) }
 {
-    let mut sink = Noted::new(Vec::with_capacity(alloc, room(file))?);
-    match put_body(&mut sink, file) {
+    let map = file.opening().contents().listing()?;
+    let mut sink = Noted::new(Vec::with_capacity(alloc, room(file, &map))?);
+    match put_body(&mut sink, file, &map) {
         Ok(()) => Ok(sink.into_inner()),
         Err(_) => Err(AllocError),
     }

@@ -118,6 +118,7 @@ impl Lead {
     }
 
     /// One more replica pre-accepted with these attributes, if this is phase 1. At want of memory nothing has changed.
+    #[inline(always)]
     pub fn add_pre_accepted(
         &mut self,
         id: InstanceId,
@@ -141,6 +142,7 @@ impl Lead {
     }
 
     /// Leads the instance no longer. It takes no memory, and needs no place.
+    #[inline(always)]
     pub fn end(&mut self, id: InstanceId)
         ensures { self.new ≡ with_lead self.old id None }
     {
@@ -184,6 +186,7 @@ impl Lead {
 }
 
 // What is led is taken out, and put back with the answer, or as it was.
+#[inline(always)]
 fn add_pre_accepted(
     leads: &mut Table<Led>,
     id: InstanceId,

@@ -1,7 +1,7 @@
 -- Whoever has executed a seal has closed its map.
 use Rattle.std.proofs.Common.{◌≡◌, ℕ, true, not, eqb, is_none, Option, Some, None, List, [], ◌∷◌, refl, sym, ap, subst, ◌∙◌, inl, inr, arith}
 use Rattle.std.proofs.lemmas.Bool.{eqb-true, false≢true}
-use Rattle.ep_base.specs.Commands.{Command, Noop, Get, Put, Del, Swap, Cas, Seal, Opaque}
+use Rattle.ep_base.specs.Commands.{Command, Noop, Get, Put, Del, Swap, Cas, Seal, Opaque, Tx}
 use Rattle.ep_base.specs.Interference.{is_seal}
 use Rattle.ep_base.specs.Places.{Has}
 use Rattle.ep_base.specs.declared.decree.Decree.{Decree}
@@ -32,6 +32,7 @@ seal_closes None m (Swap keys) e = absurd (false≢true e)
 seal_closes None m (Cas k expected new) e = absurd (false≢true e)
 seal_closes None m (Seal v) e = refl
 seal_closes None m (Opaque p b) e = absurd (false≢true e)
+seal_closes None m (Tx is) e = absurd (false≢true e)
 
 stays_under : (o : Option (List ℕ)) (m : Contents) (c : Command) → not (is_none o) ≡ true → not (is_none (after_under o m c).seal) ≡ true
 stays_under None m c e = absurd (false≢true e)

@@ -64,6 +64,7 @@ fn has_executed(world: &World) -> bool
 }
 
 /// Adds the receipts of what the world's last step executed.
+#[inline(always)]
 fn collect(
     alloc: Global,
     world: &World,
@@ -221,6 +222,7 @@ impl Player {
     }
 
     /// Tries an event of this line.
+    #[inline(always)]
     fn attempt(&mut self, line: u32, event: WorldEvent) -> Result<(), AllocError>
         ensures { OnOk result (Leads (λ p q. Tries p line event q) self.old self.new) }
     {
@@ -257,6 +259,7 @@ impl Player {
     }
 
     /// Notes that the message was given, if there is one of this number.
+    #[inline(always)]
     fn note(&mut self, message: u64) -> Result<(), AllocError>
         ensures { OnOk result (Leads (λ p q. q ≡ with_given p message) self.old self.new) }
     {
@@ -268,6 +271,7 @@ impl Player {
     }
 
     /// Gives the message of this number.
+    #[inline(always)]
     fn give(&mut self, line: u32, message: u64) -> Result<(), AllocError>
         ensures { OnOk result (Leads (λ p q. Tries (with_given p message) line (event.Deliver message) q) self.old self.new) }
     {
@@ -277,6 +281,7 @@ impl Player {
     }
 
     /// Tries to give the message of this number to its receiver.
+    #[inline(always)]
     fn hand_over(&mut self, line: u32, message: u64) -> Result<(), AllocError>
         ensures { OnOk result (Leads (λ p q. Tries p line (event.Deliver message) q) self.old self.new) }
     {
@@ -289,6 +294,7 @@ impl Player {
 
     /// Tries to give the message of this number to its receiver, and keeps nothing of it but its refusal. A delivery executes nothing, so it
     /// has no receipts. (An event of it would be moved from call to call.)
+    #[inline(always)]
     fn hand_over_alone(&mut self, line: u32, message: u64) -> Result<(), AllocError>
         requires { self.old.keeps ≡ false }
         ensures { OnOk result (Leads (λ p q. Tries p line (event.Deliver message) q) self.old self.new) }

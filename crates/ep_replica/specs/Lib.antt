@@ -6,6 +6,7 @@ pub mod Slots
 pub mod Outcomes
 pub mod Firsts
 pub mod Pending
+pub mod Reading
 pub mod Spans
 pub mod Blockers
 pub mod Resuming

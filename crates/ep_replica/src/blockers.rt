@@ -137,6 +137,7 @@ impl Blockers {
     }
 
     /// Makes a place for each number up to this one.
+    #[inline(always)]
     pub(crate) fn reserve(&mut self, top: u16) -> Result<(), AllocError>
         ensures room { (length self.new ≤ length self.old) ⊎ (length self.new ≤ top + 1) }
         ensures same { (n : ℕ) → blocker_of self.new n ≡ blocker_of self.old n }

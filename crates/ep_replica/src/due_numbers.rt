@@ -75,6 +75,7 @@ impl DueNumbers {
     }
 
     /// Makes a place for each number up to this one.
+    #[inline(always)]
     pub(crate) fn reserve(&mut self, top: u16) -> Result<(), AllocError>
         ensures room { OnOk result (top < length self.new) }
         ensures longer { length self.old ≤ length self.new }

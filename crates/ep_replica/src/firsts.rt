@@ -26,6 +26,7 @@ fn note_one(items: &mut Vec<Option<Spot>>, me: ReplicaId, instance: InstanceId, 
 }
 
 /// Notes where each own instance was first executed that the entry of this place executed, and none before it.
+#[inline(always)]
 fn note_all(
     items: &mut Vec<Option<Spot>>,
     me: ReplicaId,
@@ -78,6 +79,7 @@ impl Firsts {
     }
 
     /// Makes a place for each own instance up to this number.
+    #[inline(always)]
     pub(crate) fn make_room(&mut self, top: u16) -> Result<(), AllocError>
         ensures room { OnOk result (top < length self.new) }
         ensures same { (number : ℕ) → spot_at self.new number ≡ spot_at self.old number }
@@ -109,6 +111,7 @@ impl Firsts {
     }
 
     /// Keeps what the entry of this replica executed first, which this many entries come before. It takes no memory.
+    #[inline(always)]
     pub(crate) fn mark(&mut self, me: ReplicaId, before: usize, entry: &Entry)
         requires room { HavePlaces me (length self.old) entry.now.done }
         ensures told { (es : List Entry) → length es ≡ before → AreFirsts me es self.old → AreFirsts me (es ++ entry.now ∷ []) self.new }

@@ -5,6 +5,7 @@ ghost use Rattle.std.specs.Prelude.{◌≡◌, ◌≤◌, ℕ, OnOk, false, leng
 use std::alloc::AllocError;
 
 /// Makes so many flags. What is set stays so.
+#[inline(always)]
 pub(crate) fn widen(flags: &mut Vec<bool>, count: usize) -> Result<(), AllocError>
     ensures many { OnOk result (count ≤ length flags.new.items) }
     ensures longer { length flags.old.items ≤ length flags.new.items }

@@ -18,6 +18,7 @@ use ep_journal::{Event, Journal};
 use std::alloc::{AllocError, Global};
 
 /// The instance that the event is about, unless it is committed: the event may commit it, and no other.
+#[inline(always)]
 pub(crate) fn open_in(journal: &Journal, event: &Event) -> Option<InstanceId>
     ensures { (i : ℕ) → about (event_of event.now) ≡ Some i → committed_in (standing journal.now).state.records i ≡ None → result ≡ Some i }
 {
@@ -71,6 +72,7 @@ impl Remembered {
     }
 
     /// Makes a place for each own instance up to this number.
+    #[inline(always)]
     pub(crate) fn reserve(&mut self, top: u16) -> Result<(), AllocError>
         ensures room { OnOk result (top < length self.new.due) }
         ensures fits { length self.old.blockers ≤ length self.old.due → length self.new.blockers ≤ length self.new.due }
@@ -82,6 +84,7 @@ impl Remembered {
     }
 
     /// Notes that the instance was committed, if it was: it is due if it is the replica's own, and so is what it blocked.
+    #[inline(always)]
     pub(crate) fn note(&mut self, journal: &Journal, subject: Option<InstanceId>)
         requires room { IfSome subject (λ i. number_of i < length self.old.due) }
         requires fits { length self.old.blockers ≤ length self.old.due }

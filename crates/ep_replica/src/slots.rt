@@ -75,6 +75,7 @@ impl Slots {
     }
 
     /// Makes a place for each own instance up to this number.
+    #[inline(always)]
     pub(crate) fn reserve(&mut self, top: u16) -> Result<(), AllocError>
         ensures room { OnOk result (top < length self.new) }
         ensures same { (number : ℕ) → found self.new number ≡ found self.old number }
@@ -106,6 +107,7 @@ impl Slots {
     }
 
     /// Keeps what the entry of this replica proposes. It takes no memory.
+    #[inline(always)]
     pub(crate) fn note(&mut self, me: ReplicaId, entry: &Entry)
         requires room { HasPlace me entry.now self.old }
         ensures told { (es : List Entry) → Tells me es self.old → Tells me (es ++ entry.now ∷ []) self.new }

@@ -1,9 +1,10 @@
 -- What instances, commands and answers are printed as.
 use Rattle.std.specs.Prelude.{ℕ, Bool, true, false, List, [], ◌∷◌, ◌++◌, Option, Some, None, codes, decimal}
 use Rattle.ep_base.specs.Instances.{leader_of, number_of}
-use Rattle.ep_base.specs.Commands.{Command, Noop, Get, Put, Del, Swap, Cas, Seal, Opaque}
+use Rattle.ep_base.specs.Commands.{Command, Noop, Get, Put, Del, Swap, Cas, Seal, Opaque, Tx}
+use Rattle.ep_base.specs.Items.{Item}
 use Rattle.ep_base.specs.declared.reply.Reply.{Reply}
-use Rattle.ep_base.specs.declared.reply.Reply.TheVariants.{Absent, Present, Closed, Ordered}
+use Rattle.ep_base.specs.declared.reply.Reply.TheVariants.{Absent, Present, Closed, Ordered, Done, Undone}
 use Rattle.ep_base.specs.declared.reply.Answer.{Answer}
 use Rattle.ep_base.specs.declared.reply.Answer.TheVariants.{Lost, Told}
 use Rattle.ep_report.specs.declared.part.Part.{Part}
@@ -39,6 +40,37 @@ abbrev pub second_key_text : Option (List ℕ) → List ℕ
 second_key_text None = []
 second_key_text (Some key) = codes " " ++ word_of key
 
+-- what an item says of its key: its guard, that it is told, and what is written, those of them that it has
+
+abbrev pub guard_text : List ℕ → Option (Option (List ℕ)) → List ℕ
+guard_text key None = []
+guard_text key (Some wanted) = codes " if " ++ word_of key ++ codes " " ++ option_text wanted
+
+abbrev pub told_text : List ℕ → Bool → List ℕ
+told_text key false = []
+told_text key true = codes " get " ++ word_of key
+
+abbrev pub write_text : List ℕ → Option (Option (List ℕ)) → List ℕ
+write_text key None = []
+write_text key (Some None) = codes " del " ++ word_of key
+write_text key (Some (Some value)) = codes " put " ++ word_of key ++ codes " " ++ word_of value
+
+abbrev pub item_text : Item → List ℕ
+item_text i = guard_text i.key i.guard ++ told_text i.key i.told ++ write_text i.key i.write
+
+abbrev pub items_text : List Item → List ℕ
+items_text [] = []
+items_text (i ∷ is) = item_text i ++ items_text is
+
+-- a value that is told, or that there is none
+abbrev pub value_text : Option (List ℕ) → List ℕ
+value_text None = codes " absent"
+value_text (Some value) = codes " present " ++ word_of value
+
+abbrev pub values_text : List (Option (List ℕ)) → List ℕ
+values_text [] = []
+values_text (o ∷ os) = value_text o ++ values_text os
+
 abbrev pub command_text : Command → List ℕ
 command_text Noop = codes "noop"
 command_text (Get key) = codes "get " ++ word_of key
@@ -48,12 +80,15 @@ command_text (Swap keys) = codes "swap " ++ word_of keys.first ++ codes " " ++ w
 command_text (Cas key expected new) = codes "cas " ++ word_of key ++ codes " " ++ option_text expected ++ codes " " ++ option_text new
 command_text (Seal value) = codes "seal " ++ word_of value
 command_text (Opaque own body) = request_text own.reads ++ word_of own.first ++ second_key_text own.second ++ codes " " ++ word_of body
+command_text (Tx items) = codes "tx" ++ items_text items
 
 abbrev pub reply_text : Reply → List ℕ
 reply_text Absent = codes "absent"
 reply_text (Present value) = codes "present " ++ word_of value
 reply_text Closed = codes "closed"
 reply_text Ordered = codes "ordered"
+reply_text (Done values) = codes "done" ++ values_text values
+reply_text (Undone values) = codes "undone" ++ values_text values
 
 abbrev pub answer_text : Answer → List ℕ
 answer_text Lost = codes "lost"

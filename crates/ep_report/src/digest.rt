@@ -7,11 +7,11 @@ ghost use Rattle.sha2.specs.Hashers.{Holds256};
 ghost use Rattle.sha2.specs.Sha256.{sha256};
 
 use ep_base::{Key, Value};
-use ep_exec::Contents;
+use ep_exec::Listing;
 use sha2::{Digest, Sha256};
 
 /// The SHA-256 of a map as a bundle spells it.
-pub(crate) fn digest_of(contents: &Contents) -> [u8; 32]
+pub(crate) fn digest_of(contents: &Listing) -> [u8; 32]
     requires { length (entries contents.now) < 2 ^ 32 }
     ensures { result ≡ sha256 (contents_bytes contents.now) }
 {

@@ -11,35 +11,34 @@ use ep_audit::{AuditFault, ChainFault};
 use ep_base::Key;
 use std::alloc::AllocError;
 
-/// Appends the line of the fault.
-pub(crate) fn push_chain_fault(text: &mut Vec<u8>, fault: &ChainFault) -> Result<(), AllocError>
-    ensures { OnOk result (text.new.items ≡ text.old.items ++ chain_fault_text fault.now ++ codes "\n") }
+/// Appends the fault, in the words of its line, without a line feed.
+pub fn push_chain_fault(text: &mut Vec<u8>, fault: &ChainFault) -> Result<(), AllocError>
+    ensures { OnOk result (text.new.items ≡ text.old.items ++ chain_fault_text fault.now) }
 {
     match fault {
         ChainFault::Audit(fault) => push_audit_fault(text, *fault),
-        ChainFault::NotConsecutive => text.extend_from_slice(b"A6 not consecutive\n"),
+        ChainFault::NotConsecutive => text.extend_from_slice(b"A6 not consecutive"),
         ChainFault::OpeningDiffers(key) => push_differing(text, key),
-        ChainFault::StampsGoBack => text.extend_from_slice(b"A8 stamps go back\n"),
-        ChainFault::NotClosed => text.extend_from_slice(b"A9 not closed\n"),
+        ChainFault::StampsGoBack => text.extend_from_slice(b"A8 stamps go back"),
+        ChainFault::NotClosed => text.extend_from_slice(b"A9 not closed"),
     }
 }
 
 fn push_audit_fault(text: &mut Vec<u8>, fault: AuditFault) -> Result<(), AllocError>
-    ensures { OnOk result (text.new.items ≡ text.old.items ++ fault_text (fault_of fault) ++ codes "\n") }
+    ensures { OnOk result (text.new.items ≡ text.old.items ++ fault_text (fault_of fault)) }
 {
     let words = fault.to_string(*text.allocator())?;
-    push_parts(text, &[Part::Text(words.as_bytes()), Part::Text(b"\n")])
+    text.extend_from_slice(words.as_bytes())
 }
 
 fn push_differing(text: &mut Vec<u8>, key: &Key) -> Result<(), AllocError>
-    ensures { OnOk result (text.new.items ≡ text.old.items ++ codes "A7 opening differs at key " ++ word_of key.now ++ codes "\n") }
+    ensures { OnOk result (text.new.items ≡ text.old.items ++ (codes "A7 opening differs at key " ++ word_of key.now)) }
 {
     push_parts(
         text,
         &[
             Part::Text(b"A7 opening differs at key "),
             Part::Word(key.as_slice()),
-            Part::Text(b"\n"),
         ],
     )
 }

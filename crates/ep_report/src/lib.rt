@@ -24,15 +24,17 @@ mod parts;
 mod reports;
 
 pub use event_fault::EventFault;
+pub use faults::push_chain_fault;
 pub use findings::Findings;
 pub use judgement::Judgement;
 pub use judging::judge;
 pub use life::Life;
-pub use lines::{push_contents, push_link_line};
+pub use lines::{push_contents, push_digest, push_link_line};
 pub use lives::{life_of, told_contents};
 pub use losses::Losses;
 pub use part::Part;
 pub use parts::{
-    push_answer, push_command, push_deps, push_instance, push_number, push_parts, push_reply,
+    push_answer, push_command, push_deps, push_instance, push_number, push_part, push_parts,
+    push_reply,
 };
 pub use reports::{accepted, chain_refusal, refusal, report, run_report};

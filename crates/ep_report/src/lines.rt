@@ -3,7 +3,7 @@
 ghost use Rattle.std.specs.Prelude.{◌≡◌, ◌<◌, ◌^◌, ◌++◌, [], ◌∷◌, OnOk, codes, decimal, length};
 ghost use Rattle.std.specs.FinMap.{entries};
 ghost use Rattle.std.specs.Option.{option_copied};
-ghost use Rattle.ep_report.specs.Contents.{contents_line, contents_text};
+ghost use Rattle.ep_report.specs.Contents.{contents_line, contents_text, digest_text};
 ghost use Rattle.ep_report.specs.Lives.{generation_line, closed_line, closing_line, link_line};
 ghost use Rattle.ep_report.specs.Reports.{text_of, committed_line, history_line, receipt_line, refused_line, lost_line};
 
@@ -87,13 +87,24 @@ fn push_closed<'x>(
     )
 }
 
+/// Appends the SHA-256 of a map as a bundle spells it, in hexadecimal digits.
+pub fn push_digest(text: &mut Vec<u8>, contents: &Contents) -> Result<(), AllocError>
+    requires { length (entries contents.now) < 2 ^ 32 }
+    ensures { OnOk result (text.new.items ≡ text.old.items ++ digest_text contents.now) }
+{
+    let listing = contents.listing()?;
+    let digits = encode(*text.allocator(), digest_of(&listing).as_slice())?;
+    text.extend_from_slice(digits.as_bytes())
+}
+
 /// Appends how many keys a map has, and the SHA-256 of the map as a bundle spells it, in hexadecimal digits.
 pub fn push_contents(text: &mut Vec<u8>, contents: &Contents) -> Result<(), AllocError>
     requires { length (entries contents.now) < 2 ^ 32 }
     ensures { OnOk result (text.new.items ≡ text.old.items ++ contents_text contents.now) }
 {
-    let count = contents.entries().len();
-    let digits = encode(*text.allocator(), digest_of(contents).as_slice())?;
+    let listing = contents.listing()?;
+    let count = listing.entries().len();
+    let digits = encode(*text.allocator(), digest_of(&listing).as_slice())?;
     push_parts(
         text,
         &[
@@ -109,12 +120,13 @@ pub(crate) fn push_contents_line(text: &mut Vec<u8>, contents: &Contents) -> Res
     requires { length (entries contents.now) < 2 ^ 32 }
     ensures { OnOk result (text.new.items ≡ text.old.items ++ contents_line contents.now ++ codes "\n") }
 {
-    let digits = encode(*text.allocator(), digest_of(contents).as_slice())?;
+    let listing = contents.listing()?;
+    let digits = encode(*text.allocator(), digest_of(&listing).as_slice())?;
     push_parts(
         text,
         &[
             Part::Text(b"contents "),
-            Part::Number(contents.entries().len() as u64),
+            Part::Number(listing.entries().len() as u64),
             Part::Text(b" "),
             Part::Text(digits.as_bytes()),
             Part::Text(b"\n"),

@@ -1,14 +1,17 @@
 //! The parts of which lines are made.
 
-ghost use Rattle.std.specs.Prelude.{◌≡◌, ◌<◌, ◌≤◌, ◌+◌, ◌++◌, OnOk, decimal};
+ghost use Rattle.std.specs.Prelude.{◌≡◌, ◌<◌, ◌≤◌, ◌+◌, ◌++◌, OnOk, codes, decimal};
 ghost use Rattle.std.specs.Option.{option_copied};
 ghost use Rattle.ep_base.specs.Commands.{Put, Swap, Cas, Opaque};
-ghost use Rattle.ep_base.specs.Views.{touched};
-ghost use Rattle.ep_report.specs.Parts.{instance_text, deps_text, more_deps, option_text, request_text, second_key_text, command_text, reply_text, answer_text, part_text, parts_text};
+ghost use Rattle.ep_base.specs.Parts.{items_of};
+ghost use Rattle.ep_base.specs.Views.{asked, seen, touched};
+ghost use Rattle.ep_report.specs.Parts.{instance_text, deps_text, more_deps, option_text, request_text, second_key_text, guard_text, told_text, write_text, item_text, items_text, value_text, values_text, command_text, reply_text, answer_text, part_text, parts_text};
 ghost use Rattle.ep_script.specs.Word.{word_of};
 
 use crate::part::Part;
-use ep_base::{Answer, Command, CommandView, Deps, InstanceId, Reply, Touching};
+use ep_base::{
+    Answer, Command, CommandView, Deps, InstanceId, ItemView, Items, Reply, Touching, Value,
+};
 use ep_script::push_word;
 use itoa::Buffer;
 use std::alloc::AllocError;
@@ -117,6 +120,76 @@ pub fn push_command(text: &mut Vec<u8>, command: &Command) -> Result<(), AllocEr
         CommandView::Cas(key, expected, new) => push_cas(text, key, expected, new),
         CommandView::Seal(value) => push_spelled(text, b"seal ", value),
         CommandView::Opaque(own, body) => push_opaque(text, &own, body),
+        CommandView::Tx(_) => push_tx(text, command),
+    }
+}
+
+fn push_tx(text: &mut Vec<u8>, command: &Command) -> Result<(), AllocError>
+    ensures { OnOk result (text.new.items ≡ text.old.items ++ (codes "tx" ++ items_text (items_of command.now))) }
+{
+    text.extend_from_slice(b"tx")?;
+    push_items(text, command.items())
+}
+
+fn push_items(text: &mut Vec<u8>, items: Items<'_>) -> Result<(), AllocError>
+    ensures { OnOk result (text.new.items ≡ text.old.items ++ items_text items.entry) }
+{
+    let mut items = items;
+    while let Some(item) = items.next() {
+        push_item(text, &item)?;
+    }
+    Ok(())
+}
+
+fn push_item(text: &mut Vec<u8>, item: &ItemView<'_>) -> Result<(), AllocError>
+    ensures { OnOk result (text.new.items ≡ text.old.items ++ item_text (seen item.now)) }
+{
+    push_guard(text, item.key, item.guard)?;
+    push_told(text, item.key, item.told)?;
+    push_write(text, item.key, item.write)
+}
+
+fn push_guard(
+    text: &mut Vec<u8>,
+    key: &[u8],
+    guard: Option<Option<&[u8]>>,
+) -> Result<(), AllocError>
+    ensures { OnOk result (text.new.items ≡ text.old.items ++ guard_text key.now (asked guard.entry)) }
+{
+    match guard {
+        None => Ok(()),
+        Some(wanted) => {
+            push_spelled(text, b" if ", key)?;
+            text.push(b' ')?;
+            push_option(text, wanted)
+        }
+    }
+}
+
+fn push_told(text: &mut Vec<u8>, key: &[u8], told: bool) -> Result<(), AllocError>
+    ensures { OnOk result (text.new.items ≡ text.old.items ++ told_text key.now told) }
+{
+    if told {
+        push_spelled(text, b" get ", key)
+    } else {
+        Ok(())
+    }
+}
+
+fn push_write(
+    text: &mut Vec<u8>,
+    key: &[u8],
+    write: Option<Option<&[u8]>>,
+) -> Result<(), AllocError>
+    ensures { OnOk result (text.new.items ≡ text.old.items ++ write_text key.now (asked write.entry)) }
+{
+    match write {
+        None => Ok(()),
+        Some(None) => push_spelled(text, b" del ", key),
+        Some(Some(value)) => {
+            push_spelled(text, b" put ", key)?;
+            push_spelled(text, b" ", value)
+        }
     }
 }
 
@@ -206,6 +279,33 @@ pub fn push_reply(text: &mut Vec<u8>, reply: &Reply) -> Result<(), AllocError>
         Reply::Present(value) => push_spelled(text, b"present ", value.as_slice()),
         Reply::Closed => text.extend_from_slice(b"closed"),
         Reply::Ordered => text.extend_from_slice(b"ordered"),
+        Reply::Done(told) => {
+            text.extend_from_slice(b"done")?;
+            push_values(text, told.as_slice())
+        }
+        Reply::Undone(told) => {
+            text.extend_from_slice(b"undone")?;
+            push_values(text, told.as_slice())
+        }
+    }
+}
+
+// Appends what keys had that are told.
+fn push_values(text: &mut Vec<u8>, values: &[Option<Value>]) -> Result<(), AllocError>
+    ensures { OnOk result (text.new.items ≡ text.old.items ++ values_text values.now) }
+{
+    for value in values {
+        push_value(text, value)?;
+    }
+    Ok(())
+}
+
+fn push_value(text: &mut Vec<u8>, value: &Option<Value>) -> Result<(), AllocError>
+    ensures { OnOk result (text.new.items ≡ text.old.items ++ value_text value.now) }
+{
+    match value {
+        None => text.extend_from_slice(b" absent"),
+        Some(value) => push_spelled(text, b" present ", value.as_slice()),
     }
 }
 
@@ -229,7 +329,8 @@ pub fn push_parts(text: &mut Vec<u8>, parts: &[Part<'_>]) -> Result<(), AllocErr
     Ok(())
 }
 
-fn push_part(text: &mut Vec<u8>, part: &Part<'_>) -> Result<(), AllocError>
+/// Appends a part.
+pub fn push_part(text: &mut Vec<u8>, part: &Part<'_>) -> Result<(), AllocError>
     ensures { OnOk result (text.new.items ≡ text.old.items ++ part_text part.now) }
 {
     match part {

@@ -182,5 +182,6 @@ pub fn chain_refusal(
         ],
     )?;
     push_chain_fault(&mut text, fault)?;
+    text.push(b'\n')?;
     Ok(text)
 }

@@ -330,7 +330,7 @@ is_kept = record {
 
 reading_is_one : IsCrashLifeRead no_start one moves 1 reading 26
 reading_is_one = record {
-  reads = record { only = refl; one = refl };
+  reads = record { only = refl; one = (120 ∷ [], refl) };
   in_order = (omega arith);
   many = (omega arith);
   later = λ q n e. let is = looked_at n (eqb q 0) (eqb q 2) e in omega arith;
@@ -366,7 +366,7 @@ closed_executes = refl
 
 closed_is_one : IsCrashLifeRead no_start one moves 0 closed_reading 22
 closed_is_one = record {
-  reads = record { only = refl; one = refl };
+  reads = record { only = refl; one = (120 ∷ [], refl) };
   in_order = (omega arith);
   many = (omega arith);
   later = λ q n e. let is = looked_at n (eqb q 0) (eqb q 1) e in omega arith;

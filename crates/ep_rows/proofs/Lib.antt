@@ -2,6 +2,7 @@ pub mod Playing
 pub mod Rows
 pub mod OneByOne
 pub mod Compared
+pub mod Many
 pub mod Seals
 pub mod Looks
 pub mod Rescues

@@ -63,7 +63,7 @@ found_then i q false false ea eb e k = absurd (cc)
 
 reading_is_one : IsRead (opened empty) 1 acts reading
 reading_is_one = record {
-  reads = record { only = refl; one = refl };
+  reads = record { only = refl; one = (120 ∷ [], refl) };
   many = (omega arith);
   between = λ q n e. let is = looked_at n (eqb q 1) (eqb q 2) e in (omega arith, omega arith);
   executed = λ q n i e k.

@@ -1,13 +1,14 @@
 -- tools/generate writes this file, from crates/ep_rules/specs/OneMap.antt.
 -- One map of bytes, until a seal closes it: what commands do to it, and what they are told.
-use Rattle.std.specs.Prelude.{ℕ, List, [], ◌∷◌, Option, Some, None, Bool, is_none, not, if◌then◌else◌}
+use Rattle.std.specs.Prelude.{ℕ, List, [], ◌∷◌, Option, Some, None, Bool, true, is_none, not, ◌&&◌, if◌then◌else◌}
 use Rattle.std.specs.Ordering.{nat_cmp}
 use Rattle.std.specs.Cmp.Lexicographic.{slice_cmp}
 use Rattle.ep_rows.specs.KeyMaps as map
 use Rattle.ep_base.specs.Sameness.{is_noop, same_option}
-use Rattle.ep_base.specs.Commands.{Command, Noop, Get, Put, Del, Swap, Cas, Seal, Opaque}
+use Rattle.ep_base.specs.Commands.{Command, Noop, Get, Put, Del, Swap, Cas, Seal, Opaque, Tx}
+use Rattle.ep_base.specs.Items.{Item}
 use Rattle.ep_base.specs.declared.reply.Reply.{Reply}
-use Rattle.ep_base.specs.declared.reply.Reply.TheVariants.{Absent, Present, Closed, Ordered}
+use Rattle.ep_base.specs.declared.reply.Reply.TheVariants.{Absent, Present, Closed, Ordered, Done, Undone}
 use Rattle.ep_base.specs.declared.reply.Answer.{Answer}
 use Rattle.ep_base.specs.declared.reply.Answer.TheVariants.{Lost, Told}
 
@@ -28,6 +29,31 @@ abbrev pub with_key : Contents → List ℕ → Option (List ℕ) → Contents
 with_key m k None = map.remove m k
 with_key m k (Some v) = map.insert m k v
 
+-- the guard, if there is one, holds of what its key has
+abbrev pub holds_of : Option (Option (List ℕ)) → Option (List ℕ) → Bool
+holds_of None had = true
+holds_of (Some wanted) had = same_option had wanted
+
+-- each guard holds
+abbrev pub all_hold : Contents → List Item → Bool
+all_hold m [] = true
+all_hold m (i ∷ is) = holds_of i.guard (value_at m i.key) && all_hold m is
+
+-- the contents with what is written at the key, if anything is
+abbrev pub with_write : Contents → List ℕ → Option (Option (List ℕ)) → Contents
+with_write m k None = m
+with_write m k (Some o) = with_key m k o
+
+-- all is written that the items write
+abbrev pub with_writes : Contents → List Item → Contents
+with_writes m [] = m
+with_writes m (i ∷ is) = with_writes (with_write m i.key i.write) is
+
+-- what each key has that is told
+abbrev pub told_values : Contents → List Item → List (Option (List ℕ))
+told_values m [] = []
+told_values m (i ∷ is) = if i.told then value_at m i.key ∷ told_values m is else told_values m is
+
 -- the contents after a command on an open map; a seal leaves them, and so does a command of a machine outside
 abbrev pub written : Contents → Command → Contents
 written m Noop = m
@@ -38,13 +64,14 @@ written m (Swap keys) = with_key (with_key m keys.first (value_at m keys.second)
 written m (Cas k expected new) = if same_option (value_at m k) expected then with_key m k new else m
 written m (Seal v) = m
 written m (Opaque p b) = m
+written m (Tx is) = if all_hold m is then with_writes m is else m
 
 -- what a reply says of a key
 abbrev pub told : Option (List ℕ) → Reply
 told None = Absent
 told (Some v) = Present v
 
--- the reply of an open map: what the command's key, of a swap the first one, has just before it; to a command of a machine outside, that it is in order
+-- the reply of an open map: what the command's key, of a swap the first one, has just before it; to a command of a machine outside, that it is in order; to one over many keys, whether it wrote, and what each told key has just before it
 abbrev pub read : Contents → Command → Reply
 read m Noop = Absent
 read m (Get k) = told (value_at m k)
@@ -54,6 +81,7 @@ read m (Swap keys) = told (value_at m keys.first)
 read m (Cas k expected new) = told (value_at m k)
 read m (Seal v) = Absent
 read m (Opaque p b) = Ordered
+read m (Tx is) = if all_hold m is then Done (told_values m is) else Undone (told_values m is)
 
 -- the map: what its keys have, and the value of the seal that closed it
 pub record Store : Type 0 where
@@ -77,6 +105,7 @@ sealed_by (Swap keys) = None
 sealed_by (Cas k expected new) = None
 sealed_by (Seal v) = Some v
 sealed_by (Opaque p b) = None
+sealed_by (Tx is) = None
 
 abbrev pub after_under : Option (List ℕ) → Contents → Command → Store
 after_under None m c = record { contents = written m c; seal = sealed_by c }

@@ -2,8 +2,8 @@
 -- Reads that write nothing: F + 1 replicas are looked at, and one replica answers by its own map once it has executed all that was found.
 --
 -- A point of a run is how many of its acts are done. A read is no act: no replica changes, and nothing is sent or recorded.
-use Rattle.std.specs.Prelude.{◌≡◌, ℕ, ◌<◌, ◌≤◌, true, List, length, take, Option, Some, None, is_some}
-use Rattle.ep_base.specs.Interference.{only_reads, second_key_of}
+use Rattle.std.specs.Prelude.{◌≡◌, ℕ, ◌<◌, ◌≤◌, true, List, [], ◌∷◌, length, take, Option, Some, is_some}
+use Rattle.ep_base.specs.Interference.{only_reads, keys_of}
 use Rattle.ep_base.specs.Places.{Has}
 use Rattle.ep_base.specs.Quorums.{size}
 use Rattle.ep_base.specs.Commands.{Command}
@@ -19,7 +19,7 @@ use Rattle.ep_rows.specs.Worlds.{World, opening, Act, IsRun, ends}
 -- the command only reads, and names one key
 pub record ReadsOneKey (c : Command) : Type 0 where
   pub only : only_reads c ≡ true
-  pub one : second_key_of c ≡ None
+  pub one : (k : List ℕ) × (keys_of c ≡ k ∷ [])
 
 -- what a look at a replica's state finds for a command: the instances of all records whose commands interfere with it (no instance is 0)
 abbrev pub found : State → Command → List ℕ

@@ -3,7 +3,7 @@ use Rattle.std.proofs.Common.{◌≡◌, ℕ, zero, suc, ◌+◌, ◌<◌, ◌�
 use Rattle.std.proofs.lemmas.Bool.{eq-eqb, false≢true, eqb-true}
 use Rattle.std.proofs.lemmas.List.{get_or-append-add}
 use Rattle.std.specs.List.{filter, AllByRecursion}
-use Rattle.ep_base.specs.Commands.{Command, Noop, Get, Put, Del, Swap, Cas, Seal, Opaque}
+use Rattle.ep_base.specs.Commands.{Command, Noop, Get, Put, Del, Swap, Cas, Seal, Opaque, Tx}
 use Rattle.ep_base.specs.declared.reply.Reply.TheVariants.{Absent}
 use Rattle.ep_base.specs.declared.reply.Answer.{Answer}
 use Rattle.ep_base.specs.declared.reply.Answer.TheVariants.{Lost, Told}
@@ -39,6 +39,7 @@ after_noop m (Swap p) e = absurd (false≢true e)
 after_noop m (Cas k x n) e = absurd (false≢true e)
 after_noop m (Seal v) e = absurd (false≢true e)
 after_noop m (Opaque q w) e = absurd (false≢true e)
+after_noop m (Tx is) e = absurd (false≢true e)
 
 pub after_both : (c : ℕ → Command) (m : Store) (xs ys : List ℕ) → after_all c m (xs ++ ys) ≡ after_all c (after_all c m xs) ys
 after_both c m [] ys = refl

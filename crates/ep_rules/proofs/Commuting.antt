@@ -1,21 +1,24 @@
 -- Commands that don't interfere commute. All that is said of replies rests on these two facts, and on no key.
-use Rattle.std.proofs.Common.{◌≡◌, ◌⊎◌, inl, inr, List, Option, Some, None, Bool, true, false, cond, ◌&&◌, ◌||◌, refl, sym, ap, subst, ◌∙◌, ℕ}
+use Rattle.std.proofs.Common.{◌≡◌, ◌⊎◌, inl, inr, List, [], ◌∷◌, Option, Some, None, Bool, true, false, cond, ◌&&◌, ◌||◌, refl, sym, ap, subst, ◌∙◌, ℕ}
 use Rattle.std.proofs.lemmas.Bool.{false≢true, or_parts}
 use Rattle.std.proofs.lemmas.Cmp.{nat_list_cmp_total}
 use Rattle.std.proofs.lemmas.Map.Lookups.{exact_bytes}
 use Rattle.std.proofs.lemmas.Map.Views.{tells_apart}
 use Rattle.std.specs.Ordering.{nat_cmp, eq_by_cmp}
+use Rattle.std.specs.Prelude.{is_none, not}
 use Rattle.std.specs.Cmp.Lexicographic.{slice_cmp, nat_list_eq_equiv}
 use Rattle.std.specs.FinMap.{get-insert, get-remove, same_map}
-use Rattle.ep_base.specs.Commands.{Command, Noop, Get, Put, Del, Swap, Cas, Seal, Opaque}
+use Rattle.ep_base.specs.Commands.{Command, Noop, Get, Put, Del, Swap, Cas, Seal, Opaque, Tx}
 use Rattle.ep_base.specs.Attributes.{same_list}
-use Rattle.ep_base.specs.Interference.{interfere, meet, part, has_key, keys_of, is_seal}
+use Rattle.ep_base.specs.Interference.{interfere, meet, part, has_key, share_key, keys_of, only_reads, is_seal}
+use Rattle.ep_base.specs.Items.{Item, item_keys, none_writes}
 use Rattle.ep_base.specs.Sameness.{same_option}
 use Rattle.ep_base.specs.TwoKeys.{TwoKeys}
 use Rattle.ep_base.proofs.Same.{Decides-same_list}
 use Rattle.ep_base.proofs.Tests.{or_true}
-use Rattle.ep_base.specs.declared.reply.Reply.TheVariants.{Absent}
-use Rattle.ep_rules.specs.OneMap.{Contents, value_at, with_key, written, read, told, Store, sealed_by, after_under, after, reply_under, reply}
+use Rattle.ep_base.specs.declared.reply.Reply.{Reply}
+use Rattle.ep_base.specs.declared.reply.Reply.TheVariants.{Absent, Done, Undone}
+use Rattle.ep_rules.specs.OneMap.{Contents, value_at, with_key, holds_of, all_hold, with_write, with_writes, told_values, written, read, told, Store, sealed_by, after_under, after, reply_under, reply}
 
 abbrev pub is_key : List ℕ → List ℕ → Bool
 is_key q k = eq_by_cmp (slice_cmp nat_cmp) q k
@@ -75,6 +78,47 @@ unseen_swap : (m : Contents) (p : TwoKeys) (k : List ℕ) → same_list p.first 
 unseen_swap m p k a b =
     unseen_key (with_key m p.first (value_at m p.second)) p.second k (value_at m p.first) b ∙ unseen_key m p.first k (value_at m p.second) a
 
+-- items of which none is of a key: what is written there is of no matter to them
+
+item_past : (m : Contents) (k l : List ℕ) (o : Option (List ℕ)) (w : Option (Option (List ℕ))) → same_list k l ≡ false → with_write (with_key m k o) l w ≡ with_key (with_write m l w) k o
+item_past m k l o None n = refl
+item_past m k l o (Some p) n = keys_commute m k l o p n
+
+writes_past : (m : Contents) (k : List ℕ) (o : Option (List ℕ)) (is : List Item) → has_key k (item_keys is) ≡ false → with_writes (with_key m k o) is ≡ with_key (with_writes m is) k o
+writes_past m k o [] e = refl
+writes_past m k o (i ∷ is) e =
+    let n = or_parts (same_list k i.key) (has_key k (item_keys is)) e in
+    ap (λ (x : Contents). with_writes x is) (item_past m k i.key o i.write n.0) ∙ writes_past (with_write m i.key i.write) k o is n.1
+
+holds_past : (m : Contents) (k : List ℕ) (o : Option (List ℕ)) (is : List Item) → has_key k (item_keys is) ≡ false → all_hold (with_key m k o) is ≡ all_hold m is
+holds_past m k o [] e = refl
+holds_past m k o (i ∷ is) e =
+    let n = or_parts (same_list k i.key) (has_key k (item_keys is)) e in
+    let had = unseen_key m k i.key o n.0 in
+    let rest = holds_past m k o is n.1 in
+    λ t. holds_of i.guard (had t) && rest t
+
+told_past : (m : Contents) (k : List ℕ) (o : Option (List ℕ)) (is : List Item) → has_key k (item_keys is) ≡ false → told_values (with_key m k o) is ≡ told_values m is
+told_past m k o [] e = refl
+told_past m k o (i ∷ is) e =
+    let n = or_parts (same_list k i.key) (has_key k (item_keys is)) e in
+    let had = unseen_key m k i.key o n.0 in
+    let rest = told_past m k o is n.1 in
+    λ t. cond i.told (had t ∷ rest t) (rest t)
+
+item_untouched : (m : Contents) (l k : List ℕ) (w : Option (Option (List ℕ))) → same_list l k ≡ false → value_at (with_write m l w) k ≡ value_at m k
+item_untouched m l k None n = refl
+item_untouched m l k (Some p) n = unseen_key m l k p n
+
+writes_untouched : (m : Contents) (is : List Item) (k : List ℕ) → has_key k (item_keys is) ≡ false → value_at (with_writes m is) k ≡ value_at m k
+writes_untouched m [] k e = refl
+writes_untouched m (i ∷ is) k e =
+    let n = or_parts (same_list k i.key) (has_key k (item_keys is)) e in
+    writes_untouched (with_write m i.key i.write) is k n.1 ∙ item_untouched m i.key k i.write (turned k i.key n.0)
+
+abbrev answered : Bool → List (Option (List ℕ)) → Reply
+answered held told = cond held (Done told) (Undone told)
+
 -- a key that a command doesn't name: what is written there is of no matter to it
 
 write_past : (m : Contents) (k : List ℕ) (o : Option (List ℕ)) (b : Command) → has_key k (keys_of b) ≡ false → written (with_key m k o) b ≡ with_key (written m b) k o
@@ -92,6 +136,12 @@ write_past m k o (Cas l x n) e =
     go false = refl
 write_past m k o (Seal v) e = refl
 write_past m k o (Opaque q w) e = refl
+write_past m k o (Tx is) e =
+    ap (λ t. cond t (with_writes (with_key m k o) is) (with_key m k o)) (holds_past m k o is e) ∙ go (all_hold m is)
+  where
+    go : (t : Bool) → cond t (with_writes (with_key m k o) is) (with_key m k o) ≡ with_key (cond t (with_writes m is) m) k o
+    go true = writes_past m k o is e
+    go false = refl
 
 read_past : (m : Contents) (k : List ℕ) (o : Option (List ℕ)) (b : Command) → has_key k (keys_of b) ≡ false → read (with_key m k o) b ≡ read m b
 read_past m k o Noop e = refl
@@ -102,6 +152,7 @@ read_past m k o (Swap p) e = ap told (unseen_key m k p.first o (or_parts (same_l
 read_past m k o (Cas l x n) e = ap told (unseen_key m k l o (alone (same_list k l) e))
 read_past m k o (Seal v) e = refl
 read_past m k o (Opaque q w) e = refl
+read_past m k o (Tx is) e = let held = holds_past m k o is e in let told = told_past m k o is e in λ t. answered (held t) (told t)
 
 untouched : (m : Contents) (b : Command) (k : List ℕ) → has_key k (keys_of b) ≡ false → value_at (written m b) k ≡ value_at m k
 untouched m Noop k e = refl
@@ -116,6 +167,11 @@ untouched m (Cas l x n) k e = go (same_option (value_at m l) x)
     go false = refl
 untouched m (Seal v) k e = refl
 untouched m (Opaque q w) k e = refl
+untouched m (Tx is) k e = go (all_hold m is)
+  where
+    go : (b : Bool) → value_at (cond b (with_writes m is) m) k ≡ value_at m k
+    go true = writes_untouched m is k e
+    go false = refl
 
 -- the keys of a command that doesn't interfere with one of one key that is no get, or with one of two
 
@@ -127,6 +183,76 @@ apart_both : (a b p : Bool) → (((a || (b || false)) && true) || p) ≡ false �
 apart_both true b p e = absurd (false≢true (sym e))
 apart_both false true p e = absurd (false≢true (sym e))
 apart_both false false p e = (refl, refl)
+
+-- A command over many keys that shares none of them with another one.
+
+unshared : (s w q p : Bool) → ((s && not (w && q)) || p) ≡ false → w ≡ false → s ≡ false
+unshared true true q p e f = absurd (false≢true (sym f))
+unshared true false q p e f = absurd (false≢true (sym e))
+unshared false w q p e f = refl
+
+written_past : (m : Contents) (k : List ℕ) (w : Option (Option (List ℕ))) (b : Command) → has_key k (keys_of b) ≡ false → written (with_write m k w) b ≡ with_write (written m b) k w
+written_past m k None b e = refl
+written_past m k (Some o) b e = write_past m k o b e
+
+all_past : (m : Contents) (is : List Item) (b : Command) → share_key (item_keys is) (keys_of b) ≡ false → written (with_writes m is) b ≡ with_writes (written m b) is
+all_past m [] b e = refl
+all_past m (i ∷ is) b e =
+    let n = or_parts (has_key i.key (keys_of b)) (share_key (item_keys is) (keys_of b)) e in
+    all_past (with_write m i.key i.write) is b n.1 ∙ ap (λ (x : Contents). with_writes x is) (written_past m i.key i.write b n.0)
+
+item_unread : (m : Contents) (k : List ℕ) (w : Option (Option (List ℕ))) (b : Command) → has_key k (keys_of b) ≡ false → read (with_write m k w) b ≡ read m b
+item_unread m k None b e = refl
+item_unread m k (Some o) b e = read_past m k o b e
+
+all_unread : (m : Contents) (is : List Item) (b : Command) → share_key (item_keys is) (keys_of b) ≡ false → read (with_writes m is) b ≡ read m b
+all_unread m [] b e = refl
+all_unread m (i ∷ is) b e =
+    let n = or_parts (has_key i.key (keys_of b)) (share_key (item_keys is) (keys_of b)) e in
+    all_unread (with_write m i.key i.write) is b n.1 ∙ item_unread m i.key i.write b n.0
+
+-- its guards hold of what the other one leaves where they held before
+all_held : (m : Contents) (is : List Item) (b : Command) → share_key (item_keys is) (keys_of b) ≡ false → all_hold m is ≡ all_hold (written m b) is
+all_held m [] b e = refl
+all_held m (i ∷ is) b e =
+    let n = or_parts (has_key i.key (keys_of b)) (share_key (item_keys is) (keys_of b)) e in
+    let had = sym (untouched m b i.key n.0) in
+    let rest = all_held m is b n.1 in
+    λ t. holds_of i.guard (had t) && rest t
+
+-- one that only reads leaves the map as it is
+
+item_reads : (m : Contents) (k : List ℕ) (w : Option (Option (List ℕ))) (r : Bool) → (is_none w && r) ≡ true → (with_write m k w ≡ m) × (r ≡ true)
+item_reads m k None r e = (refl, e)
+item_reads m k (Some o) r e = absurd (false≢true e)
+
+all_read : (m : Contents) (is : List Item) → none_writes is ≡ true → with_writes m is ≡ m
+all_read m [] e = refl
+all_read m (i ∷ is) e =
+    let n = item_reads m i.key i.write (none_writes is) e in
+    ap (λ (x : Contents). with_writes x is) n.0 ∙ all_read m is n.1
+
+pub tx_reads : (m : Contents) (is : List Item) → none_writes is ≡ true → written m (Tx is) ≡ m
+tx_reads m is e = go (all_hold m is)
+  where
+    go : (t : Bool) → cond t (with_writes m is) m ≡ m
+    go true = all_read m is e
+    go false = refl
+
+tx_commutes : (m : Contents) (is : List Item) (b : Command) → share_key (item_keys is) (keys_of b) ≡ false → written (written m (Tx is)) b ≡ written (written m b) (Tx is)
+tx_commutes m is b e =
+    go (all_hold m is) ∙ ap (λ t. cond t (with_writes (written m b) is) (written m b)) (all_held m is b e)
+  where
+    go : (t : Bool) → written (cond t (with_writes m is) m) b ≡ cond t (with_writes (written m b) is) (written m b)
+    go true = all_past m is b e
+    go false = refl
+
+tx_unread : (m : Contents) (is : List Item) (b : Command) → share_key (item_keys is) (keys_of b) ≡ false → read (written m (Tx is)) b ≡ read m b
+tx_unread m is b e = go (all_hold m is)
+  where
+    go : (t : Bool) → read (cond t (with_writes m is) m) b ≡ read m b
+    go true = all_unread m is b e
+    go false = refl
 
 -- two commands that don't interfere write one open map in either order
 commutes_open : (m : Contents) (a b : Command) → interfere a b ≡ false → written (written m a) b ≡ written (written m b) a
@@ -151,6 +277,11 @@ commutes_open m (Cas k x n) b e =
     go false = refl
 commutes_open m (Seal v) b e = refl
 commutes_open m (Opaque q w) b e = refl
+commutes_open m (Tx is) b e = go (none_writes is) refl
+  where
+    go : (t : Bool) → none_writes is ≡ t → written (written m (Tx is)) b ≡ written (written m b) (Tx is)
+    go true f = ap (λ (x : Contents). written x b) (tx_reads m is f) ∙ sym (tx_reads (written m b) is f)
+    go false f = tx_commutes m is b (unshared (share_key (item_keys is) (keys_of b)) (none_writes is) (only_reads b) (part (Tx is) b) e f)
 
 unseen_open : (m : Contents) (a b : Command) → interfere a b ≡ false → read (written m a) b ≡ read m b
 unseen_open m Noop b e = refl
@@ -167,6 +298,11 @@ unseen_open m (Cas k x n) b e = go (same_option (value_at m k) x)
     go false = refl
 unseen_open m (Seal v) b e = refl
 unseen_open m (Opaque q w) b e = refl
+unseen_open m (Tx is) b e = go (none_writes is) refl
+  where
+    go : (t : Bool) → none_writes is ≡ t → read (written m (Tx is)) b ≡ read m b
+    go true f = ap (λ (x : Contents). read x b) (tx_reads m is f)
+    go false f = tx_unread m is b (unshared (share_key (item_keys is) (keys_of b)) (none_writes is) (only_reads b) (part (Tx is) b) e f)
 
 -- Seals: only a no-op doesn't interfere with one.
 
@@ -179,6 +315,7 @@ no_seal (Swap p) = inl refl
 no_seal (Cas k x n) = inl refl
 no_seal (Seal v) = inr refl
 no_seal (Opaque q w) = inl refl
+no_seal (Tx is) = inl refl
 
 -- the value of a seal
 pub seal_value : (c : Command) → is_seal c ≡ true → (v : List ℕ) × (c ≡ Seal v)
@@ -190,6 +327,7 @@ seal_value (Swap p) e = absurd (false≢true e)
 seal_value (Cas k x n) e = absurd (false≢true e)
 seal_value (Seal v) e = (v, refl)
 seal_value (Opaque q w) e = absurd (false≢true e)
+seal_value (Tx is) e = absurd (false≢true e)
 
 pub before_seal : (v : List ℕ) (a : Command) → interfere a (Seal v) ≡ false → a ≡ Noop
 before_seal v Noop e = refl
@@ -200,6 +338,7 @@ before_seal v (Swap p) e = absurd (false≢true (sym e))
 before_seal v (Cas k x n) e = absurd (false≢true (sym e))
 before_seal v (Seal w) e = absurd (false≢true (sym e))
 before_seal v (Opaque q w) e = absurd (false≢true (sym e ∙ or_true (meet (Opaque q w) (Seal v))))
+before_seal v (Tx is) e = absurd (false≢true (sym e ∙ or_true (meet (Tx is) (Seal v))))
 
 after_seal : (v : List ℕ) (b : Command) → interfere (Seal v) b ≡ false → b ≡ Noop
 after_seal v Noop e = refl
@@ -210,6 +349,7 @@ after_seal v (Swap p) e = absurd (false≢true (sym e))
 after_seal v (Cas k x n) e = absurd (false≢true (sym e))
 after_seal v (Seal w) e = absurd (false≢true (sym e))
 after_seal v (Opaque q w) e = absurd (false≢true (sym e))
+after_seal v (Tx is) e = absurd (false≢true (sym e))
 
 -- a no-op leaves the map as it is
 under_noop : (o : Option (List ℕ)) (m : Contents) → after_under o m Noop ≡ record { contents = m; seal = o }

@@ -5,11 +5,11 @@ use Rattle.std.specs.List.{filter}
 use Rattle.ep_base.specs.Interference.{is_seal}
 use Rattle.ep_base.specs.Places.{place, Has}
 use Rattle.ep_base.specs.Sameness.{is_noop}
-use Rattle.ep_base.specs.Commands.{Command, Noop, Get, Put, Del, Swap, Cas, Seal, Opaque}
-use Rattle.ep_base.specs.declared.reply.Reply.TheVariants.{Absent, Closed}
+use Rattle.ep_base.specs.Commands.{Command, Noop, Get, Put, Del, Swap, Cas, Seal, Opaque, Tx}
+use Rattle.ep_base.specs.declared.reply.Reply.TheVariants.{Absent, Closed, Done, Undone}
 use Rattle.ep_rules.specs.Closing.{has_seal, up_to_seal, written_by, read_by}
 use Rattle.ep_rules.specs.History.{is_new}
-use Rattle.ep_rules.specs.OneMap.{Contents, written, read, told, opened, after, replies}
+use Rattle.ep_rules.specs.OneMap.{Contents, written, read, told, all_hold, told_values, opened, after, replies}
 use Rattle.ep_rules.specs.Operations.{Operation, instances_of, commands_of, operations_of, executed_by, new_to, history_after}
 use Rattle.ep_rules.specs.Steps.{order_of}
 use Rattle.ep_rules.specs.Worlds.{World, In, Act, moved}
@@ -140,6 +140,11 @@ read_open m (Swap p) e = told_open _ e
 read_open m (Cas k x n) e = told_open _ e
 read_open m (Seal v) e = absurd (cc)
 read_open m (Opaque q w) e = absurd (cc)
+read_open m (Tx is) e = go (all_hold m is) e
+  where
+    go : (b : Bool) → cond b (Done (told_values m is)) (Undone (told_values m is)) ≡ Closed → ⊥
+    go true h = absurd (cc)
+    go false h = absurd (cc)
 
 pub reads_open : (m : Contents) (os : List Operation) (p : ℕ) → get_or (read_by m os) p Absent ≡ Closed → ⊥
 reads_open m [] p e = absurd (cc)

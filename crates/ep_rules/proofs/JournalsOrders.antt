@@ -2,7 +2,7 @@
 use Rattle.std.proofs.Common.{◌≡◌, ◌<◌, true, false, cond, [], refl, sym, ap, subst, ◌∙◌}
 use Rattle.ep_base.specs.Interference.{interfere}
 use Rattle.ep_base.specs.Sameness.{is_noop}
-use Rattle.ep_base.specs.Commands.{Command, Noop, Get, Put, Del, Swap, Cas, Seal, Opaque}
+use Rattle.ep_base.specs.Commands.{Command, Noop, Get, Put, Del, Swap, Cas, Seal, Opaque, Tx}
 use Rattle.ep_base.specs.Places.{place, Has}
 use Rattle.ep_rules.specs.History.{nothing, done_after, merged}
 use Rattle.ep_base.proofs.Interfering.{Decides-interfere, Interferes-symmetric, Interferes-noop}
@@ -28,6 +28,7 @@ real_left (Swap p) b e = refl
 real_left (Cas k x n) b e = refl
 real_left (Seal v) b e = refl
 real_left (Opaque q w) b e = refl
+real_left (Tx is) b e = refl
 
 pub real_right : (a b : Command) → interfere a b ≡ true → cond (is_noop b) false true ≡ true
 real_right a b e = real_left b a ((Decides-interfere b a).1 (Interferes-symmetric a b ((Decides-interfere a b).0 e)))

@@ -9,7 +9,7 @@ use Rattle.ep_base.specs.Instances.{leader_of}
 use Rattle.ep_base.specs.Interference.{interfere}
 use Rattle.ep_base.specs.Quorums.{size}
 use Rattle.ep_base.specs.Sameness.{is_noop}
-use Rattle.ep_base.specs.Commands.{Command, Noop, Get, Put, Del, Swap, Cas, Seal, Opaque}
+use Rattle.ep_base.specs.Commands.{Command, Noop, Get, Put, Del, Swap, Cas, Seal, Opaque, Tx}
 use Rattle.ep_base.specs.declared.decree.Decree.{Decree}
 use Rattle.ep_base.specs.declared.vote.VoteStatus.{VoteStatus}
 use Rattle.ep_base.specs.declared.vote.VoteStatus.TheVariants.{PreAccepted, Accepted, Committed}
@@ -47,6 +47,7 @@ interfere_real (Swap p) y e = refl
 interfere_real (Cas k x n) y e = refl
 interfere_real (Seal v) y e = refl
 interfere_real (Opaque q w) y e = refl
+interfere_real (Tx is) y e = refl
 
 -- What is recorded is in the interference set.
 

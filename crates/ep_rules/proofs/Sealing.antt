@@ -1,7 +1,7 @@
 -- Lists of instances with a seal: what they leave, and that two lists in the order of execution leave one map.
 use Rattle.std.proofs.Common.{◌≡◌, ℕ, suc, ◌<◌, inl, inr, List, [], ◌∷◌, take, map, true, false, Option, Some, None, refl, sym, ap, subst, ◌∙◌, arith}
 use Rattle.std.proofs.lemmas.Bool.{cases_Bool, false≢true}
-use Rattle.ep_base.specs.Commands.{Command, Noop, Get, Put, Del, Swap, Cas, Seal, Opaque}
+use Rattle.ep_base.specs.Commands.{Command, Noop, Get, Put, Del, Swap, Cas, Seal, Opaque, Tx}
 use Rattle.ep_base.specs.Interference.{interfere, is_seal}
 use Rattle.ep_base.specs.Places.{place, Has}
 use Rattle.ep_base.specs.Sameness.{is_noop}
@@ -31,6 +31,7 @@ noop_is (Swap p) e = absurd (false≢true e)
 noop_is (Cas k x n) e = absurd (false≢true e)
 noop_is (Seal v) e = absurd (false≢true e)
 noop_is (Opaque q w) e = absurd (false≢true e)
+noop_is (Tx is) e = absurd (false≢true e)
 
 pub not_seal : (c : Command) → is_seal c ≡ false → sealed_by c ≡ None
 not_seal c e = elim (no_seal c) [ inl n ↦ n | inr s ↦ absurd (false≢true (sym e ∙ s)) ]

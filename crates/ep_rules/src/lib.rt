@@ -8,7 +8,7 @@
 //! specs/Worlds.antt (runs). The laws are the public modules below; docs/SAFETY.md tells how their proof goes.
 //!
 //! A rule that is changed has to be changed in the code that follows it too (`ep_phase`, `ep_prepare`), and copied by
-//! tools/make-rows; tools/wrong-rules shows which laws a wrong one breaks.
+//! tools/generate; tools/wrong-rules shows which laws a wrong one breaks.
 #![tactic(auto)]
 
 mod answers;

@@ -17,7 +17,7 @@ use Rattle.ep_script.specs.Heads.{same_key, has_key_of, AreOnce, IsOpening}
 use Rattle.ep_script.specs.Keys.{name_cmp, HasKeys}
 
 -- two keys are one where they compare equal
-same_by_cmp : (k l : List ℕ) → is_eq (slice_cmp nat_cmp l k) ≡ same_list k l
+pub same_by_cmp : (k l : List ℕ) → is_eq (slice_cmp nat_cmp l k) ≡ same_list k l
 same_by_cmp [] [] = refl
 same_by_cmp [] (y ∷ ys) = refl
 same_by_cmp (x ∷ xs) [] = refl

@@ -6,3 +6,6 @@ pub mod FrameSets
 pub mod Splitting
 pub mod KeySets
 pub mod Powers
+pub mod Merging
+pub mod TxWords
+pub mod SaidItems

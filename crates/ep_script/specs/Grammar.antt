@@ -1,19 +1,24 @@
 -- What the words of a line say, in a cluster of n replicas of version v. Lines of agendas stand in scripts for a replay and for a run alike.
-use Rattle.std.specs.Prelude.{ℕ, ◌==◌, ◌&&◌, ◌||◌, nat_le, nat_lt, Bool, true, false, List, [], ◌∷◌, ◌++◌, Option, Some, None, length, if◌then◌else◌, codes, option_map, option_and_then}
+use Rattle.std.specs.Prelude.{ℕ, ◌==◌, ◌&&◌, ◌||◌, nat_le, nat_lt, Bool, true, false, List, [], ◌∷◌, ◌++◌, Option, Some, None, is_some, length, if◌then◌else◌, codes, option_map, option_and_then}
 use Rattle.std.specs.Str.{bytes_eq}
 use Rattle.std.specs.List.{slice_split}
 use Rattle.std.specs.Option.{option_map_or}
 use Rattle.ep_base.specs.Attributes.{same_list}
 use Rattle.ep_base.specs.Instances.{instance_of}
-use Rattle.ep_base.specs.Commands.{Command, Get, Put, Del, Swap, Cas, Seal, Opaque}
+use Rattle.ep_base.specs.Commands.{Command, Get, Put, Del, Swap, Cas, Seal, Opaque, Tx}
+use Rattle.ep_base.specs.Items.{Item}
+use Rattle.ep_base.specs.Parts.{are_items}
 use Rattle.ep_base.specs.Values.{most_value}
 use Rattle.ep_base.specs.Versions.{highest_in, knows}
 use Rattle.ep_base.specs.declared.version.Version.{Version}
 use Rattle.ep_base.specs.declared.version_kind.VersionKind.TheVariants.{V1, V2, V3}
+use Rattle.ep_script.specs.Clauses.{Said, merged}
 use Rattle.ep_script.specs.Word.{bytes_of}
 use Rattle.ep_script.specs.Parts.{number_of, digits_of}
 use Rattle.ep_script.specs.declared.agenda_line.AgendaLine.{AgendaLine}
 use Rattle.ep_script.specs.declared.agenda_line.AgendaLine.TheVariants as agenda
+use Rattle.ep_script.specs.declared.clause.Clause.{Clause}
+use Rattle.ep_script.specs.declared.clause.Clause.TheVariants.{Guard, Told, Write}
 use Rattle.ep_script.specs.declared.line.Line.{Line}
 use Rattle.ep_script.specs.declared.line.Line.TheVariants.{Execute, Deliver, Flush}
 use Rattle.ep_script.specs.declared.line.Line.TheVariants as asked
@@ -146,6 +151,43 @@ seal_of [] = None
 seal_of (v ∷ []) = option_map (λ value. Seal value) (value_word v)
 seal_of (v ∷ w ∷ more) = None
 
+-- what `get K` and `del K` say of K
+abbrev pub short_clause : List ℕ → Option Clause
+short_clause w =
+    if bytes_eq w (codes "get") then Some Told
+    else if bytes_eq w (codes "del") then Some (Write None)
+    else None
+
+-- what `if K E` and `put K V` say of it
+abbrev pub long_clause : List ℕ → List ℕ → Option Clause
+long_clause w v =
+    if bytes_eq w (codes "if") then option_map (λ wanted. Guard wanted) (option_word v)
+    else if bytes_eq w (codes "put") then option_map (λ value. Write (Some value)) (value_word v)
+    else None
+
+-- what is said of the key that this word spells, before the rest
+abbrev pub said_first : List ℕ → Option Clause → Option (List Said) → Option (List Said)
+said_first k c rest = option_and_then (λ key. option_and_then (λ clause. option_map (λ ss. record { key = key; clause = clause } ∷ ss) rest) c) (key_word k)
+
+-- ITEM ..
+abbrev pub clauses_of : List (List ℕ) → Option (List Said)
+clauses_of [] = Some []
+clauses_of (w ∷ []) = None
+clauses_of (w ∷ k ∷ []) = said_first k (short_clause w) (Some [])
+clauses_of (w ∷ k ∷ v ∷ ws) = if is_some (short_clause w) then said_first k (short_clause w) (clauses_of (v ∷ ws)) else said_first k (long_clause w v) (clauses_of ws)
+
+-- the items of these words, after those that were read before: one for each key, in rising order of keys
+abbrev pub items_after : List Item → List (List ℕ) → Option (List Item)
+items_after is ws = option_and_then (merged is) (clauses_of ws)
+
+-- the command of these items, if there is one
+abbrev pub tx_with : List Item → Option Command
+tx_with is = if are_items is then Some (Tx is) else None
+
+-- `tx ITEM ..`, an ITEM being `if K E`, `get K`, `put K V` or `del K`
+abbrev pub tx_of : List (List ℕ) → Option Command
+tx_of ws = option_and_then tx_with (items_after [] ws)
+
 -- a command that version 3 alone knows
 abbrev pub late_command_of : List (List ℕ) → Option Command
 late_command_of [] = None
@@ -154,6 +196,7 @@ late_command_of (w ∷ ws) =
     else if bytes_eq w (codes "ask") then opaque_of true ws
     else if bytes_eq w (codes "act") then opaque_of false ws
     else if bytes_eq w (codes "seal") then seal_of ws
+    else if bytes_eq w (codes "tx") then tx_of ws
     else None
 
 -- a command of any version

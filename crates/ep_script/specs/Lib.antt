@@ -1,6 +1,7 @@
 pub mod Word
 pub mod Parts
 pub mod Places
+pub mod Clauses
 pub mod Grammar
 pub mod Window
 pub mod RawLines

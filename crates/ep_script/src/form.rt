@@ -114,7 +114,7 @@ pub const LINES: [Form; 15] = [
 ];
 
 /// The commands. An ask or an act may lack the second key.
-pub const COMMANDS: [Form; 8] = [
+pub const COMMANDS: [Form; 9] = [
     Form {
         word: b"get",
         operands: &[Operand::Key],
@@ -162,6 +162,12 @@ pub const COMMANDS: [Form; 8] = [
         operands: &[Operand::Value],
         standing: Standing::Late,
         text: b"seal V",
+    },
+    Form {
+        word: b"tx",
+        operands: &[Operand::Item],
+        standing: Standing::Late,
+        text: b"tx ITEM ..",
     },
 ];
 

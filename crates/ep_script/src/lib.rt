@@ -13,9 +13,11 @@
 #![tactic(auto)]
 
 mod agenda_line;
+mod clause;
 mod form;
 mod got;
 mod head;
+mod item_words;
 mod line;
 mod line_fault;
 mod lines;
@@ -32,6 +34,7 @@ mod reading;
 mod reading_head;
 mod reading_replay;
 mod reading_run;
+mod reading_tx;
 mod refusal;
 mod run_line;
 mod run_script;
@@ -44,6 +47,8 @@ mod script_section;
 mod section_weather;
 mod stage;
 mod standing;
+mod tx_item;
+mod tx_items;
 mod weather_line;
 mod weather_word;
 mod why;
@@ -68,6 +73,7 @@ pub use script_fault::ScriptFault;
 pub use script_opening::ScriptOpening;
 pub use script_section::ScriptSection;
 pub use standing::Standing;
+pub use tx_items::merging_law;
 pub use weather_line::WeatherLine;
 pub use weather_word::WeatherWord;
 pub use why::Why;

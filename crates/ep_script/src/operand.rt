@@ -47,6 +47,8 @@ pub enum Operand {
     MaybeValue,
     /// What a machine outside is told.
     Body,
+    /// The first word of an item of a command over many keys.
+    Item,
 }
 
 impl Operand {

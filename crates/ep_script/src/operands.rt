@@ -12,6 +12,7 @@ ghost use Rattle.ep_script.specs.Word.{bytes_of as read_bytes};
 ghost use Rattle.ep_script.specs.Grammar.{number_in as number_between, count_of, replica_of, instance_parts, parts_of, key_of, value_of, key_word, value_word, key_only, get_of, put_of, del_of, swap_with, swap_of, option_word, cas_of, opaque_of, opaque_with_two, seal_of, late_command_of, any_command_of, command_of, place_of};
 
 use crate::numbers::{number, number_in};
+use crate::reading_tx::tx;
 use crate::word::{read_word, spells_itself};
 use crate::words::{has_dot, is_word, next_word, split_dot};
 use ep_base::{Command, CommandFault, InstanceId, Key, ReplicaId, Size, Touching, Value, Version};
@@ -270,8 +271,8 @@ fn swapped(alloc: Global, first: &Key, second: &Key) -> Result<Option<Command>, 
     }
 }
 
-// A value, or that there is none.
-fn read_option(alloc: Global, word: &[u8]) -> Result<Option<Option<Value>>, AllocError>
+/// A value, or that there is none.
+pub(crate) fn read_option(alloc: Global, word: &[u8]) -> Result<Option<Option<Value>>, AllocError>
     ensures { IfOk result (λ v. v ≡ option_word word.now) }
 {
     if is_word(word, b"%!") {
@@ -465,6 +466,9 @@ fn late_command(alloc: Global, words: &[u8]) -> Result<Option<Command>, AllocErr
     }
     if is_word(first, b"seal") {
         return seal(alloc, rest);
+    }
+    if is_word(first, b"tx") {
+        return tx(alloc, rest);
     }
     Ok(None)
 }

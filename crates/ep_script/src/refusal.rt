@@ -1,6 +1,7 @@
 //! Why a line of a script is refused.
 
 use crate::form::{COMMANDS, Form, LINES, form_of};
+use crate::item_words::{ItemWords, is_item};
 use crate::lines::Lines;
 use crate::numbers::{long_number, number};
 use crate::operand::Operand;
@@ -13,7 +14,7 @@ use crate::standing::Standing;
 use crate::why::Why;
 use crate::word::{escaped, is_plain_byte};
 use crate::words::{has_dot, is_silent_line, is_word, next_word, split_dot};
-use ep_base::{Size, Version};
+use ep_base::{MOST_KEYS, MOST_TOLD, Size, Version};
 
 /// What an ask or an act has behind its word, where it has one key.
 const ONE_KEY: [Operand; 2] = [Operand::Key, Operand::Body];
@@ -43,6 +44,11 @@ pub struct Refusal<'a> {
     // what stands behind the word, and the word that another one has to differ from
     rest: &'a [u8],
     other: &'a [u8],
+    // the items of a command over many keys and the place of the word before them, and how many keys are told, and named
+    items: &'a [u8],
+    items_place: u32,
+    told: usize,
+    keys: usize,
 }
 
 impl<'a> Refusal<'a> {
@@ -81,6 +87,10 @@ impl<'a> Refusal<'a> {
             is_within: false,
             rest: &[],
             other: &[],
+            items: &[],
+            items_place: 0,
+            told: 0,
+            keys: 0,
         }
     }
 
@@ -108,6 +118,9 @@ impl<'a> Refusal<'a> {
         if self.operand == Operand::Client {
             self.enter(&COMMANDS, Operand::Command);
         }
+        if self.operand == Operand::Item {
+            self.pass_items();
+        }
         if self.operand == Operand::Message {
             self.pass_messages();
         }
@@ -129,6 +142,8 @@ impl<'a> Refusal<'a> {
     fn pass_form(&mut self, form: &'static Form) {
         self.standing = form.standing;
         self.form = form.text;
+        self.items = self.rest;
+        self.items_place = self.place;
         self.why = self.misplaced(form.standing);
         for operand in operands_of(form, self.rest) {
             self.pass(*operand);
@@ -187,6 +202,72 @@ impl<'a> Refusal<'a> {
         }
     }
 
+    /// Goes over the items of a command over many keys, of which the first word is passed.
+    fn pass_items(&mut self) {
+        for _ in 0..=self.rest.len() {
+            self.pass_item();
+            if next_word(self.rest).is_none() {
+                return;
+            }
+            self.pass(Operand::Item);
+        }
+    }
+
+    /// Goes over what stands behind the first word of an item.
+    fn pass_item(&mut self) {
+        if self.why != Why::Nothing {
+            return;
+        }
+        let first = self.word;
+        if is_word(first, b"get") {
+            self.told = self.told.saturating_add(1);
+            if self.told > MOST_TOLD {
+                self.why = Why::Told;
+            }
+        }
+        self.pass(Operand::Key);
+        if self.why == Why::Nothing {
+            self.why = self.item_fault(first);
+        }
+        if is_word(first, b"if") {
+            self.pass(Operand::MaybeValue);
+        }
+        if is_word(first, b"put") {
+            self.pass(Operand::Value);
+        }
+    }
+
+    /// Why the item that begins with this word may not be of its key, which is passed.
+    fn item_fault(&mut self, first: &[u8]) -> Why {
+        let mut before = ItemWords::new(self.items_place, self.items);
+        let mut is_new = true;
+        for _ in 0..self.items.len() {
+            match before.next_item() {
+                Some(item) if item.place < self.place => {
+                    if is_same(item.key, self.word) {
+                        is_new = false;
+                        if item.is_kind(first) {
+                            return Why::SecondItem(item.place);
+                        }
+                    }
+                }
+                _ => return self.count_key(is_new),
+            }
+        }
+        Why::Nothing
+    }
+
+    fn count_key(&mut self, is_new: bool) -> Why {
+        if is_new {
+            self.keys = self.keys.saturating_add(1);
+        }
+        if self.keys > MOST_KEYS {
+            Why::Keys
+        } else {
+            Why::Nothing
+        }
+    }
+
     /// No word may be left.
     fn end(&mut self) {
         if self.why != Why::Nothing {
@@ -205,6 +286,8 @@ impl<'a> Refusal<'a> {
             Operand::Line | Operand::Command => Why::Nothing,
             Operand::Propose if is_word(word, b"propose") => Why::Nothing,
             Operand::Propose => Why::Unlike,
+            Operand::Item if is_item(word) => Why::Nothing,
+            Operand::Item => Why::Unlike,
             Operand::Instance => self.instance_fault(word),
             Operand::MaybeValue if is_word(word, b"%!") => Why::Nothing,
             Operand::Key | Operand::Value | Operand::MaybeValue | Operand::Body => self.bytes_fault(

@@ -45,4 +45,10 @@ pub enum Why {
     SecondKey(u32),
     /// The line with this number is for the same frame.
     SecondFrame(u32),
+    /// An item says such a thing of the key already, by the word at this place.
+    SecondItem(u32),
+    /// A command over many keys tells 16 of them at most.
+    Told,
+    /// Such a command names 1,024 keys at most.
+    Keys,
 }

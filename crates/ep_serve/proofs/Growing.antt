@@ -11,7 +11,7 @@ use Rattle.ep_serve.specs.Acting.{Acts, ExecutesEach, ExecutesSo, TakesOrRefuses
 use Rattle.ep_serve.specs.Serving.{AllWait, AreServed, IsBatch, Waiting}
 use Rattle.ep_serve.specs.Lasting.{Crashes}
 use Rattle.ep_serve.specs.declared.due.Due.{Due}
-use Rattle.ep_serve.specs.declared.due.Due.TheVariants.{Taken, Refused, Value, Open, Leads, Synced, State, Ready, Handled, Malformed}
+use Rattle.ep_serve.specs.declared.due.Due.TheVariants.{Taken, Refused, Value, Open, Leads, Synced, State, Ready, Handled, Interfering, Read, Malformed}
 use Rattle.ep_serve.specs.declared.mode.Mode.{Mode}
 use Rattle.ep_bundle.specs.declared.journal_dialect.JournalDialect.{JournalDialect}
 use Rattle.ep_wire.specs.declared.request.Request.{Request}
@@ -41,6 +41,8 @@ takes_or_not k k' e Synced h = absurd h
 takes_or_not k k' e State h = absurd h
 takes_or_not k k' e (Ready after most) h = absurd h
 takes_or_not k k' e (Handled r) h = absurd h
+takes_or_not k k' e (Interfering key) h = absurd h
+takes_or_not k k' e (Read key found) h = absurd h
 takes_or_not k k' e (Malformed m) h = absurd h
 
 executes : (n : ℕ) (k k' : Kept) → ExecutesSo n k k' → Extends k k'
@@ -66,6 +68,8 @@ acts_more k k' request.State d h = extends_same k k' h.1
 acts_more k k' request.ExecuteAll d h = executes_each k k' h.0 h.1
 acts_more k k' (request.Ready after most) d h = extends_same k k' h.1
 acts_more k k' (request.Handled r) d h = extends_same k k' h.1
+acts_more k k' (request.Interfering key) d h = extends_same k k' h.1
+acts_more k k' (request.Read key found) d h = extends_same k k' h.1
 acts_more k k' (request.Malformed m) d h = extends_same k k' h.1
 
 wait_more : (mode : Mode) (n : ℕ) (k k' : Kept) (rs : List Request) (ds : List Due) → AllWait mode n k rs ds k' → Extends k k'

@@ -21,4 +21,6 @@ cut_short n n' request.ExecuteAll works (inl over) = absurd (false≢true (sym w
 cut_short n n' request.ExecuteAll works (inr short) = short
 cut_short n n' (request.Ready after most) works un = absurd un
 cut_short n n' (request.Handled r) works un = absurd un
+cut_short n n' (request.Interfering key) works un = absurd un
+cut_short n n' (request.Read key found) works un = absurd un
 cut_short n n' (request.Malformed m) works un = absurd un

@@ -12,7 +12,7 @@ use Rattle.ep_replica.specs.Kept.{Kept}
 use Rattle.ep_replica.specs.Pending.{ExecutesNext, IsHeldUp, IsPending, IsWaiting}
 use Rattle.ep_rules.specs.Journals.{stamp_after}
 use Rattle.ep_serve.specs.declared.due.Due.{Due}
-use Rattle.ep_serve.specs.declared.due.Due.TheVariants.{Taken, Refused, Value, Open, Leads, Synced, State, Ready, Handled, Malformed}
+use Rattle.ep_serve.specs.declared.due.Due.TheVariants.{Taken, Refused, Value, Open, Leads, Synced, State, Ready, Handled, Interfering, Read, Malformed}
 use Rattle.ep_wire.specs.declared.take_fault.TakeFault.{TakeFault}
 use Rattle.ep_wire.specs.declared.take_fault.TakeFault.TheVariants.{BadFrame, Step}
 use Rattle.ep_wire.specs.declared.request.Request.{Request}
@@ -34,6 +34,8 @@ TakesOrRefuses k happening Synced k' = ⊥
 TakesOrRefuses k happening State k' = ⊥
 TakesOrRefuses k happening (Ready after most) k' = ⊥
 TakesOrRefuses k happening (Handled r) k' = ⊥
+TakesOrRefuses k happening (Interfering key) k' = ⊥
+TakesOrRefuses k happening (Read key found) k' = ⊥
 TakesOrRefuses k happening (Malformed m) k' = ⊥
 
 -- the stamp that a client has seen is more than 2^40 above that of the replica's last entry
@@ -151,6 +153,8 @@ Acts k request.State due k' = Asks k State due k'
 Acts k request.ExecuteAll due k' = ExecutesAll k due k'
 Acts k (request.Ready after most) due k' = Asks k (Ready after most) due k'
 Acts k (request.Handled r) due k' = Asks k (Handled r) due k'
+Acts k (request.Interfering key) due k' = Asks k (Interfering key) due k'
+Acts k (request.Read key found) due k' = Asks k (Read key found) due k'
 Acts k (request.Malformed m) due k' = Asks k (Malformed m) due k'
 
 -- the device has failed, and nothing changed
@@ -170,6 +174,8 @@ IsCutShort k request.State k' = ⊥
 IsCutShort k request.ExecuteAll k' = StopsShort k k'
 IsCutShort k (request.Ready after most) k' = ⊥
 IsCutShort k (request.Handled r) k' = ⊥
+IsCutShort k (request.Interfering key) k' = ⊥
+IsCutShort k (request.Read key found) k' = ⊥
 IsCutShort k (request.Malformed m) k' = ⊥
 
 -- Why a request wasn't done: a node whose device has failed passes over what would change it; executing all that is ready may stop for want of memory; and no
@@ -186,4 +192,6 @@ IsUndone n request.State n' = ⊥
 IsUndone n request.ExecuteAll n' = IsPassedOver n n' ⊎ IsCutShort n.replica request.ExecuteAll n'.replica
 IsUndone n (request.Ready after most) n' = ⊥
 IsUndone n (request.Handled r) n' = ⊥
+IsUndone n (request.Interfering key) n' = ⊥
+IsUndone n (request.Read key found) n' = ⊥
 IsUndone n (request.Malformed m) n' = ⊥

@@ -3,6 +3,7 @@ use Rattle.std.specs.Prelude.{◌≡◌, ℕ, zero, suc, ◌+◌, max, is_some, 
 use Rattle.std.specs.List.{flat_map}
 use Rattle.std.specs.Option.{option_map}
 use Rattle.std.specs.Io.KnownBytes.{Appends}
+use Rattle.ep_base.specs.Commands.{Get}
 use Rattle.ep_base.specs.Instances.{instance_of, number_of}
 use Rattle.ep_base.specs.Versions.{generation_of}
 use Rattle.ep_base.specs.declared.decree.Decree.{Decree}
@@ -14,7 +15,11 @@ use Rattle.ep_phase.specs.Progress.{progress_in}
 use Rattle.ep_phase.specs.declared.progress.LeadPhase.{LeadPhase}
 use Rattle.ep_phase.specs.declared.progress.LeadPhase.TheVariants as phase
 use Rattle.ep_replica.specs.Kept.{Kept}
+use Rattle.ep_looks.specs.Reads.{found}
 use Rattle.ep_replica.specs.Pending.{state_of}
+use Rattle.ep_replica.specs.Reading.{IsReading}
+use Rattle.ep_replica.specs.declared.reading.Reading.{Reading}
+use Rattle.ep_replica.specs.declared.reading.Reading.TheVariants.{Told, Waits}
 use Rattle.ep_node.specs.Handled.{handled_from}
 use Rattle.ep_node.specs.Telling.{commits_by, executed_by, AreOpen}
 use Rattle.ep_node.specs.declared.open_instance.OpenInstance.{OpenInstance}
@@ -27,8 +32,8 @@ use Rattle.ep_rules.specs.declared.receipt.Receipt.{Receipt}
 use Rattle.ep_rules.specs.declared.record.Record.{Record}
 use Rattle.ep_space.specs.Open.{IsNextOpen}
 use Rattle.ep_serve.specs.declared.due.Due.{Due}
-use Rattle.ep_serve.specs.declared.due.Due.TheVariants.{Taken, Refused, Value, Open, Leads, Synced, State, Ready, Handled, Malformed}
-use Rattle.ep_wire.specs.Answers.{entry_bytes, handled_bytes, instance_bytes, instances_bytes, leading_bytes, malformed_bytes, open_bytes, ready_bytes, refused_bytes, sealed_code, sent_bytes, state_bytes, synced_bytes, taken_as, taken_bytes, told_receipts_bytes, value_bytes}
+use Rattle.ep_serve.specs.declared.due.Due.TheVariants.{Taken, Refused, Value, Open, Leads, Synced, State, Ready, Handled, Interfering, Read, Malformed}
+use Rattle.ep_wire.specs.Answers.{entry_bytes, handled_bytes, instance_bytes, instances_bytes, interfering_bytes, leading_bytes, malformed_bytes, open_bytes, ready_bytes, refused_bytes, reply_bytes, sealed_code, sent_bytes, state_bytes, synced_bytes, taken_as, taken_bytes, told_receipts_bytes, value_bytes, waits_bytes}
 use Rattle.ep_wire.specs.declared.lead_progress.LeadProgress.{LeadProgress}
 use Rattle.ep_wire.specs.declared.lead_progress.LeadProgress.TheVariants.{Proposing, Accepting, Preparing}
 use Rattle.ep_wire.specs.declared.node_state.NodeState.{NodeState}
@@ -109,6 +114,11 @@ told_ready k after xs =
     (summary_bytes (length k.entries) (is_some (state_of k).store.seal) ++ outgoing_bytes k.version (frames_of (drop after k.entries)) (receipts_after k.me after (entries_of k.entries)))
     ++ (happened_bytes (commits_by k.entries (drop after k.entries)) (executed_by (drop after k.entries)) ++ open_instances_bytes xs)
 
+-- what a read is answered
+abbrev pub reading_bytes : Reading → List ℕ
+reading_bytes (Told r) = reply_bytes r
+reading_bytes (Waits i) = waits_bytes i
+
 -- the answer's bytes
 abbrev pub IsTold : Kept → Due → List ℕ → Type 0
 IsTold k (Taken from count) bytes = bytes ≡ taken_bytes (number_bytes 4 count ++ told_from k from count)
@@ -120,6 +130,8 @@ IsTold k Synced bytes = bytes ≡ synced_bytes (length k.entries)
 IsTold k State bytes = bytes ≡ state_bytes (told_state k)
 IsTold k (Ready after most) bytes = (xs : List OpenInstance) × AreOpen k most None xs × (bytes ≡ ready_bytes (told_ready k after xs))
 IsTold k (Handled r) bytes = bytes ≡ handled_bytes (handled_from r k.entries)
+IsTold k (Interfering key) bytes = bytes ≡ interfering_bytes (found (state_of k) (Get key))
+IsTold k (Read key met) bytes = (r : Reading) × IsReading (state_of k) (Get key) met r × (bytes ≡ reading_bytes r)
 IsTold k (Malformed m) bytes = bytes ≡ malformed_bytes m
 
 -- each of the answers, one after the other

@@ -42,6 +42,8 @@ is_sync request.State = false
 is_sync request.ExecuteAll = false
 is_sync (request.Ready after most) = false
 is_sync (request.Handled r) = false
+is_sync (request.Interfering key) = false
+is_sync (request.Read key found) = false
 is_sync (request.Malformed m) = false
 
 -- At a node with so many entries on the disk, which the request leaves so: its answer may wait. It isn't that of each request that is wanted, no sync is

@@ -91,6 +91,8 @@ pub fn act<D: Device>(node: &mut Node<D>, request: Request) -> Result<Due, Alloc
         Request::ExecuteAll => execute_all(node),
         Request::Ready { after, most } => Ok(Due::Ready { after, most }),
         Request::Handled(peer) => Ok(Due::Handled(peer)),
+        Request::Interfering(key) => Ok(Due::Interfering(key)),
+        Request::Read { key, found } => Ok(Due::Read { key, found }),
         Request::Malformed(malformed) => Ok(Due::Malformed(malformed)),
     }
 }

@@ -10,7 +10,8 @@ ghost use Rattle.ep_wire.specs.Answers.{entry_bytes, taken_bytes};
 
 use crate::answer_fault::AnswerFault;
 use crate::asked::{
-    put_asked_handled, put_asked_lead, put_asked_open, put_asked_state, put_asked_value,
+    put_asked_handled, put_asked_interfering, put_asked_lead, put_asked_open, put_asked_read,
+    put_asked_state, put_asked_value,
 };
 use crate::due::Due;
 use crate::readying::put_ready;
@@ -169,6 +170,8 @@ fn put_asked<K: Sink>(
         // What there is to tell the node tells.
         Due::Ready { .. } => Err(AnswerFault),
         Due::Handled(peer) => put_asked_handled(sink, replica, *peer),
+        Due::Interfering(key) => put_asked_interfering(alloc, sink, replica, key),
+        Due::Read { key, found } => put_asked_read(alloc, sink, replica, key, found),
         Due::Malformed(malformed) => Ok(write_malformed(sink, *malformed)?),
     }
 }

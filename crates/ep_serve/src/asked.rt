@@ -1,19 +1,22 @@
 //! Answers of what a replica is asked.
 
-ghost use Rattle.std.specs.Prelude.{◌≡◌, ℕ, List, OnOk};
-ghost use Rattle.ep_serve.specs.Answering.{leading_of, Tells};
-ghost use Rattle.ep_serve.specs.declared.due.Due.TheVariants.{Handled, Leads, Open, State, Value};
+ghost use Rattle.std.specs.Prelude.{◌≡◌, ℕ, List, IfOk, OnOk};
+ghost use Rattle.std.specs.Io.KnownBytes.{Appends};
+ghost use Rattle.ep_base.specs.Commands.{Get};
+ghost use Rattle.ep_serve.specs.Answering.{leading_of, reading_bytes, Tells};
+ghost use Rattle.ep_serve.specs.declared.due.Due.TheVariants.{Handled, Interfering, Leads, Open, Read, State, Value};
 
 use crate::answer_fault::AnswerFault;
 use crate::telling::told_state;
-use ep_base::{InstanceId, Key, ReplicaId, Sink};
+use ep_base::{Command, InstanceId, Key, ReplicaId, Sink};
 use ep_node::handled_from;
 use ep_phase::LeadPhase;
-use ep_replica::Replica;
+use ep_replica::{Reading, Replica};
 use ep_wire::{
-    LeadProgress, write_handled, write_instance, write_leading, write_no_value, write_state,
-    write_value,
+    Instances, LeadProgress, write_handled, write_instance, write_interfering, write_leading,
+    write_no_value, write_reply, write_state, write_value, write_waits,
 };
+use std::alloc::Global;
 
 /// What the replica's map has at the key.
 pub(crate) fn put_asked_value<K: Sink>(
@@ -80,6 +83,60 @@ pub(crate) fn put_asked_handled<K: Sink>(
 {
     write_handled(sink, handled_from(peer, replica.journal().entries()))?;
     Ok(())
+}
+
+/// A get of the key.
+fn get_of(alloc: Global, key: &Key) -> Result<Command, AnswerFault>
+    ensures { IfOk result (λ c. c ≡ Get key.now) }
+{
+    match Command::get(alloc, key.as_slice()) {
+        Ok(command) => Ok(command),
+        Err(_) => Err(AnswerFault),
+    }
+}
+
+/// What interferes with a read of the key.
+pub(crate) fn put_asked_interfering<K: Sink>(
+    alloc: Global,
+    sink: &mut K,
+    replica: &Replica,
+    key: &Key,
+) -> Result<(), AnswerFault>
+    ensures { OnOk result (Tells replica.now (Interfering key.now) (K.held sink.old) (K.held sink.new)) }
+{
+    let command = get_of(alloc, key)?;
+    let found = replica.interfering(alloc, &command)?;
+    if found.as_slice().len() > 63_000 {
+        return Err(AnswerFault);
+    }
+    write_interfering(sink, found.as_slice())?;
+    Ok(())
+}
+
+/// What a read is answered.
+fn put_reading<K: Sink>(sink: &mut K, reading: &Reading) -> Result<(), AnswerFault>
+    ensures { OnOk result (Appends (K.held sink.old) (K.held sink.new) (reading_bytes reading.now)) }
+{
+    match reading {
+        Reading::Told(reply) => write_reply(sink, reply)?,
+        Reading::Waits(instance) => write_waits(sink, *instance)?,
+    }
+    Ok(())
+}
+
+/// What a read of the key is answered, for which these were found.
+pub(crate) fn put_asked_read<K: Sink>(
+    alloc: Global,
+    sink: &mut K,
+    replica: &Replica,
+    key: &Key,
+    found: &Instances,
+) -> Result<(), AnswerFault>
+    ensures { OnOk result (Tells replica.now (Read key.now found.now) (K.held sink.old) (K.held sink.new)) }
+{
+    let command = get_of(alloc, key)?;
+    let reading = replica.read(&command, found.as_slice())?;
+    put_reading(sink, &reading)
 }
 
 /// What the node tells of itself.

@@ -1,7 +1,7 @@
 //! Answers that wait.
 
 use ep_base::{InstanceId, Key, ReplicaId};
-use ep_wire::{Malformed, TakeFault};
+use ep_wire::{Instances, Malformed, TakeFault};
 
 /// An answer that waits until all that its node took is on the disk.
 #[derive(Drop)]
@@ -25,6 +25,10 @@ pub enum Due {
     Ready { after: u32, most: u8 },
     /// The greatest number of an entry of this replica of which a frame was handled is asked.
     Handled(ReplicaId),
+    /// What interferes with a read of the key is asked.
+    Interfering(Key),
+    /// The key is read, for which all looks together found these instances.
+    Read { key: Key, found: Instances },
     /// The request is malformed.
     Malformed(Malformed),
 }

@@ -97,3 +97,16 @@ pub left_as :
     IfOk r (λ it. IsQuiet it × IsOfFile it.replica.faults me it)
 left_as {D = D} me (Ok it) node same quiet of = subst (λ (n : Logged D). IsQuiet n × IsOfFile n.replica.faults me n) (sym same) (quiet, of)
 left_as me (Err e) node same quiet of = tt
+
+-- the same, where it is looked at how many faults its cluster bears
+pub sized_as :
+    {D E : Type 0} (size me : ℕ) (r : Result (Logged D) E) (node : Logged D) → IfOk r (λ it. (it ≡ node) × (node.replica.faults ≡ size)) → IsQuiet node → IsOfFile node.replica.faults me node →
+    IfOk r (λ it. IsQuiet it × IsOfFile size me it)
+sized_as {D = D} size me (Ok it) node same quiet of = (subst (λ (n : Logged D). IsQuiet n) (sym same.0) quiet, of_this_size size me node it of same.0 same.1)
+sized_as size me (Err e) node same quiet of = tt
+
+pub sized_begins :
+    {D E : Type 0} (size : ℕ) (r : Result (Logged D) E) (node : Logged D) (n : NamedFile) (file : File) → IfOk r (λ it. (it ≡ node) × (node.replica.faults ≡ size)) → n.file ≡ file → n.digest ≡ file_digest file →
+    origin_of node ≡ origin_from n → IfOk r (λ it. origin_of it ≡ origin_from (record { file = file; digest = file_digest file }))
+sized_begins size (Ok it) node n file same named digest origin = begins_with node it n file named digest origin same.0
+sized_begins size (Err e) node n file same named digest origin = tt

@@ -75,7 +75,7 @@ fn ready<'a, R: Files<File = File> + AllocGlobal, F: Sink>(
 }
 
 /// The node of the generation that this file opens, which closes the one before.
-#[tactic(auto, using(crate::proofs::InFolders::tells_nothing, crate::proofs::InFolders::of_this_size, crate::proofs::InFolders::begins_with))]
+#[tactic(auto, using(crate::proofs::InFolders::tells_nothing))]
 fn ready_next<'a, R: Files<File = File> + AllocGlobal, F: Sink>(
     rt: &'a R,
     options: &FolderOptions<'_>,

@@ -117,7 +117,7 @@ fn perform<R: AllocGlobal + Files<File = File>, S: Source, W: Sink, F: Sink>(
         ServerAsked::CollectGeneration(asked) => collect_folders(rt, asked, streams),
         ServerAsked::Upgrade(logs) => upgrade_named(rt, &logs, streams),
         ServerAsked::Contents(folder) => show_contents(rt, folder, streams),
-        ServerAsked::Version => show("epaxos 0.1.0\n", streams),
+        ServerAsked::Version => show("epaxos 1.0.0\n", streams),
         ServerAsked::Help(text) => show(text.as_str(), streams),
     }
 }

@@ -1,7 +1,7 @@
 -- What a change of one entry of an index says of its runs.
-use Rattle.std.proofs.Common.{◌≡◌, ◌≤◌, eqb, ℕ, suc, ◌+◌, length, drop, arith, Bool, true, false, true≢false, cond, Some, List, [], ◌∷◌, refl, sym, ap, ◌∙◌}
+use Rattle.std.proofs.Common.{◌≡◌, ◌≢◌, ◌&&◌, eqb, ℕ, zero, suc, ◌+◌, length, drop, arith, Bool, true, false, true≢false, cond, Some, List, [], ◌∷◌, refl, sym, ap, ◌∙◌}
 use Rattle.std.proofs.Math.Seq.{drop-cons}
-use Rattle.std.proofs.lemmas.Bool.{eqb-true}
+use Rattle.std.proofs.lemmas.Bool.{eqb-true, ne_eqb}
 use Rattle.std.proofs.lemmas.Option.{slice_get_within, get_or_from_slice_get}
 use Rattle.std.specs.Cmp.Lexicographic.{nat_list_eq_equiv}
 use Rattle.std.specs.Prelude.{Vec, Option, is_some, slice_get}
@@ -118,36 +118,39 @@ run-from es k n e q here next =
     let place : suc k ≡ n = omega (arith, next) in
     ap (λ fs. run_in fs q) (cons ∙ (λ d. get_or_from_slice_get es k e e here d ∷ drop (place d) es)) ∙ run-front e (drop n es) q
 
--- Runs of keys, and the run of seals.
-
--- no key is empty
-key_apart : (key : List ℕ) → 1 ≤ length key → same_list [] key ≡ false
-key_apart [] some = absurd (omega (arith, some))
-key_apart (b ∷ bs) some = refl
-
-pub run-of_some : (x : Index) (k : List ℕ) → false ≡ eqb (length k) 0 → run x k ≡ run_in x.runs.entries k
-run-of_some x [] e = absurd (true≢false (sym e))
-run-of_some x (b ∷ bs) e = refl
-
-pub some_of : (k : List ℕ) → false ≡ eqb (length k) 0 → 1 ≤ length k
-some_of [] e = absurd (true≢false (sym e))
-some_of (b ∷ bs) e = omega arith
-
 pub empty_of : (k : List ℕ) → true ≡ eqb (length k) 0 → k ≡ []
 empty_of [] e = refl
 empty_of (b ∷ bs) e = absurd (let is = eqb-true (suc (length bs)) 0 (sym e) in omega arith)
 
--- a change of the run of a key leaves that of seals
-pub run-of_key : (f : List ℕ → List ℕ) (x y : Index) (key : List ℕ) → 1 ≤ length key → y.seals ≡ x.seals → Changes f x.runs.entries key y.runs.entries
-    → (k : List ℕ) → run y k ≡ cond (same_list k key) (f (run x k)) (run x k)
-run-of_key f x y key some seals changed [] = ap (λ v. v.items) seals ∙ ap (λ b. cond b (f x.seals.items) x.seals.items) (sym (key_apart key some))
-run-of_key f x y key some seals changed (b ∷ bs) = changed (b ∷ bs)
+-- A change of the run of a key that is written, of one that is only read, and of that of seals.
 
-pub run-same : (x y : Index) → y.seals.items ≡ x.seals.items → ((k : List ℕ) → run_in y.runs.entries k ≡ run_in x.runs.entries k) → (k : List ℕ) → run y k ≡ run x k
-run-same x y seals same [] = seals
-run-same x y seals same (b ∷ bs) = same (b ∷ bs)
+-- behind another mark there is nothing
+other_mark : (f : List ℕ → List ℕ) (m n : ℕ) (k key : List ℕ) → m ≢ n → [] ≡ cond (same_list (m ∷ k) (n ∷ key)) (f []) []
+other_mark f m n k key apart = ap (λ b. cond (b && same_list k key) (f []) []) (sym (ne_eqb m n apart))
 
--- and the other way round
-pub run-of_seals : (f : List ℕ → List ℕ) (x y : Index) → y.seals.items ≡ f x.seals.items → y.runs ≡ x.runs → (k : List ℕ) → run y k ≡ cond (same_list k []) (f (run x k)) (run x k)
-run-of_seals f x y seals runs [] = seals
-run-of_seals f x y seals runs (b ∷ bs) = ap (λ m. run_in m.entries (b ∷ bs)) runs
+pub run-of_writes : (f : List ℕ → List ℕ) (x y : Index) (key : List ℕ) → y.seals ≡ x.seals → y.reads ≡ x.reads → Changes f x.writes.runs.entries key y.writes.runs.entries
+    → (k : List ℕ) → run y k ≡ cond (same_list k (0 ∷ key)) (f (run x k)) (run x k)
+run-of_writes f x y key seals reads changed [] = ap (λ v. v.items) seals
+run-of_writes f x y key seals reads changed (zero ∷ k) = changed k
+run-of_writes f x y key seals reads changed (suc zero ∷ k) = ap (λ s. run_in s.runs.entries k) reads
+run-of_writes f x y key seals reads changed (suc (suc m) ∷ k) = other_mark f (suc (suc m)) 0 k key (λ e. omega (arith, e))
+
+pub run-of_reads : (f : List ℕ → List ℕ) (x y : Index) (key : List ℕ) → y.seals ≡ x.seals → y.writes ≡ x.writes → Changes f x.reads.runs.entries key y.reads.runs.entries
+    → (k : List ℕ) → run y k ≡ cond (same_list k (1 ∷ key)) (f (run x k)) (run x k)
+run-of_reads f x y key seals writes changed [] = ap (λ v. v.items) seals
+run-of_reads f x y key seals writes changed (zero ∷ k) = ap (λ s. run_in s.runs.entries k) writes
+run-of_reads f x y key seals writes changed (suc zero ∷ k) = changed k
+run-of_reads f x y key seals writes changed (suc (suc m) ∷ k) = other_mark f (suc (suc m)) 1 k key (λ e. omega (arith, e))
+
+pub run-of_seals : (f : List ℕ → List ℕ) (x y : Index) → y.seals.items ≡ f x.seals.items → y.writes ≡ x.writes → y.reads ≡ x.reads → (k : List ℕ) → run y k ≡ cond (same_list k []) (f (run x k)) (run x k)
+run-of_seals f x y seals writes reads [] = seals
+run-of_seals f x y seals writes reads (zero ∷ k) = ap (λ s. run_in s.runs.entries k) writes
+run-of_seals f x y seals writes reads (suc zero ∷ k) = ap (λ s. run_in s.runs.entries k) reads
+run-of_seals f x y seals writes reads (suc (suc m) ∷ k) = refl
+
+pub run-same : (x y : Index) → y.seals.items ≡ x.seals.items → ((k : List ℕ) → run_in y.writes.runs.entries k ≡ run_in x.writes.runs.entries k)
+    → ((k : List ℕ) → run_in y.reads.runs.entries k ≡ run_in x.reads.runs.entries k) → (k : List ℕ) → run y k ≡ run x k
+run-same x y seals writes reads [] = seals
+run-same x y seals writes reads (zero ∷ k) = writes k
+run-same x y seals writes reads (suc zero ∷ k) = reads k
+run-same x y seals writes reads (suc (suc m) ∷ k) = refl

@@ -1,32 +1,38 @@
 -- What is gathered of the run of a command's key is its interference set.
-use Rattle.std.proofs.Common.{◌≡◌, ◌⊎◌, inl, inr, ℕ, Bool, true, false, cond, not, ◌&&◌, ◌||◌, Option, Some, None, List, [], ◌∷◌, ◌++◌, max, refl, sym, ap, ◌∙◌, arith, append_assoc, append-nil, true≢false, eqb, subst, suc, length}
+use Rattle.std.proofs.Common.{◌≡◌, inl, inr, ℕ, Bool, true, false, cond, not, ◌&&◌, ◌||◌, Option, Some, None, List, [], ◌∷◌, ◌++◌, max, refl, sym, ap, ◌∙◌, arith, append_assoc, append-nil, true≢false, eqb, subst, zero, suc, ◌+◌, ◌<◌, length}
 use Rattle.std.specs.Prelude.{is_some}
 use Rattle.std.specs.Cmp.{unsigned_tied}
 use Rattle.std.specs.FinMap as map
 use Rattle.std.specs.FinMap.{find, is_sorted}
 use Rattle.std.specs.FinMap.Entries.{below_all}
-use Rattle.std.specs.List.{AllByRecursion}
+use Rattle.std.specs.List.{AllByRecursion, Contains, dedup, slice_index}
+use Rattle.std.specs.List.Sorted.{IsPermutation, IsSorted, IsStrictlyIncreasing}
 use Rattle.std.specs.Ordering.{nat_cmp}
-use Rattle.std.proofs.lemmas.Bool.{and_parts, eq-eqb, eqb-true, or_cases, or_left, or_right}
+use Rattle.std.proofs.lemmas.Bool.{and_parts, eq-eqb, eqb-true}
+use Rattle.std.proofs.lemmas.List.Kept.{Contains-dedup_nat, Contains-from_dedup}
+use Rattle.std.proofs.lemmas.List.Sorted.{Contains-permutation, IsPermutation-sym}
+use Rattle.std.proofs.lemmas.Map.Keys.{IsStrictlyIncreasing-dedup}
+use Rattle.std.proofs.lemmas.Option.{same_Some}
 use Rattle.ep_base.specs.Deps.{IsRising, union}
-use Rattle.ep_base.specs.Interference.{keys_of, has_key, share_key, only_reads, is_seal, meet, part, interfere}
+use Rattle.ep_base.specs.Items.{item_keys, none_writes}
+use Rattle.ep_base.specs.Interference.{is_many, keys_in, keys_of, key_of, second_key_of, listed, has_key, share_key, only_reads, is_seal, meet, interfere}
 use Rattle.ep_base.specs.Places.{Has}
 use Rattle.ep_base.specs.Sameness.{is_noop}
-use Rattle.ep_base.specs.Commands.{Command, Noop, Get, Put, Del, Swap, Cas, Seal, Opaque}
+use Rattle.ep_base.specs.Commands.{Command, Noop, Get, Put, Del, Swap, Cas, Seal, Opaque, Tx}
 use Rattle.ep_base.specs.declared.vote.Vote.{Vote}
 use Rattle.ep_rules.specs.InterferenceSet.{touches, votes_against, those, greatest_seq, seq_of, instances, interference}
 use Rattle.ep_rules.specs.Maps.{Map, get, entries}
 use Rattle.ep_rules.specs.declared.record.Record.{Record}
 use Rattle.ep_space.specs.Gathering.{gather, gather_all, next_attrs, recorded_in}
-use Rattle.ep_space.specs.Keys.{index_keys, voted_keys, recorded_keys, names_one, holders, holders_of, recorded, IsPlainVote, IsPlain, ArePlain}
+use Rattle.ep_space.specs.Keys.{mark, marked, index_keys, voted_keys, met_keys, names_one, holders, holders_of, recorded, IsMet, AreMet}
 use Rattle.ep_space.specs.Open.{AreRecords}
 use Rattle.ep_space.specs.declared.gathered.Gathered.{Gathered}
 use Rattle.ep_rules.specs.Worlds.{In}
 use Rattle.ep_base.proofs.Interfering.{Decides-interfere, Interferes-noop}
-use Rattle.ep_base.proofs.Members.{same_members, union-cases, Has-union}
-use Rattle.ep_base.proofs.Union.{IsRising-union}
-use Rattle.ep_base.proofs.Places.{Has-empty, Has-cons_cases, Has-head}
-use Rattle.ep_space.proofs.Holders.{found_on, sorted_true, holders-more, key-holds, rising_those, those-found, found-those}
+use Rattle.ep_base.proofs.Members.{same_members}
+use Rattle.ep_base.proofs.Places.{Has-empty, Has-cons_cases, Has-head, Has-first, Has-tail}
+use Rattle.ep_space.proofs.Holders.{found_on, sorted_true, share_joined, holders-one, holders-two, holders-more, rising_those, those-found, found-those}
+use Rattle.ep_space.proofs.Once.{marked_has, marked_none, seals_none}
 use Rattle.ep_space.proofs.Rising.{all_from}
 
 abbrev Entry : Type 0
@@ -87,43 +93,169 @@ those_within t h (e ∷ es) w = go (t e) (h e) refl refl (those_within t h es w)
     go false true p q rest = ap (λ x. cond x (e ∷ those t (those h es)) (those t (those h es))) p ∙ rest
     go false false p q rest = rest
 
--- What stands under a command's keys, or is a seal.
+-- What stands under the keys that a command meets.
 
 share_none : (ks : List (List ℕ)) → share_key ks [] ≡ false
 share_none [] = refl
 share_none (k ∷ ks) = share_none ks
 
-indexed : (ks : List (List ℕ)) (d : Command) → share_key ks (keys_of d) ≡ true → share_key ks (index_keys d) ≡ true
-indexed ks Noop e = e
-indexed ks (Get k) e = e
-indexed ks (Put k v) e = e
-indexed ks (Del k) e = e
-indexed ks (Swap p) e = e
-indexed ks (Cas k x n) e = e
-indexed ks (Seal v) e = absurd (true≢false (sym e ∙ share_none ks))
-indexed ks (Opaque p b) e = e
+-- behind the same mark, or another one
 
-seal_index : (d : Command) → is_seal d ≡ true → has_key [] (index_keys d) ≡ true
-seal_index Noop e = absurd (true≢false (sym e))
-seal_index (Get k) e = absurd (true≢false (sym e))
-seal_index (Put k v) e = absurd (true≢false (sym e))
-seal_index (Del k) e = absurd (true≢false (sym e))
-seal_index (Swap p) e = absurd (true≢false (sym e))
-seal_index (Cas k x n) e = absurd (true≢false (sym e))
-seal_index (Seal v) e = refl
-seal_index (Opaque p b) e = absurd (true≢false (sym e))
+-- what reads meets what writes, and no other; what writes meets both
 
-share_end : (ks : List (List ℕ)) (k : List ℕ) (ls : List (List ℕ)) → share_key (ks ++ k ∷ []) ls ≡ (share_key ks ls || has_key k ls)
-share_end [] k ls = go (has_key k ls)
+read_write : (ks ls : List (List ℕ)) → share_key (met_keys true ks) (marked 0 ls) ≡ share_key ks ls
+read_write [] ls = refl
+read_write (k ∷ ks) ls = λ d. marked_has false k ls d || read_write ks ls d
+
+read_read : (ks ls : List (List ℕ)) → share_key (met_keys true ks) (marked 1 ls) ≡ false
+read_read [] ls = refl
+read_read (k ∷ ks) ls = λ d. marked_none true k ls d || read_read ks ls d
+
+write_write : (ks ls : List (List ℕ)) → share_key (met_keys false ks) (marked 0 ls) ≡ share_key ks ls
+write_write [] ls = refl
+write_write (k ∷ ks) ls = λ d. marked_has false k ls d || (marked_none false k ls d || write_write ks ls d)
+
+write_read : (ks ls : List (List ℕ)) → share_key (met_keys false ks) (marked 1 ls) ≡ share_key ks ls
+write_read [] ls = refl
+write_read (k ∷ ks) ls = λ d. marked_none true k ls d || (marked_has true k ls d || write_read ks ls d)
+
+met_marked : (r q : Bool) (ks ls : List (List ℕ)) → share_key (met_keys r ks) (marked (mark q) ls) ≡ (share_key ks ls && not (r && q))
+met_marked true true ks ls = read_read ks ls ∙ none (share_key ks ls)
   where
-    go : (b : Bool) → (b || false) ≡ b
-    go true = refl
-    go false = refl
-share_end (l ∷ ks) k ls = ap (λ b. has_key l ls || b) (share_end ks k ls) ∙ go (has_key l ls) (share_key ks ls) (has_key k ls)
+    none : (b : Bool) → false ≡ (b && false)
+    none true = refl
+    none false = refl
+met_marked true false ks ls = read_write ks ls ∙ all (share_key ks ls)
   where
-    go : (a b c : Bool) → (a || (b || c)) ≡ ((a || b) || c)
-    go true b c = refl
-    go false b c = refl
+    all : (b : Bool) → b ≡ (b && true)
+    all true = refl
+    all false = refl
+met_marked false true ks ls = write_read ks ls ∙ all (share_key ks ls)
+  where
+    all : (b : Bool) → b ≡ (b && true)
+    all true = refl
+    all false = refl
+met_marked false false ks ls = write_write ks ls ∙ all (share_key ks ls)
+  where
+    all : (b : Bool) → b ≡ (b && true)
+    all true = refl
+    all false = refl
+
+index_marked : (d : Command) → is_seal d ≡ false → index_keys d ≡ marked (mark (only_reads d)) (keys_of d)
+index_marked Noop e = refl
+index_marked (Get k) e = refl
+index_marked (Put k v) e = refl
+index_marked (Del k) e = refl
+index_marked (Swap p) e = refl
+index_marked (Cas k x n) e = refl
+index_marked (Seal v) e = absurd (true≢false e)
+index_marked (Opaque p b) e = refl
+index_marked (Tx is) e = refl
+
+seal_index : (d : Command) → has_key [] (index_keys d) ≡ is_seal d
+seal_index Noop = refl
+seal_index (Get k) = refl
+seal_index (Put k v) = refl
+seal_index (Del k) = refl
+seal_index (Swap p) = refl
+seal_index (Cas k x n) = refl
+seal_index (Seal v) = refl
+seal_index (Opaque p b) = seals_none (mark p.reads) (keys_in p)
+seal_index (Tx is) = seals_none (mark (none_writes is)) (item_keys is)
+
+seal_is_something : (d : Command) → is_seal d ≡ true → is_noop d ≡ false
+seal_is_something Noop e = absurd (true≢false (sym e))
+seal_is_something (Get k) e = refl
+seal_is_something (Put k v) e = refl
+seal_is_something (Del k) e = refl
+seal_is_something (Swap p) e = refl
+seal_is_something (Cas k x n) e = refl
+seal_is_something (Seal v) e = refl
+seal_is_something (Opaque p b) e = refl
+seal_is_something (Tx is) e = refl
+
+-- what a command that is neither a seal nor a no-op meets in the index
+abbrev pub met_of : Command → List (List ℕ)
+met_of c = met_keys (only_reads c) (keys_of c)
+
+-- beside seals that is what interferes with it
+module _ (c : Command) (plain : is_seal c ≡ false) (some : is_noop c ≡ false) where
+  met_interferes : (d : Command) → share_key (met_of c ++ [] ∷ []) (index_keys d) ≡ interfere c d
+  met_interferes d =
+      share_joined (met_of c) ([] ∷ []) (index_keys d)
+      ∙ ap (λ b. share_key (met_of c) (index_keys d) || (b || false)) (seal_index d)
+      ∙ go (is_seal d) refl
+      ∙ (λ d2. meet c d || ((sym plain d2 || is_seal d) && not (sym some d2 || is_noop d)))
+    where
+      go : (b : Bool) → is_seal d ≡ b → (share_key (met_of c) (index_keys d) || (is_seal d || false)) ≡ (meet c d || ((false || is_seal d) && not (false || is_noop d)))
+      go true e = (λ d2. share_key (met_of c) (index_keys d) || (e d2 || false)) ∙ both (share_key (met_of c) (index_keys d)) (meet c d) ∙ (λ d2. meet c d || ((false || sym e d2) && not (false || sym (seal_is_something d e) d2)))
+        where
+          both : (a b : Bool) → (a || true) ≡ (b || true)
+          both true true = refl
+          both true false = refl
+          both false true = refl
+          both false false = refl
+      go false e = (λ d2. share_key (met_of c) (index_marked d e d2) || (e d2 || false)) ∙ ap (λ b. b || false) (met_marked (only_reads c) (only_reads d) (keys_of c) (keys_of d)) ∙ (λ d2. meet c d || ((false || sym e d2) && not (false || is_noop d)))
+
+  pub met_votes : (v : Option Vote) → share_key (met_of c ++ [] ∷ []) (voted_keys v) ≡ votes_against c v
+  met_votes None = share_none (met_of c ++ [] ∷ [])
+  met_votes (Some v) = met_interferes v.decree.command
+
+  pub met_holders : (m : Map Record) (is : List ℕ) → is ≡ union (holders_of (met_of c) m) (holders [] m) → AreMet c m is
+  met_holders m is e = subst (AreMet c m) (sym (e ∙ holders-more (met_of c) [] m)) (all_from (λ i. IsMet c (get m i)) (holders_of (met_of c ++ [] ∷ []) m) met)
+    where
+      met : (i : ℕ) → Has (holders_of (met_of c ++ [] ∷ []) m) i → IsMet c (get m i)
+      met i has =
+          let f = those-found (names_one (met_of c ++ [] ∷ [])) (map.entries m) i (sorted_true m) has in
+          let at : get m i ≡ Some f.0 = map.get-entries m i ∙ f.1 in
+          subst (IsMet c) (sym at) (sym (met_votes f.0.vote) ∙ f.2)
+
+-- Of one key: what reads it meets what writes it, and what writes it both.
+
+pub met_reads : (c : Command) (k : List ℕ) (m : Map Record) (writes : List ℕ) → keys_of c ≡ k ∷ [] → only_reads c ≡ true → writes ≡ holders (0 ∷ k) m → writes ≡ holders_of (met_of c) m
+met_reads c k m writes keys r is = is ∙ holders-one (0 ∷ k) m ∙ (λ d. holders_of (met_keys (sym r d) (sym keys d)) m)
+
+pub met_writes : (c : Command) (k : List ℕ) (m : Map Record) (writes reads : List ℕ) → keys_of c ≡ k ∷ [] → only_reads c ≡ false → writes ≡ holders (0 ∷ k) m → reads ≡ holders (1 ∷ k) m → union writes reads ≡ holders_of (met_of c) m
+met_writes c k m writes reads keys r a b = (λ d. union (a d) (b d)) ∙ holders-two (0 ∷ k) (1 ∷ k) m ∙ (λ d. holders_of (met_keys (sym r d) (sym keys d)) m)
+
+-- The keys of a command that names one.
+
+pub keyless : (c : Command) → is_seal c ≡ false → is_many c ≡ false → key_of c ≡ None → c ≡ Noop
+keyless Noop e m h = refl
+keyless (Get k) e m h = absurd (true≢false (ap is_some h))
+keyless (Put k v) e m h = absurd (true≢false (ap is_some h))
+keyless (Del k) e m h = absurd (true≢false (ap is_some h))
+keyless (Swap p) e m h = absurd (true≢false (ap is_some h))
+keyless (Cas k x n) e m h = absurd (true≢false (ap is_some h))
+keyless (Seal v) e m h = absurd (true≢false e)
+keyless (Opaque p b) e m h = absurd (true≢false (ap is_some h))
+keyless (Tx is) e m h = absurd (true≢false m)
+
+pub keys_from : (c : Command) (k : List ℕ) → key_of c ≡ Some k → keys_of c ≡ k ∷ listed (second_key_of c)
+keys_from Noop k h = absurd (true≢false (sym (ap is_some h)))
+keys_from (Get l) k h = ap (λ (l : List ℕ). l ∷ []) (same_Some l k h)
+keys_from (Put l v) k h = ap (λ (l : List ℕ). l ∷ []) (same_Some l k h)
+keys_from (Del l) k h = ap (λ (l : List ℕ). l ∷ []) (same_Some l k h)
+keys_from (Swap p) k h = ap (λ (l : List ℕ). l ∷ p.second ∷ []) (same_Some p.first k h)
+keys_from (Cas l x n) k h = ap (λ (l : List ℕ). l ∷ []) (same_Some l k h)
+keys_from (Seal v) k h = absurd (true≢false (sym (ap is_some h)))
+keys_from (Tx is) k h = absurd (true≢false (sym (ap is_some h)))
+keys_from (Opaque p b) k h = ap (λ (l : List ℕ). l ∷ listed p.second) (same_Some p.first k h)
+
+pub keyed_some : (c : Command) (k : List ℕ) (ks : List (List ℕ)) → keys_of c ≡ k ∷ ks → is_noop c ≡ false
+keyed_some Noop k ks h = absurd (true≢false (sym (ap is_cons h)))
+  where
+    is_cons : List (List ℕ) → Bool
+    is_cons [] = false
+    is_cons (l ∷ ls) = true
+keyed_some (Get l) k ks h = refl
+keyed_some (Put l v) k ks h = refl
+keyed_some (Del l) k ks h = refl
+keyed_some (Swap p) k ks h = refl
+keyed_some (Cas l x n) k ks h = refl
+keyed_some (Seal v) k ks h = refl
+keyed_some (Opaque p b) k ks h = refl
+keyed_some (Tx is) k ks h = refl
 
 module _ (c : Command) (except : ℕ) where
   pub gathered-some : (m : Map Record) (some : Entry → Bool) → ((e : Entry) → touches c except e ≡ true → some e ≡ true) →
@@ -137,23 +269,15 @@ module _ (c : Command) (except : ℕ) where
       ∙ ap (λ (es : List Entry). next_attrs (record { seq = max 0 (greatest_seq es); deps = instances es })) (those_within (touches c except) some (entries m) touched)
       ∙ (λ d. next_attrs (record { seq = least (greatest_seq (those (touches c except) (entries m))) d; deps = instances (those (touches c except) (entries m)) }))
 
-  touched_key : is_seal c ≡ false → (e : Entry) → touches c except e ≡ true → names_one (keys_of c ++ [] ∷ []) e ≡ true
-  touched_key none e h = go e.1.vote (and_parts (not (eqb e.0 except)) (votes_against c e.1.vote) h).1
-    where
-      go : (v : Option Vote) → votes_against c v ≡ true → share_key (keys_of c ++ [] ∷ []) (voted_keys v) ≡ true
-      go None x = absurd (true≢false (sym x))
-      go (Some v) x = share_end (keys_of c) [] (index_keys v.decree.command) ∙ elim (or_cases (meet c v.decree.command) (part c v.decree.command) x) [
-        | inl met ↦ or_left (share_key (keys_of c) (index_keys v.decree.command)) (has_key [] (index_keys v.decree.command))
-            (indexed (keys_of c) v.decree.command (and_parts (share_key (keys_of c) (keys_of v.decree.command)) (not (only_reads c && only_reads v.decree.command)) met).0)
-        | inr apart ↦ or_right (share_key (keys_of c) (index_keys v.decree.command)) (has_key [] (index_keys v.decree.command))
-            (seal_index v.decree.command (ap (λ b. b || is_seal v.decree.command) (sym none) ∙ (and_parts (is_seal c || is_seal v.decree.command) (not (is_noop c || is_noop v.decree.command)) apart).0))
-      ]
+  touched_key : is_seal c ≡ false → is_noop c ≡ false → (e : Entry) → touches c except e ≡ true → names_one (met_of c ++ [] ∷ []) e ≡ true
+  touched_key plain some e h = met_votes c plain some e.1.vote ∙ (and_parts (not (eqb e.0 except)) (votes_against c e.1.vote) h).1
 
-  -- of a command that is no seal: the holders of its keys, and seals
-  pub gathered-keys : is_seal c ≡ false → (m : Map Record) → next_attrs (gather_all (touches c except) m (record { seq = 0; deps = [] }) (union (holders_of (keys_of c) m) (holders [] m))) ≡ interference m except c
-  gathered-keys none m =
-      ap (λ is. next_attrs (gather_all (touches c except) m (record { seq = 0; deps = [] }) is)) (holders-more (keys_of c) [] m (λ ls. share_end (keys_of c) [] ls))
-      ∙ gathered-some m (names_one (keys_of c ++ [] ∷ [])) (touched_key none)
+  -- of a command that is neither a seal nor a no-op: what it meets by its keys, and seals
+  pub gathered-keys : is_seal c ≡ false → is_noop c ≡ false → (m : Map Record) (is : List ℕ) → is ≡ union (holders_of (met_of c) m) (holders [] m)
+      → next_attrs (gather_all (touches c except) m (record { seq = 0; deps = [] }) is) ≡ interference m except c
+  gathered-keys plain some m is e =
+      ap (λ is. next_attrs (gather_all (touches c except) m (record { seq = 0; deps = [] }) is)) (e ∙ holders-more (met_of c) [] m)
+      ∙ gathered-some m (names_one (met_of c ++ [] ∷ [])) (touched_key plain some)
 
   -- of any command: all that is recorded
   pub gathered-every : (m : Map Record) → next_attrs (gather_all (touches c except) m (record { seq = 0; deps = [] }) (recorded m)) ≡ interference m except c
@@ -185,111 +309,69 @@ module _ (c : Command) (except : ℕ) where
           go true false h rest = rest
           go false false h rest = rest
 
--- What has a key of c, where nothing is a seal.
-
-plain_index : (d : Command) → is_seal d ≡ false → index_keys d ≡ keys_of d
-plain_index Noop e = refl
-plain_index (Get k) e = refl
-plain_index (Put k v) e = refl
-plain_index (Del k) e = refl
-plain_index (Swap p) e = refl
-plain_index (Cas k x n) e = refl
-plain_index (Opaque p body) e = refl
-plain_index (Seal v) e = absurd (true≢false e)
-
-no_seal_shares : (a b : Command) → share_key (keys_of a) (keys_of b) ≡ true → is_seal a ≡ false
-no_seal_shares Noop b e = refl
-no_seal_shares (Get k) b e = refl
-no_seal_shares (Put k v) b e = refl
-no_seal_shares (Del k) b e = refl
-no_seal_shares (Swap p) b e = refl
-no_seal_shares (Cas k x n) b e = refl
-no_seal_shares (Opaque p body) b e = refl
-no_seal_shares (Seal v) b e = absurd (true≢false (sym e))
-
-pub plain_order : (a b : Command) → share_key (keys_of a) (keys_of b) ≡ true → is_seal b ≡ false → not (only_reads a && only_reads b) ≡ interfere a b
-plain_order a b shared plain = go (share_key (keys_of a) (keys_of b)) (not (only_reads a && only_reads b)) (is_seal a) (is_seal b) shared (no_seal_shares a b shared) plain
-  where
-    go : (s g p q : Bool) → s ≡ true → p ≡ false → q ≡ false → g ≡ ((s && g) || ((p || q) && not (is_noop a || is_noop b)))
-    go true true false false e f h = refl
-    go true false false false e f h = refl
-    go false g p q e f h = absurd (true≢false (sym e))
-    go true g true q e f h = absurd (true≢false f)
-    go true g false true e f h = absurd (true≢false h)
-
-pub plain_holders : (c : Command) (m : Map Record) (is : List ℕ) → holders [] m ≡ [] → is ≡ holders_of (keys_of c) m → ArePlain c m is
-plain_holders c m is none e = subst (ArePlain c m) (sym e) (all_from (λ i. IsPlain c (get m i)) (holders_of (keys_of c) m) plain)
-  where
-    vote : (i : ℕ) (v : Option Vote) → (has_key [] (voted_keys v) ≡ true → ⊥) → share_key (keys_of c) (voted_keys v) ≡ true → IsPlainVote c v
-    vote i None no_seal h = absurd (true≢false (sym h ∙ share_none (keys_of c)))
-    vote i (Some v) no_seal h = go (is_seal v.decree.command) refl
-      where
-        go : (b : Bool) → is_seal v.decree.command ≡ b → (share_key (keys_of c) (keys_of v.decree.command) ≡ true) × (is_seal v.decree.command ≡ false)
-        go true s = absurd (no_seal (seal_index v.decree.command s))
-        go false s = (ap (share_key (keys_of c)) (sym (plain_index v.decree.command s)) ∙ h, s)
-
-    plain : (i : ℕ) → Has (holders_of (keys_of c) m) i → IsPlain c (get m i)
-    plain i has =
-        let f = those-found (names_one (keys_of c)) (map.entries m) i (sorted_true m) has in
-        let at : get m i ≡ Some f.0 = map.get-entries m i ∙ f.1 in
-        subst (IsPlain c) (sym at) (vote i f.0.vote (λ s. Has-empty i (subst (λ is. Has is i) none (key-holds [] m i (ap (λ o. has_key [] (recorded_keys o)) at ∙ s)))) f.2)
-
 -- All places.
 
-pub places_rise : (all : List ℕ) (es : List (ℕ × Option Record)) → IsRising all → IsRising (recorded_in all es)
-places_rise all [] h = h
-places_rise all (e ∷ es) h = places_rise (cond (is_some e.1) (union all (e.0 ∷ [])) all) es (go (is_some e.1))
+-- an instance is one of an entry with a record
+places_from : (es : List (ℕ × Option Record)) (i : ℕ) → Has (recorded_in es) i → (r : Record) × In (i, Some r) es
+places_from [] i h = absurd (Has-empty i h)
+places_from (e ∷ es) i h = go e.1 refl h (places_from es i)
   where
-    go : (b : Bool) → IsRising (cond b (union all (e.0 ∷ [])) all)
-    go true = IsRising-union all (e.0 ∷ []) h (tt, tt)
-    go false = h
-
--- a place is one of those before, or of an entry with a record
-pub places_from : (all : List ℕ) (es : List (ℕ × Option Record)) (i : ℕ) → Has (recorded_in all es) i → Has all i ⊎ ((r : Record) × In (i, Some r) es)
-places_from all [] i h = inl h
-places_from all (e ∷ es) i h = elim (places_from (cond (is_some e.1) (union all (e.0 ∷ [])) all) es i h) [
-  | inl a ↦ go e.1 refl a
-  | inr b ↦ inr (b.0, inr b.1)
-]
-  where
-    go : (o : Option Record) → e.1 ≡ o → Has (cond (is_some o) (union all (e.0 ∷ [])) all) i → Has all i ⊎ ((r : Record) × In (i, Some r) (e ∷ es))
-    go None at k = inl k
-    go (Some r) at k = elim (union-cases all (e.0 ∷ []) i k) [
-      | inl a ↦ inl a
-      | inr b ↦ elim (Has-cons_cases e.0 [] i b) [
-        | inl same ↦ inr (r, inl (λ t. (same t, at t)))
-        | inr none ↦ absurd (Has-empty i none)
-      ]
+    go : (o : Option Record) → e.1 ≡ o → Has (cond (is_some o) (e.0 ∷ recorded_in es) (recorded_in es)) i → (Has (recorded_in es) i → (r : Record) × In (i, Some r) es) → (r : Record) × In (i, Some r) (e ∷ es)
+    go None at k rec = let t = rec k in (t.0, inr t.1)
+    go (Some r) at k rec = elim (Has-cons_cases e.0 (recorded_in es) i k) [
+      | inl same ↦ (r, inl (λ t. (same t, at t)))
+      | inr rest ↦ (let t = rec rest in (t.0, inr t.1))
     ]
 
-pub places_keep : (all : List ℕ) (es : List (ℕ × Option Record)) (i : ℕ) → Has all i → Has (recorded_in all es) i
-places_keep all [] i h = h
-places_keep all (e ∷ es) i h = places_keep (cond (is_some e.1) (union all (e.0 ∷ [])) all) es i (go (is_some e.1))
+places_have : (es : List (ℕ × Option Record)) (i : ℕ) (r : Record) → In (i, Some r) es → Has (recorded_in es) i
+places_have [] i r h = absurd h
+places_have (e ∷ es) i r (inl is) = subst (λ f. Has (cond (is_some f.1) (f.0 ∷ recorded_in es) (recorded_in es)) i) (sym is) (Has-first i (recorded_in es))
+places_have (e ∷ es) i r (inr h) = go (is_some e.1) (places_have es i r h)
   where
-    go : (b : Bool) → Has (cond b (union all (e.0 ∷ [])) all) i
-    go true = Has-union all (e.0 ∷ []) i (inl h)
-    go false = h
+    go : (b : Bool) → Has (recorded_in es) i → Has (cond b (e.0 ∷ recorded_in es) (recorded_in es)) i
+    go true k = Has-tail e.0 (recorded_in es) i k
+    go false k = k
 
-pub places_have : (all : List ℕ) (es : List (ℕ × Option Record)) (i : ℕ) (r : Record) → In (i, Some r) es → Has (recorded_in all es) i
-places_have all [] i r h = absurd h
-places_have all (e ∷ es) i r (inl is) = places_keep (cond (is_some e.1) (union all (e.0 ∷ [])) all) es i
-    (subst (λ f. Has (cond (is_some f.1) (union all (f.0 ∷ [])) all) i) (sym is) (Has-union all (i ∷ []) i (inr (Has-head i [] i refl))))
-places_have all (e ∷ es) i r (inr h) = places_have (cond (is_some e.1) (union all (e.0 ∷ [])) all) es i r h
+-- an element of a list, and its place
+has_element : (xs : List ℕ) (i : ℕ) → Has xs i → Contains xs i
+has_element [] i h = absurd (Has-empty i h)
+has_element (x ∷ xs) i h = elim (Has-cons_cases x xs i h) [
+  | inl same ↦ (0, omega arith, same)
+  | inr rest ↦ (let t = has_element xs i rest in (suc t.0, omega (arith, t.1), t.2))
+]
 
--- of a table's entries they are what is recorded
-pub places_recorded : (m : Map Record) (es : List (ℕ × Option Record)) → AreRecords m es → recorded_in [] es ≡ recorded m
-places_recorded m es are =
-    same_members (recorded_in [] es) (recorded m) (places_rise [] es tt) (subst IsRising (all_of (entries m)) (rising_those (λ e. true) (entries m) (sorted_true m)))
-    (λ i h. elim (places_from [] es i h) [
-      | inl none ↦ absurd (Has-empty i none)
-      | inr b ↦ subst (λ is. Has is i) (all_of (entries m)) (found-those (λ e. true) (entries m) i b.0 (sym (map.get-entries m i) ∙ (are i b.0).1 b.1) refl)
-    ])
-    (λ i h. let f = those-found (λ e. true) (entries m) i (sorted_true m) (subst (λ is. Has is i) (sym (all_of (entries m))) h) in
-    places_have [] es i f.0 ((are i f.0).0 (map.get-entries m i ∙ f.1)))
+element_has : (xs : List ℕ) (i : ℕ) → Contains xs i → Has xs i
+element_has [] i h = absurd (omega (arith, h.1))
+element_has (x ∷ xs) i (zero, lt, is) = Has-head x xs i is
+element_has (x ∷ xs) i (suc k, lt, is) = Has-tail x xs i (element_has xs i (k, omega (arith, lt), is))
+
+increasing_rises : (xs : List ℕ) → IsStrictlyIncreasing xs → IsRising xs
+increasing_rises [] h = tt
+increasing_rises (x ∷ []) h = (tt, tt)
+increasing_rises (x ∷ y ∷ ys) h = (h 0 (omega arith), increasing_rises (y ∷ ys) later)
+  where
+    later : (k : ℕ) → k + 1 < length (y ∷ ys) → slice_index (y ∷ ys) k < slice_index (y ∷ ys) (k + 1)
+    later k lt = let e : suc k + 1 ≡ suc (k + 1) = omega arith in subst (λ n. slice_index (y ∷ ys) k < slice_index (x ∷ y ∷ ys) n) e (h (suc k) (omega (arith, lt)))
+
+-- in order, each once, the instances of a table's entries are what is recorded
+pub places_sorted : (m : Map Record) (es : List (ℕ × Option Record)) (is : List ℕ) → AreRecords m es → IsPermutation (recorded_in es) is → IsSorted nat_cmp is →
+    (dedup eqb is ≡ recorded m) × IsRising (dedup eqb is)
+places_sorted m es is are moved sorted = (
+  same_members (dedup eqb is) (recorded m) rises (subst IsRising (all_of (entries m)) (rising_those (λ e. true) (entries m) (sorted_true m)))
+      (λ i h. let from = places_from es i (element_has (recorded_in es) i (Contains-permutation is (recorded_in es) i (IsPermutation-sym (recorded_in es) is moved) (Contains-from_dedup eqb is i (has_element (dedup eqb is) i h)))) in
+      subst (λ is. Has is i) (all_of (entries m)) (found-those (λ e. true) (entries m) i from.0 (sym (map.get-entries m i) ∙ (are i from.0).1 from.1) refl))
+      (λ i h. let f = those-found (λ e. true) (entries m) i (sorted_true m) (subst (λ is. Has is i) (sym (all_of (entries m))) h) in
+      let there = places_have es i f.0 ((are i f.0).0 (map.get-entries m i ∙ f.1)) in
+      element_has (dedup eqb is) i (Contains-dedup_nat is i (Contains-permutation (recorded_in es) is i moved (has_element (recorded_in es) i there)))),
+  rises,
+)
   where
     all_of : (es : List Entry) → instances (those (λ e. true) es) ≡ instances es
     all_of [] = refl
     all_of (e ∷ es) = ap (λ (is : List ℕ). e.0 ∷ is) (all_of es)
+
+    rises : IsRising (dedup eqb is)
+    rises = increasing_rises (dedup eqb is) (IsStrictlyIncreasing-dedup is sorted)
 
 -- Rising while it is gathered.
 

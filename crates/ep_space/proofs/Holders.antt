@@ -144,64 +144,84 @@ holders-same k m n same =
 
 -- Who holds one of some keys.
 
-either_key : (a b : Bool) → (a || (b || false)) ≡ true → (a ≡ true) ⊎ (b ≡ true)
-either_key true b e = inl refl
-either_key false true e = inr refl
-either_key false false e = absurd (true≢false (sym e))
+or_cases : (a b : Bool) → (a || b) ≡ true → (a ≡ true) ⊎ (b ≡ true)
+or_cases true b e = inl refl
+or_cases false b e = inr e
 
-from_first : (a b : Bool) → a ≡ true → (a || (b || false)) ≡ true
+from_first : (a b : Bool) → a ≡ true → (a || b) ≡ true
 from_first true b e = refl
 from_first false b e = absurd (true≢false (sym e))
 
-from_second : (a b : Bool) → b ≡ true → (a || (b || false)) ≡ true
+from_second : (a b : Bool) → b ≡ true → (a || b) ≡ true
 from_second true b e = refl
-from_second false true e = refl
-from_second false false e = e
+from_second false b e = e
+
+pub share_joined : (ks ls xs : List (List ℕ)) → share_key (ks ++ ls) xs ≡ (share_key ks xs || share_key ls xs)
+share_joined [] ls xs = refl
+share_joined (k ∷ ks) ls xs = ap (λ b. has_key k xs || b) (share_joined ks ls xs) ∙ go (has_key k xs)
+  where
+    go : (a : Bool) → (a || (share_key ks xs || share_key ls xs)) ≡ ((a || share_key ks xs) || share_key ls xs)
+    go true = refl
+    go false = refl
 
 pub rising-holders_of : (ks : List (List ℕ)) (m : Map Record) → IsRising (holders_of ks m)
 rising-holders_of ks m = rising_those (names_one ks) (map.entries m) (sorted_true m)
 
-pub holders-two : (k l : List ℕ) (m : Map Record) → union (holders k m) (holders l m) ≡ holders_of (k ∷ l ∷ []) m
-holders-two k l m =
-    same_members (union (holders k m) (holders l m)) (holders_of (k ∷ l ∷ []) m)
-    (IsRising-union (holders k m) (holders l m) (rising-holders k m) (rising-holders l m)) (rising_those (names_one (k ∷ l ∷ [])) (map.entries m) (sorted_true m))
-    (λ i has. elim (union-cases (holders k m) (holders l m) i has) [
-      | inl h ↦ (let f = those-found (names_key k) (map.entries m) i (sorted_true m) h in
-          found-those (names_one (k ∷ l ∷ [])) (map.entries m) i f.0 f.1 (from_first (has_key k (voted_keys f.0.vote)) (has_key l (voted_keys f.0.vote)) f.2))
-      | inr h ↦ (let f = those-found (names_key l) (map.entries m) i (sorted_true m) h in
-          found-those (names_one (k ∷ l ∷ [])) (map.entries m) i f.0 f.1 (from_second (has_key k (voted_keys f.0.vote)) (has_key l (voted_keys f.0.vote)) f.2))
+-- merged from the left or from the right
+pub union-joined : (a b c : List ℕ) → IsRising a → IsRising b → IsRising c → union (union a b) c ≡ union a (union b c)
+union-joined a b c ra rb rc =
+    same_members (union (union a b) c) (union a (union b c)) (IsRising-union (union a b) c (IsRising-union a b ra rb) rc) (IsRising-union a (union b c) ra (IsRising-union b c rb rc))
+    (λ i has. elim (union-cases (union a b) c i has) [
+      | inl h ↦ (elim (union-cases a b i h) [
+        | inl g ↦ Has-union a (union b c) i (inl g)
+        | inr g ↦ Has-union a (union b c) i (inr (Has-union b c i (inl g)))
+      ])
+      | inr h ↦ Has-union a (union b c) i (inr (Has-union b c i (inr h)))
     ])
-    (λ i has. let f = those-found (names_one (k ∷ l ∷ [])) (map.entries m) i (sorted_true m) has in
-    Has-union (holders k m) (holders l m) i (elim (either_key (has_key k (voted_keys f.0.vote)) (has_key l (voted_keys f.0.vote)) f.2) [
-      | inl h ↦ inl (found-those (names_key k) (map.entries m) i f.0 f.1 h)
-      | inr h ↦ inr (found-those (names_key l) (map.entries m) i f.0 f.1 h)
-    ]))
+    (λ i has. elim (union-cases a (union b c) i has) [
+      | inl h ↦ Has-union (union a b) c i (inl (Has-union a b i (inl h)))
+      | inr h ↦ (elim (union-cases b c i h) [
+        | inl g ↦ Has-union (union a b) c i (inl (Has-union a b i (inr g)))
+        | inr g ↦ Has-union (union a b) c i (inr g)
+      ])
+    ])
 
--- the holders of one of some keys, and of one more
-pub holders-more : (ks : List (List ℕ)) (k : List ℕ) (m : Map Record) → ((ls : List (List ℕ)) → share_key (ks ++ k ∷ []) ls ≡ (share_key ks ls || has_key k ls)) → union (holders_of ks m) (holders k m) ≡ holders_of (ks ++ k ∷ []) m
-holders-more ks k m ends =
-    same_members (union (holders_of ks m) (holders k m)) (holders_of (ks ++ k ∷ []) m)
-    (IsRising-union (holders_of ks m) (holders k m) (rising-holders_of ks m) (rising-holders k m)) (rising-holders_of (ks ++ k ∷ []) m)
-    (λ i has. elim (union-cases (holders_of ks m) (holders k m) i has) [
-      | inl h ↦ (let f = those-found (names_one ks) (map.entries m) i (sorted_true m) h in
-          found-those (names_one (ks ++ k ∷ [])) (map.entries m) i f.0 f.1 (ends (voted_keys f.0.vote) ∙ of_first (share_key ks (voted_keys f.0.vote)) (has_key k (voted_keys f.0.vote)) f.2))
-      | inr h ↦ (let f = those-found (names_key k) (map.entries m) i (sorted_true m) h in
-          found-those (names_one (ks ++ k ∷ [])) (map.entries m) i f.0 f.1 (ends (voted_keys f.0.vote) ∙ of_second (share_key ks (voted_keys f.0.vote)) (has_key k (voted_keys f.0.vote)) f.2))
-    ])
-    (λ i has. let f = those-found (names_one (ks ++ k ∷ [])) (map.entries m) i (sorted_true m) has in
-    Has-union (holders_of ks m) (holders k m) i (elim (of_either (share_key ks (voted_keys f.0.vote)) (has_key k (voted_keys f.0.vote)) (sym (ends (voted_keys f.0.vote)) ∙ f.2)) [
-      | inl h ↦ inl (found-those (names_one ks) (map.entries m) i f.0 f.1 h)
-      | inr h ↦ inr (found-those (names_key k) (map.entries m) i f.0 f.1 h)
-    ]))
+-- no key has holders
+pub holders-nothing : (m : Map Record) → holders_of [] m ≡ []
+holders-nothing m = nobody (map.entries m)
   where
-    of_first : (a b : Bool) → a ≡ true → (a || b) ≡ true
-    of_first true b e = refl
-    of_first false b e = absurd (true≢false (sym e))
+    nobody : (es : List (ℕ × Record)) → instances (those (names_one []) es) ≡ []
+    nobody [] = refl
+    nobody (e ∷ es) = nobody es
 
-    of_second : (a b : Bool) → b ≡ true → (a || b) ≡ true
-    of_second true b e = refl
-    of_second false b e = e
+-- of one key
+pub holders-one : (k : List ℕ) (m : Map Record) → holders k m ≡ holders_of (k ∷ []) m
+holders-one k m = λ d. instances (those (λ (e : ℕ × Record). alone (has_key k (voted_keys e.1.vote)) d) (map.entries m))
+  where
+    alone : (b : Bool) → b ≡ (b || false)
+    alone true = refl
+    alone false = refl
 
-    of_either : (a b : Bool) → (a || b) ≡ true → (a ≡ true) ⊎ (b ≡ true)
-    of_either true b e = inl refl
-    of_either false b e = inr e
+-- of those, or of these
+pub holders-joined : (ks ls : List (List ℕ)) (m : Map Record) → union (holders_of ks m) (holders_of ls m) ≡ holders_of (ks ++ ls) m
+holders-joined ks ls m =
+    same_members (union (holders_of ks m) (holders_of ls m)) (holders_of (ks ++ ls) m)
+    (IsRising-union (holders_of ks m) (holders_of ls m) (rising-holders_of ks m) (rising-holders_of ls m)) (rising-holders_of (ks ++ ls) m)
+    (λ i has. elim (union-cases (holders_of ks m) (holders_of ls m) i has) [
+      | inl h ↦ (let f = those-found (names_one ks) (map.entries m) i (sorted_true m) h in
+          found-those (names_one (ks ++ ls)) (map.entries m) i f.0 f.1 (share_joined ks ls (voted_keys f.0.vote) ∙ from_first (share_key ks (voted_keys f.0.vote)) (share_key ls (voted_keys f.0.vote)) f.2))
+      | inr h ↦ (let f = those-found (names_one ls) (map.entries m) i (sorted_true m) h in
+          found-those (names_one (ks ++ ls)) (map.entries m) i f.0 f.1 (share_joined ks ls (voted_keys f.0.vote) ∙ from_second (share_key ks (voted_keys f.0.vote)) (share_key ls (voted_keys f.0.vote)) f.2))
+    ])
+    (λ i has. let f = those-found (names_one (ks ++ ls)) (map.entries m) i (sorted_true m) has in
+    Has-union (holders_of ks m) (holders_of ls m) i (elim (or_cases (share_key ks (voted_keys f.0.vote)) (share_key ls (voted_keys f.0.vote)) (sym (share_joined ks ls (voted_keys f.0.vote)) ∙ f.2)) [
+      | inl h ↦ inl (found-those (names_one ks) (map.entries m) i f.0 f.1 h)
+      | inr h ↦ inr (found-those (names_one ls) (map.entries m) i f.0 f.1 h)
+    ]))
+
+pub holders-two : (k l : List ℕ) (m : Map Record) → union (holders k m) (holders l m) ≡ holders_of (k ∷ l ∷ []) m
+holders-two k l m = (λ d. union (holders-one k m d) (holders-one l m d)) ∙ holders-joined (k ∷ []) (l ∷ []) m
+
+-- and of one key more
+pub holders-more : (ks : List (List ℕ)) (k : List ℕ) (m : Map Record) → union (holders_of ks m) (holders k m) ≡ holders_of (ks ++ k ∷ []) m
+holders-more ks k m = ap (union (holders_of ks m)) (holders-one k m) ∙ holders-joined ks (k ∷ []) m

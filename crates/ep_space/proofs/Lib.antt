@@ -1,5 +1,6 @@
 pub mod Order
 pub mod Lookup
+pub mod Once
 pub mod Spots
 pub mod Rising
 pub mod Holders

@@ -1,5 +1,5 @@
 -- Keys whose runs have a free place.
-use Rattle.std.proofs.Common.{◌≡◌, ◌≢◌, ◌<◌, ℕ, Bool, true, false, cond, ◌&&◌, ◌||◌, eqb, Option, Some, None, List, [], ◌∷◌, Result, Ok, Err, refl, sym, ap, ◌∙◌, true≢false, length}
+use Rattle.std.proofs.Common.{◌≡◌, ◌≢◌, ◌<◌, ℕ, zero, suc, Bool, true, false, cond, ◌&&◌, ◌||◌, eqb, Option, Some, None, List, [], ◌∷◌, ◌++◌, Result, Ok, Err, refl, sym, ap, subst, ◌∙◌, append-nil, true≢false}
 use Rattle.std.specs.Prelude.{Vec, IsOk, is_ok, if◌then◌else◌}
 use Rattle.std.specs.Global.{Global}
 use Rattle.std.specs.Map.{lookup, set_value, KeepsOthers}
@@ -8,8 +8,8 @@ use Rattle.std.proofs.lemmas.Bool.{and_parts, and_from, lt-ltb, ltb-true}
 use Rattle.ep_base.specs.Attributes.{same_list}
 use Rattle.ep_base.specs.Interference.{has_key}
 use Rattle.ep_base.proofs.Same.{Decides-same_list}
-use Rattle.ep_space.specs.Index.{Entry, is_at, listed, run_in, is_roomy, found_roomy, room_in, has_room, passing, entry_keys, roomy_keys, HasRuns, KeepsRoom}
-use Rattle.ep_space.specs.Keys.{HasRoom}
+use Rattle.ep_space.specs.Index.{Entry, is_at, listed, run_in, is_roomy, found_roomy, room_in, has_room, passing, entry_keys, all_keys, roomy_keys, HasRuns, KeepsRoom}
+use Rattle.ep_space.specs.Keys.{marked, HasRoom}
 use Rattle.ep_space.specs.declared.index.Index.{Index}
 use Rattle.ep_space.proofs.Bringing.{same_itself, first_among, second_among}
 use Rattle.ep_space.proofs.Entered.{same, run-kept, run-updated, room-set, room-updated}
@@ -45,15 +45,41 @@ has_key-entry k (e ∷ es) h = go (same_list k e.0.items) refl h (has_key-entry 
     go true is h rest = refl
     go false is h rest = rest h
 
-among_all : (x : Index) (k : List ℕ) → has_room x k ≡ true → has_key k ([] ∷ entry_keys x.runs.entries) ≡ true
+-- what stands in a list stands behind a mark in what is marked by it, whatever comes behind
+has_marked : (m : ℕ) → eqb m m ≡ true → (k : List ℕ) (ks ls : List (List ℕ)) → has_key k ks ≡ true → has_key (m ∷ k) (marked m ks ++ ls) ≡ true
+has_marked m itself k [] ls h = absurd (true≢false (sym h))
+has_marked m itself k (l ∷ ks) ls h = go (same_list k l) refl h (has_marked m itself k ks ls)
+  where
+    go : (b : Bool) → same_list k l ≡ b → (b || has_key k ks) ≡ true → (has_key k ks ≡ true → has_key (m ∷ k) (marked m ks ++ ls) ≡ true)
+        → ((eqb m m && same_list k l) || has_key (m ∷ k) (marked m ks ++ ls)) ≡ true
+    go true e h rest = ap (λ b. (b && same_list k l) || has_key (m ∷ k) (marked m ks ++ ls)) itself ∙ ap (λ b. b || has_key (m ∷ k) (marked m ks ++ ls)) e
+    go false e h rest =
+        ap (λ b. (b && same_list k l) || has_key (m ∷ k) (marked m ks ++ ls)) itself ∙ ap (λ b. b || has_key (m ∷ k) (marked m ks ++ ls)) e ∙ rest h
+
+has_behind : (k : List ℕ) (ks ls : List (List ℕ)) → has_key k ls ≡ true → has_key k (ks ++ ls) ≡ true
+has_behind k [] ls h = h
+has_behind k (l ∷ ks) ls h = go (same_list k l) (has_behind k ks ls h)
+  where
+    go : (b : Bool) → has_key k (ks ++ ls) ≡ true → (b || has_key k (ks ++ ls)) ≡ true
+    go true rest = refl
+    go false rest = rest
+
+among_all : (x : Index) (k : List ℕ) → has_room x k ≡ true → has_key k (all_keys x) ≡ true
 among_all x [] h = refl
-among_all x (b ∷ bs) h = has_key-entry (b ∷ bs) x.runs.entries h
+among_all x (zero ∷ k) h =
+    let writes = entry_keys x.writes.runs.entries in
+    has_marked 0 refl k writes (marked 1 (entry_keys x.reads.runs.entries)) (has_key-entry k x.writes.runs.entries h)
+among_all x (suc zero ∷ k) h =
+    let reads = entry_keys x.reads.runs.entries in
+    has_behind (1 ∷ k) (marked 0 (entry_keys x.writes.runs.entries)) (marked 1 reads)
+    (subst (λ ks. has_key (1 ∷ k) ks ≡ true) (append-nil (marked 1 reads)) (has_marked 1 refl k reads [] (has_key-entry k x.reads.runs.entries h)))
+among_all x (suc (suc m) ∷ k) h = absurd (true≢false (sym h))
 
 pub roomy-has_room : (x : Index) (k : List ℕ) → has_key k (roomy_keys x) ≡ true → has_room x k ≡ true
-roomy-has_room x k h = (and_parts (has_key k ([] ∷ entry_keys x.runs.entries)) (has_room x k) (sym (has_key-passing (has_room x) k ([] ∷ entry_keys x.runs.entries)) ∙ h)).1
+roomy-has_room x k h = (and_parts (has_key k (all_keys x)) (has_room x k) (sym (has_key-passing (has_room x) k (all_keys x)) ∙ h)).1
 
 pub has_room-roomy : (x : Index) (k : List ℕ) → has_room x k ≡ true → has_key k (roomy_keys x) ≡ true
-has_room-roomy x k h = has_key-passing (has_room x) k ([] ∷ entry_keys x.runs.entries) ∙ and_from (has_key k ([] ∷ entry_keys x.runs.entries)) (has_room x k) (among_all x k h) h
+has_room-roomy x k h = has_key-passing (has_room x) k (all_keys x) ∙ and_from (has_key k (all_keys x)) (has_room x k) (among_all x k h) h
 
 pub has_runs : (x : Index) (own new : List (List ℕ)) → HasRoom (roomy_keys x) own new → HasRuns x own new
 has_runs x own new h = λ k a b. roomy-has_room x k (h k a b)
@@ -146,28 +172,51 @@ module _ (old new : List Entry) (key k : List ℕ) (v : Vec ℕ Global) (is : k 
 
 -- Of an index.
 
-pub has_room-some : (x : Index) (k : List ℕ) → false ≡ eqb (length k) 0 → has_room x k ≡ room_in x.runs.entries k
-has_room-some x [] e = absurd (true≢false (sym e))
-has_room-some x (b ∷ bs) e = refl
+abbrev KeepsRooms : List Entry → List Entry → Type 0
+KeepsRooms es fs = (k : List ℕ) → room_in es k ≡ true → room_in fs k ≡ true
 
-pub keeps_seals : (x y : Index) → y.runs ≡ x.runs → (vec_len x.seals < vec_capacity x.seals → vec_len y.seals < vec_capacity y.seals) → KeepsRoom x y
-keeps_seals x y runs keeps [] h = roomy_from x.seals y.seals keeps h
-keeps_seals x y runs keeps (b ∷ bs) h = ap (λ m. room_in m.entries (b ∷ bs)) runs ∙ h
+pub keeps_seals : (x y : Index) → y.writes ≡ x.writes → y.reads ≡ x.reads → (vec_len x.seals < vec_capacity x.seals → vec_len y.seals < vec_capacity y.seals) → KeepsRoom x y
+keeps_seals x y writes reads keeps [] h = roomy_from x.seals y.seals keeps h
+keeps_seals x y writes reads keeps (zero ∷ k) h = ap (λ s. room_in s.runs.entries k) writes ∙ h
+keeps_seals x y writes reads keeps (suc zero ∷ k) h = ap (λ s. room_in s.runs.entries k) reads ∙ h
+keeps_seals x y writes reads keeps (suc (suc m) ∷ k) h = h
 
-pub keeps_runs : (x y : Index) → y.seals ≡ x.seals → ((k : List ℕ) → room_in x.runs.entries k ≡ true → room_in y.runs.entries k ≡ true) → KeepsRoom x y
-keeps_runs x y seals keeps [] h = ap is_roomy seals ∙ h
-keeps_runs x y seals keeps (b ∷ bs) h = keeps (b ∷ bs) h
+pub keeps_writes : (x y : Index) → y.seals ≡ x.seals → y.reads ≡ x.reads → KeepsRooms x.writes.runs.entries y.writes.runs.entries → KeepsRoom x y
+keeps_writes x y seals reads keeps [] h = ap is_roomy seals ∙ h
+keeps_writes x y seals reads keeps (zero ∷ k) h = keeps k h
+keeps_writes x y seals reads keeps (suc zero ∷ k) h = ap (λ s. room_in s.runs.entries k) reads ∙ h
+keeps_writes x y seals reads keeps (suc (suc m) ∷ k) h = h
+
+pub keeps_reads : (x y : Index) → y.seals ≡ x.seals → y.writes ≡ x.writes → KeepsRooms x.reads.runs.entries y.reads.runs.entries → KeepsRoom x y
+keeps_reads x y seals writes keeps [] h = ap is_roomy seals ∙ h
+keeps_reads x y seals writes keeps (zero ∷ k) h = ap (λ s. room_in s.runs.entries k) writes ∙ h
+keeps_reads x y seals writes keeps (suc zero ∷ k) h = keeps k h
+keeps_reads x y seals writes keeps (suc (suc m) ∷ k) h = h
 
 -- the runs of other keys
 
-pub others_seals : (x y : Index) → y.runs ≡ x.runs → (k : List ℕ) → same_list k [] ≡ false → has_room y k ≡ has_room x k
-others_seals x y runs [] e = absurd (true≢false e)
-others_seals x y runs (b ∷ bs) e = ap (λ m. room_in m.entries (b ∷ bs)) runs
+abbrev OtherRooms : List ℕ → List Entry → List Entry → Type 0
+OtherRooms key es fs = (k : List ℕ) → same_list k key ≡ false → room_in fs k ≡ room_in es k
 
-pub others_runs : (x y : Index) (key : List ℕ) → y.seals ≡ x.seals → ((k : List ℕ) → same_list k key ≡ false → room_in y.runs.entries k ≡ room_in x.runs.entries k)
-    → (k : List ℕ) → same_list k key ≡ false → has_room y k ≡ has_room x k
-others_runs x y key seals others [] e = ap is_roomy seals
-others_runs x y key seals others (b ∷ bs) e = others (b ∷ bs) e
+pub others_seals : (x y : Index) → y.writes ≡ x.writes → y.reads ≡ x.reads → (k : List ℕ) → same_list k [] ≡ false → has_room y k ≡ has_room x k
+others_seals x y writes reads [] e = absurd (true≢false e)
+others_seals x y writes reads (zero ∷ k) e = ap (λ s. room_in s.runs.entries k) writes
+others_seals x y writes reads (suc zero ∷ k) e = ap (λ s. room_in s.runs.entries k) reads
+others_seals x y writes reads (suc (suc m) ∷ k) e = refl
+
+pub others_writes : (x y : Index) (key : List ℕ) → y.seals ≡ x.seals → y.reads ≡ x.reads → OtherRooms key x.writes.runs.entries y.writes.runs.entries
+    → (k : List ℕ) → same_list k (0 ∷ key) ≡ false → has_room y k ≡ has_room x k
+others_writes x y key seals reads others [] e = ap is_roomy seals
+others_writes x y key seals reads others (zero ∷ k) e = others k e
+others_writes x y key seals reads others (suc zero ∷ k) e = ap (λ s. room_in s.runs.entries k) reads
+others_writes x y key seals reads others (suc (suc m) ∷ k) e = refl
+
+pub others_reads : (x y : Index) (key : List ℕ) → y.seals ≡ x.seals → y.writes ≡ x.writes → OtherRooms key x.reads.runs.entries y.reads.runs.entries
+    → (k : List ℕ) → same_list k (1 ∷ key) ≡ false → has_room y k ≡ has_room x k
+others_reads x y key seals writes others [] e = ap is_roomy seals
+others_reads x y key seals writes others (zero ∷ k) e = ap (λ s. room_in s.runs.entries k) writes
+others_reads x y key seals writes others (suc zero ∷ k) e = others k e
+others_reads x y key seals writes others (suc (suc m) ∷ k) e = refl
 
 pub others_set : (es fs : List Entry) (k : List ℕ) (v w : Vec ℕ Global) → lookup (is_at k) es ≡ Some v → fs ≡ set_value (is_at k) es w → (q : List ℕ) → same_list q k ≡ false → room_in fs q ≡ room_in es q
 others_set es fs k v w here written q e = ap (λ gs. room_in gs q) written ∙ room-set es k v w here q ∙ ap (λ b. cond b (is_roomy w) (room_in es q)) e

@@ -1,6 +1,5 @@
 -- What is gathered of records one after the other.
 use Rattle.std.specs.Prelude.{ℕ, ◌+◌, List, [], ◌∷◌, ◌++◌, Bool, max, cond, Option, Some, None, is_some}
-use Rattle.ep_base.specs.Deps.{union}
 use Rattle.ep_base.specs.declared.attrs.Attrs.{Attrs}
 use Rattle.ep_rules.specs.InterferenceSet.{seq_of}
 use Rattle.ep_rules.specs.Maps.{Map, get}
@@ -19,10 +18,10 @@ abbrev pub gather_all : (ℕ × Record → Bool) → Map Record → Gathered →
 gather_all t m g [] = g
 gather_all t m g (i ∷ is) = gather_all t m (gather t g i (get m i)) is
 
--- these instances and those of the entries that have a record, in rising order
-abbrev pub recorded_in : List ℕ → List (ℕ × Option Record) → List ℕ
-recorded_in all [] = all
-recorded_in all (e ∷ es) = recorded_in (cond (is_some e.1) (union all (e.0 ∷ [])) all) es
+-- the instances of the entries that have a record
+abbrev pub recorded_in : List (ℕ × Option Record) → List ℕ
+recorded_in [] = []
+recorded_in (e ∷ es) = cond (is_some e.1) (e.0 ∷ recorded_in es) (recorded_in es)
 
 -- a command's attributes where this was gathered
 abbrev pub next_attrs : Gathered → Attrs

@@ -1,5 +1,5 @@
 -- An index by key: for each key the instances whose recorded command has it, in rising order.
-use Rattle.std.specs.Prelude.{◌≡◌, ℕ, suc, cond, not, ◌&&◌, List, [], ◌∷◌, Option, Some, None, Bool, true, false, Vec, ◌==◌, nat_lt, slice_get}
+use Rattle.std.specs.Prelude.{◌≡◌, ℕ, zero, suc, cond, not, ◌&&◌, List, [], ◌∷◌, ◌++◌, Option, Some, None, Bool, true, false, Vec, ◌==◌, nat_lt, slice_get}
 use Rattle.std.specs.Global.{Global}
 use Rattle.std.specs.Map.{lookup}
 use Rattle.std.specs.Vec.{vec_len, vec_capacity}
@@ -9,7 +9,7 @@ use Rattle.ep_base.specs.Interference.{has_key}
 use Rattle.ep_base.specs.Places.{Has}
 use Rattle.ep_rules.specs.declared.record.Record.{Record}
 use Rattle.ep_space.specs.Held.{Held}
-use Rattle.ep_space.specs.Keys.{holders}
+use Rattle.ep_space.specs.Keys.{holders, marked}
 use Rattle.ep_space.specs.declared.index.Index.{Index}
 
 -- a key, with its run
@@ -27,10 +27,19 @@ listed (Some v) = v.items
 abbrev pub run_in : List Entry → List ℕ → List ℕ
 run_in es k = listed (lookup (is_at k) es)
 
--- the same of an index, where seals have the run of the empty key
+-- the keys behind a mark, with their runs
+abbrev pub read_side : Index → ℕ → List Entry
+read_side x zero = x.reads.runs.entries
+read_side x (suc m) = []
+
+abbrev pub side : Index → ℕ → List Entry
+side x zero = x.writes.runs.entries
+side x (suc m) = read_side x m
+
+-- the run of a key behind its mark, where seals have the run of the empty one
 abbrev pub run : Index → List ℕ → List ℕ
 run x [] = x.seals.items
-run x (b ∷ bs) = run_in x.runs.entries (b ∷ bs)
+run x (m ∷ k) = run_in (side x m) k
 
 -- here stands the key k, with its run
 pub record StandsAt (es : List Entry) (n : ℕ) (k : List ℕ) : Type 0 where
@@ -54,7 +63,7 @@ room_in es k = found_roomy (lookup (is_at k) es)
 -- the same of an index
 abbrev pub has_room : Index → List ℕ → Bool
 has_room x [] = is_roomy x.seals
-has_room x (b ∷ bs) = room_in x.runs.entries (b ∷ bs)
+has_room x (m ∷ k) = room_in (side x m) k
 
 -- those of the keys that pass
 abbrev pub passing : (List ℕ → Bool) → List (List ℕ) → List (List ℕ)
@@ -65,9 +74,13 @@ abbrev pub entry_keys : List Entry → List (List ℕ)
 entry_keys [] = []
 entry_keys (e ∷ es) = e.0.items ∷ entry_keys es
 
--- the keys whose runs have a free place
+-- all keys that have a run, behind their marks
+abbrev pub all_keys : Index → List (List ℕ)
+all_keys x = [] ∷ marked 0 (entry_keys x.writes.runs.entries) ++ marked 1 (entry_keys x.reads.runs.entries)
+
+-- those whose runs have a free place
 abbrev pub roomy_keys : Index → List (List ℕ)
-roomy_keys x = passing (has_room x) ([] ∷ entry_keys x.runs.entries)
+roomy_keys x = passing (has_room x) (all_keys x)
 
 -- each key that a record of the keys `new` brings, where the one before had the keys `own`, has a run with a free place
 abbrev pub HasRuns : Index → List (List ℕ) → List (List ℕ) → Type 0

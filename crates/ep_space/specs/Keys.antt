@@ -1,23 +1,44 @@
 -- The keys of recorded commands.
-use Rattle.std.specs.Prelude.{◌≡◌, ℕ, Bool, true, List, [], ◌∷◌, Option, Some, None, false}
+use Rattle.std.specs.Prelude.{◌≡◌, ℕ, Bool, true, List, [], ◌∷◌, ◌++◌, Option, Some, None, false}
 use Rattle.std.specs.List.{AllByRecursion}
-use Rattle.ep_base.specs.Interference.{has_key, share_key, keys_in, keys_of, is_seal}
-use Rattle.ep_base.specs.Commands.{Command, Noop, Get, Put, Del, Swap, Cas, Seal, Opaque}
+use Rattle.ep_base.specs.Interference.{has_key, share_key, keys_in}
+use Rattle.ep_base.specs.Items.{item_keys, none_writes}
+use Rattle.ep_base.specs.Commands.{Command, Noop, Get, Put, Del, Swap, Cas, Seal, Opaque, Tx}
 use Rattle.ep_base.specs.declared.vote.Vote.{Vote}
-use Rattle.ep_rules.specs.InterferenceSet.{those, instances}
+use Rattle.ep_rules.specs.InterferenceSet.{votes_against, those, instances}
 use Rattle.ep_rules.specs.Maps.{Map, get, entries}
 use Rattle.ep_rules.specs.declared.record.Record.{Record}
 
--- the keys under which a command stands in the index: those that it names; a seal stands under the empty one, which no command names
+-- what only reads a key stands apart from what writes it: under the key behind a mark
+abbrev pub mark : Bool → ℕ
+mark false = 0
+mark true = 1
+
+abbrev pub marked : ℕ → List (List ℕ) → List (List ℕ)
+marked m [] = []
+marked m (k ∷ ks) = (m ∷ k) ∷ marked m ks
+
+-- the keys under which a command stands in the index: those that it names, each behind its mark; a seal stands under the empty one
 abbrev pub index_keys : Command → List (List ℕ)
 index_keys Noop = []
-index_keys (Get key) = key ∷ []
-index_keys (Put key value) = key ∷ []
-index_keys (Del key) = key ∷ []
-index_keys (Swap keys) = keys.first ∷ keys.second ∷ []
-index_keys (Cas key expected new) = key ∷ []
+index_keys (Get key) = (1 ∷ key) ∷ []
+index_keys (Put key value) = (0 ∷ key) ∷ []
+index_keys (Del key) = (0 ∷ key) ∷ []
+index_keys (Swap keys) = (0 ∷ keys.first) ∷ (0 ∷ keys.second) ∷ []
+index_keys (Cas key expected new) = (0 ∷ key) ∷ []
 index_keys (Seal value) = [] ∷ []
-index_keys (Opaque p body) = keys_in p
+index_keys (Opaque p body) = marked (mark p.reads) (keys_in p)
+index_keys (Tx items) = marked (mark (none_writes items)) (item_keys items)
+
+-- the keys under which stands what interferes with a command of this key, beside seals: what writes it, and, unless the command only reads, what reads it
+abbrev pub met_key : Bool → List ℕ → List (List ℕ)
+met_key true k = (0 ∷ k) ∷ []
+met_key false k = (0 ∷ k) ∷ (1 ∷ k) ∷ []
+
+-- the same of a command of these keys
+abbrev pub met_keys : Bool → List (List ℕ) → List (List ℕ)
+met_keys reads [] = []
+met_keys reads (k ∷ ks) = met_key reads k ++ met_keys reads ks
 
 abbrev pub voted_keys : Option Vote → List (List ℕ)
 voted_keys None = []
@@ -55,15 +76,11 @@ holders_of ks m = instances (those (names_one ks) (entries m))
 abbrev pub recorded : Map Record → List ℕ
 recorded m = instances (entries m)
 
--- there is a vote, whose command is no seal, and has a key of c
-abbrev pub IsPlainVote : Command → Option Vote → Type 0
-IsPlainVote c None = ⊥
-IsPlainVote c (Some v) = (share_key (keys_of c) (keys_of v.decree.command) ≡ true) × (is_seal v.decree.command ≡ false)
-
-abbrev pub IsPlain : Command → Option Record → Type 0
-IsPlain c None = ⊥
-IsPlain c (Some r) = IsPlainVote c r.vote
+-- there is a record, and its command interferes with c
+abbrev pub IsMet : Command → Option Record → Type 0
+IsMet c None = ⊥
+IsMet c (Some r) = votes_against c r.vote ≡ true
 
 -- so are those recorded at these
-abbrev pub ArePlain : Command → Map Record → List ℕ → Type 0
-ArePlain c m is = AllByRecursion (λ i. IsPlain c (get m i)) is
+abbrev pub AreMet : Command → Map Record → List ℕ → Type 0
+AreMet c m is = AllByRecursion (λ i. IsMet c (get m i)) is

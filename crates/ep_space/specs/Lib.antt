@@ -1,6 +1,7 @@
 pub mod Held
 pub mod Entries
 pub mod Keys
+pub mod Names
 pub mod Index
 pub mod Indexed
 pub mod Seqs

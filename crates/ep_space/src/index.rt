@@ -5,30 +5,46 @@ ghost use Rattle.std.specs.Map.{lookup};
 ghost use Rattle.std.specs.Vec.{vec_len, vec_capacity};
 ghost use Rattle.ep_base.specs.Attributes.{same_list};
 ghost use Rattle.ep_base.specs.Deps.{IsRising};
-ghost use Rattle.ep_base.specs.Interference.{has_key, keys_in, listed};
-ghost use Rattle.ep_base.specs.Parts.{IsSecond};
-ghost use Rattle.ep_base.specs.Views.{touched};
+ghost use Rattle.ep_base.specs.Interference.{has_key, is_many};
+ghost use Rattle.ep_base.specs.Items.{item_keys};
 ghost use Rattle.std.specs.Option.{option_copied};
 ghost use Rattle.ep_base.specs.Places.{Has};
 ghost use Rattle.ep_space.specs.Index.{is_at, run, run_in, room_in, has_room, count_below, with_instance, without, brings, HasRuns, KeepsRoom, StandsAt, StandsUnder};
-ghost use Rattle.ep_space.specs.Keys.{index_keys, voted_keys, recorded_keys};
+ghost use Rattle.ep_space.specs.Keys.{index_keys, mark, marked, voted_keys, recorded_keys};
+ghost use Rattle.ep_space.specs.Names.{named, AreOnce};
 
-use ep_base::{Command, CommandView, InstanceId, Touching};
+use crate::names::{Name, Names, has_name, name_of, names_of};
+use ep_base::{Command, InstanceId, Items};
 use ep_rules::Record;
 use indexmap::IndexMap;
 use std::alloc::{AllocError, Global};
 
-/// From a key to its run: the instances whose recorded command has it, in rising order of instances. A record of two keys stands in
-/// two runs. A key whose last instance was taken out stays, with an empty run.
+/// From a key to its run, in rising order of instances. A key whose last instance was taken out stays, with an empty run.
 type Runs = IndexMap<Vec<u8>, Vec<InstanceId>>;
 
-/// The instances of records by the keys of their commands. Seals, which name no key, stand apart, in rising order. Where the run stands that
-/// was given room last is kept: an instance goes into that run next, mostly.
+/// The runs of keys. Where the run stands that was given room last is kept: an instance goes into that run next, mostly.
+#[derive(Drop)]
+pub(crate) struct Side {
+    runs: Runs,
+    last: usize,
+}
+
+/// The instances of records by the keys of their commands. What writes a key stands apart from what only reads it, and seals, which name no
+/// key, apart from both. A record of two keys stands in two runs.
 #[derive(Drop)]
 pub(crate) struct Index {
-    runs: Runs,
+    writes: Side,
+    reads: Side,
     seals: Vec<InstanceId>,
-    last: usize,
+}
+
+fn new_side(alloc: Global) -> Side
+    ensures { (k : List ℕ) → run_in result.runs.entries k ≡ [] }
+{
+    Side {
+        runs: IndexMap::new(alloc),
+        last: 0,
+    }
 }
 
 /// An index of no records.
@@ -36,22 +52,25 @@ pub(crate) fn new_index(alloc: Global) -> Index
     ensures { (k : List ℕ) → run result k ≡ [] }
 {
     Index {
-        runs: IndexMap::new(alloc),
+        writes: new_side(alloc),
+        reads: new_side(alloc),
         seals: Vec::new(alloc),
-        last: 0,
     }
 }
 
-/// The run of the key; of the empty one, which no command names, the seals.
-pub(crate) fn run_of<'a>(index: &'a Index, key: &[u8]) -> &'a [InstanceId]
-    ensures { result.now ≡ run index.now key.now }
+/// The run of this name.
+#[inline(always)]
+pub(crate) fn run_of<'a>(index: &'a Index, name: Name<'_>) -> &'a [InstanceId]
+    ensures { result.now ≡ run index.now (named name.entry) }
 {
-    if key.is_empty() {
-        return seals_of(index);
+    match name {
+        Name::Seals => index.seals.as_slice(),
+        Name::Writes(key) => run_at(&index.writes.runs, key),
+        Name::Reads(key) => run_at(&index.reads.runs, key),
     }
-    run_at(&index.runs, key)
 }
 
+#[inline(always)]
 fn run_at<'a>(runs: &'a Runs, key: &[u8]) -> &'a [InstanceId]
     ensures { result.now ≡ run_in runs.now.entries key.now }
 {
@@ -61,24 +80,25 @@ fn run_at<'a>(runs: &'a Runs, key: &[u8]) -> &'a [InstanceId]
     }
 }
 
-/// The seals.
-pub(crate) fn seals_of(index: &Index) -> &[InstanceId]
-    ensures { result.now ≡ run index.now [] }
-{
-    index.seals.as_slice()
-}
-
 /// The same runs again.
 pub(crate) fn duplicate(index: &Index, alloc: Global) -> Result<Index, AllocError>
     ensures { IfOk result (λ same. (k : List ℕ) → run same k ≡ run index.now k) }
 {
-    let runs = duplicate_runs(&index.runs, alloc)?;
+    let writes = duplicate_side(&index.writes, alloc)?;
+    let reads = duplicate_side(&index.reads, alloc)?;
     let seals = Vec::from_slice(alloc, &index.seals)?;
     Ok(Index {
-        runs,
+        writes,
+        reads,
         seals,
-        last: 0,
     })
+}
+
+fn duplicate_side(side: &Side, alloc: Global) -> Result<Side, AllocError>
+    ensures { IfOk result (λ same. (k : List ℕ) → run_in same.runs.entries k ≡ run_in side.now.runs.entries k) }
+{
+    let runs = duplicate_runs(&side.runs, alloc)?;
+    Ok(Side { runs, last: 0 })
 }
 
 fn duplicate_runs(runs: &Runs, alloc: Global) -> Result<Runs, AllocError>
@@ -105,8 +125,9 @@ fn set_run(runs: &mut Runs, key: &[u8], instances: &[InstanceId]) -> Result<(), 
     }
 }
 
-/// Makes room in the run of each key that the command brings: that it has, and the instance's record hasn't. A key that had no run gets an
+/// Makes room in the run of each name that the command brings: that it has, and the instance's record hasn't. A key that had no run gets an
 /// empty one. No run changes, at want of memory either.
+#[inline(always)]
 pub(crate) fn make_room(
     index: &mut Index,
     there: Option<&Record>,
@@ -115,78 +136,88 @@ pub(crate) fn make_room(
     ensures room { OnOk result (HasRuns index.new (recorded_keys (option_copied there.entry)) (index_keys command.now)) }
     ensures same { (k : List ℕ) → run index.new k ≡ run index.old k }
 {
-    match command.view() {
-        CommandView::Noop => Ok(()),
-        CommandView::Get(key)
-        | CommandView::Put(key, _)
-        | CommandView::Del(key)
-        | CommandView::Cas(key, _, _) => room_for_one(index, there, key),
-        CommandView::Swap(first, second) => room_for_two(index, there, first, second),
-        CommandView::Seal(_) => room_for_seal(index, there),
-        CommandView::Opaque(own, _) => room_for_touched(index, there, &own),
+    match names_of(command) {
+        Names::Nothing => Ok(()),
+        Names::One(name) => room_for_one(index, there, name),
+        Names::Two(first, second) => room_for_two(index, there, first, second),
+        Names::Many(command) => room_for_many(index, there, command),
     }
 }
 
-fn room_for_one(index: &mut Index, there: Option<&Record>, key: &[u8]) -> Result<(), AllocError>
-    ensures room { OnOk result (HasRuns index.new (recorded_keys (option_copied there.entry)) (key.now ∷ [])) }
+fn room_for_many(
+    index: &mut Index,
+    there: Option<&Record>,
+    command: &Command,
+) -> Result<(), AllocError>
+    requires { is_many command.now ≡ true }
+    ensures room { OnOk result (HasRuns index.new (recorded_keys (option_copied there.entry)) (index_keys command.now)) }
+    ensures same { (k : List ℕ) → run index.new k ≡ run index.old k }
+{
+    if votes_for(there, command) {
+        return Ok(());
+    }
+    let reads = command.only_reads();
+    let mut items = command.items();
+    room_for_items(index, there, &mut items, reads)
+}
+
+// Makes room for the keys of these items, of which none is left then.
+fn room_for_items(
+    index: &mut Index,
+    there: Option<&Record>,
+    items: &mut Items<'_>,
+    reads: bool,
+) -> Result<(), AllocError>
+    ensures room { OnOk result (HasRuns index.new (recorded_keys (option_copied there.entry)) (marked (mark reads) (item_keys items.old))) }
     ensures same { (k : List ℕ) → run index.new k ≡ run index.old k }
     ensures keeps { KeepsRoom index.old index.new }
 {
-    if is_named(there, key) {
+    let Some(item) = items.next() else {
         return Ok(());
-    }
-    widen_key(index, key)
+    };
+    room_for_one(index, there, name_of(item.key, reads))?;
+    room_for_items(index, there, items, reads)
 }
 
-fn room_for_seal(index: &mut Index, there: Option<&Record>) -> Result<(), AllocError>
-    ensures room { OnOk result (HasRuns index.new (recorded_keys (option_copied there.entry)) ([] ∷ [])) }
+#[inline(always)]
+fn room_for_one(index: &mut Index, there: Option<&Record>, name: Name<'_>) -> Result<(), AllocError>
+    ensures room { OnOk result (HasRuns index.new (recorded_keys (option_copied there.entry)) (named name.entry ∷ [])) }
     ensures same { (k : List ℕ) → run index.new k ≡ run index.old k }
+    ensures keeps { KeepsRoom index.old index.new }
 {
-    if is_sealed(there) {
+    if is_named(there, name) {
         return Ok(());
     }
-    widen_run(&mut index.seals)
-}
-
-fn room_for_touched(
-    index: &mut Index,
-    there: Option<&Record>,
-    own: &Touching<'_>,
-) -> Result<(), AllocError>
-    ensures room { OnOk result (HasRuns index.new (recorded_keys (option_copied there.entry)) (keys_in (touched own.now))) }
-    ensures same { (k : List ℕ) → run index.new k ≡ run index.old k }
-{
-    match own.second {
-        None => room_for_one(index, there, own.first),
-        Some(second) => room_for_two(index, there, own.first, second),
-    }
+    widen(index, name)
 }
 
 fn room_for_two(
     index: &mut Index,
     there: Option<&Record>,
-    first: &[u8],
-    second: &[u8],
+    first: Name<'_>,
+    second: Name<'_>,
 ) -> Result<(), AllocError>
-    ensures room { OnOk result (HasRuns index.new (recorded_keys (option_copied there.entry)) (first.now ∷ second.now ∷ [])) }
+    ensures room { OnOk result (HasRuns index.new (recorded_keys (option_copied there.entry)) (named first.entry ∷ named second.entry ∷ [])) }
     ensures same { (k : List ℕ) → run index.new k ≡ run index.old k }
 {
     room_for_one(index, there, first)?;
     room_for_one(index, there, second)
 }
 
-// Makes room for one instance more in the key's run.
-fn widen_key(index: &mut Index, key: &[u8]) -> Result<(), AllocError>
-    ensures room { OnOk result (has_room index.new key.now ≡ true) }
+// Makes room for one instance more in the run of this name.
+fn widen(index: &mut Index, name: Name<'_>) -> Result<(), AllocError>
+    ensures room { OnOk result (has_room index.new (named name.entry) ≡ true) }
     ensures same { (k : List ℕ) → run index.new k ≡ run index.old k }
     ensures keeps { KeepsRoom index.old index.new }
 {
-    if key.is_empty() {
-        return widen_run(&mut index.seals);
+    match name {
+        Name::Seals => widen_run(&mut index.seals),
+        Name::Writes(key) => widen_under(&mut index.writes.runs, &mut index.writes.last, key),
+        Name::Reads(key) => widen_under(&mut index.reads.runs, &mut index.reads.last, key),
     }
-    widen_under(&mut index.runs, &mut index.last, key)
 }
 
+#[inline(always)]
 fn widen_under(runs: &mut Runs, last: &mut usize, key: &[u8]) -> Result<(), AllocError>
     ensures room { OnOk result (room_in runs.new.entries key.now ≡ true) }
     ensures same { (k : List ℕ) → run_in runs.new.entries k ≡ run_in runs.old.entries k }
@@ -216,6 +247,7 @@ fn place_of(runs: &Runs, key: &[u8]) -> Option<usize>
 }
 
 // The same, looked for here first.
+#[inline(always)]
 fn place_from(runs: &Runs, last: usize, key: &[u8]) -> Option<usize>
     ensures some { IfSome result (λ n. StandsAt runs.now.entries n key.now) }
     ensures none { IfNone result (lookup (is_at key.now) runs.now.entries ≡ None) }
@@ -273,7 +305,7 @@ fn add_run(runs: &mut Runs, key: &[u8]) -> Result<(), AllocError>
     }
 }
 
-/// Puts the instance into the run of each key that this brings: that it has, and the instance's record hasn't. It takes no memory.
+/// Puts the instance into the run of each name that this brings: that it has, and the instance's record hasn't. It takes no memory.
 pub(crate) fn enter(
     index: &mut Index,
     id: InstanceId,
@@ -306,53 +338,72 @@ fn enter_command(index: &mut Index, id: InstanceId, there: Option<&Record>, comm
     requires room { HasRuns index.old (recorded_keys (option_copied there)) (index_keys command.now) }
     ensures { (k : List ℕ) → run index.new k ≡ cond (brings (recorded_keys (option_copied there.entry)) (index_keys command.now) k) (with_instance id (run index.old k)) (run index.old k) }
 {
-    match command.view() {
-        CommandView::Noop => (),
-        CommandView::Get(key)
-        | CommandView::Put(key, _)
-        | CommandView::Del(key)
-        | CommandView::Cas(key, _, _) => enter_one(index, id, there, key),
-        CommandView::Swap(first, second) => enter_two(index, id, there, first, second),
-        CommandView::Seal(_) => enter_seal(index, id, there),
-        CommandView::Opaque(own, _) => enter_touched(index, id, there, &own),
+    match names_of(command) {
+        Names::Nothing => (),
+        Names::One(name) => enter_one(index, id, there, name),
+        Names::Two(first, second) => enter_two(index, id, there, first, second),
+        Names::Many(command) => enter_many(index, id, there, command),
     }
 }
 
-fn enter_one(index: &mut Index, id: InstanceId, there: Option<&Record>, key: &[u8])
+fn enter_many(index: &mut Index, id: InstanceId, there: Option<&Record>, command: &Command)
+    requires many { is_many command.now ≡ true }
     requires stands { StandsUnder id (recorded_keys (option_copied there)) index.old }
-    requires room { HasRuns index.old (recorded_keys (option_copied there)) (key.now ∷ []) }
-    ensures { (k : List ℕ) → run index.new k ≡ cond (brings (recorded_keys (option_copied there.entry)) (key.now ∷ []) k) (with_instance id (run index.old k)) (run index.old k) }
+    requires room { HasRuns index.old (recorded_keys (option_copied there)) (index_keys command.now) }
+    requires once { AreOnce (index_keys command.now) }
+    ensures { (k : List ℕ) → run index.new k ≡ cond (brings (recorded_keys (option_copied there.entry)) (index_keys command.now) k) (with_instance id (run index.old k)) (run index.old k) }
 {
-    let stays = is_named(there, key);
-    add_unless(index, stays, key, id)
-}
-
-fn enter_seal(index: &mut Index, id: InstanceId, there: Option<&Record>)
-    requires stands { StandsUnder id (recorded_keys (option_copied there)) index.old }
-    requires room { HasRuns index.old (recorded_keys (option_copied there)) ([] ∷ []) }
-    ensures { (k : List ℕ) → run index.new k ≡ cond (brings (recorded_keys (option_copied there.entry)) ([] ∷ []) k) (with_instance id (run index.old k)) (run index.old k) }
-{
-    let stays = is_sealed(there);
-    add_seal_unless(index, stays, id)
-}
-
-fn enter_touched(index: &mut Index, id: InstanceId, there: Option<&Record>, own: &Touching<'_>)
-    requires second { IsSecond own.now.first.now (option_copied own.now.second) }
-    requires stands { StandsUnder id (recorded_keys (option_copied there)) index.old }
-    requires room { HasRuns index.old (recorded_keys (option_copied there)) (keys_in (touched own.now)) }
-    ensures { (k : List ℕ) → run index.new k ≡ cond (brings (recorded_keys (option_copied there.entry)) (keys_in (touched own.now)) k) (with_instance id (run index.old k)) (run index.old k) }
-{
-    match own.second {
-        None => enter_one(index, id, there, own.first),
-        Some(second) => enter_two(index, id, there, own.first, second),
+    if votes_for(there, command) {
+        return;
     }
+    let reads = command.only_reads();
+    let mut items = command.items();
+    enter_items(index, id, there, &mut items, reads)
 }
 
-fn enter_two(index: &mut Index, id: InstanceId, there: Option<&Record>, first: &[u8], second: &[u8])
+// Puts the instance into the runs of these items, of which none is left then.
+fn enter_items(
+    index: &mut Index,
+    id: InstanceId,
+    there: Option<&Record>,
+    items: &mut Items<'_>,
+    reads: bool,
+)
+    requires rising { (k : List ℕ) → has_key k (marked (mark reads) (item_keys items.old)) ≡ true → IsRising (run index.old k) }
+    requires room { HasRuns index.old (recorded_keys (option_copied there)) (marked (mark reads) (item_keys items.old)) }
+    requires once { AreOnce (marked (mark reads) (item_keys items.old)) }
+    ensures { (k : List ℕ) → run index.new k ≡ cond (brings (recorded_keys (option_copied there.entry)) (marked (mark reads) (item_keys items.old)) k) (with_instance id (run index.old k)) (run index.old k) }
+{
+    let Some(item) = items.next() else {
+        return;
+    };
+    let name = name_of(item.key, reads);
+    let stays = is_named(there, name);
+    add_unless(index, stays, name, id);
+    enter_items(index, id, there, items, reads)
+}
+
+#[inline(always)]
+fn enter_one(index: &mut Index, id: InstanceId, there: Option<&Record>, name: Name<'_>)
     requires stands { StandsUnder id (recorded_keys (option_copied there)) index.old }
-    requires room { HasRuns index.old (recorded_keys (option_copied there)) (first.now ∷ second.now ∷ []) }
-    requires apart { first.now ≢ second.now }
-    ensures { (k : List ℕ) → run index.new k ≡ cond (brings (recorded_keys (option_copied there.entry)) (first.now ∷ second.now ∷ []) k) (with_instance id (run index.old k)) (run index.old k) }
+    requires room { HasRuns index.old (recorded_keys (option_copied there)) (named name ∷ []) }
+    ensures { (k : List ℕ) → run index.new k ≡ cond (brings (recorded_keys (option_copied there.entry)) (named name.entry ∷ []) k) (with_instance id (run index.old k)) (run index.old k) }
+{
+    let stays = is_named(there, name);
+    add_unless(index, stays, name, id)
+}
+
+fn enter_two(
+    index: &mut Index,
+    id: InstanceId,
+    there: Option<&Record>,
+    first: Name<'_>,
+    second: Name<'_>,
+)
+    requires stands { StandsUnder id (recorded_keys (option_copied there)) index.old }
+    requires room { HasRuns index.old (recorded_keys (option_copied there)) (named first ∷ named second ∷ []) }
+    requires apart { named first ≢ named second }
+    ensures { (k : List ℕ) → run index.new k ≡ cond (brings (recorded_keys (option_copied there.entry)) (named first.entry ∷ named second.entry ∷ []) k) (with_instance id (run index.old k)) (run index.old k) }
 {
     let first_stays = is_named(there, first);
     let second_stays = is_named(there, second);
@@ -360,7 +411,7 @@ fn enter_two(index: &mut Index, id: InstanceId, there: Option<&Record>, first: &
     add_unless(index, second_stays, second, id)
 }
 
-/// Takes the instance out of the run of each key that this takes away: that the instance's record has, and this hasn't.
+/// Takes the instance out of the run of each name that this takes away: that the instance's record has, and this hasn't.
 pub(crate) fn leave(
     index: &mut Index,
     id: InstanceId,
@@ -393,127 +444,123 @@ fn leave_command(index: &mut Index, id: InstanceId, command: &Command, value: &O
     requires there { (k : List ℕ) → has_key k (index_keys command.now) ≡ true → Has (run index.old k) id }
     ensures { (k : List ℕ) → run index.new k ≡ cond (brings (recorded_keys value.now) (index_keys command.now) k) (without id (run index.old k)) (run index.old k) }
 {
-    match command.view() {
-        CommandView::Noop => (),
-        CommandView::Get(key)
-        | CommandView::Put(key, _)
-        | CommandView::Del(key)
-        | CommandView::Cas(key, _, _) => leave_one(index, id, key, value),
-        CommandView::Swap(first, second) => leave_two(index, id, first, second, value),
-        CommandView::Seal(_) => leave_seal(index, id, value),
-        CommandView::Opaque(own, _) => leave_touched(index, id, &own, value),
+    match names_of(command) {
+        Names::Nothing => (),
+        Names::One(name) => leave_one(index, id, name, value),
+        Names::Two(first, second) => leave_two(index, id, first, second, value),
+        Names::Many(command) => leave_many(index, id, command, value),
     }
 }
 
-fn leave_one(index: &mut Index, id: InstanceId, key: &[u8], value: &Option<Record>)
-    requires rising { IsRising (run index.old key.now) }
-    requires there { Has (run index.old key.now) id }
-    ensures { (k : List ℕ) → run index.new k ≡ cond (brings (recorded_keys value.now) (key.now ∷ []) k) (without id (run index.old k)) (run index.old k) }
-{
-    let stays = names(value, key);
-    remove_unless(index, stays, key, id)
-}
-
-fn leave_seal(index: &mut Index, id: InstanceId, value: &Option<Record>)
-    requires rising { IsRising (run index.old []) }
-    requires there { Has (run index.old []) id }
-    ensures { (k : List ℕ) → run index.new k ≡ cond (brings (recorded_keys value.now) ([] ∷ []) k) (without id (run index.old k)) (run index.old k) }
-{
-    let stays = seals(value);
-    remove_seal_unless(index, stays, id)
-}
-
-fn leave_touched(index: &mut Index, id: InstanceId, own: &Touching<'_>, value: &Option<Record>)
-    requires second { IsSecond own.now.first.now (option_copied own.now.second) }
+fn leave_many(index: &mut Index, id: InstanceId, command: &Command, value: &Option<Record>)
+    requires many { is_many command.now ≡ true }
+    requires once { AreOnce (index_keys command.now) }
     requires rising { (k : List ℕ) → IsRising (run index.old k) }
-    requires there { (k : List ℕ) → has_key k (keys_in (touched own.now)) ≡ true → Has (run index.old k) id }
-    ensures { (k : List ℕ) → run index.new k ≡ cond (brings (recorded_keys value.now) (keys_in (touched own.now)) k) (without id (run index.old k)) (run index.old k) }
+    requires there { (k : List ℕ) → has_key k (index_keys command.now) ≡ true → Has (run index.old k) id }
+    ensures { (k : List ℕ) → run index.new k ≡ cond (brings (recorded_keys value.now) (index_keys command.now) k) (without id (run index.old k)) (run index.old k) }
 {
-    match own.second {
-        None => leave_one(index, id, own.first, value),
-        Some(second) => leave_two(index, id, own.first, second, value),
+    if is_again(value, command) {
+        return;
     }
+    let reads = command.only_reads();
+    let mut items = command.items();
+    leave_items(index, id, &mut items, reads, value)
 }
 
-fn leave_two(index: &mut Index, id: InstanceId, first: &[u8], second: &[u8], value: &Option<Record>)
-    requires apart { first.now ≢ second.now }
+// Takes the instance out of the runs of these items, of which none is left then.
+fn leave_items(
+    index: &mut Index,
+    id: InstanceId,
+    items: &mut Items<'_>,
+    reads: bool,
+    value: &Option<Record>,
+)
+    requires once { AreOnce (marked (mark reads) (item_keys items.old)) }
+    requires rising { (k : List ℕ) → has_key k (marked (mark reads) (item_keys items.old)) ≡ true → IsRising (run index.old k) }
+    requires there { (k : List ℕ) → has_key k (marked (mark reads) (item_keys items.old)) ≡ true → Has (run index.old k) id }
+    ensures { (k : List ℕ) → run index.new k ≡ cond (brings (recorded_keys value.now) (marked (mark reads) (item_keys items.old)) k) (without id (run index.old k)) (run index.old k) }
+{
+    let Some(item) = items.next() else {
+        return;
+    };
+    leave_one(index, id, name_of(item.key, reads), value);
+    leave_items(index, id, items, reads, value)
+}
+
+fn leave_one(index: &mut Index, id: InstanceId, name: Name<'_>, value: &Option<Record>)
+    requires rising { IsRising (run index.old (named name)) }
+    requires there { Has (run index.old (named name)) id }
+    ensures { (k : List ℕ) → run index.new k ≡ cond (brings (recorded_keys value.now) (named name.entry ∷ []) k) (without id (run index.old k)) (run index.old k) }
+{
+    let stays = names(value, name);
+    remove_unless(index, stays, name, id)
+}
+
+fn leave_two(
+    index: &mut Index,
+    id: InstanceId,
+    first: Name<'_>,
+    second: Name<'_>,
+    value: &Option<Record>,
+)
+    requires apart { named first ≢ named second }
     requires rising { (k : List ℕ) → IsRising (run index.old k) }
-    requires there { (k : List ℕ) → has_key k (first.now ∷ second.now ∷ []) ≡ true → Has (run index.old k) id }
-    ensures { (k : List ℕ) → run index.new k ≡ cond (brings (recorded_keys value.now) (first.now ∷ second.now ∷ []) k) (without id (run index.old k)) (run index.old k) }
+    requires there { (k : List ℕ) → has_key k (named first ∷ named second ∷ []) ≡ true → Has (run index.old k) id }
+    ensures { (k : List ℕ) → run index.new k ≡ cond (brings (recorded_keys value.now) (named first.entry ∷ named second.entry ∷ []) k) (without id (run index.old k)) (run index.old k) }
 {
     leave_one(index, id, first, value);
     leave_one(index, id, second, value)
 }
 
-// Puts the instance into the key's run, unless it stays there.
-fn add_unless(index: &mut Index, stays: bool, key: &[u8], id: InstanceId)
-    requires rising { IsRising (run index.old key.now) }
-    requires room { stays ≡ false → has_room index.old key.now ≡ true }
-    ensures runs { (k : List ℕ) → run index.new k ≡ cond (same_list k key.now && not stays) (with_instance id (run index.old k)) (run index.old k) }
-    ensures others { (k : List ℕ) → same_list k key.now ≡ false → has_room index.new k ≡ has_room index.old k }
+// Puts the instance into the run of this name, unless it stays there.
+#[inline(always)]
+fn add_unless(index: &mut Index, stays: bool, name: Name<'_>, id: InstanceId)
+    requires rising { IsRising (run index.old (named name)) }
+    requires room { stays ≡ false → has_room index.old (named name) ≡ true }
+    ensures runs { (k : List ℕ) → run index.new k ≡ cond (same_list k (named name.entry) && not stays) (with_instance id (run index.old k)) (run index.old k) }
+    ensures others { (k : List ℕ) → same_list k (named name.entry) ≡ false → has_room index.new k ≡ has_room index.old k }
 {
     if stays {
         return;
     }
-    add(index, key, id)
+    add(index, name, id)
 }
 
-// Takes the instance out of the key's run, unless it stays there.
-fn remove_unless(index: &mut Index, stays: bool, key: &[u8], id: InstanceId)
-    requires rising { IsRising (run index.old key.now) }
-    requires there { stays ≡ false → Has (run index.old key.now) id }
-    ensures { (k : List ℕ) → run index.new k ≡ cond (same_list k key.now && not stays) (without id (run index.old k)) (run index.old k) }
+// Takes the instance out of the run of this name, unless it stays there.
+fn remove_unless(index: &mut Index, stays: bool, name: Name<'_>, id: InstanceId)
+    requires rising { IsRising (run index.old (named name)) }
+    requires there { stays ≡ false → Has (run index.old (named name)) id }
+    ensures { (k : List ℕ) → run index.new k ≡ cond (same_list k (named name.entry) && not stays) (without id (run index.old k)) (run index.old k) }
 {
     if stays {
         return;
     }
-    remove(index, key, id)
+    remove(index, name, id)
 }
 
-// The same of the run of seals.
-fn add_seal_unless(index: &mut Index, stays: bool, id: InstanceId)
-    requires rising { IsRising (run index.old []) }
-    requires room { stays ≡ false → has_room index.old [] ≡ true }
-    ensures { (k : List ℕ) → run index.new k ≡ cond (same_list k [] && not stays) (with_instance id (run index.old k)) (run index.old k) }
+fn add(index: &mut Index, name: Name<'_>, id: InstanceId)
+    requires rising { IsRising (run index.old (named name)) }
+    requires room { has_room index.old (named name) ≡ true }
+    ensures runs { (k : List ℕ) → run index.new k ≡ cond (same_list k (named name.entry)) (with_instance id (run index.old k)) (run index.old k) }
+    ensures others { (k : List ℕ) → same_list k (named name.entry) ≡ false → has_room index.new k ≡ has_room index.old k }
 {
-    if stays {
-        return;
+    match name {
+        Name::Seals => insert(&mut index.seals, id),
+        Name::Writes(key) => add_under(&mut index.writes.runs, index.writes.last, key, id),
+        Name::Reads(key) => add_under(&mut index.reads.runs, index.reads.last, key, id),
     }
-    insert(&mut index.seals, id)
 }
 
-fn remove_seal_unless(index: &mut Index, stays: bool, id: InstanceId)
-    requires rising { IsRising (run index.old []) }
-    requires there { stays ≡ false → Has (run index.old []) id }
-    ensures { (k : List ℕ) → run index.new k ≡ cond (same_list k [] && not stays) (without id (run index.old k)) (run index.old k) }
+fn remove(index: &mut Index, name: Name<'_>, id: InstanceId)
+    requires rising { IsRising (run index.old (named name)) }
+    requires there { Has (run index.old (named name)) id }
+    ensures { (k : List ℕ) → run index.new k ≡ cond (same_list k (named name.entry)) (without id (run index.old k)) (run index.old k) }
 {
-    if stays {
-        return;
+    match name {
+        Name::Seals => take(&mut index.seals, id),
+        Name::Writes(key) => remove_under(&mut index.writes.runs, key, id),
+        Name::Reads(key) => remove_under(&mut index.reads.runs, key, id),
     }
-    take(&mut index.seals, id)
-}
-
-fn add(index: &mut Index, key: &[u8], id: InstanceId)
-    requires rising { IsRising (run index.old key.now) }
-    requires room { has_room index.old key.now ≡ true }
-    ensures runs { (k : List ℕ) → run index.new k ≡ cond (same_list k key.now) (with_instance id (run index.old k)) (run index.old k) }
-    ensures others { (k : List ℕ) → same_list k key.now ≡ false → has_room index.new k ≡ has_room index.old k }
-{
-    if key.is_empty() {
-        return insert(&mut index.seals, id);
-    }
-    add_under(&mut index.runs, index.last, key, id)
-}
-
-fn remove(index: &mut Index, key: &[u8], id: InstanceId)
-    requires rising { IsRising (run index.old key.now) }
-    requires there { Has (run index.old key.now) id }
-    ensures { (k : List ℕ) → run index.new k ≡ cond (same_list k key.now) (without id (run index.old k)) (run index.old k) }
-{
-    if key.is_empty() {
-        return take(&mut index.seals, id);
-    }
-    remove_under(&mut index.runs, key, id)
 }
 
 fn add_under(runs: &mut Runs, last: usize, key: &[u8], id: InstanceId)
@@ -554,7 +601,7 @@ fn remove_under(runs: &mut Runs, key: &[u8], id: InstanceId)
 }
 
 /// Puts the instance into the run, in its place.
-pub(crate) fn insert(run: &mut Vec<InstanceId>, id: InstanceId)
+fn insert(run: &mut Vec<InstanceId>, id: InstanceId)
     requires rising { IsRising run.old.items }
     requires room { vec_len run.old < vec_capacity run.old }
     ensures { run.new.items ≡ with_instance id run.old.items }
@@ -564,7 +611,7 @@ pub(crate) fn insert(run: &mut Vec<InstanceId>, id: InstanceId)
 }
 
 // Whether the instance is one of the run's.
-pub(crate) fn is_among(run: &[InstanceId], id: InstanceId) -> bool
+fn is_among(run: &[InstanceId], id: InstanceId) -> bool
     requires { IsRising run.now }
     ensures there { result ≡ true → Has run.now id }
     ensures absent { result ≡ false → ¬ (Has run.now id) }
@@ -604,91 +651,62 @@ fn position(run: &[InstanceId], id: InstanceId) -> usize
     low
 }
 
-// Whether the command of what is there has the key.
-fn is_named(there: Option<&Record>, key: &[u8]) -> bool
-    ensures { result ≡ has_key key.now (recorded_keys (option_copied there.entry)) }
+// Whether what is there votes for this very command, whose keys aren't gone through then.
+fn votes_for(there: Option<&Record>, command: &Command) -> bool
+    ensures { result ≡ true → recorded_keys (option_copied there.entry) ≡ index_keys command.now }
 {
     match there {
         None => false,
-        Some(record) => record_names(record, key),
+        Some(record) => is_voted_for(record, command),
     }
 }
 
-// Whether the command of what is recorded has the key.
-fn names(value: &Option<Record>, key: &[u8]) -> bool
-    ensures { result ≡ has_key key.now (recorded_keys value.now) }
+// Whether what is recorded does.
+fn is_again(value: &Option<Record>, command: &Command) -> bool
+    ensures { result ≡ true → recorded_keys value.now ≡ index_keys command.now }
 {
     match value {
         None => false,
-        Some(record) => record_names(record, key),
+        Some(record) => is_voted_for(record, command),
     }
 }
 
-// Whether the record's command has the key.
-fn record_names(written: &Record, key: &[u8]) -> bool
-    ensures { result ≡ has_key key.now (voted_keys written.now.vote) }
-{
-    stands_under(written, key)
-}
-
-// Whether the command of what is there is a seal.
-fn is_sealed(there: Option<&Record>) -> bool
-    ensures { result ≡ has_key [] (recorded_keys (option_copied there.entry)) }
-{
-    match there {
-        None => false,
-        Some(record) => stands_under(record, &[]),
-    }
-}
-
-// Whether the command of what is recorded is a seal.
-fn seals(value: &Option<Record>) -> bool
-    ensures { result ≡ has_key [] (recorded_keys value.now) }
-{
-    match value {
-        None => false,
-        Some(record) => stands_under(record, &[]),
-    }
-}
-
-// Whether the record's command stands under this key in the index.
-fn stands_under(written: &Record, key: &[u8]) -> bool
-    ensures { result ≡ has_key key.now (voted_keys written.now.vote) }
+// Whether the record votes for this very command.
+fn is_voted_for(written: &Record, command: &Command) -> bool
+    ensures { result ≡ true → voted_keys written.now.vote ≡ index_keys command.now }
 {
     match &written.vote {
         None => false,
-        Some(vote) => is_under(&vote.decree.command, key),
+        Some(vote) => vote.decree.command.is_same(command),
     }
 }
 
-#[tactic(auto, using(ep_base::proofs::Tests::or_false))]
-fn is_under(command: &Command, key: &[u8]) -> bool
-    ensures { result ≡ has_key key.now (index_keys command.now) }
+// Whether the command of what is there has the name.
+fn is_named(there: Option<&Record>, name: Name<'_>) -> bool
+    ensures { result ≡ has_key (named name.entry) (recorded_keys (option_copied there.entry)) }
 {
-    match command.view() {
-        CommandView::Noop => false,
-        CommandView::Get(own)
-        | CommandView::Put(own, _)
-        | CommandView::Del(own)
-        | CommandView::Cas(own, _, _) => key == own,
-        CommandView::Swap(first, second) => key == first || key == second,
-        CommandView::Seal(_) => key == [].as_slice(),
-        CommandView::Opaque(own, _) => is_touched(&own, key),
-    }
-}
-
-fn is_touched(own: &Touching<'_>, key: &[u8]) -> bool
-    ensures { result ≡ has_key key.now (keys_in (touched own.now)) }
-{
-    key == own.first || is_listed(own.second, key)
-}
-
-#[tactic(auto, using(ep_base::proofs::Tests::or_false))]
-fn is_listed(own: Option<&[u8]>, key: &[u8]) -> bool
-    ensures { result ≡ has_key key.now (listed (option_copied own.entry)) }
-{
-    match own {
+    match there {
         None => false,
-        Some(own) => key == own,
+        Some(record) => stands_under(record, name),
+    }
+}
+
+// Whether the command of what is recorded has the name.
+fn names(value: &Option<Record>, name: Name<'_>) -> bool
+    ensures { result ≡ has_key (named name.entry) (recorded_keys value.now) }
+{
+    match value {
+        None => false,
+        Some(record) => stands_under(record, name),
+    }
+}
+
+// Whether the record's command has the name.
+fn stands_under(written: &Record, name: Name<'_>) -> bool
+    ensures { result ≡ has_key (named name.entry) (voted_keys written.now.vote) }
+{
+    match &written.vote {
+        None => false,
+        Some(vote) => has_name(&vote.decree.command, name),
     }
 }

@@ -10,11 +10,13 @@ ghost use Rattle.ep_rules.specs.States.{with_held, is_free};
 ghost use Rattle.ep_space.specs.Held.{HasPlace};
 ghost use Rattle.ep_space.specs.Index.{run, HasRuns, IsKept};
 ghost use Rattle.ep_space.specs.Keys.{index_keys, recorded_keys, keys_at, holders, HasRoom};
+ghost use Rattle.ep_space.specs.Names.{named};
 ghost use Rattle.ep_space.specs.Open.{AreRecords};
 ghost use Rattle.ep_space.specs.Seqs.{recorded_seq};
 ghost use Rattle.ep_space.specs.Settled.{as_settled};
 
-use crate::index::{self, Index, enter, leave, make_room, new_index, run_of, seals_of};
+use crate::index::{self, Index, enter, leave, make_room, new_index, run_of};
+use crate::names::Name;
 use crate::seqs::{Seqs, note_seq, seq_at, seq_of, widen};
 use crate::table::Table;
 use crate::taken::note;
@@ -99,6 +101,7 @@ impl Keyed {
     }
 
     /// Makes a place for the instance, if it has none.
+    #[inline(always)]
     pub fn reserve(&mut self, id: InstanceId) -> Result<(), AllocError>
         ensures ok { OnOk result (self.new ≡ record { held = self.old.held; places = set.insert self.old.places id; room = self.old.room }) }
         ensures place { OnOk result (HasPlace self.new.places id) }
@@ -119,6 +122,7 @@ impl Keyed {
 
     /// Writes this record, or none, at the instance's place, and gives what was there. Each key that it brings has room, which may be used up
     /// then. It takes no memory.
+    #[inline(always)]
     pub fn put_back(&mut self, id: InstanceId, value: Option<Record>) -> Option<Record>
         requires place { HasPlace self.old.places id }
         requires room { HasRoom self.old.room (keys_at self.old.held id) (recorded_keys value) }
@@ -134,6 +138,7 @@ impl Keyed {
     }
 
     /// Writes this record, or none, at the instance's place, as `put_back` does.
+    #[inline(always)]
     pub fn write(&mut self, id: InstanceId, value: Option<Record>)
         requires place { HasPlace self.old.places id }
         requires room { HasRoom self.old.room (keys_at self.old.held id) (recorded_keys value) }
@@ -152,6 +157,7 @@ impl Keyed {
     }
 
     /// Commits what the record voted for, if it voted: both ballots stay. It takes no memory.
+    #[inline(always)]
     pub fn settle(&mut self, id: InstanceId)
         requires { HasPlace self.old.places id }
         ensures { self.new ≡ record { held = with_held self.old.held id (as_settled (get self.old.held id)); places = self.old.places; room = self.old.room } }
@@ -159,18 +165,12 @@ impl Keyed {
         self.table.settle(id);
     }
 
-    /// The instances whose recorded command has the key, in rising order.
-    pub fn key_run(&self, key: &[u8]) -> &[InstanceId]
-        ensures { result.now ≡ holders key.now self.now.held }
+    /// The instances whose recorded command has the name, in rising order.
+    #[inline(always)]
+    pub(crate) fn run(&self, name: Name<'_>) -> &[InstanceId]
+        ensures { result.now ≡ holders (named name.entry) self.now.held }
     {
-        run_of(&self.index, key)
-    }
-
-    /// The instances whose recorded command is a seal, in rising order.
-    pub fn seals(&self) -> &[InstanceId]
-        ensures { result.now ≡ holders [] self.now.held }
-    {
-        seals_of(&self.index)
+        run_of(&self.index, name)
     }
 
     /// The sequence number that the instance's record votes for; 0 where it votes for none.

@@ -7,14 +7,14 @@
 //! Start with `space.rt`: `get`, `reserve_for`, `join_ballot`, `vote_pre`, `vote_accept`, `commit`, and `interference`; `open.rt` finds what isn't
 //! committed. `table.rt` is the table below, which `ep_phase` uses too.
 //!
-//! How places, the index by key and the least free number are kept may change freely: no contract above names them, but for
-//! `key_run` and `instance_at`.
+//! How places, the index by key and the least free number are kept may change freely: no contract above names them.
 #![tactic(auto)]
 
 mod gathered;
 mod index;
 mod interference_fault;
 mod keyed;
+mod names;
 mod open;
 mod seqs;
 mod space;

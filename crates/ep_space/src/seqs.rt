@@ -43,6 +43,7 @@ pub(crate) fn seq_at(seqs: &[u32], id: InstanceId) -> u32
 }
 
 /// Makes a slot for the instance, if it has none.
+#[inline(always)]
 pub(crate) fn widen(seqs: &mut Seqs, id: InstanceId) -> Result<(), AllocError>
     ensures slot { OnOk result (slot id < length seqs.new.items) }
     ensures longer { length seqs.old.items ≤ length seqs.new.items }
@@ -56,6 +57,7 @@ pub(crate) fn widen(seqs: &mut Seqs, id: InstanceId) -> Result<(), AllocError>
 }
 
 /// Writes this at the instance's slot.
+#[inline(always)]
 pub(crate) fn note_seq(seqs: &mut Seqs, id: InstanceId, seq: u32)
     requires { slot id < length seqs.old.items }
     ensures written { seqs.new.items ≡ slice_set seqs.old.items (slot id) seq }

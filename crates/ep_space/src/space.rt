@@ -10,10 +10,10 @@ ghost use Rattle.ep_rules.specs.Cells.{is_committed, is_done_at, is_settled_at, 
 ghost use Rattle.ep_rules.specs.InterferenceSet.{interference};
 ghost use Rattle.ep_rules.specs.Maps.{none, get};
 ghost use Rattle.ep_rules.specs.Phases.{with_commit};
-ghost use Rattle.ep_rules.specs.States.{is_free, free_number, committed_in, with_entry};
+ghost use Rattle.ep_rules.specs.States.{or_zero, is_free, free_number, committed_in, with_entry};
 ghost use Rattle.ep_space.specs.Gathering.{next_attrs};
 ghost use Rattle.ep_space.specs.Held.{HasPlace};
-ghost use Rattle.ep_space.specs.Keys.{recorded_keys, keys_at, holders, HasRoom};
+ghost use Rattle.ep_space.specs.Keys.{recorded_keys, keys_at, HasRoom};
 ghost use Rattle.ep_space.specs.Open.{AreRecords};
 ghost use Rattle.ep_space.specs.Records.{record_at, with_record, with_earlier, IsReady};
 ghost use Rattle.ep_space.specs.Settled.{settled};
@@ -23,7 +23,8 @@ use crate::interference_fault::InterferenceFault;
 use crate::keyed::Keyed;
 use crate::space_full::SpaceFull;
 use ep_base::{
-    Attrs, Ballot, Command, Decree, InstanceId, ReplicaId, Seq, Size, Version, Vote, VoteStatus,
+    Attrs, Ballot, Command, Decree, Deps, InstanceId, ReplicaId, Seq, Size, Version, Vote,
+    VoteStatus,
 };
 use ep_rules::Record;
 use std::alloc::{AllocError, Global};
@@ -297,6 +298,7 @@ impl Space {
     }
 
     /// Commits what was voted for, if something was: both ballots and the decree stay.
+    #[inline(always)]
     pub fn settle(&mut self, id: InstanceId)
         requires { HasPlace self.old.places id }
         ensures { self.new ≡ record self.old { records = with_entry self.old.records id (settled id (record_at self.old id) (record_at self.old id).vote) } }
@@ -350,15 +352,9 @@ impl Space {
         self.get(id).is_none()
     }
 
-    /// The instances whose recorded command has the key, in rising order. They are lent, and not copied.
-    pub fn key_run(&self, key: &[u8]) -> &[InstanceId]
-        ensures { result.now ≡ holders key.now self.now.records }
-    {
-        self.table.key_run(key)
-    }
-
     /// The command's interference set in the instance (EPaxos, figure 2): the other instances whose recorded commands interfere with it,
     /// and one more than their greatest sequence number; `SeqExhausted` where that passes 1,000,000.
+    #[inline(always)]
     pub fn interference(
         &self,
         alloc: Global,
@@ -369,7 +365,7 @@ impl Space {
         ensures in_range { IfOk result (λ a. a.seq ≤ 1000000) }
         ensures exhausted { result ≡ Err InterferenceFault.SeqExhausted → 1000000 < (interference self.now.records except command.now).seq }
     {
-        let Ok(gathered) = self.gather(alloc, command, except) else {
+        let Ok(gathered) = self.gather(alloc, command, Some(except)) else {
             return Err(InterferenceFault::Memory);
         };
         if gathered.seq >= 1_000_000 {
@@ -382,14 +378,22 @@ impl Space {
         })
     }
 
+    /// The instances whose recorded commands interfere with the command: what a look at this replica finds for a read.
+    pub fn interfering(&self, alloc: Global, command: &Command) -> Result<Deps, AllocError>
+        ensures { IfOk result (λ d. d ≡ (interference self.now.records 0 command.now).deps) }
+    {
+        let gathered = self.gather(alloc, command, None)?;
+        Ok(gathered.deps.into_deps())
+    }
+
     #[inline(always)]
     fn gather(
         &self,
         alloc: Global,
         command: &Command,
-        except: InstanceId,
+        except: Option<InstanceId>,
     ) -> Result<Gathered, AllocError>
-        ensures { IfOk result (λ g. next_attrs g ≡ interference self.now.records except command.now) }
+        ensures { IfOk result (λ g. next_attrs g ≡ interference self.now.records (or_zero except) command.now) }
     {
         gathered_from(alloc, &self.table, command, except)
     }

@@ -80,6 +80,7 @@ impl<V: Drop> Table<V> {
     }
 
     /// Makes a place for the instance, if it has none. Nothing else takes memory in the table.
+    #[inline(always)]
     pub fn reserve(&mut self, id: InstanceId) -> Result<(), AllocError>
         ensures ok { OnOk result (self.new ≡ record { held = self.old.held; places = set.insert self.old.places id }) }
         ensures place { OnOk result (HasPlace self.new.places id) }
@@ -89,6 +90,7 @@ impl<V: Drop> Table<V> {
     }
 
     /// Writes this value, or none, at the instance's place, and gives what was there. It takes no memory.
+    #[inline(always)]
     pub fn put_back(&mut self, id: InstanceId, value: Option<V>) -> Option<V>
         requires { HasPlace self.old.places id }
         ensures old { result ≡ get self.old.held id }
@@ -99,6 +101,7 @@ impl<V: Drop> Table<V> {
     }
 
     /// Writes this value, or none, at the instance's place. It takes no memory.
+    #[inline(always)]
     pub fn write(&mut self, id: InstanceId, value: Option<V>)
         requires { HasPlace self.old.places id }
         ensures { self.new ≡ record { held = with_held self.old.held id value; places = self.old.places } }
@@ -126,6 +129,7 @@ impl<V: Drop> Table<V> {
 
 impl Table<Record> {
     /// Commits what the instance's record voted for, if it voted, at its place. It takes no memory.
+    #[inline(always)]
     pub(crate) fn settle(&mut self, id: InstanceId)
         requires { HasPlace self.old.places id }
         ensures { self.new ≡ record { held = with_held self.old.held id (as_settled (get self.old.held id)); places = self.old.places } }
@@ -222,6 +226,7 @@ fn value_at<V>(entries: &Entries<V>, at: usize) -> Option<&V>
     entries[at - 1].1.as_ref()
 }
 
+#[inline(always)]
 fn add_place<V: Drop>(
     entries: &mut Entries<V>,
     spots: &mut Vec<usize>,
@@ -253,6 +258,7 @@ fn widen(spots: &mut Vec<usize>, slot: usize) -> Result<(), AllocError>
     spots.resize(slot + 64, 0)
 }
 
+#[inline(always)]
 fn replace<V: Drop>(
     entries: &mut Entries<V>,
     at: usize,
@@ -275,6 +281,7 @@ fn settle_at(entries: &mut Entries<Record>, at: usize, id: InstanceId)
     settle(&mut entries[at - 1].1)
 }
 
+#[inline(always)]
 fn settle(written: &mut Option<Record>)
     ensures { written.new ≡ as_settled written.old }
 {

@@ -12,6 +12,7 @@ use ep_rules::Record;
 
 /// Notes that the instance's record was written, or taken out: each number stays one of first instances that all have a record. Where the
 /// record isn't of the next one, nothing is looked up.
+#[inline(always)]
 pub(crate) fn note(taken: &mut [u16; 7], table: &Table<Record>, id: InstanceId, is_there: bool)
     requires but { AreTakenBut id table.now.held taken.old }
     requires there { is_there ≡ is_some (get table.now.held id) }

@@ -2,7 +2,6 @@ pub mod Inserting
 pub mod AsShown
 pub mod Sending
 pub mod Joining
-pub mod ReadBack
 pub mod Traced
 pub mod Fronts
 pub mod AsLabels

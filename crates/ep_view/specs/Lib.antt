@@ -6,7 +6,6 @@ pub mod Shown
 pub mod Kept
 pub mod Words
 pub mod Editions
-pub mod Strings
 pub mod Pages
 pub mod TraceEvents
 pub mod TraceFiles

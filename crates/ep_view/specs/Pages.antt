@@ -1,7 +1,7 @@
 -- What a page has.
 use Rattle.std.specs.Prelude.{◌≡◌, ℕ, List, ◌++◌}
 use Rattle.ep_journal.specs.Entries.{Collected}
-use Rattle.ep_view.specs.Strings.{string_text, IsString}
+use Rattle.ep_json.specs.Strings.{string_text, IsString}
 use Rattle.ep_view.specs.Shown.{IsShown}
 use Rattle.ep_view.specs.declared.selection.Selection.{Selection}
 

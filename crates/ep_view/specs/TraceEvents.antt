@@ -13,7 +13,7 @@ use Rattle.ep_report.specs.Parts.{instance_text}
 use Rattle.ep_view.specs.Lines.{words_at, taken_text, done_text}
 use Rattle.ep_view.specs.Editions.{edition_text}
 use Rattle.ep_view.specs.Words.{event_text, origin_text}
-use Rattle.ep_view.specs.Strings.{string_text}
+use Rattle.ep_json.specs.Strings.{string_text}
 
 -- an event that begins so, of this replica's process and its one thread, at this time
 unfoldable pub begun : List ℕ → ℕ → ℕ → List ℕ

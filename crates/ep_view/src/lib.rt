@@ -7,7 +7,7 @@
 //!
 //! `Selection` is which entries are asked for, `Wanted` as a command line asks. One walk (`walk.rt`) goes over them by stamp and then by replica, with a printer for
 //! each format. Keys and values are printed as words of bytes, as in scripts and reports (docs/FORMATS.md, section 3), and quoted as each format asks: no byte of a
-//! journal ends a string, a line or a tag (specs/Strings.antt, specs/Labels.antt). What of it other views of runs need is public too.
+//! journal ends a string, a line or a tag (`ep_json`, specs/Labels.antt). What of it other views of runs need is public too.
 //!
 //! Start with specs/Words.antt, which says the text of a message and of an event, then `showing.rt` and specs/Lines.antt, which says a
 //! line; the order of entries is `IsSchedule` of `ep_rules`, as `ep_audit` makes it.
@@ -28,7 +28,6 @@ mod sequence_lines;
 mod sequencing;
 mod showing;
 mod side_by_side;
-mod strings;
 mod trace_entries;
 mod trace_parts;
 mod tracing;

@@ -1,13 +1,13 @@
 //! Pages.
 
 ghost use Rattle.std.specs.Prelude.{◌≡◌, ◌++◌, IfOk, OnOk};
-ghost use Rattle.ep_view.specs.Strings.{IsString};
+ghost use Rattle.ep_json.specs.Strings.{IsString};
 ghost use Rattle.ep_view.specs.Pages.{page_text, IsPage};
 
 use crate::selection::Selection;
 use crate::showing::show;
-use crate::strings::push_string;
 use ep_journal::Journals;
+use ep_json::push_string;
 use std::alloc::{AllocError, Global};
 
 // Appends the page with these words.

@@ -9,11 +9,11 @@ ghost use Rattle.ep_view.specs.TraceEvents.{happened_text, instant_text, slice_h
 use crate::events::push_event;
 use crate::handled::Handled;
 use crate::lines::{push_done, push_taken, words_of};
-use crate::strings::push_string;
 use crate::trace_parts::{push_arrow_id, push_begun, push_instant, push_named};
 use ep_base::ReplicaId;
 use ep_frame::Frame;
 use ep_journal::{Entry, Event};
+use ep_json::push_string;
 use ep_report::{Part, push_instance, push_parts};
 use std::alloc::{AllocError, Global};
 

@@ -5,10 +5,10 @@ ghost use Rattle.ep_view.specs.TraceEvents.{begun, named, instant_text, arrow_id
 
 use crate::editions::generation_words;
 use crate::messages::push_origin;
-use crate::strings::push_string;
 use ep_base::{ReplicaId, Version, VersionKind};
 use ep_frame::Frame;
 use ep_journal::{Entry, Opening};
+use ep_json::push_string;
 use ep_report::{Part, push_parts};
 use std::alloc::AllocError;
 

@@ -49,8 +49,8 @@ text_put : (text : List ℕ) (r : Result Status ViewerFault) (out : Output) → 
 text_put text (Ok found) out put = (put.0, put.1)
 text_put text (Err e) out put = subst (λ (x : ViewerFault). Prints (Err x) text out) (sym put.0) tt
 
-pub version_put : (asked : ViewerAsked) (r : Result Status ViewerFault) (zs : List ℕ) (out : Output) → asked ≡ Version → IsTextPut Write (codes "epaxos 0.1.0\n") Done r out → Does asked r zs out
-version_put asked r zs out is put = subst (λ (a : ViewerAsked). Does a r zs out) (sym is) (text_put (codes "epaxos 0.1.0\n") r out put)
+pub version_put : (asked : ViewerAsked) (r : Result Status ViewerFault) (zs : List ℕ) (out : Output) → asked ≡ Version → IsTextPut Write (codes "epaxos 1.0.0\n") Done r out → Does asked r zs out
+version_put asked r zs out is put = subst (λ (a : ViewerAsked). Does a r zs out) (sym is) (text_put (codes "epaxos 1.0.0\n") r out put)
 
 -- help is asked for, with this text
 abbrev pub IsHelpText : ViewerAsked → List ℕ → Type 0

@@ -112,7 +112,7 @@ abbrev pub Does : ViewerAsked → Result Status ViewerFault → List ℕ → Out
 Does (OfBundle view) outcome zs out = Views (Tells view) outcome zs out
 Does Explain outcome zs out = Explains outcome zs out
 Does Trace outcome zs out = Traces outcome zs out
-Does Version outcome zs out = Prints outcome (codes "epaxos 0.1.0\n") out
+Does Version outcome zs out = Prints outcome (codes "epaxos 1.0.0\n") out
 Does (Help text) outcome zs out = Prints outcome (string_bytes text) out
 
 -- a fault is told, and decides on the status

@@ -57,7 +57,7 @@ fn attempt<S: Source, W: Sink, F>(
             put_made(made, ViewerFault::Write, &mut streams.writer)
         }
         ViewerAsked::Version => put_text(
-            b"epaxos 0.1.0\n",
+            b"epaxos 1.0.0\n",
             Status::Done,
             ViewerFault::Write,
             &mut streams.writer,

@@ -1,8 +1,11 @@
 -- The bytes of answers: the length of what follows, a kind, and a body.
-use Rattle.std.specs.Prelude.{ℕ, ◌+◌, ◌<◌, ◌^◌, Bool, cond, List, [], ◌∷◌, ◌++◌, length, Option, Some, None}
+use Rattle.std.specs.Prelude.{ℕ, ◌+◌, ◌*◌, ◌<◌, ◌^◌, Bool, cond, List, [], ◌∷◌, ◌++◌, length, Option, Some, None}
 use Rattle.std.specs.List.{flat_map}
+use Rattle.ep_base.specs.declared.reply.Reply.{Reply}
+use Rattle.ep_base.specs.declared.reply.Reply.TheVariants.{Absent, Present, Closed, Ordered, Done, Undone}
 use Rattle.ep_base.specs.declared.version.Version.{Version}
-use Rattle.ep_bundle.specs.Bytes.{frame_bytes, receipt_bytes}
+use Rattle.ep_base.specs.declared.version_kind.VersionKind.TheVariants.{V3}
+use Rattle.ep_bundle.specs.Bytes.{frame_bytes, receipt_bytes, told_bytes}
 use Rattle.ep_bundle.specs.Writing.{FramesFit}
 use Rattle.ep_frame.specs.Fields.{number_bytes, dep_bytes}
 use Rattle.ep_frame.specs.Meaning.{instance_at, origin_at}
@@ -14,7 +17,7 @@ use Rattle.ep_journal.specs.declared.step_fault.StepFault.TheVariants.{Memory, O
 use Rattle.ep_rules.specs.declared.receipt.Receipt.{Receipt}
 use Rattle.ep_rules.specs.States.{or_zero}
 use Rattle.ep_wire.specs.declared.request_field.RequestField.{RequestField}
-use Rattle.ep_wire.specs.declared.request_field.RequestField.TheVariants.{Kind, Client, ClientRequest, Seen, Op, KeyLength, ValueLength, Key, Value, Replica, Number, Rest, FirstLength, SecondLength, BodyLength, FirstKey, SecondKey, Body, After, Most, Spared}
+use Rattle.ep_wire.specs.declared.request_field.RequestField.TheVariants.{Kind, Client, ClientRequest, Seen, Op, KeyLength, ValueLength, Key, Value, Replica, Number, Rest, FirstLength, SecondLength, BodyLength, FirstKey, SecondKey, Body, After, Most, Spared, Count, Found}
 use Rattle.ep_wire.specs.declared.lead_progress.LeadProgress.{LeadProgress}
 use Rattle.ep_wire.specs.declared.lead_progress.LeadProgress.TheVariants.{Proposing, Accepting, Preparing}
 use Rattle.ep_wire.specs.declared.malformed.Malformed.{Malformed}
@@ -161,6 +164,8 @@ field_code Body = 18
 field_code After = 19
 field_code Most = 20
 field_code Spared = 21
+field_code Count = 22
+field_code Found = 23
 
 abbrev pub malformed_bytes : Malformed → List ℕ
 malformed_bytes m = number_bytes 4 10 ++ number_bytes 1 7 ++ number_bytes 1 (field_code m.field) ++ number_bytes 8 m.at
@@ -184,6 +189,35 @@ state_bytes s = number_bytes 4 22 ++ number_bytes 1 8 ++ (counts_bytes s ++ spac
 -- instances, counted
 abbrev pub instances_bytes : List ℕ → List ℕ
 instances_bytes is = number_bytes 4 (length is) ++ flat_map dep_bytes is
+
+-- Reads that write nothing.
+
+-- what interferes
+abbrev pub interfering_bytes : List ℕ → List ℕ
+interfering_bytes is = number_bytes 4 (5 + 3 * length is) ++ number_bytes 1 11 ++ instances_bytes is
+
+-- a read waits for this instance
+abbrev pub waits_bytes : ℕ → List ℕ
+waits_bytes i = number_bytes 4 5 ++ number_bytes 1 12 ++ number_bytes 1 2 ++ dep_bytes i
+
+-- it is told a value, or what has none
+abbrev pub present_bytes : List ℕ → List ℕ
+present_bytes v = number_bytes 4 (4 + length v) ++ number_bytes 1 12 ++ (number_bytes 1 1 ++ number_bytes 2 (length v) ++ v)
+
+abbrev pub plain_bytes : ℕ → List ℕ
+plain_bytes code = number_bytes 4 2 ++ number_bytes 1 12 ++ number_bytes 1 code
+
+-- what many keys had, as it stands in an answer of version 3, of whatever generation
+abbrev pub told_reply_bytes : ℕ → List (Option (List ℕ)) → List ℕ
+told_reply_bytes code os = number_bytes 4 (2 + length (told_bytes (V3 1) os)) ++ number_bytes 1 12 ++ number_bytes 1 code ++ told_bytes (V3 1) os
+
+abbrev pub reply_bytes : Reply → List ℕ
+reply_bytes Absent = plain_bytes 0
+reply_bytes (Present v) = present_bytes v
+reply_bytes Closed = plain_bytes 3
+reply_bytes Ordered = plain_bytes 4
+reply_bytes (Done os) = told_reply_bytes 5 os
+reply_bytes (Undone os) = told_reply_bytes 6 os
 
 -- receipts, counted, each as it stands in a bundle of the version
 abbrev pub told_receipts_bytes : Version → List Receipt → List ℕ

@@ -7,7 +7,7 @@ use Rattle.ep_base.specs.Versions.{most_frame}
 use Rattle.ep_base.specs.declared.version.Version.{Version}
 use Rattle.ep_base.specs.declared.version_kind.VersionKind.TheVariants.{V1, V2, V3}
 use Rattle.ep_bundle.specs.Journals.{ended}
-use Rattle.ep_bundle.specs.Reading.{Left, Reading, and_then, run, number, field, map_ok}
+use Rattle.ep_bundle.specs.Reading.{Left, Reading, and_then, run, number, field, many, map_ok}
 use Rattle.ep_bundle.specs.Stages.{instance, counted, command, spared}
 use Rattle.ep_bundle.specs.declared.bundle_fault.BundleFault.{BundleFault}
 use Rattle.ep_bundle.specs.declared.bundle_fault.BundleFault.TheVariants as bundle
@@ -17,9 +17,9 @@ use Rattle.ep_frame.specs.declared.fault.FrameFault.{FrameFault}
 use Rattle.ep_journal.specs.declared.event.Event.TheVariants as event
 use Rattle.ep_bundle.specs.declared.journal_dialect.JournalDialect.{JournalDialect}
 use Rattle.ep_wire.specs.declared.request_field.RequestField.{RequestField}
-use Rattle.ep_wire.specs.declared.request_field.RequestField.TheVariants.{Kind, Client, ClientRequest, Seen, Op, KeyLength, ValueLength, Key, Value, Replica, Number, Rest, FirstLength, SecondLength, BodyLength, FirstKey, SecondKey, Body, After, Most, Spared}
+use Rattle.ep_wire.specs.declared.request_field.RequestField.TheVariants.{Kind, Client, ClientRequest, Seen, Op, KeyLength, ValueLength, Key, Value, Replica, Number, Rest, FirstLength, SecondLength, BodyLength, FirstKey, SecondKey, Body, After, Most, Spared, Count, Found}
 use Rattle.ep_wire.specs.declared.request.Request.{Request}
-use Rattle.ep_wire.specs.declared.request.Request.TheVariants.{Event, BadFrame, Advance, Get, NextOpen, Leads, Sync, State, ExecuteAll, Ready, Handled, Malformed}
+use Rattle.ep_wire.specs.declared.request.Request.TheVariants.{Event, BadFrame, Advance, Get, NextOpen, Leads, Sync, State, ExecuteAll, Ready, Handled, Interfering, Read, Malformed}
 use Rattle.ep_wire.specs.declared.request_fault.RequestFault.{RequestFault}
 use Rattle.ep_wire.specs.declared.request_fault.RequestFault.TheVariants.{Memory, ReadFailed, BadRequest}
 
@@ -69,8 +69,12 @@ about kind i = cond (eqb kind 3) (Event (event.GiveUp i)) (cond (eqb kind 4) (Ev
 abbrev pub named : JournalDialect → List ℕ → Result ℕ ℕ
 named how bs = given (alone (instance how.version (size how.size) (whole bs)))
 
-abbrev pub key : List ℕ → Result Request ℕ
-key bs = cond (eqb (length bs) 0 || ltb 255 (length bs)) (Err 5) (Ok (Get bs))
+-- what is asked of a key alone
+abbrev pub of_key : ℕ → List ℕ → Request
+of_key kind k = cond (eqb kind 7) (Get k) (Interfering k)
+
+abbrev pub key : (List ℕ → Request) → List ℕ → Result Request ℕ
+key asked bs = cond (eqb (length bs) 0 || ltb 255 (length bs)) (Err 5) (Ok (asked bs))
 
 -- three zero bytes are no instance
 abbrev pub next_open : JournalDialect → List ℕ → Result Request ℕ
@@ -91,11 +95,23 @@ handled how bs =
     (cond (eqb (length bs) 1) (Ok (Handled (byte_at bs 0)))
     (Err 6))
 
--- there is such a kind: 14, by which a proposal names the replica that it spares, in version 3 alone
+-- a key, with its length before it
+abbrev pub key_field : Left → Reading (List ℕ)
+key_field l = and_then (field 1 1 255 l) (λ n l. and_then (run n l) (λ k l. Ok (k, l)))
+
+-- instances, with their count before them: at most as many as a cluster has
+abbrev pub found : JournalDialect → Left → Reading (List ℕ)
+found how l = and_then (field 4 0 63000 l) (λ n l. many (instance how.version (size how.size)) n [] l)
+
+-- a key that is read, and what all looks together found
+abbrev pub read : JournalDialect → Left → Reading Request
+read how l = and_then (key_field l) (λ k l. and_then (found how l) (λ is l. Ok (Read k is, l)))
+
+-- there is such a kind: 14, by which a proposal names the replica that it spares, and those of reads that write nothing, 16 and 17, in version 3 alone
 abbrev pub is_kind : Version → ℕ → Bool
 is_kind V1 kind = leb 1 kind && leb kind 13 || eqb kind 15
 is_kind V2 kind = leb 1 kind && leb kind 13 || eqb kind 15
-is_kind (V3 g) kind = leb 1 kind && leb kind 15
+is_kind (V3 g) kind = leb 1 kind && leb kind 17
 
 -- the request of such a kind with this body, or where the first field begins that is at fault
 abbrev pub body_of : JournalDialect → ℕ → List ℕ → Result Request ℕ
@@ -103,7 +119,7 @@ body_of how kind bs =
     cond (eqb kind 1) (given (alone (proposal how.version None (whole bs))))
     (cond (eqb kind 2) (Ok (framed (fault_of bs) bs))
     (cond (eqb kind 6) (bare Advance bs)
-    (cond (eqb kind 7) (key bs)
+    (cond (eqb kind 7) (key (of_key kind) bs)
     (cond (eqb kind 8) (next_open how bs)
     (cond (eqb kind 10) (bare Sync bs)
     (cond (eqb kind 11) (bare State bs)
@@ -111,7 +127,9 @@ body_of how kind bs =
     (cond (eqb kind 13) (given (alone (ready (whole bs))))
     (cond (eqb kind 14) (given (alone (sparing how (whole bs))))
     (cond (eqb kind 15) (handled how bs)
-    (map_ok (about kind) (named how bs))))))))))))
+    (cond (eqb kind 16) (key (of_key kind) bs)
+    (cond (eqb kind 17) (given (alone (read how (whole bs))))
+    (map_ok (about kind) (named how bs))))))))))))))
 
 -- Fields, each with the place behind it: the one in which this place is, or what stands behind them.
 abbrev pub field_in : List (RequestField × ℕ) → ℕ → RequestField
@@ -156,6 +174,13 @@ ready_fields = (After, 9) ∷ (Most, 10) ∷ []
 abbrev pub handled_fields : List (RequestField × ℕ)
 handled_fields = (Replica, 6) ∷ []
 
+-- of a read, with so many bytes of key and so many instances
+abbrev pub read_fields : ℕ → ℕ → List (RequestField × ℕ)
+read_fields k n = (KeyLength, 6) ∷ (Key, 6 + k) ∷ (Count, 10 + k) ∷ (Found, 10 + k + 3 * n) ∷ []
+
+abbrev pub read_fields_in : List ℕ → List (RequestField × ℕ)
+read_fields_in bs = read_fields (byte_at bs 0) (four_at bs (1 + byte_at bs 0))
+
 -- the kinds that have no body, of 1 to 12
 abbrev pub is_bare : ℕ → Bool
 is_bare kind = eqb kind 6 || leb 10 kind
@@ -164,12 +189,13 @@ is_bare kind = eqb kind 6 || leb 10 kind
 abbrev pub fields_of : Version → ℕ → List ℕ → List (RequestField × ℕ)
 fields_of v kind bs =
     cond (eqb kind 1) (proposal_fields v bs)
-    (cond (eqb kind 7) ((Key, 260) ∷ [])
+    (cond (eqb kind 7 || eqb kind 16) ((Key, 260) ∷ [])
     (cond (eqb kind 13) ready_fields
     (cond (eqb kind 14) (sparing_fields bs)
     (cond (eqb kind 15) handled_fields
+    (cond (eqb kind 17) (read_fields_in bs)
     (cond (is_bare kind) []
-    instance_fields)))))
+    instance_fields))))))
 
 -- what it is, or that it is malformed, with the field that begins there
 abbrev pub or_malformed : Version → ℕ → List ℕ → Result Request ℕ → Request

@@ -317,6 +317,8 @@ fn field_code(field: RequestField) -> u8
         RequestField::After => 19,
         RequestField::Most => 20,
         RequestField::Spared => 21,
+        RequestField::Count => 22,
+        RequestField::Found => 23,
     }
 }
 

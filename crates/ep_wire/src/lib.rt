@@ -12,11 +12,13 @@
 mod answers;
 mod bodies;
 mod front;
+mod instances;
 mod lead_progress;
 mod malformed;
 mod node_state;
 mod places;
 mod reading;
+mod reads;
 mod request;
 mod request_fault;
 mod request_field;
@@ -29,10 +31,12 @@ pub use answers::{
     write_taken, write_value,
 };
 pub use ep_bundle::JournalDialect;
+pub use instances::Instances;
 pub use lead_progress::LeadProgress;
 pub use malformed::Malformed;
 pub use node_state::NodeState;
 pub use reading::read_request;
+pub use reads::{write_interfering, write_reply, write_waits};
 pub use request::Request;
 pub use request_fault::RequestFault;
 pub use request_field::RequestField;

@@ -1,7 +1,7 @@
 //! Which field of a request stands at a place.
 
 ghost use Rattle.std.specs.Prelude.{◌≡◌, ◌<◌, ◌+◌, ◌^◌, ◌∷◌, []};
-ghost use Rattle.ep_wire.specs.Requests.{byte_at, early_fields, field_in, fields_of, four_at, handled_fields, instance_fields, is_bare, late_fields, late_fields_in, proposal_fields, ready_fields, sparing_fields, two_at};
+ghost use Rattle.ep_wire.specs.Requests.{byte_at, early_fields, field_in, fields_of, four_at, handled_fields, instance_fields, is_bare, late_fields, late_fields_in, proposal_fields, read_fields, read_fields_in, ready_fields, sparing_fields, two_at};
 ghost use Rattle.ep_wire.specs.declared.request_field.RequestField.TheVariants.{Key};
 
 use crate::malformed::Malformed;
@@ -183,6 +183,34 @@ fn handled_field(at: u64) -> RequestField
     }
 }
 
+/// The field at this place of a read, where the key has so many bytes, and so many instances are named.
+fn read_field(key: u64, count: u64, at: u64) -> RequestField
+    requires key { key < 2 ^ 8 }
+    requires count { count < 2 ^ 32 }
+    ensures { result ≡ field_in (read_fields key count) at }
+{
+    if at < 6 {
+        RequestField::KeyLength
+    } else if at < 6 + key {
+        RequestField::Key
+    } else if at < 10 + key {
+        RequestField::Count
+    } else if at < 10 + key + 3 * count {
+        RequestField::Found
+    } else {
+        RequestField::Rest
+    }
+}
+
+/// The same of a read with this body.
+fn read_field_in(body: &[u8], at: u64) -> RequestField
+    ensures { result ≡ field_in (read_fields_in body.now) at }
+{
+    let key = byte_at(body, 0);
+    let count = four_at(body, 1 + usize::from(key));
+    read_field(u64::from(key), count, at)
+}
+
 /// Whether a request of this kind, 1 to 12, has no body.
 fn is_bare(kind: u8) -> bool
     ensures { result ≡ is_bare kind }
@@ -197,7 +225,7 @@ fn field_at(version: Version, kind: u8, body: &[u8], at: u64) -> RequestField
     if kind == 1 {
         return proposal_field(version, body, at);
     }
-    if kind == 7 {
+    if kind == 7 || kind == 16 {
         return key_field(at);
     }
     if kind == 13 {
@@ -208,6 +236,9 @@ fn field_at(version: Version, kind: u8, body: &[u8], at: u64) -> RequestField
     }
     if kind == 15 {
         return handled_field(at);
+    }
+    if kind == 17 {
+        return read_field_in(body, at);
     }
     if is_bare(kind) {
         RequestField::Rest

@@ -1,5 +1,6 @@
 //! What a node is asked.
 
+use crate::instances::Instances;
 use crate::malformed::Malformed;
 use ep_base::{InstanceId, Key, ReplicaId};
 use ep_journal::Event;
@@ -30,6 +31,10 @@ pub enum Request {
     Ready { after: u32, most: u8 },
     /// The greatest number of an entry of this replica of which the node has handled a frame.
     Handled(ReplicaId),
+    /// What interferes with a read of the key.
+    Interfering(Key),
+    /// The key is read, for which all looks together found these instances.
+    Read { key: Key, found: Instances },
     /// None of these: a request whose bytes all came, but of no such kind, or with a body that isn't one of its kind.
     Malformed(Malformed),
 }

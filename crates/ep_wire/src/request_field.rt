@@ -45,4 +45,8 @@ pub enum RequestField {
     Most,
     /// The replica that a proposal spares.
     Spared,
+    /// How many instances the looks for a read found.
+    Count,
+    /// These instances.
+    Found,
 }

@@ -1,5 +1,5 @@
 //! The admin socket: commands that change the cluster are taken here and not at the clients' port, so that whoever may write data can't end it.
-use crate::clients::{about_server, fault_of};
+use crate::clients::about_server;
 use crate::command_fault::CommandFault;
 use crate::commands::{Asked, Hello, understand};
 use crate::driver::{Ask, Event, Told, What};
@@ -271,7 +271,7 @@ impl Session<'_> {
         match told.recv_timeout(self.operators.patience) {
             Ok(Told::Info(text) | Told::Managed(Ok(text))) => Ok(Reply::Bulk(text.into_bytes())),
             Ok(Told::Managed(Err(fault))) => Err(CommandFault::Managing(fault)),
-            Ok(told) => Err(fault_of(told)),
+            Ok(told) => Err(CommandFault::of(told)),
             Err(_) => Err(CommandFault::Unanswered),
         }
     }

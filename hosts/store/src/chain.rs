@@ -1,9 +1,10 @@
 //! What the machines of a cluster leave, judged as one chain: by `epaxos collect` of each generation, and `epaxos audit
 //! --chain` of all.
-use crate::generations::reference;
 use crate::hosted::Hosting;
 use crate::opening::Opening;
 use crate::peers::Place;
+use epaxos::parts::folder::reference;
+use epaxos::parts::read_folder::ReadFolder;
 use std::ffi::OsStr;
 use std::fs::{self, File};
 use std::ops::RangeInclusive;
@@ -103,7 +104,9 @@ impl Chain<'_> {
             let opening = Opening::read_front_of(&folder.join(format!("{generation}/opening"))).ok();
             match opening {
                 Some(opening) => (opening.wanted() == opening.replicas).then_some(opening.replicas),
-                None if is_served => Some(reference(&folder, generation).ok()?.cluster().replicas()),
+                None if is_served => {
+                    Some(reference(&ReadFolder(folder.clone()), generation).ok()?.cluster().replicas())
+                }
                 None => None,
             }
         };
@@ -120,9 +123,11 @@ impl Chain<'_> {
             {
                 return Ok(path);
             }
-            if reference(&folder, generation).is_ok_and(|reference| reference.cluster().replicas() == count) {
+            if reference(&ReadFolder(folder.clone()), generation)
+                .is_ok_and(|reference| reference.cluster().replicas() == count)
+            {
                 let place = Place { replicas: count.into(), replica: replica as u8 };
-                let hosting = Hosting { place, folder, core: epaxos::Core::Library, checkpoint: u64::MAX };
+                let hosting = Hosting { place, folder, checkpoint: u64::MAX };
                 let path = self.scratch.join(format!("{generation}.opening"));
                 let bytes = hosting.opening(generation).map_err(|fault| fault.to_string())?.bytes;
                 return fs::write(&path, bytes).map(|()| path).map_err(|error| error.to_string());

@@ -148,7 +148,9 @@ mod tests {
                 assert_eq!(Refusal::of(&at_key.to_string()), Some(refusal), "{at_key}");
             }
         }
-        for fault in [CommandFault::Syntax, CommandFault::WrongType, CommandFault::Watch, CommandFault::NoScript] {
+        for fault in
+            [CommandFault::Syntax, CommandFault::WrongType, CommandFault::LongTransaction, CommandFault::NoScript]
+        {
             assert_eq!(Refusal::of(&fault.to_string()), None);
         }
     }

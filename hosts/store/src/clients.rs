@@ -10,15 +10,20 @@ use crate::keys::Keys;
 use crate::listing::Listing;
 use crate::memory::{Memory, Share};
 use crate::metrics::Metrics;
+use crate::multi::{Judged, Multi};
 use crate::password::Password;
 use crate::replies::{Combine, Due, Message, Over, Part, Replies, ReplyTo, Slot, Window};
 use crate::resp::{Input, Reply, Version, read_command};
 use crate::say::warn;
+use crate::step::Step;
 use crate::stored::{self, Stored};
 use crate::teller::Teller;
 use crate::timed::read_some;
-use crate::transactions::Transaction;
+use crate::transaction::Transaction;
+use crate::watching;
 use crate::wishes::Manage;
+use epaxos::MOST_TOLD;
+use std::collections::BTreeSet;
 use std::io::{self, BufWriter, Write};
 use std::net::{Shutdown, TcpListener, TcpStream};
 use std::sync::Arc;
@@ -174,7 +179,9 @@ struct Session {
     is_read_only: bool,
     /// Whether something that isn't a local read may be under way.
     is_writing: bool,
-    transaction: Transaction,
+    multi: Multi,
+    /// What the commands that wait for EXEC take, and what watched keys had.
+    queued: Option<Share>,
 }
 
 /// Whether the connection goes on.
@@ -204,7 +211,8 @@ impl Session {
             name: None,
             is_read_only: false,
             is_writing: false,
-            transaction: Transaction::default(),
+            multi: Multi::default(),
+            queued: None,
         }
     }
 
@@ -252,7 +260,32 @@ impl Session {
 
     /// Takes a command, of so many bytes.
     fn take(&mut self, words: Vec<Vec<u8>>, bytes: usize) -> Result<Next, Over> {
-        let asked = self.transaction.judge(self.permitted(understand(words))).unwrap_or_else(Asked::Answered);
+        if !self.keep(words.len(), bytes) {
+            self.multi.abort();
+            self.fail(CommandFault::NoMemory)?;
+            return Ok(Next::GoesOn);
+        }
+        let judged = self.multi.judge(self.permitted(understand(words)));
+        let asked = match judged {
+            Judged::Do(asked) => asked,
+            Judged::Tell(reply) => Asked::Answered(reply),
+            Judged::Watch(keys) => {
+                self.watch(keys)?;
+                return Ok(Next::GoesOn);
+            }
+            Judged::Look(combine, actions) => {
+                self.look(combine, actions)?;
+                return Ok(Next::GoesOn);
+            }
+            Judged::Exec(transaction) => {
+                let share = self.queued.take();
+                self.transact(Combine::One, vec![transaction], share)?;
+                return Ok(Next::GoesOn);
+            }
+        };
+        if !self.multi.is_open() && !self.multi.is_watching() {
+            self.queued = None;
+        }
         match asked {
             Asked::Keys(combine, actions) => {
                 let Some(share) = self.shared.memory.share(bytes + OVERHEAD * actions.len()) else {
@@ -261,6 +294,20 @@ impl Session {
                 };
                 let is_local = self.is_read_only && actions.iter().all(|(_, action)| action.only_reads());
                 if is_local { self.read_here(combine, actions, share)? } else { self.ask(combine, actions, share)? }
+            }
+            Asked::Joint(combine, steps) => {
+                let Some(share) = self.shared.memory.share(bytes + OVERHEAD * steps.len()) else {
+                    self.fail(CommandFault::NoMemory)?;
+                    return Ok(Next::GoesOn);
+                };
+                self.transact(combine, apart(combine, steps), Some(share))?;
+            }
+            Asked::Txn(transaction) => {
+                let Some(share) = self.shared.memory.share(bytes + OVERHEAD * transaction.steps.len()) else {
+                    self.fail(CommandFault::NoMemory)?;
+                    return Ok(Next::GoesOn);
+                };
+                self.transact(Combine::One, vec![transaction], Some(share))?;
             }
             Asked::Ping(text) => {
                 let takes_part = self.shared.metrics.takes_part.get() == 1;
@@ -302,8 +349,8 @@ impl Session {
             }
             Asked::Answered(reply) => self.answer(reply)?,
             // (these are answered before)
-            Asked::Multi | Asked::Exec | Asked::Discard | Asked::Watch | Asked::Unwatch => {
-                self.fail(CommandFault::Behind)?;
+            Asked::Multi | Asked::Exec | Asked::Discard | Asked::Watch(_) | Asked::Unwatch => {
+                self.fail(CommandFault::NotInMulti)?;
             }
         }
         Ok(Next::GoesOn)
@@ -384,7 +431,7 @@ impl Session {
         self.answer(Reply::Error(fault))
     }
 
-    /// Has actions done, each by a command of the protocol.
+    /// Has actions done, each by a command of the protocol or by a read.
     fn ask(&mut self, combine: Combine, actions: Vec<(Vec<u8>, Action)>, share: Share) -> Result<(), Over> {
         let keys = self.shared.keys.clone();
         let asked: Vec<_> = actions.into_iter().map(|(key, action)| (keys.id(), key, action)).collect();
@@ -395,6 +442,81 @@ impl Session {
             keys.ask(id, key, action, self.reply_to(command, part));
         }
         Ok(())
+    }
+
+    /// Has transactions done, each at once.
+    fn transact(&mut self, combine: Combine, all: Vec<Transaction>, share: Option<Share>) -> Result<(), Over> {
+        if let [one] = all.as_slice()
+            && let Some(reply) = one.untouched()
+        {
+            return self.answer(reply);
+        }
+        let keys = self.shared.keys.clone();
+        // (one has put its replies together)
+        let combine = if all.len() == 1 { Combine::One } else { combine };
+        let all: Vec<_> = all.into_iter().map(|it| (keys.id(), it)).collect();
+        let parts = all.iter().map(|(number, _)| Part::Joint(*number)).collect();
+        let command = self.begin_for(combine, parts, self.shared.patience, share)?;
+        self.is_writing = true;
+        for (part, (number, transaction)) in all.into_iter().enumerate() {
+            keys.transact(number, transaction, self.reply_to(command, part));
+        }
+        Ok(())
+    }
+
+    /// Makes room for a command that may have to wait for EXEC: whether there is any.
+    fn keep(&mut self, words: usize, bytes: usize) -> bool {
+        if !self.multi.is_open() {
+            return true;
+        }
+        let more = bytes + OVERHEAD * words;
+        match &mut self.queued {
+            Some(share) => share.grow(more),
+            None => {
+                self.queued = self.shared.memory.share(more);
+                self.queued.is_some()
+            }
+        }
+    }
+
+    /// What these keys have now they have to have at EXEC. What this connection has asked before is done by then, and
+    /// what it asks later waits for this.
+    fn watch(&mut self, keys: Vec<Vec<u8>>) -> Result<(), Over> {
+        self.settle()?;
+        let (shared, keys) = (&self.shared, self.multi.unwatched(keys));
+        let looked = watching::look(&shared.keys, &shared.events, keys, Instant::now() + shared.patience);
+        let values = match looked {
+            Ok(values) => values,
+            Err(fault) => return self.fail(fault),
+        };
+        let bytes = values.values().flatten().map(Vec::len).sum::<usize>() + OVERHEAD * values.len();
+        let mut share = self.queued.take().or_else(|| self.shared.memory.share(0));
+        let has_room = share.as_mut().is_some_and(|share| share.grow(bytes));
+        self.queued = share;
+        if !has_room {
+            return self.fail(CommandFault::NoMemory);
+        }
+        self.multi.watch(values);
+        self.answer(Reply::Simple("OK"))
+    }
+
+    /// Reads watched keys, among others: another value than that which was there when it was watched is a change.
+    fn look(&mut self, combine: Combine, actions: Vec<(Vec<u8>, Action)>) -> Result<(), Over> {
+        self.settle()?;
+        let shared = &self.shared;
+        let keys: BTreeSet<Vec<u8>> = actions.iter().map(|(key, _)| key.clone()).collect();
+        let deadline = Instant::now() + shared.patience;
+        let values = match watching::look(&shared.keys, &shared.events, keys, deadline) {
+            Ok(values) => values,
+            Err(fault) => return self.fail(fault),
+        };
+        self.multi.compare(&values);
+        let now = stored::now();
+        let reply = |(key, action): &(Vec<u8>, Action)| {
+            let value = values.get(key).cloned().flatten();
+            action.apply(value.map(Stored::read), now).1
+        };
+        self.answer(combine.combine(actions.iter().map(reply).collect()))
     }
 
     /// Waits until what this connection has asked before is done.
@@ -430,7 +552,7 @@ impl Session {
                 Told::Info(text) => Reply::Bulk((text + &shared.about_clients()).into_bytes()),
                 Told::Managed(Ok(text)) => Reply::Bulk(text.into_bytes()),
                 Told::Managed(Err(fault)) => Reply::Error(CommandFault::Managing(fault)),
-                told => Reply::Error(fault_of(told)),
+                told => Reply::Error(CommandFault::of(told)),
             });
         });
         let _ = self.shared.events.send(Event::Ask(Ask { what, reply }));
@@ -479,6 +601,17 @@ impl Session {
     }
 }
 
+/// A DEL of many keys takes several transactions: one tells of so many keys at most what they had.
+fn apart(combine: Combine, steps: Vec<Step>) -> Vec<Transaction> {
+    let most = if combine == Combine::Sum { MOST_TOLD } else { usize::MAX };
+    let mut all = Vec::new();
+    let mut steps = steps.into_iter().peekable();
+    while steps.peek().is_some() {
+        all.push(Transaction::one(combine, steps.by_ref().take(most).collect()));
+    }
+    all
+}
+
 /// What HELLO tells a client of this number.
 pub(crate) fn about_server(version: Version, id: u64) -> Reply {
     let version = if version == Version::Two { 2 } else { 3 };
@@ -496,7 +629,7 @@ pub(crate) fn about_server(version: Version, id: u64) -> Reply {
 
 /// What a local read replies. What is past its deadline is nil, and is removed.
 fn local(keys: &Arc<Keys>, key: Vec<u8>, action: &Action, told: Told) -> Reply {
-    let Told::Value(value) = told else { return Reply::Error(fault_of(told)) };
+    let Told::Value(value) = told else { return Reply::Error(CommandFault::of(told)) };
     let (current, now) = (value.map(Stored::read), stored::now());
     if current.as_ref().is_some_and(|stored| stored.is_over(now)) {
         tidy(keys, key);
@@ -508,16 +641,4 @@ fn local(keys: &Arc<Keys>, key: Vec<u8>, action: &Action, told: Told) -> Reply {
 pub(crate) fn tidy(keys: &Arc<Keys>, key: Vec<u8>) {
     let to = ReplyTo { messages: channel().0, connection: 0, command: 0, part: 0 };
     keys.ask(keys.id(), key, Action::Tidy, to);
-}
-
-/// What a client is told where another answer was expected.
-pub(crate) fn fault_of(told: Told) -> CommandFault {
-    match told {
-        Told::Refused(fault) => CommandFault::Node(fault),
-        Told::Alone => CommandFault::NoMajority,
-        Told::Late => CommandFault::Waiting,
-        Told::MapFull => CommandFault::MapFull,
-        Told::Ending => CommandFault::Ending,
-        _ => CommandFault::StoreEnds,
-    }
 }

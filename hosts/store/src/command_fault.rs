@@ -1,10 +1,10 @@
 //! Why a client's command isn't answered by its reply.
-use crate::listing_fault::ListingFault;
+use crate::driver::Told;
 use crate::malformed_fault::MalformedFault;
 use crate::manage_fault::ManageFault;
 use crate::numbers_fault::NumbersFault;
 use crate::stored::{LONGEST_CONTENT, LONGEST_OWNER};
-use epaxos::{Fault, LONGEST_KEY};
+use epaxos::{Fault, LONGEST_KEY, LONGEST_TX};
 use std::fmt;
 
 /// What a client is told in the place of a reply.
@@ -32,12 +32,10 @@ pub enum CommandFault {
     MapFull,
     /// It wasn't done: its time is over, and it would have had to look first.
     NotInTime,
-    /// It wasn't done: the node refused it.
+    /// It wasn't done: the core refused it.
     Node(Fault),
     /// It wasn't done: there is no client number for it.
     Numbers(NumbersFault),
-    /// The keys can't be listed.
-    Listing(ListingFault),
     /// What somebody who runs the store has asked for isn't done.
     Managing(ManageFault),
     /// It is for operators, at this admin socket.
@@ -46,7 +44,7 @@ pub enum CommandFault {
     ForClients,
     /// It isn't an identity: 32 hexadecimal digits.
     Identity,
-    /// Of a command of several keys: what befell this one, counted from 1.
+    /// Of a command of several keys that is done in parts, of one key or more: what befell this part, counted from 1.
     AtKey(Box<CommandFault>, usize),
 
     /// These bytes aren't of the Redis protocol.
@@ -89,16 +87,39 @@ pub enum CommandFault {
     Apart,
     NoScript,
     Script,
-    /// MULTI is refused, and what follows it; WATCH alone.
-    Multi,
-    Watch,
-    Behind,
+    /// A transaction names more than so many keys.
+    ManyKeys(usize),
+    /// More than so many keys have a condition or are told.
+    ManyTold(usize),
+    /// More than so many commands wait for EXEC.
+    ManyCommands(usize),
+    /// Its keys and values have too many bytes.
+    LongTransaction,
+    NoSuchKey,
+    /// COPY to the same key.
+    SameKey,
+    NestedMulti,
+    WatchInMulti,
+    NotInMulti,
     ExecAborted,
     WithoutMulti(&'static str),
     Http,
 }
 
 impl CommandFault {
+    /// What a client is told where the driver tells this in the place of what was asked for.
+    pub fn of(told: Told) -> CommandFault {
+        match told {
+            Told::Refused(fault) => CommandFault::Node(fault),
+            Told::Alone => CommandFault::NoMajority,
+            Told::Late => CommandFault::Waiting,
+            Told::MapFull => CommandFault::MapFull,
+            Told::Ending => CommandFault::Ending,
+            Told::DoneUnseen { .. } | Told::Doubtful => CommandFault::Doubtful,
+            _ => CommandFault::StoreEnds,
+        }
+    }
+
     /// Whether the command may be done, now or later.
     pub fn may_be_done(&self) -> bool {
         match self {
@@ -106,6 +127,22 @@ impl CommandFault {
             CommandFault::AtKey(fault, _) => fault.may_be_done(),
             _ => false,
         }
+    }
+
+    /// Whether it stands among what EXEC replies, and other commands of the transaction are done. Any other one that
+    /// is told before EXEC has nothing done.
+    pub fn is_told_by_exec(&self) -> bool {
+        matches!(
+            self,
+            CommandFault::Syntax
+                | CommandFault::NotAnInteger
+                | CommandFault::DecrementOverflow
+                | CommandFault::InvalidExpire(_)
+                | CommandFault::IncompatibleExpire
+                | CommandFault::LaterAndEarlier
+                | CommandFault::UnsupportedOption(_)
+                | CommandFault::SameKey
+        )
     }
 }
 
@@ -127,12 +164,11 @@ impl fmt::Display for CommandFault {
             CommandFault::NotInTime => f.write_str("TRYAGAIN the command wasn't done: no majority has answered in time"),
             CommandFault::Node(fault) => match fault {
                 Fault::SpaceFull => f.write_str("FULL this replica has used all of its instances; ask another one"),
-                Fault::SeqExhausted | Fault::StampFull => write!(f, "FULL the node refused: {fault}"),
-                Fault::Memory => write!(f, "OOM the node refused, ask again: {fault}"),
-                _ => write!(f, "ERR the node refused: {fault}"),
+                Fault::SeqExhausted | Fault::StampFull => write!(f, "FULL the core refused: {fault}"),
+                Fault::Memory => write!(f, "OOM the core refused, ask again: {fault}"),
+                _ => write!(f, "ERR the core refused: {fault}"),
             },
             CommandFault::Numbers(fault) => write!(f, "ERR {fault}"),
-            CommandFault::Listing(fault) => write!(f, "ERR the keys can't be listed: {fault}"),
             CommandFault::Managing(fault) => write!(f, "ERR {fault}"),
             CommandFault::ForOperators(place) => {
                 write!(f, "NOPERM this command is for operators only: use {place}")
@@ -142,7 +178,7 @@ impl fmt::Display for CommandFault {
             ),
             CommandFault::Identity => f.write_str("ERR an identity has 32 hexadecimal digits"),
             CommandFault::AtKey(fault, place) => {
-                write!(f, "{fault} (this is of key {place}; each key is a command of its own, and others may be done)")
+                write!(f, "{fault} (this is of part {place} of the keys; each is done by itself, and others may be done)")
             }
             CommandFault::Malformed(fault) => write!(f, "ERR Protocol error: {fault}"),
             CommandFault::Unknown(name) => write!(f, "ERR unknown command '{name}'"),
@@ -187,14 +223,25 @@ impl fmt::Display for CommandFault {
             }
             CommandFault::NoScript => f.write_str("NOSCRIPT No matching script. Scripts aren't supported, but for those of locks"),
             CommandFault::Script => f.write_str("ERR scripts aren't supported, but for those of locks that README lists"),
-            CommandFault::Multi => {
-                f.write_str("ERR MULTI isn't supported; nothing that follows is done until EXEC or DISCARD")
+            CommandFault::ManyKeys(most) => {
+                write!(f, "ERR nothing was done: at most {most} keys may be written or read at once")
             }
-            CommandFault::Watch => f.write_str("ERR WATCH isn't supported, nor is MULTI"),
-            CommandFault::Behind => {
-                f.write_str("ERR it wasn't done: it follows MULTI, which isn't supported, until EXEC or DISCARD")
+            CommandFault::ManyTold(most) => {
+                write!(f, "ERR nothing was done: IF, IFABSENT and GET may name {most} keys at most")
             }
-            CommandFault::ExecAborted => f.write_str("EXECABORT nothing was done: MULTI isn't supported"),
+            CommandFault::ManyCommands(most) => write!(f, "ERR a transaction has at most {most} commands"),
+            CommandFault::LongTransaction => write!(
+                f,
+                "ERR nothing was done: keys and values that are written or compared at once have at most {LONGEST_TX} bytes"
+            ),
+            CommandFault::NoSuchKey => f.write_str("ERR no such key"),
+            CommandFault::SameKey => f.write_str("ERR source and destination objects are the same"),
+            CommandFault::NestedMulti => f.write_str("ERR MULTI calls can not be nested"),
+            CommandFault::WatchInMulti => f.write_str("ERR WATCH inside MULTI is not allowed"),
+            CommandFault::NotInMulti => f.write_str("ERR Command not allowed inside a transaction"),
+            CommandFault::ExecAborted => {
+                f.write_str("EXECABORT Transaction discarded because of previous errors.")
+            }
             CommandFault::WithoutMulti(name) => write!(f, "ERR {name} without MULTI"),
             CommandFault::Http => f.write_str("ERR this is no web server"),
         }

@@ -5,8 +5,11 @@ use crate::identities::{Identity, identity};
 use crate::replies::Combine;
 use crate::resp::{Reply, Version};
 use crate::scripts;
+use crate::step::{Step, Way};
 use crate::stored::{LONGEST_CONTENT, LONGEST_OWNER, now};
 use crate::table::{self, Entry, entry};
+use crate::transaction::Transaction;
+use crate::txn;
 use crate::wishes::Manage;
 use epaxos::LONGEST_KEY;
 use std::time::{Duration, SystemTime, UNIX_EPOCH};
@@ -16,8 +19,11 @@ type Words = Vec<Vec<u8>>;
 /// What is asked.
 #[derive(PartialEq, Eq, Debug)]
 pub enum Asked {
-    /// Actions on keys, each a command of its own, and how their replies make one.
+    /// Actions on keys, each a command or a read of its own, and how their replies make one.
     Keys(Combine, Vec<(Vec<u8>, Action)>),
+    /// Steps on several keys, all done at once, and how their replies make one.
+    Joint(Combine, Vec<Step>),
+    Txn(Transaction),
     /// The keys that there are, as far as this replica knows.
     List(List),
     Info,
@@ -32,7 +38,7 @@ pub enum Asked {
     Multi,
     Exec,
     Discard,
-    Watch,
+    Watch(Vec<Vec<u8>>),
     Unwatch,
     Auth(Words),
     /// A web page's request, in whose body commands may stand that nobody here has asked for.
@@ -104,11 +110,13 @@ fn attempt(mut words: Words) -> Result<Asked, CommandFault> {
         "readwrite" => Ok(Asked::ReadOnly(false)),
         "reset" => Ok(Asked::Reset),
         "quit" => Ok(Asked::Quit),
-        // Whatever words follow: who sends one takes the next commands for a part of it.
         "multi" => Ok(Asked::Multi),
         "exec" => Ok(Asked::Exec),
         "discard" => Ok(Asked::Discard),
-        "watch" => Ok(Asked::Watch),
+        "watch" => {
+            words.iter().try_for_each(|key| in_range(key))?;
+            Ok(Asked::Watch(words))
+        }
         "unwatch" => Ok(Asked::Unwatch),
         "post" | "host:" => Ok(Asked::Http),
         _ => keyed(entry, words),
@@ -117,11 +125,58 @@ fn attempt(mut words: Words) -> Result<Asked, CommandFault> {
 
 /// A command of keys, which are in range.
 fn keyed(entry: Entry, words: Words) -> Result<Asked, CommandFault> {
-    let (combine, actions) = actions(entry.name, words)?;
-    if actions.iter().any(|(key, _)| key.is_empty() || key.len() > LONGEST_KEY) {
-        return Err(CommandFault::KeyLength);
+    if let Some((combine, steps)) = joint(entry.name, &words)? {
+        steps.iter().flat_map(Step::keys).try_for_each(in_range)?;
+        return Ok(Asked::Joint(combine, steps));
     }
+    let (combine, actions) = actions(entry.name, words)?;
+    actions.iter().try_for_each(|(key, _)| in_range(key))?;
     Ok(Asked::Keys(combine, actions))
+}
+
+fn in_range(key: &[u8]) -> Result<(), CommandFault> {
+    if key.is_empty() || key.len() > LONGEST_KEY { Err(CommandFault::KeyLength) } else { Ok(()) }
+}
+
+/// The steps of a command that several keys are written by, if it is one.
+fn joint(name: &'static str, words: &[Vec<u8>]) -> Result<Option<(Combine, Vec<Step>)>, CommandFault> {
+    let acts = |actions: Vec<(Vec<u8>, Action)>| actions.into_iter().map(|(key, it)| Step::Act(key, it)).collect();
+    let carry = |way| match words {
+        [from, to, ..] => Ok(vec![Step::Carry { from: from.clone(), to: to.clone(), way }]),
+        _ => Err(CommandFault::Syntax),
+    };
+    Ok(match name {
+        "del" | "unlink" if words.len() > 1 => {
+            Some((Combine::Sum, acts(words.iter().map(|key| (key.clone(), Action::Delete)).collect())))
+        }
+        "mset" if words.len() > 2 => {
+            let set = |(key, value)| Ok((key, plain(value, Only::Always, Tells::Ok)?));
+            Some((Combine::All, acts(pairs(name, words)?.into_iter().map(set).collect::<Result<_, _>>()?)))
+        }
+        "msetnx" => Some((Combine::One, vec![Step::SetNew(pairs(name, words)?)])),
+        "rename" => Some((Combine::One, carry(Way::Rename)?)),
+        "renamenx" => Some((Combine::One, carry(Way::RenameNew)?)),
+        "copy" => Some((Combine::One, carry(copy(words)?)?)),
+        _ => None,
+    })
+}
+
+/// What the options of a COPY say, behind its two keys.
+fn copy(words: &[Vec<u8>]) -> Result<Way, CommandFault> {
+    let (mut replaces, mut words) = (false, words.iter());
+    let is_same = words.next() == words.next();
+    while let Some(word) = words.next() {
+        match word.to_ascii_lowercase().as_slice() {
+            b"replace" => replaces = true,
+            b"db" => match integer(words.next().ok_or(CommandFault::Syntax)?) {
+                Some(0) => {}
+                Some(_) => return Err(CommandFault::DatabaseIndex),
+                None => return Err(CommandFault::NotAnInteger),
+            },
+            _ => return Err(CommandFault::Syntax),
+        }
+    }
+    if is_same { Err(CommandFault::SameKey) } else { Ok(Way::Copy { replaces }) }
 }
 
 type Actions = (Combine, Vec<(Vec<u8>, Action)>);
@@ -132,7 +187,10 @@ fn actions(name: &'static str, mut words: Words) -> Result<Actions, CommandFault
         "del" | "unlink" => return Ok((Combine::Sum, each(Action::Delete))),
         "exists" | "touch" => return Ok((Combine::Sum, each(Action::Exists))),
         "mget" => return Ok((Combine::List, each(Action::Peek))),
-        "mset" => return Ok((Combine::All, pairs(words)?)),
+        "mset" => {
+            let set = |(key, value)| Ok((key, plain(value, Only::Always, Tells::Ok)?));
+            return Ok((Combine::All, pairs(name, &words)?.into_iter().map(set).collect::<Result<_, _>>()?));
+        }
         "eval" => {
             let script = scripts::by_text(&words.remove(0)).ok_or(CommandFault::Script)?;
             return Ok((Combine::One, vec![script.action(&words)?]));
@@ -147,9 +205,10 @@ fn actions(name: &'static str, mut words: Words) -> Result<Actions, CommandFault
     Ok((Combine::One, vec![(key, action(name, words)?)]))
 }
 
-fn pairs(words: Words) -> Result<Vec<(Vec<u8>, Action)>, CommandFault> {
-    let (pairs, []) = words.as_chunks::<2>() else { return Err(CommandFault::WrongCount("mset".into())) };
-    pairs.iter().map(|[key, value]| Ok((key.clone(), plain(value.clone(), Only::Always, Tells::Ok)?))).collect()
+/// Keys, each with a value.
+fn pairs(name: &str, words: &[Vec<u8>]) -> Result<Vec<(Vec<u8>, Vec<u8>)>, CommandFault> {
+    let (pairs, []) = words.as_chunks::<2>() else { return Err(CommandFault::WrongCount(name.into())) };
+    pairs.iter().map(|[key, value]| Ok((key.clone(), fitting(value.clone())?))).collect()
 }
 
 /// A SET without a deadline.
@@ -303,6 +362,7 @@ fn epaxos(mut words: Words) -> Result<Asked, CommandFault> {
         }
         (b"unlock", [key, owner]) => (key, Action::Unlock { owner: named(owner)? }),
         (b"holder", [key]) => (key, Action::Holder),
+        (b"txn", [_, ..]) => return Ok(Asked::Txn(txn::understand(words)?)),
         (b"help", []) => return Ok(Asked::Answered(help())),
         (b"seal", []) => return Ok(Asked::Manage(Manage::Seal)),
         (b"members", []) => return Ok(Asked::Manage(Manage::Members)),
@@ -310,7 +370,11 @@ fn epaxos(mut words: Words) -> Result<Asked, CommandFault> {
             return Ok(Asked::Manage(replace(replica, identity, rest)?));
         }
         (b"resize", [size, new @ ..]) if new.len() % 3 == 0 => return Ok(Asked::Manage(resize(size, new)?)),
-        (b"help" | b"lock" | b"renew" | b"unlock" | b"holder" | b"seal" | b"members" | b"replace" | b"resize", _) => {
+        (
+            b"help" | b"txn" | b"lock" | b"renew" | b"unlock" | b"holder" | b"seal" | b"members" | b"replace"
+            | b"resize",
+            _,
+        ) => {
             return Err(CommandFault::WrongCount(format!("epaxos|{}", printable(&sub))));
         }
         _ => return Err(CommandFault::UnknownSubcommand("EPAXOS", printable(&sub))),
@@ -328,6 +392,8 @@ fn help() -> Reply {
         "EPAXOS RENEW key owner milliseconds -- keeps it for longer, where this owner has it",
         "EPAXOS UNLOCK key owner -- lets go of it",
         "EPAXOS HOLDER key -- who has it, its token, and for how long",
+        "EPAXOS TXN [IF key value | IFABSENT key | GET key | SET key value | DEL key ..] -- if all keys are as they should be, \
+         all is written, else nothing; 1 or 0, and what the keys of GET had before",
         "EPAXOS MEMBERS -- who takes part, and who waits to be let in",
         "EPAXOS HELP -- this text",
         "At the admin socket (--admin) alone:",

@@ -173,8 +173,11 @@ mod tests {
         let all: Vec<_> = ends.iter().enumerate().map(take).collect();
         assert!(all.iter().enumerate().all(|(place, it)| it.is_kept() == (place >= 2)));
         let more = connect(&listener);
-        all.iter().for_each(Connection::hear);
+        // (what is heard after that was heard just now, also where the machine is slow)
+        let later = connections.now() + 60_000;
+        all.iter().for_each(|it| it.taken.heard.store(later, Ordering::Relaxed));
         assert!(connections.take(100, &more.1).is_none() && connections.take_kept(100, &more.1).is_none());
+        all.iter().for_each(Connection::hear);
         // The one that was silent for longest makes room, but for those that came first.
         thread::sleep(KEPT_SILENCE);
         all[3..].iter().for_each(Connection::hear);

@@ -1,20 +1,23 @@
 //! The folder of a replica: where its files are, a lock, and whether they are whole.
 use crate::directory_fault::DirectoryFault;
-use crate::file_fault::FileFault;
-use crate::generations::{look, numbers_in, reference};
+use crate::generations::in_use;
 use crate::identities;
 use crate::opening::Opening;
 use crate::planning::{first, newest};
+use epaxos::host::Stored;
+use epaxos::parts::files::{self, unusable};
+use epaxos::parts::folder::{look, reference};
+use epaxos::parts::read_folder::ReadFolder;
 use std::fs::{self, File, OpenOptions, TryLockError};
-use std::io::{self, Seek, Write};
+use std::io;
 use std::path::{Path, PathBuf};
 use std::thread::{self, JoinHandle};
 use std::time::{Duration, Instant};
 
-/// How long to wait for a node that still ends.
+/// How long to wait for a store that still ends.
 const PATIENCE: Duration = Duration::from_secs(10);
-/// So many bytes of the file for the node's standard error are there before it writes, so that it can tell that the disk is full.
-const ROOM_FOR_ERRORS: usize = 4_096;
+/// The file that is locked. (Stores that had a node of their own kept what it told in it.)
+const LOCKED: &str = "node-errors";
 /// Marks the folder of a machine that has never acted, and waits until a generation names it.
 const JOINING: &str = "joining";
 /// An opening that a start goes on by.
@@ -23,24 +26,18 @@ pub(crate) const WHOLE: &str = "opening.take";
 /// A replica's folder, which this process alone uses.
 pub struct Directory {
     path: PathBuf,
-    /// Takes the node's standard error. The lock on it is held as long as this process or the node lives.
-    errors: File,
+    /// The lock on it is held as long as this process lives.
+    _locked: File,
 }
 
 impl Directory {
     /// Opens or creates the folder.
     pub fn open(path: &Path) -> Result<Directory, DirectoryFault> {
-        let told = |error: io::Error| unusable(path.to_path_buf(), error);
-        create(path).map_err(told)?;
-        let errors_path = path.join("node-errors");
-        let mut errors =
-            OpenOptions::new().write(true).create(true).truncate(false).open(&errors_path).map_err(told)?;
-        lock(&errors, path)?;
-        errors.set_len(0).map_err(told)?;
-        // (where there is no room already, the node's log tells so soon)
-        let _ = errors.write_all(&[b' '; ROOM_FOR_ERRORS]);
-        errors.rewind().map_err(told)?;
-        let directory = Directory { path: path.to_path_buf(), errors };
+        create(path).map_err(unusable(path))?;
+        let locked = OpenOptions::new().write(true).create(true).truncate(false).open(path.join(LOCKED));
+        let locked = locked.map_err(unusable(path))?;
+        lock(&locked, path)?;
+        let directory = Directory { path: path.to_path_buf(), _locked: locked };
         if directory.path.join("log").exists() {
             return Err(DirectoryFault::Old(directory.path));
         }
@@ -49,19 +46,23 @@ impl Directory {
 
     /// The folder of a store that has ended, of which nothing is changed. No store starts over it meanwhile.
     pub fn look(path: &Path) -> Result<Directory, DirectoryFault> {
-        let errors_path = path.join("node-errors");
-        let errors = File::open(&errors_path).map_err(|error| unusable(errors_path, error))?;
-        lock(&errors, path)?;
-        Ok(Directory { path: path.to_path_buf(), errors })
+        let locked = File::open(path.join(LOCKED)).map_err(unusable(&path.join(LOCKED)))?;
+        lock(&locked, path)?;
+        Ok(Directory { path: path.to_path_buf(), _locked: locked })
     }
 
     pub fn path(&self) -> &Path {
         &self.path
     }
 
-    /// The folder of the node's generations.
+    /// The folder of the replica's generations.
     pub fn generations(&self) -> PathBuf {
         self.path.join("generations")
+    }
+
+    /// The same, as it is read.
+    pub fn folder(&self) -> ReadFolder {
+        ReadFolder(self.generations())
     }
 
     /// The file that a generation opens with.
@@ -97,17 +98,8 @@ impl Directory {
     pub fn keep_taken(&self) -> io::Result<PathBuf> {
         File::open(self.taken())?.sync_all()?;
         fs::rename(self.taken(), self.whole())?;
-        File::open(&self.path)?.sync_all()?;
+        files::sync(&self.path)?;
         Ok(self.whole())
-    }
-
-    pub fn errors_path(&self) -> PathBuf {
-        self.path.join("node-errors")
-    }
-
-    /// Another handle of the file for the node's standard error, with the same lock.
-    pub fn errors(&self) -> io::Result<File> {
-        self.errors.try_clone()
     }
 
     pub(crate) fn has_identities(&self) -> bool {
@@ -116,9 +108,9 @@ impl Directory {
 
     /// The generations that have a file of this name, in rising order.
     pub(crate) fn generations_with(&self, name: &str) -> Vec<u32> {
-        let folder = self.generations();
-        let all = numbers_in(&folder).unwrap_or_default().into_iter();
-        all.filter(|generation| folder.join(generation.to_string()).join(name).exists()).collect()
+        let folder = self.folder();
+        let all = folder.generations().unwrap_or_default().into_iter();
+        all.filter(|generation| folder.folder_of(*generation).join(name).exists()).collect()
     }
 
     /// How many bytes the log of a generation has, 0 where there is none.
@@ -131,7 +123,7 @@ impl Directory {
     }
 
     /// Before any file is opened. A folder gets its identities once its other files are there; so one with identities and
-    /// without a log or receipts has lost them. (The node looks whether each generation's files are there.)
+    /// without a log or receipts has lost them. (The core looks whether each generation's files are there.)
     pub fn check_files(&self) -> Result<(), DirectoryFault> {
         if !self.has_identities() || self.is_joining() {
             return Ok(());
@@ -158,7 +150,7 @@ impl Directory {
             if self.has_identities() {
                 return Err(DirectoryFault::Lost(self.generations()));
             }
-            identities::replace(&self.path, JOINING, "").map_err(|error| unusable(self.path.join(JOINING), error))?;
+            files::write(&self.path, JOINING, &[]).map_err(unusable(&self.path.join(JOINING)))?;
         }
         Ok(true)
     }
@@ -169,8 +161,8 @@ impl Directory {
         if !path.exists() {
             return Ok(());
         }
-        let removed = fs::remove_file(&path).and_then(|()| File::open(&self.path)?.sync_all());
-        removed.map_err(|error| unusable(path, error))
+        let removed = fs::remove_file(&path).and_then(|()| files::sync(&self.path));
+        Ok(removed.map_err(unusable(&path))?)
     }
 
     /// A replica is begun where its user says so, and never twice: a folder without one may be another folder, or one whose disk
@@ -187,7 +179,7 @@ impl Directory {
     /// The folders for generations and receipts are there, and on the disk; and nothing that a peer hadn't handed whole.
     pub fn prepare(&self) -> Result<(), DirectoryFault> {
         for folder in [self.generations(), self.path.join("receipts")] {
-            create(&folder).map_err(|error| unusable(folder, error))?;
+            create(&folder).map_err(unusable(&folder))?;
         }
         // (of what a peer was handing before this start nothing more comes)
         [self.taken(), self.leading()].iter().for_each(|path| _ = fs::remove_file(path));
@@ -208,8 +200,8 @@ impl Directory {
 
     /// The newest generation that is here.
     pub fn newest(&self) -> Option<u32> {
-        let held = look(&self.generations()).unwrap_or_default();
-        Some(newest(&held)).filter(|newest| *newest > 0)
+        let held = look(&self.folder()).unwrap_or_default();
+        newest(&held).ok().filter(|newest| *newest > 0)
     }
 
     /// The newest generation that is here, and how many replicas it has; none where there is none.
@@ -217,38 +209,37 @@ impl Directory {
         let Some(newest) = self.newest() else { return Ok(None) };
         let path = self.opening(newest);
         if path.exists() {
-            let opening = Opening::read_front_of(&path).map_err(|error| unusable(path, error))?;
+            let opening = Opening::read_front_of(&path).map_err(unusable(&path))?;
             return Ok(Some((opening.generation, opening.replicas)));
         }
-        let reference = reference(&self.generations(), newest).map_err(DirectoryFault::Generations)?;
+        let reference = reference(&self.folder(), newest).map_err(DirectoryFault::Generations)?;
         Ok(Some((newest, reference.cluster().replicas())))
     }
 
     /// Whether the opening of a generation is read from its file.
     pub fn is_whole(&self, generation: u32) -> bool {
-        let held = look(&self.generations()).unwrap_or_default();
-        held.iter().any(|one| one.number == generation && one.is_whole())
+        let held = look(&self.folder()).unwrap_or_default();
+        first(&held, generation) == Ok(generation)
     }
 
-    /// Takes back that the node has opened its newest generation, of which nobody was told: it was for another number of replicas than
+    /// Takes back that the core has opened its newest generation, of which nobody was told: it was for another number of replicas than
     /// the seal wants. The marks go first, or what is left of the generation would be missed.
     pub fn take_back(&self, generation: u32) -> Result<(), DirectoryFault> {
-        let failed = |path: PathBuf| move |error| unusable(path, error);
         for left in self.generations_with("left") {
             let folder = self.generations().join(left.to_string());
-            let removed = fs::remove_file(folder.join("left")).and_then(|()| File::open(&folder)?.sync_all());
-            removed.map_err(failed(folder))?;
+            let removed = fs::remove_file(folder.join("left")).and_then(|()| files::sync(&folder));
+            removed.map_err(unusable(&folder))?;
         }
         let folder = self.generations().join(generation.to_string());
-        let removed = fs::remove_dir_all(&folder).and_then(|()| File::open(self.generations())?.sync_all());
-        removed.map_err(failed(folder))
+        let removed = fs::remove_dir_all(&folder).and_then(|()| files::sync(&self.generations()));
+        Ok(removed.map_err(unusable(&folder))?)
     }
 
     /// Drops what isn't needed of generations that were left: all but the last `kept` ones, and those whose logs lead to the newest one. Marks go last. A
     /// thread does it, where there is something: long files take a while.
     pub fn drop_left_beside(&self, kept: usize) -> Option<JoinHandle<()>> {
-        let held = look(&self.generations()).ok()?;
-        let needed = first(&held, newest(&held)).ok()?;
+        let held = look(&self.folder()).ok()?;
+        let needed = first(&held, newest(&held).ok()?).ok()?;
         let mut left: Vec<u32> = held.iter().filter(|one| one.left_for > 0).map(|one| one.number).collect();
         left.truncate(left.len().saturating_sub(kept));
         left.retain(|generation| *generation < needed);
@@ -274,10 +265,6 @@ fn drop_one(folder: &Path, receipts: &Path) {
     }
 }
 
-fn unusable(path: PathBuf, error: io::Error) -> DirectoryFault {
-    FileFault::Unusable(path, error).into()
-}
-
 /// Creates the folder, and those above it; each is on the disk before anything lies in it.
 fn create(path: &Path) -> io::Result<()> {
     if path.is_dir() {
@@ -286,7 +273,7 @@ fn create(path: &Path) -> io::Result<()> {
     let above = path.parent().filter(|above| !above.as_os_str().is_empty()).unwrap_or(Path::new("."));
     create(above)?;
     fs::create_dir(path)?;
-    File::open(above)?.sync_all()
+    files::sync(above)
 }
 
 fn lock(file: &File, path: &Path) -> Result<(), DirectoryFault> {
@@ -295,8 +282,8 @@ fn lock(file: &File, path: &Path) -> Result<(), DirectoryFault> {
         match file.try_lock() {
             Ok(()) => return Ok(()),
             Err(TryLockError::WouldBlock) if start.elapsed() < PATIENCE => thread::sleep(Duration::from_millis(20)),
-            Err(TryLockError::WouldBlock) => return Err(FileFault::InUse(path.to_path_buf()).into()),
-            Err(TryLockError::Error(error)) => return Err(unusable(path.to_path_buf(), error)),
+            Err(TryLockError::WouldBlock) => return Err(in_use(path).into()),
+            Err(TryLockError::Error(error)) => return Err(unusable(path)(error).into()),
         }
     }
 }

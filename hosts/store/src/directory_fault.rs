@@ -1,8 +1,8 @@
 //! Why a folder isn't taken.
-use crate::file_fault::FileFault;
-use crate::generations_fault::GenerationsFault;
 use crate::identities;
+use epaxos::host::FolderFault;
 use std::fmt;
+use std::io;
 use std::path::PathBuf;
 
 const NEVER: &str = "This replica must not come back: it may have promised what it doesn't know any more";
@@ -10,7 +10,8 @@ const NEVER: &str = "This replica must not come back: it may have promised what 
 /// Why a folder isn't taken.
 #[derive(Debug)]
 pub enum DirectoryFault {
-    File(FileFault),
+    /// A file can't be used, or another process has it.
+    File(io::Error),
     /// It is of a store that had no generations.
     Old(PathBuf),
     /// A file was lost, without which the replica doesn't know what it promised.
@@ -22,15 +23,11 @@ pub enum DirectoryFault {
     /// A replica is to go on where there is none.
     NotBegun(PathBuf),
     /// Of this generation there are so many entries, and a client was told of a later one.
-    Forgotten {
-        generation: u32,
-        entries: u32,
-        told: u32,
-    },
+    Forgotten { generation: u32, entries: u32, told: u32 },
     /// There are entries, and no identities.
     NotWhole(PathBuf),
     /// Its generations aren't gone on with.
-    Generations(GenerationsFault),
+    Generations(FolderFault),
 }
 
 impl DirectoryFault {
@@ -44,9 +41,9 @@ impl DirectoryFault {
     }
 }
 
-impl From<FileFault> for DirectoryFault {
-    fn from(fault: FileFault) -> DirectoryFault {
-        DirectoryFault::File(fault)
+impl From<io::Error> for DirectoryFault {
+    fn from(error: io::Error) -> DirectoryFault {
+        DirectoryFault::File(error)
     }
 }
 
@@ -71,7 +68,9 @@ impl fmt::Display for DirectoryFault {
                 write!(f, "the folder {} has a replica already: --new is for its first start alone", path.display())
             }
             DirectoryFault::NotBegun(path) => {
-                write!(f, "the folder {} has no replica: --new begins one, where there never was one", path.display())
+                let path = path.display();
+                write!(f, "the folder {path} has no replica: --new begins one, where there never was one; ")?;
+                f.write_str("--join takes the place of one that is lost")
             }
             DirectoryFault::Forgotten { generation, entries, told } => write!(
                 f,

@@ -1,32 +1,35 @@
 //! The one thread that drives the core: it gathers what is waiting, asks the core all of it, and hands out the answers.
-use crate::commits::{Commits, Committed, Lacking};
+use crate::commits::Committed;
 use crate::core::{Core, Pairs};
 use crate::directory::Directory;
-use crate::distances::Distances;
 use crate::following::Following;
-use crate::frames::Head;
-use crate::generation::{Generation, Limits, Stage};
+use crate::generation::Limits;
 use crate::lead::Lead;
 use crate::manage_fault::ManageFault;
 use crate::members::{Member, Members};
 use crate::messages::Message;
 use crate::metrics::Metrics;
 use crate::node_fault::NodeFault;
-use crate::openings::Form;
-use crate::others::Others;
-use crate::outcome::{Asked, Outcome, Outgoing, Report, receipts};
-use crate::peers::{Membership, Peers, Place};
+use crate::outcome::{self, Outcome, receipts};
+use crate::peers::{Membership, Peers};
 use crate::plants::{Plant, changed};
-use crate::presence::Presence;
+use crate::progress::{Came, Progress};
+use crate::queries::Report;
 use crate::receipts::Receipts;
-use crate::room::{Judgement, Room};
+use crate::room::Room;
+use crate::seen::Seen;
 use crate::stop_fault::StopFault;
 use crate::teller::Teller;
-use crate::under_way::UnderWay;
 use crate::watch::Watch;
-use crate::wishes::{Manage, Wish};
-use epaxos::{Answer, Call, Fault, Instance, MOST_COMMANDS, OpenInstance, OwnedAnswer, OwnedCommand, Proposed, State};
-use std::collections::{BTreeMap, BTreeSet, VecDeque};
+use crate::wishes::{Manage, Wishes};
+use epaxos::parts::batch::{MOST_BYTES, MOST_EVENTS, Pending};
+use epaxos::parts::calls::{Accepted, Called, Calls, Refusal, Released};
+use epaxos::parts::leaving::Lag;
+use epaxos::parts::reading::Reading;
+use epaxos::parts::together::{Asked, Whole, answers};
+use epaxos::parts::under_way::Waiting;
+use epaxos::{Answer, Call, Fault, MOST_COMMANDS, OpenInstance, OwnedAnswer, OwnedCommand, Proposed, State};
+use std::collections::BTreeSet;
 use std::fmt::Write;
 use std::path::PathBuf;
 use std::sync::Arc;
@@ -34,24 +37,10 @@ use std::sync::mpsc::{Receiver, RecvTimeoutError};
 use std::thread::{self, JoinHandle};
 use std::time::{Duration, Instant};
 
-/// At most so many events share one sync, and those that come once there are so many bytes wait for the next one.
-const MOST_EVENTS: usize = 512;
-const MOST_BYTES: usize = 1 << 20;
-/// So many open instances are told at once, and so many behind these one by one, in one look.
-const MOST_FOUND: u8 = 255;
-const MOST_MORE: usize = 64;
 /// For INFO the core is asked at most that often: many may ask for it.
 const BETWEEN_INFOS: Duration = Duration::from_millis(50);
 /// INFO counts at most so many.
 const MOST_TOLD: u8 = 255;
-/// Where no majority is reached, what clients propose is held for so long since then: a peer may just be starting.
-const ALONE_PATIENCE: Duration = Duration::from_secs(1);
-/// Commits that nobody here waits for may wait so long for something that their sync is shared with.
-const COMMITS_PATIENCE: Duration = Duration::from_millis(3);
-/// Where the map is full, the next generation tells what others have deleted, so long after the present one has begun.
-const FULL_PAUSE: Duration = Duration::from_secs(30);
-/// So many bytes of Commits are sent a peer again at once.
-const MOST_AGAIN: usize = 4 << 20;
 
 /// What comes to the driver.
 pub enum Event {
@@ -63,12 +52,17 @@ pub enum Event {
     PeerLost(u8),
     /// It has opened one to this replica.
     PeerCame(u8),
-    /// The core answers nothing any more, in the run of this number.
-    NodeEnded(u64),
     /// A client asks.
     Ask(Ask),
     /// The store is to end, once those who wait were told.
     End,
+}
+
+impl Event {
+    /// How many bytes a peer has sent by it.
+    fn bytes(&self) -> usize {
+        if let Event::Came { bytes, .. } = self { bytes.len() } else { 0 }
+    }
 }
 
 /// A client's question, and where its answer goes.
@@ -84,6 +78,9 @@ pub enum What {
         seen: u64,
         command: OwnedCommand,
     },
+    /// What a key has, of all that was acknowledged before: a read that writes nothing.
+    Get(Vec<u8>),
+    /// What a key has here: a local read.
     Read(Vec<u8>),
     /// What all keys have here, after all that is known to be committed.
     Contents,
@@ -112,97 +109,36 @@ pub enum Told {
     Late,
     /// It wasn't proposed, as the map has no room for it.
     MapFull,
-    /// It wasn't proposed, as the store ends.
+    /// It wasn't done, as the store ends, or takes part no more.
     Ending,
     Value(Option<Vec<u8>>),
-    /// None where `epaxos contents` has to be asked.
-    Contents(Option<Pairs>),
+    Contents(Pairs),
     Info(String),
     Managed(Result<String, ManageFault>),
     /// The driver has ended: what was proposed may still be done.
     Ended,
 }
 
-/// What the core is asked to take, and for whom.
-enum Request {
-    /// A client's command, and whom to tell.
-    Propose {
-        proposal: Proposal,
-        reply: Teller,
-    },
-    Seal(Proposal),
-    /// A frame that came from a peer.
-    Frame {
-        from: u8,
-        head: Head,
-        bytes: Vec<u8>,
-    },
-    GiveUp(Instance),
-    Recover(Instance),
-}
-
-/// A command that is to be proposed.
-struct Proposal {
-    call: Call,
-    command: OwnedCommand,
-    /// The replica that it names as the spared one, if it names one.
-    spared: Option<u8>,
-}
-
-impl Proposal {
-    fn event(&self) -> epaxos::Event<'_> {
-        let (call, command) = (self.call, self.command.lent());
-        match self.spared {
-            None => epaxos::Event::Propose { call, command },
-            Some(spared) => epaxos::Event::ProposeSparing { call, command, spared },
-        }
-    }
-}
-
-impl Request {
-    fn event(&self) -> epaxos::Event<'_> {
-        match self {
-            Request::Propose { proposal, .. } | Request::Seal(proposal) => proposal.event(),
-            Request::Frame { bytes, .. } => epaxos::Event::Handle(bytes),
-            Request::GiveUp(instance) => epaxos::Event::GiveUp(*instance),
-            Request::Recover(instance) => epaxos::Event::Recover(*instance),
-        }
-    }
-}
-
 /// What is asked together.
+pub(crate) type Batch = epaxos::parts::batch::Batch<Held>;
+type Request = epaxos::parts::batch::Request<Held>;
+
+/// What clients ask of what is here: it comes last, and tells of all that was executed before it.
 #[derive(Default)]
-pub(crate) struct Batch {
-    requests: Vec<Request>,
-    /// How many bytes the frames among them have.
-    bytes: usize,
-    /// Local reads come last, and tell of all that was executed before them.
+pub(crate) struct Local {
+    /// The keys of local reads.
     reads: Vec<(Vec<u8>, Teller)>,
-    /// Who asks for all keys, likewise.
+    /// Who asks for all keys.
     lists: Vec<Teller>,
 }
 
-impl Batch {
-    fn append(&mut self, more: Batch) {
-        self.requests.extend(more.requests);
-        self.bytes += more.bytes;
-        self.reads.extend(more.reads);
-        self.lists.extend(more.lists);
-    }
-
+impl Local {
     fn is_empty(&self) -> bool {
-        self.requests.is_empty() && self.reads.is_empty() && self.lists.is_empty()
-    }
-
-    /// Whether it has nothing but commits of peers, of which none is a seal's.
-    fn is_commits(&self) -> bool {
-        let is_it = |head: &Head| head.is_commit() && !head.is_seal_committed();
-        let is_commit = |request: &Request| matches!(request, Request::Frame { head, .. } if is_it(head));
-        self.reads.is_empty() && self.lists.is_empty() && self.requests.iter().all(is_commit)
+        self.reads.is_empty() && self.lists.is_empty()
     }
 }
 
-/// What a client asked for and the core wasn't asked yet.
+/// What a client asked for and wasn't told yet.
 pub struct Held {
     pub since: Instant,
     pub client: u32,
@@ -212,13 +148,39 @@ pub struct Held {
     pub reply: Teller,
 }
 
-/// A command that is under way.
-pub struct Waiting {
-    pub instance: Instance,
-    pub reply: Teller,
-    /// How many bytes its key and its value have.
-    pub bytes: usize,
-    pub command: OwnedCommand,
+impl Asked for Held {
+    fn command(&self) -> &OwnedCommand {
+        &self.command
+    }
+}
+
+impl Called for Held {
+    fn since(&self) -> Instant {
+        self.since
+    }
+
+    fn is_given_up(&self) -> bool {
+        self.reply.begun().is_given_up()
+    }
+
+    fn begin(&self) -> bool {
+        self.reply.begun().begin()
+    }
+
+    fn take_back(&self) {
+        self.reply.begun().take_back();
+    }
+}
+
+/// As whose request their commands are proposed together: the first one's.
+fn call_of(members: &[Held]) -> Call {
+    let (client, request) = members.first().map(|held| (held.client, held.request)).unwrap_or_default();
+    Call { client, request, seen: members.iter().map(|held| held.seen).max().unwrap_or_default() }
+}
+
+/// All of them are told this.
+pub(crate) fn tell_all(members: impl IntoIterator<Item = Held>, told: impl Fn() -> Told) {
+    members.into_iter().for_each(|held| held.reply.send(told()));
 }
 
 /// What a driver begins with.
@@ -243,59 +205,54 @@ pub struct Parts<C> {
 
 /// The core, and all that it is driven with.
 pub struct Driver<C> {
-    pub(crate) place: Place,
+    /// How far this replica and its peers are.
+    pub(crate) progress: Progress,
+    /// The file of what was seen of them.
+    pub(crate) seen: Seen,
     pub(crate) node: C,
     pub(crate) peers: Peers,
     pub(crate) directory: Directory,
     pub(crate) membership: Arc<Membership>,
     pub(crate) receipts: Receipts,
-    pub(crate) watch: Watch,
     pub(crate) events: Receiver<Event>,
     pub(crate) plant: Option<Plant>,
     pub(crate) limits: Limits,
     pub(crate) kept: usize,
-    pub(crate) patience: Duration,
-    pub(crate) held: VecDeque<Held>,
-    /// Since when no majority is known to be reached.
-    pub(crate) alone_since: Option<Instant>,
-    /// How far the peers are, and which of them proposals spare.
-    pub(crate) distances: Distances,
+    /// What clients have proposed, from when they asked until they are told.
+    pub(crate) calls: Calls<Held>,
     /// When the last turn was wanted at the latest.
     wanted: Instant,
-    /// Commits that wait for something else to be asked, and until when.
-    pub(crate) delayed: (Batch, Option<Instant>),
+    /// What the core is to be asked.
+    pub(crate) pending: Pending<Held>,
+    local: Local,
     /// Who asks for INFO, and when the core may be asked for them.
     pub(crate) infos: Vec<Teller>,
     pub(crate) next_info: Instant,
-    /// The clients that wait for what this replica has proposed.
-    pub(crate) waiting: UnderWay,
-    pub(crate) generation: Generation,
-    pub(crate) others: Others,
-    pub(crate) commits: Commits,
-    /// How many Commits were sent again since the start.
-    pub(crate) sent_again: u64,
+    /// Reads that write nothing.
+    pub(crate) reads: Reading<Teller>,
     /// An opening that is on its way, or has come whole, with its generation.
     pub(crate) following: Option<Following>,
     pub(crate) taken: Option<(u32, PathBuf)>,
-    /// Since when a peer is in a later generation.
-    pub(crate) behind_since: Option<Instant>,
+    /// Since when peers are in a later generation.
+    pub(crate) lag: Lag,
     /// What leads peers that lag to this generation.
     pub(crate) lead: Lead,
-    /// The peers that want an opening which isn't written yet, and in which form; and when a piece was wanted last.
-    pub(crate) wanting: BTreeMap<u8, Form>,
+    /// The peers that want an opening which isn't written yet; and when a piece was wanted last.
+    pub(crate) wanting: BTreeSet<u8>,
     pub(crate) handed: Option<Instant>,
     /// Whether something is to be dropped of generations that were left, once nothing is handed.
     pub(crate) is_drop_due: bool,
     /// Whether an opening was being written when it was looked at last.
     pub(crate) is_writing: bool,
     pub(crate) members: Members,
-    pub(crate) wishes: Vec<Wish>,
+    pub(crate) wishes: Wishes,
     /// The number under which this replica proposes seals, and how many it has.
     pub(crate) sealer: (u32, u32),
     /// Whether others' commands may be committed here and not executed.
     pub(crate) is_unexecuted: bool,
     pub(crate) next_tick: Instant,
-    pub(crate) refused_frames: u64,
+    /// When what others have proposed may be executed.
+    pub(crate) next_execution: Instant,
     pub(crate) metrics: Arc<Metrics>,
     /// Changes of generation since the start, and how long the last one took.
     pub(crate) changes: (u64, Duration),
@@ -303,27 +260,16 @@ pub struct Driver<C> {
     pub(crate) ends_at: Option<Instant>,
     /// What drops generations that were left.
     pub(crate) dropping: Option<JoinHandle<()>>,
-    /// How much the map may grow.
-    pub(crate) room: Room,
     /// Whether a generation has just begun: what was held for it isn't to wait for an event.
     pub(crate) is_fresh: bool,
-}
-
-/// How many bytes the keys and values of a command have.
-fn length(command: &OwnedCommand) -> usize {
-    let of = |value: &Option<Vec<u8>>| value.as_ref().map_or(0, Vec::len);
-    match command {
-        OwnedCommand::Get { key } | OwnedCommand::Del { key } => key.len(),
-        OwnedCommand::Put { key, value } => key.len() + value.len(),
-        OwnedCommand::Cas { key, expected, new } => key.len() + of(expected) + of(new),
-        OwnedCommand::Seal { value } => value.len(),
-        _ => 0,
-    }
+    /// When it says next that it leaves, and waits for the others, if it has said so.
+    pub(crate) next_word: Option<Instant>,
 }
 
 /// The driver has ended, and what is asked isn't done.
 fn refuse(event: Event) {
-    if let Event::Ask(Ask { what: What::Propose { .. } | What::Read(_) | What::Contents, reply }) = event {
+    if let Event::Ask(Ask { what: What::Propose { .. } | What::Get(_) | What::Read(_) | What::Contents, reply }) = event
+    {
         reply.send(Told::Ending);
     }
 }
@@ -333,58 +279,60 @@ impl<C: Core> Driver<C> {
         let Parts { node, state, peers, directory, membership, receipts, watch, events, .. } = parts;
         let place = membership.place;
         let now = Instant::now();
-        let others = Others::open(directory.path(), place.replicas, state.generation);
+        let mut progress = Progress::with(watch, place, state, now);
+        let seen = Seen::open(directory.path(), state.generation, &mut progress.others);
         Driver {
-            place,
+            progress,
+            seen,
             node,
             peers,
             directory,
             membership,
             receipts,
-            watch,
             events,
             plant: parts.plant,
             limits: parts.limits,
             kept: parts.kept,
-            patience: parts.patience,
-            held: VecDeque::new(),
-            alone_since: None,
-            distances: Distances::new(place.replicas, place.replica, now),
+            calls: Calls::new(parts.patience, 1, None),
             wanted: now,
-            delayed: (Batch::default(), None),
+            pending: Pending::default(),
+            local: Local::default(),
             infos: Vec::new(),
             next_info: now,
-            waiting: UnderWay::default(),
-            generation: Generation::new(state, Duration::ZERO, now),
-            others,
-            commits: Commits::new(place.replicas),
-            sent_again: 0,
+            reads: Reading::new(place.replicas, parts.sealer, parts.plant.and_then(Plant::in_reads)),
             following: None,
             taken: None,
-            behind_since: None,
+            lag: Lag::default(),
             lead: Lead::default(),
-            wanting: BTreeMap::new(),
+            wanting: BTreeSet::new(),
             handed: None,
             is_drop_due: false,
             is_writing: false,
             members: Members(vec![Member::default(); place.replicas]),
-            wishes: Vec::new(),
+            wishes: Wishes::default(),
             sealer: (parts.sealer, 0),
             is_unexecuted: true,
             next_tick: now,
-            refused_frames: 0,
+            next_execution: now,
             metrics: parts.metrics,
             changes: (0, Duration::ZERO),
             ends_at: None,
             dropping: None,
-            room: Room::default(),
             is_fresh: false,
+            next_word: None,
         }
     }
 
     /// The map may have so many bytes.
-    pub fn with_most_map(self, most: Option<u64>) -> Driver<C> {
-        Driver { room: Room::new(most), ..self }
+    pub fn with_most_map(mut self, most: Option<u64>) -> Driver<C> {
+        self.calls.room = Room::new(most);
+        self
+    }
+
+    /// What clients write to so many keys goes together; not so where something is planted.
+    pub fn with_together(mut self, most: usize) -> Driver<C> {
+        self.calls.most_together = if self.plant.is_some() { 1 } else { most };
+        self
     }
 
     /// Drives the core until something ends.
@@ -406,24 +354,28 @@ impl<C: Core> Driver<C> {
 
     /// What came and wasn't proposed isn't done any more.
     pub(crate) fn refuse_the_rest(&mut self) {
-        self.held.drain(..).for_each(|held| held.reply.send(Told::Ending));
+        tell_all(self.calls.held.drain(..), || Told::Ending);
+        self.refuse_reads(|| Told::Ending);
         while let Ok(event) = self.events.try_recv() {
             refuse(event);
         }
     }
 
     pub(crate) fn turn(&mut self) -> Result<(), StopFault> {
-        let batch = self.gather()?;
-        let mut batch = self.with_commits(batch);
+        self.gather()?;
+        self.learn_links();
+        self.read()?;
+        let mut batch = self.take_pending();
         self.tick()?;
         self.ping_peers();
         self.release(&mut batch);
         self.seal(&mut batch);
-        if !self.generation.is_sealed() {
+        if !self.progress.generation.is_sealed() {
             self.look()?;
-            self.remedy_late(&mut batch);
+            batch.remedy(self.progress.watch.take_late(Instant::now()));
         }
         self.carry_out(batch)?;
+        self.read_again()?;
         self.tell_infos()?;
         self.close()?;
         self.go_on()?;
@@ -433,72 +385,60 @@ impl<C: Core> Driver<C> {
     }
 
     fn tell_metrics(&self) {
-        let (metrics, generation) = (&self.metrics, &self.generation);
-        let reached = self.peer_numbers().filter(|replica| self.is_reached(*replica)).count();
-        let spared = self.distances.spared();
-        let asked = self.peer_numbers().filter(|peer| *peer != spared);
-        let far = asked.filter_map(|peer| self.distances.shortest(peer)).max();
+        let (metrics, generation, counts) = (&self.metrics, &self.progress.generation, &self.progress.counts);
+        let reached = self.progress.reached().count();
+        let far = self.progress.distances.quorum();
         for (number, value) in [
             (&metrics.generation, generation.number.into()),
             (&metrics.entries, generation.entries.into()),
             (&metrics.log_bytes, generation.log),
-            (&metrics.open_instances, self.watch.count() as u64),
+            (&metrics.open_instances, self.progress.watch.count() as u64),
             (&metrics.peers_reached, reached as u64),
             (&metrics.quorum_round_trip, far.unwrap_or_default().as_micros() as u64),
+            (&metrics.together, self.calls.together),
+            (&metrics.questions, self.reads.questions),
+            (&metrics.questions_again, self.reads.questions_again),
+            (&metrics.accepts, counts.accepts),
+            (&metrics.recoveries, counts.recoveries),
             (&metrics.frames_lost, self.peers.lost()),
-            (&metrics.commits_sent_again, self.sent_again),
-            (&metrics.frames_refused, self.refused_frames),
-            (&metrics.takes_part, u64::from(!self.is_alone())),
+            (&metrics.commits_sent_again, counts.sent_again),
+            (&metrics.frames_refused, counts.refused),
+            (&metrics.takes_part, u64::from(!self.progress.is_alone() && !self.progress.leaves())),
         ] {
             number.set(value);
         }
     }
 
     /// Waits until there is something to do, then takes what is there.
-    fn gather(&mut self) -> Result<Batch, StopFault> {
-        let mut batch = Batch::default();
-        let early = self.others.take_early(self.generation.number);
+    fn gather(&mut self) -> Result<(), StopFault> {
+        let mut bytes = 0;
+        let early = self.progress.others.take_early(self.progress.generation.number);
         if early.is_empty() && !std::mem::take(&mut self.is_fresh) {
-            let Some(first) = self.wait()? else {
-                return Ok(batch);
-            };
-            self.take(first, &mut batch)?;
+            let Some(first) = self.wait()? else { return Ok(()) };
+            bytes += first.bytes();
+            self.take(first)?;
         }
-        for (from, bytes) in early {
-            self.take_frame(from, bytes, &mut batch);
-        }
+        early.into_iter().try_for_each(|(from, bytes)| self.take_in(from, bytes))?;
         for _ in 1..MOST_EVENTS {
-            if batch.bytes >= MOST_BYTES {
+            if bytes >= MOST_BYTES {
                 break;
             }
-            let Ok(event) = self.events.try_recv() else {
-                break;
-            };
-            self.take(event, &mut batch)?;
+            let Ok(event) = self.events.try_recv() else { break };
+            bytes += event.bytes();
+            self.take(event)?;
         }
-        Ok(batch)
+        Ok(())
     }
 
-    /// What is to be asked now. Commits that nobody here waits for wait for what else comes: by themselves they would take a sync.
-    fn with_commits(&mut self, batch: Batch) -> Batch {
-        let (delayed, until) = &mut self.delayed;
-        let is_idle = self.waiting.is_empty() && self.held.is_empty() && self.generation.stage == Stage::Open;
-        let may_wait = is_idle && batch.is_commits();
-        delayed.append(batch);
-        if delayed.is_empty() {
-            return Batch::default();
-        }
-        let now = Instant::now();
-        if may_wait && now < *until.get_or_insert(now + COMMITS_PATIENCE) {
-            return Batch::default();
-        }
-        *until = None;
-        std::mem::take(delayed)
+    /// What is to be asked now.
+    fn take_pending(&mut self) -> Batch {
+        let is_idle = self.calls.is_empty() && !self.progress.generation.is_holding() && !self.reads.is_waiting();
+        self.pending.take(is_idle && self.local.is_empty(), Instant::now())
     }
 
     fn wait(&mut self) -> Result<Option<Event>, StopFault> {
-        let due = if self.generation.is_sealed() { None } else { self.watch.next() };
-        let all = [due, self.delayed.1, self.info_due(), self.next_of_life()];
+        let due = if self.progress.generation.is_sealed() { None } else { self.progress.watch.next() };
+        let all = [due, self.pending.due(), self.info_due(), self.reads.due(), self.next_of_life()];
         let next = all.into_iter().flatten().min().unwrap_or(self.next_tick);
         self.wanted = next;
         match self.events.recv_timeout(next.saturating_duration_since(Instant::now())) {
@@ -508,18 +448,15 @@ impl<C: Core> Driver<C> {
         }
     }
 
-    fn take(&mut self, event: Event, batch: &mut Batch) -> Result<(), StopFault> {
+    fn take(&mut self, event: Event) -> Result<(), StopFault> {
         match event {
             Event::Came { from, bytes } => {
-                self.distances.hear(from, Instant::now());
-                if Message::is_one(&bytes) {
-                    self.hear(from, &bytes)?;
-                } else {
-                    self.take_frame(from, bytes, batch);
-                }
+                self.progress.distances.hear(from, Instant::now());
+                self.take_in(from, bytes)?;
             }
             Event::PeerReached(peer) => {
-                self.watch.open(peer, Instant::now());
+                self.learn_links();
+                self.progress.watch.open(peer, Instant::now());
                 self.greet(peer);
             }
             // (each turn looks who is reached)
@@ -529,172 +466,97 @@ impl<C: Core> Driver<C> {
                 // (what came on the connection before may have been lost)
                 self.tell_commits(peer);
             }
-            Event::NodeEnded(run) if run == self.node.run() => return Err(StopFault::Node(self.node.ended())),
-            Event::NodeEnded(_) => {}
             Event::End => self.end(),
             Event::Ask(Ask { what, reply }) => match what {
-                What::Read(key) => batch.reads.push((key, reply)),
-                What::Contents => batch.lists.push(reply),
+                What::Get(_) if self.is_closing() => reply.send(Told::Ending),
+                What::Get(key) => self.reads.ask(key, reply),
+                What::Read(key) => self.local.reads.push((key, reply)),
+                What::Contents => self.local.lists.push(reply),
                 What::Info => self.infos.push(reply),
                 What::Manage(manage, fault) => self.manage(manage, fault, reply),
-                What::Propose { .. } if self.ends_at.is_some() => reply.send(Told::Ending),
+                What::Propose { .. } if self.is_closing() => reply.send(Told::Ending),
                 What::Propose { client, request, seen, command } => {
-                    self.held.push_back(Held { since: Instant::now(), client, request, seen, command, reply });
+                    self.calls.held.push_back(Held { since: Instant::now(), client, request, seen, command, reply });
                 }
             },
         }
         Ok(())
     }
 
-    /// A frame of this generation is for the core, but for a Commit of what is committed: it would change nothing. One of an earlier generation
-    /// is of a peer that lags; one of a later one is kept until this replica is there.
-    fn take_frame(&mut self, from: u8, bytes: Vec<u8>, batch: &mut Batch) {
-        let Some(head) = Head::read(&bytes) else {
-            self.refused_frames += 1;
-            return;
-        };
-        if head.generation == self.generation.number {
-            if !head.is_commit() || !self.commits.here.has(head.instance) {
-                batch.bytes += bytes.len();
-                batch.requests.push(Request::Frame { from, head, bytes });
-            }
-        } else if head.generation < self.generation.number {
-            self.greet_late(from);
-        } else {
-            self.others.keep_early(from, head.generation, bytes);
+    /// Takes what a peer has sent.
+    fn take_in(&mut self, from: u8, bytes: Vec<u8>) -> Result<(), StopFault> {
+        if Message::is_one(&bytes) {
+            return self.hear(from, bytes);
         }
+        match self.progress.hear_frame(from, bytes) {
+            Came::Frame(head, bytes) => self.pending.batch.0.push(Request::Frame(from, head, bytes)),
+            Came::Late => self.greet_late(from),
+            Came::Nothing => {}
+        }
+        Ok(())
     }
 
-    /// Has what clients propose proposed. Where no majority is reached it is held for a while and then refused: each proposal uses
-    /// up a number, and nothing would come of it. At the end of a generation it is held until the next one.
+    /// Has what clients propose proposed, or refused.
     fn release(&mut self, batch: &mut Batch) {
         let now = Instant::now();
-        let is_over = |held: &Held| now >= held.since + self.patience || held.reply.begun().is_given_up();
-        while self.held.front().is_some_and(is_over) {
-            self.held.pop_front().into_iter().for_each(|held| held.reply.send(Told::Late));
+        let Released { wholes, refused, is_alone } = self.calls.release(&mut self.progress, now);
+        for (held, why) in refused {
+            held.reply.send(match why {
+                Refusal::Late => Told::Late,
+                Refusal::Alone => Told::Alone,
+                Refusal::MapFull => Told::MapFull,
+            });
         }
-        if self.is_alone() {
-            if now >= *self.alone_since.get_or_insert(now) + ALONE_PATIENCE {
-                self.held.drain(..).for_each(|held| held.reply.send(Told::Alone));
-            }
-            return;
+        if is_alone {
+            self.refuse_reads(|| Told::Alone);
         }
-        self.alone_since = None;
-        if self.generation.is_holding() {
-            return;
-        }
-        let (mut count, mut bytes, mut left) = (0, 0, VecDeque::new());
-        while self.generation.has_room(count) && self.waiting.has_room(count, bytes) {
-            let Some(held) = self.held.pop_front() else {
-                break;
-            };
-            let judgement = self.room.judge(&held.command);
-            self.generation.is_short |= match judgement {
-                Judgement::NextGeneration => true,
-                // (others may have deleted something since it began)
-                Judgement::Full => now >= self.generation.begun + FULL_PAUSE,
-                _ => false,
-            };
-            if let Judgement::Waits | Judgement::NextGeneration = judgement {
-                left.push_back(held);
-                continue;
-            }
-            let Held { client, request, seen, command, reply, .. } = held;
-            if judgement == Judgement::Full {
-                reply.send(Told::MapFull);
-                continue;
-            }
-            if !reply.begun().begin() {
-                reply.send(Told::Late);
-                continue;
-            }
-            (count, bytes) = (count + 1, bytes + length(&command));
-            self.room.reserve(&command);
-            let proposal = self.proposal(Call { client, request, seen }, command);
-            batch.requests.push(Request::Propose { proposal, reply });
-        }
-        // (what finds no room in the map stands before what came later)
-        if !left.is_empty() {
-            left.append(&mut self.held);
-            self.held = left;
+        for Whole { members, command } in wholes {
+            let proposal = self.progress.proposal(call_of(&members), command, now);
+            batch.0.push(Request::Propose(proposal, members));
         }
     }
 
     /// Has the generation sealed, where that is due.
     fn seal(&mut self, batch: &mut Batch) {
         let now = Instant::now();
-        if self.is_alone() || self.ends_at.is_some() || !self.generation.wants_seal(&self.limits, false, now) {
+        if self.progress.is_alone()
+            || self.ends_at.is_some()
+            || !self.progress.generation.wants_seal(&self.limits, false, now)
+        {
             return;
         }
         self.drop_unfit_wishes();
         let is_used = self.is_opening_used(now);
-        if !self.generation.wants_seal(&self.limits, is_used, now) {
+        if !self.progress.generation.wants_seal(&self.limits, is_used, now) {
             return;
         }
-        self.generation.note_seal(now);
-        let (client, requests) = self.sealer;
         self.sealer.1 += 1;
-        let command = OwnedCommand::Seal { value: self.next_members().write().into_bytes() };
-        batch.requests.push(Request::Seal(self.proposal(Call::new(client, requests + 1), command)));
-    }
-
-    /// A proposal of now: it spares the peer that is lost, or is the farthest.
-    fn proposal(&mut self, call: Call, command: OwnedCommand) -> Proposal {
-        self.distances.choose(Instant::now());
-        Proposal { call, command, spared: self.distances.named() }
+        let (client, request) = self.sealer;
+        let value = self.next_members().write().into_bytes();
+        batch.0.push(self.progress.seal(Call::new(client, request), value, now));
     }
 
     /// Learns which peers are reached, and pings those where that is due.
     fn ping_peers(&mut self) {
-        let now = Instant::now();
-        self.distances.look(now, self.wanted);
-        for peer in self.peer_numbers() {
-            self.distances.reach(peer, self.is_reached(peer), now);
-            if let Some(number) = self.distances.ping(peer, now) {
-                self.peers.send(peer, Message::Ping(number).write());
-            }
+        for (peer, ping) in self.progress.look_at_peers(self.wanted, Instant::now()) {
+            self.peers.send(peer, ping);
         }
     }
 
-    /// A peer has answered a ping.
-    pub(crate) fn hear_pong(&mut self, peer: u8, number: u64) {
-        let took = self.distances.answer(peer, number, Instant::now());
-        took.into_iter().for_each(|took| self.watch.measure(peer, took));
+    /// Learns which links are open.
+    pub(crate) fn learn_links(&mut self) {
+        for (peer, link) in (0..).zip(&mut self.progress.links) {
+            *link = self.peers.is_reached(peer);
+        }
     }
 
-    /// Looks for open instances, for a while: for the least ones by one question, which mostly tells all, and for those behind them one by one.
+    /// Looks for open instances.
     fn look(&mut self) -> Result<(), StopFault> {
         let start = Instant::now();
-        if !self.watch.is_look_due(start) {
-            return Ok(());
+        if self.progress.look(&mut self.node, start).map_err(StopFault::Node)?.is_some() {
+            self.metrics.asks.add(1);
+            self.progress.watch.end_look(start.elapsed(), Instant::now());
         }
-        let mut left = MOST_MORE;
-        loop {
-            let is_over = match self.watch.after() {
-                None => {
-                    let found = self.report(u32::MAX, MOST_FOUND)?.open;
-                    self.watch.find(&found);
-                    found.len() < usize::from(MOST_FOUND)
-                }
-                Some(after) => {
-                    self.metrics.asks.add(1);
-                    let found = self.node.next_open(after).map_err(StopFault::Node)?;
-                    found.into_iter().for_each(|instance| {
-                        self.watch.find(&[OpenInstance { instance, since: None, led: None, spared: None }])
-                    });
-                    left -= 1;
-                    found.is_none()
-                }
-            };
-            if is_over {
-                self.watch.find_no_more(Instant::now());
-                break;
-            }
-            if left == 0 {
-                break;
-            }
-        }
-        self.watch.end_look(start.elapsed(), Instant::now());
         Ok(())
     }
 
@@ -704,73 +566,39 @@ impl<C: Core> Driver<C> {
         self.node.report(after, most).map_err(StopFault::Node)
     }
 
-    /// Whether frames to a peer go out: it is reached, and has told what it saw of this replica.
-    pub(crate) fn is_reached(&self, peer: u8) -> bool {
-        self.peers.is_reached(peer) && self.others.is_heard(peer)
-    }
-
-    /// All replicas but this one.
-    pub(crate) fn peer_numbers(&self) -> impl Iterator<Item = u8> + use<C> {
-        let me = self.place.replica;
-        (0..self.place.replicas as u8).filter(move |replica| *replica != me)
-    }
-
-    /// Whether so few peers are reached that nothing can be recovered.
-    pub(crate) fn is_alone(&self) -> bool {
-        self.peer_numbers().filter(|replica| self.is_reached(*replica)).count() < self.place.replicas / 2
-    }
-
-    /// Has what is late given up or recovered.
-    fn remedy_late(&mut self, batch: &mut Batch) {
-        let now = Instant::now();
-        for peer in self.peer_numbers() {
-            let presence = match self.is_reached(peer) {
-                true if self.distances.is_silent(peer, now) => Presence::Silent,
-                true => Presence::There,
-                false => Presence::Gone,
-            };
-            self.watch.reach(peer, presence, now);
-        }
-        for event in self.watch.take_late(now) {
-            match event {
-                epaxos::Event::GiveUp(instance) => batch.requests.push(Request::GiveUp(instance)),
-                epaxos::Event::Recover(instance) => batch.requests.push(Request::Recover(instance)),
-                _ => {}
-            }
-        }
-    }
-
     /// Asks all of a batch with one sync, and hands out what comes of it: first the receipts to their file.
     fn carry_out(&mut self, batch: Batch) -> Result<(), StopFault> {
-        if batch.is_empty() {
+        let (is_wanted, local) = (self.reads_want(&batch), std::mem::take(&mut self.local));
+        if batch.0.is_empty() && local.is_empty() && !is_wanted {
             return Ok(());
         }
         // A local read tells of all that is known to be committed.
-        let executes_all = !(batch.reads.is_empty() && batch.lists.is_empty()) && self.is_unexecuted;
+        let executes_all = is_wanted || !local.is_empty() && self.is_unexecuted;
         self.is_unexecuted &= !executes_all;
-        let asked = Asked {
-            events: batch.requests.iter().map(Request::event).collect(),
+        let asked = outcome::Asked {
+            events: batch.0.iter().map(Request::event).collect(),
             executes_all,
-            reads: batch.reads.iter().map(|(key, _)| &key[..]).collect(),
+            reads: local.reads.iter().map(|(key, _)| &key[..]).collect(),
         };
         let mut outcome = self.ask(&asked)?;
         drop(asked);
+        let now = Instant::now();
         let mut proposed = std::mem::take(&mut outcome.proposed).into_iter();
-        for (request, done) in batch.requests.into_iter().zip(std::mem::take(&mut outcome.done)) {
-            self.accept(request, done, &mut proposed)?;
+        for asked in batch.0.into_iter().zip(std::mem::take(&mut outcome.done)) {
+            self.accept(asked, &mut proposed, now)?;
         }
-        for ((_, reply), value) in batch.reads.into_iter().zip(std::mem::take(&mut outcome.values)) {
+        for ((_, reply), value) in local.reads.into_iter().zip(std::mem::take(&mut outcome.values)) {
             reply.send(Told::Value(value));
         }
-        if !batch.lists.is_empty() {
+        if !local.lists.is_empty() {
             // (a copy for each: few ask at once)
             let contents = self.node.contents().map_err(StopFault::Node)?;
-            batch.lists.into_iter().for_each(|reply| reply.send(Told::Contents(contents.clone())));
+            local.lists.into_iter().for_each(|reply| reply.send(Told::Contents(contents.clone())));
         }
         self.hand_out(outcome)
     }
 
-    fn ask(&mut self, asked: &Asked) -> Result<Outcome, StopFault> {
+    fn ask(&mut self, asked: &outcome::Asked) -> Result<Outcome, StopFault> {
         self.metrics.asks.add(1);
         self.metrics.syncs.add(u64::from(asked.takes()));
         self.node.carry_out(asked).map_err(StopFault::Node)
@@ -779,27 +607,32 @@ impl<C: Core> Driver<C> {
     /// Executes all that is known to be committed, and learns what the core then is.
     pub(crate) fn execute_all(&mut self) -> Result<(), StopFault> {
         self.is_unexecuted = false;
-        let outcome = self.ask(&Asked { executes_all: true, ..Asked::default() })?;
+        let outcome = self.ask(&outcome::Asked { executes_all: true, ..Default::default() })?;
         let state = self.node.state().map_err(StopFault::Node)?;
-        self.generation.learn(state, Instant::now());
-        self.hand_out(outcome)
+        self.hand_out(outcome)?;
+        self.learn(state);
+        Ok(())
     }
 
     fn hand_out(&mut self, mut outcome: Outcome) -> Result<(), StopFault> {
         if let Some(entries) = outcome.entries {
-            self.generation.entries = self.generation.entries.max(entries);
-            self.watch.change();
+            self.progress.generation.entries = self.progress.generation.entries.max(entries);
+            self.progress.watch.change();
             self.is_unexecuted = true;
         }
         if self.plant == Some(Plant::Changed) {
             outcome.receipts = changed(&outcome.receipts);
         }
         self.receipts.append(&outcome.receipts).map_err(StopFault::Receipts)?;
-        let mut frames: Vec<Vec<Vec<u8>>> = vec![Vec::new(); self.place.replicas];
-        let first = self.peer_numbers().next();
-        for Outgoing { to, frame } in outcome.frames {
-            self.note_own_frame(&frame, to, first);
-            if let (true, Some(frames)) = (self.others.is_heard(to), frames.get_mut(usize::from(to))) {
+        let mut frames: Vec<Vec<Vec<u8>>> = vec![Vec::new(); self.progress.place.replicas];
+        let now = Instant::now();
+        for (to, frame) in outcome.frames {
+            self.progress.note_own_frame(&frame, to, now);
+            // (where answers of other generations are planted, a replica that was away has to lag)
+            let is_kept = self.plant != Some(Plant::Foreign) || self.peers.is_reached(to);
+            if let (true, Some(frames)) =
+                (self.progress.others.is_heard(to) && is_kept, frames.get_mut(usize::from(to)))
+            {
                 frames.push(frame);
             }
         }
@@ -808,14 +641,15 @@ impl<C: Core> Driver<C> {
         }
         for receipt in receipts(&outcome.receipts) {
             if receipt.client == self.sealer.0 {
-                self.note_own_seal(receipt.answer);
+                self.progress.end_own_seal(receipt.answer == Answer::Lost);
             }
-            // A receipt for nobody is of a proposal before this start, or its client waits no longer.
-            if let Some(waiting) = self.waiting.remove((receipt.client, receipt.request)) {
-                self.room.settle(&waiting.command, Some(&receipt.answer));
-                let is_undone = self.plant == Some(Plant::Again) && receipt.entry % 8 == 0;
-                let reply = if is_undone { OwnedAnswer::Closed } else { receipt.answer.to_owned() };
-                waiting.reply.send(Told::Done { stamp: receipt.stamp, reply });
+            let waiting = self.calls.answer((receipt.client, receipt.request), &receipt.answer);
+            let Some(Waiting { members, .. }) = waiting else { continue };
+            let is_undone = self.plant == Some(Plant::Again) && receipt.entry % 8 == 0;
+            let answer = if is_undone { OwnedAnswer::Closed } else { receipt.answer.to_owned() };
+            let answers = answers(answer, members.len());
+            for (held, reply) in members.into_iter().zip(answers) {
+                held.reply.send(Told::Done { stamp: receipt.stamp, reply });
             }
         }
         Ok(())
@@ -823,169 +657,51 @@ impl<C: Core> Driver<C> {
 
     /// Learns what is committed in a generation that the core goes on with.
     pub(crate) fn recollect(&mut self) -> Result<(), StopFault> {
-        self.commits = Commits::new(self.place.replicas);
-        if self.generation.entries == 0 {
-            return Ok(());
-        }
         // (the file of what was seen isn't forced to the disk; the log is)
-        for peer in self.peer_numbers() {
-            let handled = self.node.handled(peer).map_err(StopFault::Node)?;
-            self.others.see(peer, handled);
+        self.progress.recollect(&mut self.node).map_err(StopFault::Node)?;
+        if self.progress.generation.is_sealed() {
+            self.note_sealed();
         }
-        let Report { frames, committed, .. } = self.report(0, 0)?;
-        committed.into_iter().for_each(|instance| self.commits.here.insert(instance));
-        let heads = frames.iter().filter_map(|Outgoing { frame, .. }| Head::read(frame));
-        heads.filter(Head::is_commit).for_each(|head| self.commits.send(head.instance, head.entry, None));
         Ok(())
     }
 
-    /// A peer has told what is committed there. What is committed here by this replica's Commits is sent again where it is lost; what isn't
-    /// committed here comes so too, or is recovered.
+    /// A peer has told what is committed there.
     pub(crate) fn hear_commits(&mut self, from: u8, there: &Committed) -> Result<(), StopFault> {
-        if there.replicas() != self.place.replicas {
-            return Ok(());
-        }
-        let now = Instant::now();
-        self.watch.hear(there.beyond(&self.commits.here));
-        let lacking = self.commits.lacking(from, there, self.others.sees(from), now);
-        let Some(Lacking { entry, instances }) = lacking else { return Ok(()) };
-        let (mut bytes, mut again) = (0, BTreeSet::new());
-        for Outgoing { to, frame } in self.report(entry.saturating_sub(1), 0)?.frames {
-            let is_lost = |head: &Head| head.is_commit() && instances.contains(&head.instance);
-            let Some(head) = Head::read(&frame).filter(is_lost).filter(|_| to == from) else { continue };
-            bytes += frame.len();
-            if bytes > MOST_AGAIN {
-                break;
-            }
-            self.peers.send(to, frame);
-            self.sent_again += 1;
-            again.insert(head.instance);
-        }
-        self.commits.send_again(from, again, now);
+        let again = self.progress.hear_commits(from, there, &mut self.node, Instant::now()).map_err(StopFault::Node)?;
+        again.into_iter().for_each(|frame| self.peers.send(from, frame));
         Ok(())
-    }
-
-    /// What a frame of this replica to a peer tells of the generation. `first`: the first of all peers.
-    fn note_own_frame(&mut self, frame: &[u8], to: u8, first: Option<u8>) {
-        let Some(head) = Head::read(frame) else { return };
-        let now = Instant::now();
-        if head.is_commit() {
-            self.commits.send(head.instance, head.entry, Some(now));
-            self.watch.forget(head.instance);
-        } else if head.is_asking() {
-            self.distances.owe(to, now);
-            self.watch.ask(head.instance, to, now);
-        } else if head.is_past_first() {
-            self.distances.owe(to, now);
-            self.watch.pass_first(head.instance);
-            self.watch.put_off(head.instance, head.ballot, now);
-            // (they go to all others, and count once)
-            let is_counted = u64::from(Some(to) == first);
-            self.metrics.accepts.add(is_counted * u64::from(head.is_accept()));
-            self.metrics.recoveries.add(is_counted * u64::from(head.is_prepare()));
-        }
-        if head.instance.replica == self.place.replica {
-            self.generation.dependencies = self.generation.dependencies.max(head.dependencies);
-        }
-        if head.is_seal_committed() {
-            self.commit_seal(head.seal(frame));
-        }
-    }
-
-    /// A seal of this value is committed. What it stands behind has to be committed too, so that nothing that is open waits for long.
-    fn commit_seal(&mut self, value: Option<&[u8]>) {
-        if self.generation.commit_seal() {
-            self.watch.hurry();
-        }
-        if let Some(members) = value.and_then(Members::read) {
-            self.generation.next_size = Some(members.0.len());
-        }
-    }
-
-    fn note_own_seal(&mut self, answer: Answer) {
-        match answer {
-            Answer::Lost => self.generation.lose_seal(),
-            _ => self.commit_seal(None),
-        }
     }
 
     /// What came of a request. `proposed` tells the instances of those that are proposals, in their order.
     fn accept(
         &mut self,
-        request: Request,
-        done: Result<(), Fault>,
+        asked: (Request, Result<(), Fault>),
         proposed: &mut impl Iterator<Item = Proposed>,
+        now: Instant,
     ) -> Result<(), StopFault> {
-        match (request, done) {
-            (Request::Propose { proposal: Proposal { call, command, spared }, reply }, Ok(())) => {
-                let instance = self.own_instance(call, proposed)?;
-                self.watch.propose(instance, spared);
-                if matches!(command, OwnedCommand::Put { .. }) && self.plant == Some(Plant::Early) {
-                    reply.send(Told::Done { stamp: call.seen, reply: OwnedAnswer::Absent });
-                } else {
-                    let bytes = length(&command);
-                    self.waiting.insert((call.client, call.request), Waiting { instance, reply, bytes, command });
+        let accepted = self.calls.accept(&mut self.progress, asked, proposed, now);
+        match accepted.ok_or(StopFault::Node(NodeFault::NotProposed))? {
+            Accepted::Nothing | Accepted::Held(_) => {}
+            Accepted::Refused(_, members, fault) => tell_all(members, || Told::Refused(fault.clone())),
+            Accepted::UnderWay(call) => {
+                self.metrics.proposals.add(1);
+                if self.plant == Some(Plant::Early) {
+                    self.answer_early(call);
                 }
             }
-            (Request::Seal(Proposal { call, spared, .. }), Ok(())) => {
-                let instance = self.own_instance(call, proposed)?;
-                self.watch.propose(instance, spared);
-            }
-            (Request::Frame { from, head, bytes }, Ok(())) => {
-                self.others.see(from, head.entry);
-                if head.is_commit() {
-                    self.commits.here.insert(head.instance);
-                    self.watch.forget(head.instance);
-                } else if head.is_pre_accept_ok() {
-                    let now = Instant::now();
-                    let took = self.watch.answer(head.instance, from, now);
-                    took.into_iter().for_each(|took| self.distances.note(from, took, now));
-                } else if head.is_past_first() && !self.commits.here.has(head.instance) {
-                    self.watch.put_off(head.instance, head.ballot, Instant::now());
-                }
-                if head.is_seal_committed() {
-                    self.commit_seal(head.seal(&bytes));
-                } else if head.is_seal_proposed() {
-                    self.generation.note_seal(Instant::now());
-                }
-            }
-            (Request::Propose { proposal: Proposal { call, command, .. }, reply }, Err(Fault::SpaceFull)) => {
-                self.room.settle(&command, None);
-                // It waits for the next generation.
-                self.generation.used = MOST_COMMANDS;
-                let Call { client, request, seen } = call;
-                reply.begun().take_back();
-                self.held.push_front(Held { since: Instant::now(), client, request, seen, command, reply });
-            }
-            (Request::Propose { proposal: Proposal { command, .. }, reply }, Err(fault)) => {
-                self.room.settle(&command, None);
-                reply.send(Told::Refused(fault));
-            }
-            (Request::Seal(_), Err(_)) => self.generation.lose_seal(),
-            // Nothing of such a frame is believed.
-            (Request::Frame { .. }, Err(_)) => self.refused_frames += 1,
-            (Request::GiveUp(instance) | Request::Recover(instance), Err(Fault::AlreadyCommitted)) => {
-                self.watch.forget(instance);
-            }
-            (Request::GiveUp(_) | Request::Recover(_), _) => {}
         }
         Ok(())
     }
 
-    /// The instance that a proposal took, which is the next one that is told.
-    fn own_instance(
-        &mut self,
-        call: Call,
-        proposed: &mut impl Iterator<Item = Proposed>,
-    ) -> Result<Instance, StopFault> {
-        let of_call = |it: &Proposed| (it.client, it.request) == (call.client, call.request);
-        let Some(Proposed { instance, .. }) = proposed.next().filter(of_call) else {
-            return Err(StopFault::Node(NodeFault::NotProposed));
-        };
-        if instance.number <= MOST_COMMANDS {
-            self.generation.used = self.generation.used.max(instance.number);
+    /// Who puts something is told that it was done, before it is.
+    fn answer_early(&mut self, call: (u32, u32)) {
+        match self.calls.waiting.remove(call) {
+            Some(Waiting { members, command: OwnedCommand::Put { .. }, .. }) => {
+                let stamp = call_of(&members).seen;
+                tell_all(members, || Told::Done { stamp, reply: OwnedAnswer::Absent });
+            }
+            waiting => waiting.into_iter().for_each(|waiting| self.calls.waiting.insert(call, waiting)),
         }
-        Ok(instance)
     }
 
     /// When the core may be asked for those who ask for INFO.
@@ -1008,36 +724,42 @@ impl<C: Core> Driver<C> {
 
     /// What INFO tells, where these instances are open.
     fn info(&self, open: &[OpenInstance]) -> String {
-        let open = self.watch.count_with(open).min(MOST_TOLD.into());
+        let open = self.progress.watch.count_with(open).min(MOST_TOLD.into());
         let mut text = String::new();
         let mut line = |name: &str, value: &dyn std::fmt::Display| {
             let _ = write!(text, "{name}:{value}\r\n");
         };
-        line("replica", &self.place.replica);
-        line("replicas", &self.place.replicas);
-        line("node_process_id", &self.node.process());
-        line("generation", &self.generation.number);
-        line("generation_entries", &self.generation.entries);
-        line("generation_sealed", &u8::from(self.generation.is_sealed()));
+        line("replica", &self.progress.place.replica);
+        line("replicas", &self.progress.place.replicas);
+        line("process_id", &std::process::id());
+        line("generation", &self.progress.generation.number);
+        line("generation_entries", &self.progress.generation.entries);
+        line("generation_sealed", &u8::from(self.progress.generation.is_sealed()));
         line("generation_changes", &self.changes.0);
         line("generation_change_ms", &self.changes.1.as_millis());
-        line("instances_used", &self.generation.used);
+        line("instances_used", &self.progress.generation.used);
         line("instances_total", &MOST_COMMANDS);
-        line("dependencies", &self.generation.dependencies);
-        line("log_bytes", &self.generation.log);
-        line("map_bytes", &self.room.map);
-        line("commands_waiting", &(self.waiting.count() + self.held.len()));
+        line("dependencies", &self.progress.generation.dependencies);
+        line("log_bytes", &self.progress.generation.log);
+        line("map_bytes", &self.calls.room.map);
+        line("commands_waiting", &self.calls.count());
+        line("reads_waiting", &self.reads.count());
         line("instances_open", &open);
-        line("frames_refused", &self.refused_frames);
+        line("frames_refused", &self.progress.counts.refused);
         line("frames_lost", &self.peers.lost());
-        line("commits_sent_again", &self.sent_again);
-        line("accepts_begun", &self.metrics.accepts.get());
-        line("recoveries_begun", &self.metrics.recoveries.get());
-        line("spared", &self.distances.spared());
-        for replica in self.peer_numbers() {
-            let state = if self.is_reached(replica) { "reached" } else { "lost" };
+        line("commits_sent_again", &self.progress.counts.sent_again);
+        line("accepts_begun", &self.progress.counts.accepts);
+        line("recoveries_begun", &self.progress.counts.recoveries);
+        line("questions_asked", &self.reads.questions);
+        line("questions_asked_again", &self.reads.questions_again);
+        line("syncs", &self.metrics.syncs.get());
+        line("proposals", &self.metrics.proposals.get());
+        line("written_together", &self.calls.together);
+        line("spared", &self.progress.distances.spared());
+        for replica in self.progress.peers() {
+            let state = if self.progress.is_reached(replica) { "reached" } else { "lost" };
             line(&format!("peer_{replica}"), &state);
-            if let Some(far) = self.distances.shortest(replica) {
+            if let Some(far) = self.progress.distances.shortest(replica) {
                 line(&format!("peer_{replica}_round_trip_ms"), &format_args!("{:.1}", far.as_secs_f64() * 1e3));
             }
         }

@@ -1,15 +1,15 @@
-//! How a replica that lags, or a new one, comes to a later generation: by an opening that a peer hands it, or by the
-//! last whole one and the logs since, which a thread goes through.
-use crate::file_fault::FileFault;
-use crate::follower::Follower;
-use crate::generations::unusable;
+//! How a replica that lags, or a new one, comes to a later generation: by the last whole opening that a peer has and
+//! the logs since, which a thread goes through.
 use crate::messages::Message;
 use crate::node_fault::NodeFault;
-use crate::openings::{Fetch, Form, Step};
 use crate::way::Handed;
-use epaxos::{Core, Reference};
+use epaxos::Reference;
+use epaxos::host::FolderFault;
+use epaxos::parts::fetch::{Fetch, Form, Sink, Step};
+use epaxos::parts::files::unusable;
+use epaxos::parts::follower::Follower;
 use std::fs::File;
-use std::io::{self, BufWriter, Write};
+use std::io::{self, BufWriter, Seek, SeekFrom, Write};
 use std::panic::resume_unwind;
 use std::path::{Path, PathBuf};
 use std::sync::Arc;
@@ -22,11 +22,23 @@ const BETWEEN_WORDS: Duration = Duration::from_millis(250);
 /// and it is looked that often whether all of it was gone through.
 const LOOK: Duration = Duration::from_millis(5);
 
+/// The file in which what is handed comes together.
+struct Fetched(File);
+
+impl Sink for Fetched {
+    fn clear(&mut self) -> io::Result<()> {
+        self.0.set_len(0)
+    }
+
+    fn put(&mut self, offset: u64, bytes: &[u8]) -> io::Result<()> {
+        self.0.seek(SeekFrom::Start(offset))?;
+        self.0.write_all(bytes)
+    }
+}
+
 /// An opening that is on its way to this replica.
 pub struct Following {
-    fetch: Fetch,
-    /// The core that goes through logs; none where the opening comes whole.
-    core: Option<Core>,
+    fetch: Fetch<Fetched>,
     /// Where the opening comes together.
     path: PathBuf,
     going: Option<Going>,
@@ -72,10 +84,9 @@ pub enum Came {
 
 impl Following {
     /// Begins, with what is to be asked of a replica. The opening is to come together in the file of this path.
-    pub fn begin(path: &Path, core: Option<Core>, from: u8, now: Instant) -> io::Result<(Following, Message)> {
-        let form = if core.is_some() { Form::Way } else { Form::Opening };
-        let (fetch, first) = Fetch::begin(&fetched(path, form), form, from, now)?;
-        Ok((Following { fetch, core, path: path.to_path_buf(), going: None }, first))
+    pub fn begin(path: &Path, from: u8, now: Instant) -> io::Result<(Following, Message)> {
+        let (fetch, first) = Fetch::begin(Fetched(File::create(fetched(path))?), Form::Way, from, now);
+        Ok((Following { fetch, path: path.to_path_buf(), going: None }, first))
     }
 
     /// Whom it is asked of.
@@ -109,15 +120,14 @@ impl Following {
         if self.going.is_some() {
             return Ok(Came::Nothing);
         }
-        let path = self.fetch.path().to_path_buf();
-        let step = self.fetch.take(from, piece, now).map_err(unusable(&path)).map_err(failed)?;
-        match (step, self.core.clone()) {
-            (Step::Ask(more), _) => Ok(Came::Ask(more)),
-            (Step::Ignored, _) => Ok(Came::Nothing),
-            (Step::Done(generation), None) => Ok(Came::Done(generation)),
-            (Step::Done(_), Some(core)) => {
+        let path = fetched(&self.path);
+        let step = self.fetch.take(from, piece, now).map_err(unusable(&path)).map_err(FolderFault::Disk)?;
+        match step {
+            Step::Ask(more) => Ok(Came::Ask(more)),
+            Step::Ignored => Ok(Came::Nothing),
+            Step::Done(_) => {
                 let is_wanted = Arc::new(AtomicBool::new(true));
-                let (follower, to, wanted) = (Follower { core, replica: from }, self.path.clone(), is_wanted.clone());
+                let (follower, to, wanted) = (Follower { replica: from }, self.path.clone(), is_wanted.clone());
                 let go = move || go_through(&follower, &path, &to, &wanted);
                 let thread = thread::Builder::new().name("following".into()).spawn(go).map_err(NodeFault::Thread)?;
                 self.going = Some(Going { thread: Some(thread), is_wanted, told: now });
@@ -144,30 +154,27 @@ impl Following {
     }
 }
 
-/// Where what is handed comes together: an opening in its place, and what leads to one beside it.
-fn fetched(path: &Path, form: Form) -> PathBuf {
-    match form {
-        Form::Opening => path.to_path_buf(),
-        Form::Way => path.with_extension("logs"),
-    }
+/// Where what is handed comes together: beside the opening.
+fn fetched(path: &Path) -> PathBuf {
+    path.with_extension("logs")
 }
 
 /// Goes through what a peer has handed, and writes the opening that it leads to: its generation.
 fn go_through(follower: &Follower, from: &Path, to: &Path, is_wanted: &AtomicBool) -> Result<u32, NodeFault> {
     let handed = Handed::open(from)?;
     let started = handed.started()?;
-    let write = |pieces: &mut dyn Iterator<Item = Result<Vec<u8>, NodeFault>>| {
-        let mut out = BufWriter::new(File::create(to).map_err(unusable(to)).map_err(failed)?);
+    let write = |pieces: &mut dyn Iterator<Item = Result<Vec<u8>, NodeFault>>| -> Result<(), NodeFault> {
+        let mut out = BufWriter::new(File::create(to).map_err(unusable(to)).map_err(FolderFault::Disk)?);
         for piece in pieces {
-            out.write_all(&piece?).map_err(unusable(to)).map_err(failed)?;
+            out.write_all(&piece?).map_err(unusable(to)).map_err(FolderFault::Disk)?;
         }
-        out.flush().map_err(unusable(to)).map_err(failed)
+        Ok(out.flush().map_err(unusable(to)).map_err(FolderFault::Disk)?)
     };
-    let log_of = |generation, next: &Reference| {
+    let log_of = |next: &Reference| {
         if is_wanted.load(Ordering::Relaxed) {
-            handed.log_of(generation, next)
+            handed.log_of(next)
         } else {
-            Err(FileFault::Unusable(from.to_path_buf(), io::ErrorKind::Interrupted.into()).into())
+            Err(unusable(from)(io::ErrorKind::Interrupted.into()).into())
         }
     };
     match started.references.last() {
@@ -180,8 +187,4 @@ fn go_through(follower: &Follower, from: &Path, to: &Path, is_wanted: &AtomicBoo
     // (all of it is in the opening; a crash leaves what the next one overwrites)
     let _ = std::fs::remove_file(from);
     Ok(started.generation())
-}
-
-fn failed(fault: FileFault) -> NodeFault {
-    NodeFault::Generations(fault.into())
 }

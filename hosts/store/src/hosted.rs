@@ -1,30 +1,32 @@
-//! The core without a disk of its own: in this process, or in one beside it. Its logs are the store's to keep, in the folder that a node would have.
+//! The core, by the library. Its logs are the store's to keep, in the folder that a node would have.
 use crate::checkpoint::{Unwritten, Writing};
-use crate::core::{Begin, Core, Pairs};
-use crate::file_fault::FileFault;
-use crate::follower::{Follower, cluster, open_fault, succeed_fault};
-use crate::generations::{Generations, Opened, Started, opened};
-use crate::generations_fault::GenerationsFault;
+use crate::core::{self, Begin, Pairs};
+use crate::generations::Generations;
 use crate::node_fault::NodeFault;
 use crate::opening::Opening;
-use crate::outcome::{Asked, Outcome, Outgoing, Report};
+use crate::outcome::{Asked, Outcome};
 use crate::peers::Place;
+use crate::queries::{Queries, Report};
 use crate::summed_log::SummedLog;
 use crate::tally::Tally;
-use epaxos::{Cluster, CommitFault, Fault, Instance, LogFile, Output, Reference, Replica, Setup, State, SucceedFault};
+use epaxos::host::FolderFault;
+use epaxos::parts::files::unusable;
+use epaxos::parts::folder::{Opened, Started, opened};
+use epaxos::parts::follower::{self, Follower, cluster, opening_of};
+use epaxos::parts::leaving;
+use epaxos::{CommitFault, Fault, Instance, LogFile, OwnedReading, Reference, Replica, Setup, State, SucceedFault};
 use std::fs;
 use std::panic::resume_unwind;
 use std::path::{Path, PathBuf};
 use std::sync::Arc;
 use std::thread::{self, JoinHandle};
 
-/// Which replica it is, and where it runs.
+/// Which replica it is, and how its folder is gone about.
 #[derive(Clone)]
 pub struct Hosting {
     pub place: Place,
     /// The folder of its generations.
     pub folder: PathBuf,
-    pub core: epaxos::Core,
     /// An opening is written once the logs since the last one have so many bytes, and as many as that one.
     pub checkpoint: u64,
 }
@@ -42,8 +44,7 @@ pub struct Hosted {
     /// The opening that is being written, of this generation or of an earlier one.
     writing: Option<Writing>,
     /// The folder of the next generation, while it is made.
-    ahead: Option<JoinHandle<Result<(), GenerationsFault>>>,
-    run: u64,
+    ahead: Option<JoinHandle<Result<(), FolderFault>>>,
     /// What there is to tell people.
     lines: Vec<String>,
 }
@@ -59,22 +60,15 @@ struct Acting {
     tally: Tally,
 }
 
-/// A replica in its generation, whose log comes first.
-struct Begun {
-    generation: u32,
-    replicas: u8,
-    replica: Replica,
-    file: SummedLog,
-    opening: Opening,
-    unwritten: Option<(Reference, Unwritten)>,
-}
+/// A replica in its generation, whose log comes first, and the log's file.
+struct Begun(follower::Begun, SummedLog);
 
 impl Hosted {
-    /// Starts it, as the run of this number: no other one may have it.
-    pub fn start(hosting: Hosting, begin: &Begin, run: u64) -> Result<Hosted, NodeFault> {
-        let generations = Arc::new(Generations::open(&hosting.folder).map_err(NodeFault::Generations)?);
+    /// Starts it.
+    pub fn start(hosting: Hosting, begin: &Begin) -> Result<Hosted, NodeFault> {
+        let generations = Arc::new(Generations::open(&hosting.folder)?);
         let (acting, opening, unwritten, writing, ahead, lines) = (None, None, None, None, None, Vec::new());
-        let mut hosted = Hosted { hosting, generations, acting, opening, unwritten, writing, ahead, run, lines };
+        let mut hosted = Hosted { hosting, generations, acting, opening, unwritten, writing, ahead, lines };
         let begun = hosted.hosting.start(&hosted.generations, begin)?;
         hosted.act(begun)?;
         Ok(hosted)
@@ -84,25 +78,28 @@ impl Hosted {
         self.acting.as_mut().ok_or(NodeFault::NotStarted)
     }
 
-    /// Goes on with this generation, and with the next ones while one has executed a seal.
+    /// Goes on with this generation, and with the next ones while one has executed a seal by which this replica stays.
     fn act(&mut self, mut begun: Begun) -> Result<(), NodeFault> {
         loop {
-            let (generation, replicas) = (begun.generation, begun.replicas);
-            (self.opening, self.unwritten) = (Some(begun.opening), begun.unwritten);
-            let map = self.opening.as_ref().map_or(0, |opening| opening.map);
-            let path = self.generations.log(generation);
-            let (replica, file, state) = (begun.replica, begun.file, State::default());
-            let mut acting = Acting { replica, file, path, state, tally: Tally::of(map) };
+            let Begun(follower::Begun { replica, opening, unwritten }, file) = begun;
+            let (generation, replicas, tally) = (opening.generation, opening.replicas, Tally::of(opening.map));
+            let unwritten = unwritten.map(|(reference, it)| Unwritten::of(it).map(|it| (reference, it)));
+            (self.opening, self.unwritten) = (Some(opening), unwritten.transpose()?);
+            let (path, state) = (self.generations.log(generation), State::default());
+            let mut acting = Acting { replica, file, path, state, tally };
             // (what was handed out before this start may be lost: it is sent again as anything that is lost is)
             acting.sync(&mut Outcome::default())?;
-            self.generations.leave_before(generation).map_err(NodeFault::Generations)?;
+            self.generations.leave_before(generation)?;
             self.lines.extend(acting.replica.said().lines().map(str::to_string));
             if acting.replica.cut() > 0 {
                 let cut = acting.replica.cut();
                 self.lines.push(format!("log cut: {cut} bytes behind its last record were no whole one"));
             }
             acting.state = acting.replica.state().map_err(NodeFault::Core)?;
-            if !acting.state.is_sealed {
+            let seal = acting.tally.seal.as_deref();
+            let is_left_out = seal.is_some_and(|seal| leaving::is_left_out(self.hosting.place.replica, seal));
+            // (who takes part no more serves on: those that stay may need its vote)
+            if !acting.state.is_sealed || is_left_out {
                 self.hosting.check_size(generation, replicas)?;
                 self.acting = Some(acting);
                 return self.write_if_due();
@@ -137,8 +134,7 @@ impl Hosted {
     /// Has the opening written, where the logs since the last one are long.
     fn write_if_due(&mut self) -> Result<(), NodeFault> {
         let Some((reference, _)) = &self.unwritten else { return Ok(()) };
-        let weight = self.generations.weight(reference.generation()).map_err(NodeFault::Generations)?;
-        let (opening, logs) = weight;
+        let (opening, logs) = self.generations.weight(reference.generation())?;
         if logs >= opening.max(self.hosting.checkpoint) { self.write().map(|_| ()) } else { Ok(()) }
     }
 
@@ -156,7 +152,7 @@ impl Hosted {
 
 impl Drop for Hosted {
     fn drop(&mut self) {
-        self.end();
+        core::Core::end(self);
     }
 }
 
@@ -169,36 +165,31 @@ impl Acting {
         outcome.entries = Some(output.entries()).filter(|entries| *entries > self.state.entries);
         self.state.entries = output.entries();
         outcome.proposed.extend(output.proposed());
-        outcome.frames.extend(outgoing(&output));
+        outcome.frames.extend(output.frames().map(|frame| (frame.to, frame.bytes.to_vec())));
         output.receipts().for_each(|receipt| outcome.receipts.extend(receipt.bytes));
         Ok(())
     }
 }
 
 impl Hosting {
-    /// How many replicas there are to be.
-    fn cluster(&self) -> Result<Cluster, NodeFault> {
-        cluster(self.place.replicas as u8)
-    }
-
     fn check_size(&self, generation: u32, replicas: u8) -> Result<(), NodeFault> {
-        let fault = GenerationsFault::OtherSize(generation, replicas);
-        if usize::from(replicas) == self.place.replicas { Ok(()) } else { Err(NodeFault::Generations(fault)) }
+        let fault = FolderFault::OtherSize(generation, replicas);
+        if usize::from(replicas) == self.place.replicas { Ok(()) } else { Err(fault.into()) }
     }
 
     /// How this replica's logs are gone through.
     fn follower(&self) -> Follower {
-        Follower { core: self.core.clone(), replica: self.place.replica }
+        Follower { replica: self.place.replica }
     }
 
     /// The generation with which the folder is gone on with.
     fn start(&self, generations: &Generations, begin: &Begin) -> Result<Begun, NodeFault> {
         let started = match begin {
             Begin::Again => generations.go_on(),
-            Begin::New => generations.begin(self.cluster()?.replicas()),
+            Begin::New => generations.begin(cluster(self.place.replicas as u8)?),
             Begin::Take(path) => generations.take(self.taken(path)?),
         };
-        let started = started.map_err(NodeFault::Generations)?;
+        let started = started?;
         if started.is_new {
             self.check_size(started.generation(), started.replicas())?;
         }
@@ -206,109 +197,66 @@ impl Hosting {
     }
 
     /// The opening in a file that is to be taken: nothing of it comes into the folder before the core has judged it.
-    fn taken(&self, path: &Path) -> Result<Opened, NodeFault> {
-        let bytes = fs::read(path).map_err(|error| FileFault::Unusable(path.to_path_buf(), error));
-        let bytes = bytes.map_err(|fault| NodeFault::Generations(fault.into()))?;
-        let taken = opened(bytes).map_err(|why| NodeFault::Generations(GenerationsFault::BadOpening(None, why)))?;
-        let core = self.core.clone();
-        let setup = Setup { opening: Some(&taken.bytes), core, ..Setup::new(cluster(taken.replicas)?, 0) };
-        setup.begin().map_err(|fault| open_fault(fault, None))?;
+    fn taken(&self, path: &Path) -> Result<Opened, FolderFault> {
+        let bytes = fs::read(path).map_err(unusable(path))?;
+        let taken = opened(bytes).map_err(|why| FolderFault::BadOpening(None, why))?;
+        let setup = Setup { opening: Some(&taken.bytes), ..Setup::new(cluster(taken.replicas)?, 0) };
+        setup.begin().map_err(|fault| FolderFault::of(fault, None))?;
         if usize::from(taken.replicas) != self.place.replicas {
-            return Err(NodeFault::Generations(GenerationsFault::OtherCluster(taken.replicas)));
+            return Err(FolderFault::OtherCluster(taken.replicas));
         }
         Ok(taken)
     }
 
-    /// The replica of a generation that is begun, or gone on with: by its opening's file, or by the logs from an earlier one on.
+    /// The replica of a generation that is begun, or gone on with.
     fn begin(&self, generations: &Generations, started: &Started) -> Result<Begun, NodeFault> {
-        let (first, is_new) = (&started.first, started.is_new);
-        let Some(reference) = started.references.last().copied() else {
-            let (file, log) = log_of(&generations.log(first.generation), is_new)?;
-            let setup = self.follower().setup(first)?;
-            let replica = log.map_or_else(|| setup.begin(), |log| setup.open(&log));
-            let replica = replica.map_err(|fault| open_fault(fault, Some(first.generation)))?;
-            let opening = Opening::of(&first.bytes).unwrap_or_default();
-            let (generation, replicas) = (first.generation, first.replicas);
-            return Ok(Begun { generation, replicas, replica, file, opening, unwritten: None });
-        };
-        let follower = self.follower();
-        let (mut replica, tally) = follower.lead(started, |generation, next| generations.log_of(generation, next))?;
-        let (file, log) = log_of(&generations.log(reference.generation()), is_new)?;
-        let succession = follower.succession(reference, log.as_deref());
-        let checkpoint = replica.succeed(&succession).map_err(|fault| succeed_fault(fault, reference))?;
-        let (unwritten, front) = Unwritten::read(checkpoint)?;
-        Ok(Begun::by(reference, replica, file, (unwritten, front), tally))
+        // (nothing of the log's file is changed before the core has judged what it is to begin with)
+        let (file, log) = log_of(&generations.log(started.generation()), started.is_new)?;
+        let begun = self.follower().begin(started, log.as_deref(), |next| generations.log_of(next), |_, _| {})?;
+        Ok(Begun(begun, file))
     }
 
     /// What a generation of this folder opens with, of which nothing is changed: as its file has it, or as logs lead to it.
     pub fn opening(&self, generation: u32) -> Result<Opened, NodeFault> {
         let generations = Generations::look(&self.folder);
-        let started = generations.started(generation).map_err(NodeFault::Generations)?;
+        let started = generations.started(generation)?;
         let Some(reference) = started.references.last().copied() else { return Ok(started.first) };
-        let log_of = |generation, next: &Reference| generations.log_of(generation, next);
         let mut bytes = Vec::new();
-        for piece in self.follower().opening_of(&started, reference, log_of)? {
+        for piece in self.follower().opening_of(&started, reference, |next| generations.log_of(next))? {
             bytes.extend(piece.map_err(NodeFault::Core)?);
         }
         Ok(Opened { generation, replicas: reference.cluster().replicas(), bytes, reference: Some(reference) })
     }
 
-    /// The next generation of a replica that has executed a seal: with the map as it is, which only a reference names at first; or, where the core is a
-    /// process, by the file that it closes its generation with. `ahead`: whether the folder is there.
+    /// The next generation of a replica that has executed a seal: with the map as it is, which only a reference names at first. `ahead`: whether the folder
+    /// is there.
     fn next(
         &self,
         generations: &Generations,
         acting: Acting,
-        ahead: Option<Result<(), GenerationsFault>>,
+        ahead: Option<Result<(), FolderFault>>,
     ) -> Result<Begun, NodeFault> {
         let Acting { mut replica, file, tally, .. } = acting;
-        let (cluster, follower) = (self.cluster()?, self.follower());
-        if !follower.succeeds() {
-            drop(file);
-            let bytes = replica.close(cluster).map_err(|(_, fault)| NodeFault::Close(fault))?;
-            let closed =
-                opened(bytes).map_err(|why| NodeFault::Generations(GenerationsFault::BadOpening(None, why)))?;
-            let started = generations.take(closed).map_err(NodeFault::Generations)?;
-            return self.begin(generations, &started);
-        }
+        let (cluster, follower) = (cluster(self.place.replicas as u8)?, self.follower());
         let (_, sum) = file.named();
-        let last = |_| NodeFault::Succeed(SucceedFault::LastGeneration);
+        let last = |_| FolderFault::Succeed(SucceedFault::LastGeneration);
         let reference = replica.reference(cluster, sum).map_err(last)?;
+        let opening = opening_of(&mut replica, &reference, tally)?;
         drop(file);
-        let is_made = ahead.transpose().map_err(NodeFault::Generations)?.is_some();
+        let is_made = ahead.transpose()?.is_some();
         if !is_made {
-            generations.make_ahead(reference.generation()).map_err(NodeFault::Generations)?;
+            generations.make_ahead(reference.generation())?;
         }
         let (put, checkpoint) = thread::scope(|scope| {
             let put = scope.spawn(|| generations.put_reference(&reference));
             let checkpoint = replica.succeed(&follower.succession(reference, None));
             (put.join().unwrap_or_else(|panic| resume_unwind(panic)), checkpoint)
         });
-        put.map_err(NodeFault::Generations)?;
-        let (unwritten, front) = Unwritten::read(checkpoint.map_err(NodeFault::Succeed)?)?;
+        put?;
+        let checkpoint = checkpoint.map_err(FolderFault::Succeed)?;
         // (where a start was broken off before there was an entry, the log is begun again)
         let (file, _) = log_of(&generations.log(reference.generation()), true)?;
-        Ok(Begun::by(reference, replica, file, (unwritten, front), tally))
-    }
-}
-
-impl Begun {
-    /// The replica of a generation that this reference opens, whose map has the rest of this tally.
-    fn by(
-        reference: Reference,
-        replica: Replica,
-        file: SummedLog,
-        (unwritten, front): (Unwritten, Opening),
-        tally: Tally,
-    ) -> Begun {
-        Begun {
-            generation: reference.generation(),
-            replicas: reference.cluster().replicas(),
-            replica,
-            file,
-            opening: Opening { map: tally.map, executed: tally.executed, ..front },
-            unwritten: Some((reference, unwritten)),
-        }
+        Ok(Begun(follower::Begun { replica, opening, unwritten: Some((reference, checkpoint)) }, file))
     }
 }
 
@@ -330,11 +278,27 @@ fn commit_fault(fault: CommitFault, path: &Path) -> NodeFault {
     }
 }
 
-fn outgoing<'a>(output: &Output<'a>) -> impl Iterator<Item = Outgoing> + use<'a> {
-    output.frames().map(|frame| Outgoing { to: frame.to, frame: frame.bytes.to_vec() })
+impl Queries for Hosted {
+    type Fault = NodeFault;
+
+    fn report(&mut self, after: u32, most: u8) -> Result<Report, NodeFault> {
+        Queries::report(&mut self.acting()?.replica, after, most).map_err(NodeFault::Core)
+    }
+
+    fn handled(&mut self, peer: u8) -> Result<u32, NodeFault> {
+        self.acting()?.replica.handled(peer).map_err(NodeFault::Core)
+    }
+
+    fn interfering(&mut self, keys: &[&[u8]]) -> Result<Vec<Vec<Instance>>, NodeFault> {
+        self.acting()?.replica.interfering(keys).map_err(NodeFault::Core)
+    }
+
+    fn read(&mut self, reads: &[(&[u8], &[Instance])]) -> Result<Vec<OwnedReading>, NodeFault> {
+        self.acting()?.replica.read(reads).map_err(NodeFault::Core)
+    }
 }
 
-impl Core for Hosted {
+impl core::Core for Hosted {
     fn carry_out(&mut self, asked: &Asked) -> Result<Outcome, NodeFault> {
         let acting = self.acting()?;
         let mut outcome = Outcome { done: acting.replica.take_all(&asked.events), ..Outcome::default() };
@@ -357,34 +321,21 @@ impl Core for Hosted {
         Ok(outcome)
     }
 
-    fn report(&mut self, after: u32, most: u8) -> Result<Report, NodeFault> {
-        let output = self.acting()?.replica.report(after, most).map_err(NodeFault::Core)?;
-        let open = output.open().collect();
-        Ok(Report { frames: outgoing(&output).collect(), committed: output.committed().collect(), open })
-    }
-
-    /// Of more than 255 that are open, those behind the first ones are found once these are closed.
-    fn next_open(&mut self, after: Instance) -> Result<Option<Instance>, NodeFault> {
-        let open = self.report(u32::MAX, u8::MAX)?.open;
-        Ok(open.into_iter().map(|open| open.instance).find(|instance| *instance > after))
-    }
-
-    fn handled(&mut self, peer: u8) -> Result<u32, NodeFault> {
-        self.acting()?.replica.handled(peer).map_err(NodeFault::Core)
-    }
-
-    fn contents(&mut self) -> Result<Option<Pairs>, NodeFault> {
+    fn contents(&mut self) -> Result<Pairs, NodeFault> {
         let contents = self.acting()?.replica.contents().map_err(NodeFault::Core)?;
-        Ok(Some(contents.map(|(key, value)| (key.to_vec(), value.to_vec())).collect()))
+        Ok(contents.map(|(key, value)| (key.to_vec(), value.to_vec())).collect())
     }
 
     fn state(&mut self) -> Result<State, NodeFault> {
         self.acting()?.replica.state().map_err(NodeFault::Core)
     }
 
+    fn seal(&self) -> Option<Vec<u8>> {
+        self.acting.as_ref()?.tally.seal.clone()
+    }
+
     fn prepare(&mut self) -> Result<(), NodeFault> {
-        let Some(acting) = self.acting.as_ref().filter(|_| self.ahead.is_none() && self.hosting.follower().succeeds())
-        else {
+        let Some(acting) = self.acting.as_ref().filter(|_| self.ahead.is_none()) else {
             return Ok(());
         };
         let (generations, next) = (self.generations.clone(), acting.state.generation.saturating_add(1));
@@ -403,10 +354,6 @@ impl Core for Hosted {
 
     fn put_opening(&mut self) -> Result<bool, NodeFault> {
         self.write()
-    }
-
-    fn follower(&self) -> Option<epaxos::Core> {
-        Some(self.hosting.core.clone()).filter(|_| self.hosting.follower().succeeds())
     }
 
     fn is_writing(&mut self) -> bool {
@@ -429,16 +376,7 @@ impl Core for Hosted {
             }
         };
         self.act(begun)?;
-        self.run += 1;
         Ok(self.acting()?.state)
-    }
-
-    fn run(&self) -> u64 {
-        self.run
-    }
-
-    fn process(&self) -> u32 {
-        std::process::id()
     }
 
     /// (the folder is another one's to open then)
@@ -448,10 +386,6 @@ impl Core for Hosted {
         if let Some(writing) = self.writing.take() {
             self.end_writing(writing);
         }
-    }
-
-    fn ended(&mut self) -> NodeFault {
-        NodeFault::NotStarted
     }
 
     fn told(&mut self) -> Vec<String> {

@@ -3,12 +3,12 @@
 //! A replica keeps the identity that it first met under each number, and speaks to no other. So a replica that comes back
 //! with a new folder, or one of another cluster at the same address, is refused: it might have promised something else.
 use crate::identities_fault::IdentitiesFault;
-use std::fs::{self, File};
-use std::io::{self, Read, Write};
+use epaxos::parts::files;
+pub use epaxos::parts::identity::{Identity, by_chance, digits, identity};
+use std::fs;
+use std::io;
 use std::path::{Path, PathBuf};
 use std::sync::{Mutex, MutexGuard, PoisonError};
-
-pub type Identity = [u8; 16];
 
 /// The file's name.
 pub const NAME: &str = "identities";
@@ -82,24 +82,6 @@ impl Identities {
     }
 }
 
-/// A new one.
-pub(crate) fn by_chance() -> io::Result<Identity> {
-    let mut identity = [0; 16];
-    File::open("/dev/urandom")?.read_exact(&mut identity)?;
-    Ok(identity)
-}
-
-/// An identity's 32 digits.
-pub fn digits(identity: &Identity) -> String {
-    format!("{:032x}", u128::from_be_bytes(*identity))
-}
-
-/// The identity of these digits.
-pub fn identity(digits: &str) -> Option<Identity> {
-    let is_whole = digits.len() == 32 && digits.bytes().all(|byte| byte.is_ascii_hexdigit());
-    Some(u128::from_str_radix(digits, 16).ok().filter(|_| is_whole)?.to_be_bytes())
-}
-
 /// Lines of a replica's number and its identity in hexadecimal.
 fn read_lines(text: &str, replicas: usize) -> Option<Vec<Option<Identity>>> {
     let mut known = vec![None; replicas];
@@ -120,17 +102,7 @@ fn write_lines(folder: &Path, known: &[Option<Identity>]) -> io::Result<()> {
             text += &format!("{replica} {}\n", digits(identity));
         }
     }
-    replace(folder, NAME, &text)
-}
-
-/// Puts a file of these bytes on the disk: the old one or the new one is there, whenever the machine stops.
-pub fn replace(folder: &Path, name: &str, bytes: &(impl AsRef<[u8]> + ?Sized)) -> io::Result<()> {
-    let new = folder.join(format!("{name}.new"));
-    let mut file = File::create(&new)?;
-    file.write_all(bytes.as_ref())?;
-    file.sync_all()?;
-    fs::rename(&new, folder.join(name))?;
-    File::open(folder)?.sync_all()
+    files::write(folder, NAME, text.as_bytes())
 }
 
 #[cfg(test)]

@@ -24,8 +24,6 @@ pub struct Joining<'a> {
     pub directory: &'a Directory,
     pub peers: &'a Peers,
     pub events: &'a Receiver<Event>,
-    /// The core that goes through a peer's logs, where it can.
-    pub follower: Option<epaxos::Core>,
 }
 
 impl Joining<'_> {
@@ -71,19 +69,19 @@ impl Joining<'_> {
                     self.peers.hurry(peer);
                     continue;
                 }
-                Event::NodeEnded(_) | Event::PeerLost(_) => continue,
+                Event::PeerLost(_) => continue,
             };
             let now = Instant::now();
             match message {
                 Some(Message::Hello { generation, .. })
                     if generation > looked && following.as_ref().is_none_or(|it| it.is_over(now)) =>
                 {
-                    let (begun, want) = Following::begin(&path, self.follower.clone(), from, now).map_err(failed)?;
+                    let (begun, want) = Following::begin(&path, from, now).map_err(failed)?;
                     following = Some(begun);
                     self.peers.send(from, want.write());
                 }
-                Some(piece @ (Message::Piece { .. } | Message::Part { .. })) => {
-                    let came = following.as_mut().map(|it| it.take(from, piece, now));
+                Some(part @ Message::Part { .. }) => {
+                    let came = following.as_mut().map(|it| it.take(from, part, now));
                     let begin = came.and_then(|came| self.come(from, came, (&mut following, &mut looked)));
                     if let Some(begin) = begin {
                         return Ok(begin);
@@ -140,7 +138,7 @@ fn refuse(ask: Ask, own: Identity) {
     let told = match ask.what {
         What::Info => Told::Info(format!("state:joining\r\nidentity:{}\r\n", digits(&own))),
         What::Manage(..) => Told::Managed(Err(ManageFault::Joining(own))),
-        What::Propose { .. } | What::Read(_) | What::Contents => Told::Alone,
+        What::Propose { .. } | What::Get(_) | What::Read(_) | What::Contents => Told::Alone,
     };
     ask.reply.send(told);
 }

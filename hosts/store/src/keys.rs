@@ -1,11 +1,16 @@
 //! What clients ask of keys, made into commands of the protocol.
 //!
-//! Of each key one command of this replica is under way, or two where the replicas are far apart: then what is asked while the first is on its way
-//! needn't wait until that is back. All that is asked of the key meanwhile waits, and the next command does it
-//! all: where it is only read one `get`, where something is written whatever was there one `put` or `del`, else a comparison (`cas`) from
-//! what is there to what is to be there. So all of it happens at the command's place in the history, one after the other in the order in
-//! which it was asked. A comparison that finds another value is tried again with that one. Of two commands either may be done first, so they never both
-//! have something of one connection.
+//! What only reads a key is no command: it goes at once, by itself, as a read that writes nothing. Of each key one
+//! command of this replica is under way, or two where the replicas are far apart: then what is asked while the first is
+//! on its way needn't wait until that is back. All that is asked of the key meanwhile, but for reads, waits, and the
+//! next command does it all: where something is written whatever was there one `put` or `del`, else a comparison
+//! (`cas`) from what is there to what is to be there; a read tells what that is, where it isn't known. So all of it
+//! happens at the command's place in the history, one after the other in the order in which it was asked. A comparison
+//! that finds another value is tried again with that one. Of two commands, or reads, either may be done first, so no
+//! two of them have something of one connection.
+//!
+//! What is asked of several keys at once waits in the queue of each (`transacting.rs`), and what is behind it there
+//! waits for it.
 use crate::actions::Action;
 use crate::begun::Begun;
 use crate::command_fault::CommandFault;
@@ -18,6 +23,7 @@ use crate::resp::Reply;
 use crate::say::warn;
 use crate::stored::{self, Stored};
 use crate::teller::Teller;
+use crate::transacting::Transacting;
 use epaxos::{OwnedAnswer, OwnedCommand};
 use std::collections::{HashMap, HashSet, VecDeque};
 use std::io;
@@ -28,9 +34,9 @@ use std::thread;
 use std::time::{Duration, Instant};
 
 /// A command in whose place a no-op was committed is proposed at most so often.
-const MOST_LOST: usize = 5;
+pub(crate) const MOST_LOST: usize = 5;
 /// A comparison that finds another value is proposed at most so often.
-const MOST_TRIES: usize = 100;
+pub(crate) const MOST_TRIES: usize = 100;
 /// Where the fast quorum's round trip is so long at least, two commands of a key may be under way; and once one is done that was for several, its clients
 /// are waited for, so that they go together again: for one part in so many of the round trip, at most for so long.
 const FAR: Duration = Duration::from_millis(20);
@@ -51,10 +57,17 @@ pub struct Keys {
     given: AtomicU64,
 }
 
-struct State {
-    keys: HashMap<Vec<u8>, Key>,
+pub(crate) struct State {
+    pub(crate) keys: HashMap<Vec<u8>, Key>,
+    /// What is asked of several keys, by its number.
+    pub(crate) transactions: HashMap<u64, Transacting>,
+    /// The transactions that have each of their keys, and begin; and keys where another command may begin.
+    pub(crate) ready: Vec<u64>,
+    pub(crate) left: Vec<Vec<u8>>,
+    /// What is to be launched once the state isn't locked any more.
+    pub(crate) launches: Vec<Launch>,
     /// What some keys had when their last command was done. Others may have changed it.
-    known: HashMap<Vec<u8>, Option<Vec<u8>>>,
+    pub(crate) known: HashMap<Vec<u8>, Option<Vec<u8>>>,
     numbers: Arc<Mutex<Numbers>>,
     metrics: Arc<Metrics>,
     /// Where keys go that rest, with the end of that.
@@ -62,51 +75,107 @@ struct State {
     /// Clients of the protocol with nothing under way.
     free: Vec<Client>,
     /// The greatest stamp that was told here.
-    seen: u64,
-    flights: u64,
+    pub(crate) seen: u64,
+    pub(crate) flights: u64,
 }
 
 /// A client of the protocol: one command of its is under way at a time.
 #[derive(Clone, Copy)]
-struct Client {
+pub(crate) struct Client {
     number: u32,
     /// How many requests it has made.
     requests: u32,
 }
 
 #[derive(Default)]
-struct Key {
+pub(crate) struct Key {
     /// The oldest first.
     flights: Vec<Flight>,
-    waiting: VecDeque<Asked>,
+    pub(crate) waiting: VecDeque<Queued>,
+    /// The transaction that has the key: nothing else is under way but reads.
+    pub(crate) held_by: Option<Turn>,
     /// Whether clients are waited for before the next one.
     rests: bool,
 }
 
 impl Key {
+    /// Whether something of this connection is under way, or waits.
+    fn has_of(&self, connection: u64) -> bool {
+        let mut under_way = self.flights.iter().flat_map(|flight| &flight.asked);
+        under_way.any(|asked| asked.to.connection == connection)
+            || self.waiting.iter().any(|queued| queued.connection() == connection)
+            || self.held_by.is_some_and(|turn| turn.connection == connection)
+    }
+
+    /// How many commands are under way.
+    fn commands(&self) -> usize {
+        self.flights.iter().filter(|flight| !flight.is_reading).count()
+    }
+
     fn flight(&mut self, number: u64) -> Option<&mut Flight> {
         self.flights.iter_mut().find(|flight| flight.number == number)
     }
 
-    /// Takes what waits, at most so much, but for what is of a connection that has something in another flight than this one.
+    /// Takes what waits up to the first transaction, at most so much, but for what is of a connection that has
+    /// something in another flight than this one.
     fn take_waiting(&mut self, number: u64, most: usize) -> Vec<Asked> {
         let others = self.flights.iter().filter(|flight| flight.number != number);
         let others: HashSet<u64> = others.flat_map(|flight| &flight.asked).map(|asked| asked.to.connection).collect();
-        if others.is_empty() {
-            return self.waiting.drain(..most.min(self.waiting.len())).collect();
-        }
         let (mut taken, mut left) = (Vec::new(), VecDeque::new());
-        for asked in std::mem::take(&mut self.waiting) {
-            let may_go = taken.len() < most && !others.contains(&asked.to.connection);
-            if may_go { taken.push(asked) } else { left.push_back(asked) }
+        while taken.len() < most {
+            match self.waiting.pop_front() {
+                Some(Queued::One(asked)) if !others.contains(&asked.to.connection) => taken.push(asked),
+                Some(one @ Queued::One(_)) => left.push_back(one),
+                Some(turn @ Queued::Turn(_)) => {
+                    left.push_back(turn);
+                    break;
+                }
+                None => break,
+            }
         }
+        left.append(&mut self.waiting);
         self.waiting = left;
         taken
+    }
+
+    /// Whether nothing is to be done of it.
+    fn is_idle(&self) -> bool {
+        self.flights.is_empty() && self.waiting.is_empty() && self.held_by.is_none() && !self.rests
+    }
+}
+
+/// What waits for a key.
+pub(crate) enum Queued {
+    One(Asked),
+    Turn(Turn),
+}
+
+/// That a transaction waits for the key, or has it.
+#[derive(Clone, Copy)]
+pub(crate) struct Turn {
+    pub(crate) transaction: u64,
+    pub(crate) connection: u64,
+}
+
+impl Queued {
+    fn connection(&self) -> u64 {
+        match self {
+            Queued::One(asked) => asked.to.connection,
+            Queued::Turn(turn) => turn.connection,
+        }
+    }
+
+    fn is_asked(&self, id: u64) -> bool {
+        matches!(self, Queued::One(asked) if asked.id == id)
+    }
+
+    pub(crate) fn is_of(&self, transaction: u64) -> bool {
+        matches!(self, Queued::Turn(turn) if turn.transaction == transaction)
     }
 }
 
 /// What a client asks of a key.
-struct Asked {
+pub(crate) struct Asked {
     id: u64,
     action: Action,
     to: ReplyTo,
@@ -114,9 +183,11 @@ struct Asked {
     is_over: bool,
 }
 
-/// A command that is under way, and what it does.
+/// A command that is under way, and what it does; or a read.
 struct Flight {
     number: u64,
+    /// Whether all of it only reads: it doesn't count among the key's commands.
+    is_reading: bool,
     asked: Vec<Asked>,
     /// How many that were when it was proposed.
     together: usize,
@@ -140,14 +211,27 @@ enum Step {
     Compare(Option<Vec<u8>>),
 }
 
-/// A command that is to be proposed, once the state isn't locked any more.
-struct Launch {
-    key: Vec<u8>,
-    flight: u64,
-    client: Client,
-    seen: u64,
-    command: OwnedCommand,
-    begun: Arc<Begun>,
+/// A command that is to be proposed, or a read that is to be asked, once the state isn't locked any more.
+pub(crate) struct Launch {
+    pub(crate) of: Of,
+    /// With its client, and the greatest stamp that was told here. None: the key is read.
+    pub(crate) command: Option<(Client, u64, OwnedCommand)>,
+    pub(crate) begun: Arc<Begun>,
+}
+
+/// What something is launched for.
+pub(crate) enum Of {
+    Flight(Vec<u8>, u64),
+    /// A transaction, at this attempt; and the key that is read.
+    Transaction(u64, u64, Vec<u8>),
+}
+
+impl Of {
+    fn key(&self) -> &Vec<u8> {
+        match self {
+            Of::Flight(key, _) | Of::Transaction(_, _, key) => key,
+        }
+    }
 }
 
 impl Keys {
@@ -161,8 +245,20 @@ impl Keys {
         let hand_on = move || _ = waiting.into_iter().try_for_each(|event| later.send(event));
         thread::Builder::new().name("overflow".into()).spawn(hand_on)?;
         let (resting, rests) = channel();
-        let (keys, known, free) = (HashMap::new(), HashMap::new(), Vec::new());
-        let state = State { keys, known, numbers, metrics, resting, free, seen: 0, flights: 0 };
+        let state = State {
+            keys: HashMap::new(),
+            transactions: HashMap::new(),
+            ready: Vec::new(),
+            left: Vec::new(),
+            launches: Vec::new(),
+            known: HashMap::new(),
+            numbers,
+            metrics,
+            resting,
+            free: Vec::new(),
+            seen: 0,
+            flights: 0,
+        };
         let keys = Arc::new(Keys { state: Mutex::new(state), events, overflow, given: AtomicU64::new(0) });
         let weak = Arc::downgrade(&keys);
         thread::Builder::new().name("rests".into()).spawn(move || wake_all(&weak, &rests))?;
@@ -177,18 +273,22 @@ impl Keys {
     /// Has the action done.
     pub fn ask(self: &Arc<Keys>, id: u64, key: Vec<u8>, action: Action, to: ReplyTo) {
         let mut state = self.state();
-        let waits = state.keys.entry(key.clone()).or_default();
-        waits.waiting.push_back(Asked { id, action, to, is_over: false });
-        let launch = state.begin(key);
-        drop(state);
-        self.launch(launch);
+        let found = state.keys.entry(key.clone()).or_default();
+        let asked = Asked { id, action, to, is_over: false };
+        let launch = if asked.action.only_reads() && !found.has_of(asked.to.connection) {
+            Some(state.begin_reading(key, asked))
+        } else {
+            found.waiting.push_back(Queued::One(asked));
+            state.begin(key)
+        };
+        self.hand_on(state, launch);
     }
 
     /// Its client waits no longer: what it is to be told. None where it was answered already.
     pub fn withdraw(self: &Arc<Keys>, id: u64, key: &[u8]) -> Option<CommandFault> {
         let mut state = self.state();
         let found = state.keys.get_mut(key)?;
-        if let Some(place) = found.waiting.iter().position(|asked| asked.id == id) {
+        if let Some(place) = found.waiting.iter().position(|queued| queued.is_asked(id)) {
             found.waiting.remove(place);
             return Some(CommandFault::Waiting);
         }
@@ -206,8 +306,7 @@ impl Keys {
             (false, true) => state.propose_anew(key.to_vec(), number),
             (false, false) => None,
         };
-        drop(state);
-        self.launch(launch);
+        self.hand_on(state, launch);
         Some(match (changes, is_undone) {
             (false, _) => CommandFault::NotInTime,
             (true, true) => CommandFault::Waiting,
@@ -219,21 +318,35 @@ impl Keys {
     fn wake(self: &Arc<Keys>, key: Vec<u8>) {
         let mut state = self.state();
         let launch = state.wake(key);
-        drop(state);
-        self.launch(launch);
+        self.hand_on(state, launch);
     }
 
-    fn state(&self) -> MutexGuard<'_, State> {
+    pub(crate) fn state(&self) -> MutexGuard<'_, State> {
         // (a thread that panics ends the store)
         self.state.lock().unwrap_or_else(PoisonError::into_inner)
     }
 
+    /// Has all begun that may begin now, and launched with this.
+    pub(crate) fn hand_on(self: &Arc<Keys>, mut state: MutexGuard<'_, State>, launch: Option<Launch>) {
+        state.launches.extend(launch);
+        state.settle();
+        let launches = std::mem::take(&mut state.launches);
+        drop(state);
+        launches.into_iter().for_each(|launch| self.launch(launch));
+    }
+
     /// Hands a command to the driver.
-    fn launch(self: &Arc<Keys>, launch: Option<Launch>) {
-        let Some(Launch { key, flight, client, seen, command, begun }) = launch else { return };
-        let what = What::Propose { client: client.number, request: client.requests, seen, command };
+    fn launch(self: &Arc<Keys>, launch: Launch) {
+        let Launch { of, command, begun } = launch;
+        let client = command.as_ref().map(|(client, ..)| *client);
+        let what = match command {
+            None => What::Get(of.key().clone()),
+            Some((Client { number: client, requests: request }, seen, command)) => {
+                What::Propose { client, request, seen, command }
+            }
+        };
         let keys = self.clone();
-        let reply = Teller::of(begun, move |told| keys.take(key, flight, client, told));
+        let reply = Teller::of(begun, move |told| keys.take(of, client, told));
         match self.events.try_send(Event::Ask(Ask { what, reply })) {
             Err(TrySendError::Full(event)) => _ = self.overflow.send(event),
             // (where the driver has ended it isn't proposed any more)
@@ -242,16 +355,21 @@ impl Keys {
         }
     }
 
-    /// What became of a command.
-    fn take(self: &Arc<Keys>, key: Vec<u8>, flight: u64, client: Client, told: Told) {
+    /// What became of a command, or of a read.
+    fn take(self: &Arc<Keys>, of: Of, client: Option<Client>, told: Told) {
         let mut state = self.state();
-        state.free.push(client);
+        state.free.extend(client);
         if let Told::Done { stamp, .. } | Told::DoneUnseen { stamp } = &told {
             state.seen = state.seen.max(*stamp);
         }
-        let launch = state.take(key, flight, told);
-        drop(state);
-        self.launch(launch);
+        let launch = match of {
+            Of::Flight(key, flight) => state.take(key, flight, told),
+            Of::Transaction(number, attempt, key) => {
+                state.take_transaction(number, attempt, key, told);
+                None
+            }
+        };
+        self.hand_on(state, launch);
     }
 }
 
@@ -274,7 +392,17 @@ impl State {
     fn begin(&mut self, key: Vec<u8>) -> Option<Launch> {
         let most = if self.far().is_some() { 2 } else { 1 };
         let found = self.keys.get_mut(&key)?;
-        if found.rests || found.flights.len() >= most {
+        if found.held_by.is_some() {
+            return None;
+        }
+        if let Some(Queued::Turn(turn)) = found.waiting.front().filter(|_| found.commands() == 0) {
+            let turn = *turn;
+            found.held_by = Some(turn);
+            found.waiting.pop_front();
+            self.lend(turn);
+            return None;
+        }
+        if found.rests || found.commands() >= most {
             return None;
         }
         let asked = found.take_waiting(0, MOST_TOGETHER);
@@ -282,22 +410,35 @@ impl State {
             return None;
         }
         self.flights += 1;
-        let (number, now) = (self.flights, stored::now());
+        let number = self.flights;
         // (what the one before it leaves, where it is done)
-        let before = found.flights.last().and_then(|flight| flight.after.clone());
-        found.flights.push(Flight {
-            number,
-            asked,
-            together: 0,
-            step: Step::Read,
-            after: None,
-            now,
-            lost: 0,
-            tries: 0,
-            begun: Arc::default(),
-        });
+        let before = found.flights.iter().rfind(|flight| !flight.is_reading).and_then(|flight| flight.after.clone());
+        found.flights.push(Flight::new(number, asked, false));
         let known = before.or_else(|| self.known.get(&key).cloned());
         self.propose(key, number, known)
+    }
+
+    /// Begins a read of what only reads.
+    fn begin_reading(&mut self, key: Vec<u8>, asked: Asked) -> Launch {
+        self.flights += 1;
+        let flight = Flight::new(self.flights, vec![asked], true);
+        let (number, begun) = (flight.number, flight.begun.clone());
+        self.keys.entry(key.clone()).or_default().flights.push(flight);
+        Launch { of: Of::Flight(key, number), command: None, begun }
+    }
+
+    /// Has all begun that may begin now.
+    fn settle(&mut self) {
+        loop {
+            if let Some(number) = self.ready.pop() {
+                self.begin_transaction(number);
+            } else if let Some(key) = self.left.pop() {
+                let launch = self.go_on(key);
+                self.launches.extend(launch);
+            } else {
+                return;
+            }
+        }
     }
 
     /// A command of the key is over: the next one, where something waits.
@@ -321,7 +462,7 @@ impl State {
     /// Begins a command of the key, or forgets it, where that is due.
     fn go_on(&mut self, key: Vec<u8>) -> Option<Launch> {
         let found = self.keys.get_mut(&key)?;
-        if found.flights.is_empty() && found.waiting.is_empty() && !found.rests {
+        if found.is_idle() {
             self.keys.remove(&key);
             return None;
         }
@@ -345,6 +486,8 @@ impl State {
         (flight.step, flight.after, flight.together) = (step, after, flight.asked.len());
         flight.begun = Arc::default();
         let begun = flight.begun.clone();
+        let of = Of::Flight(key.clone(), number);
+        let Some(command) = command else { return Some(Launch { of, command: None, begun }) };
         let client = match self.client() {
             Ok(client) => client,
             Err(fault) => {
@@ -352,11 +495,11 @@ impl State {
                 return self.fail(key, number, CommandFault::Numbers(fault));
             }
         };
-        Some(Launch { key, flight: number, client, seen: self.seen, command, begun })
+        Some(Launch { of, command: Some((client, self.seen, command)), begun })
     }
 
     /// A client of the protocol with a new request. One whose requests are all made isn't used any more.
-    fn client(&mut self) -> Result<Client, NumbersFault> {
+    pub(crate) fn client(&mut self) -> Result<Client, NumbersFault> {
         while let Some(client) = self.free.pop() {
             if let Some(requests) = client.requests.checked_add(1) {
                 return Ok(Client { requests, ..client });
@@ -369,6 +512,8 @@ impl State {
     fn take(&mut self, key: Vec<u8>, number: u64, told: Told) -> Option<Launch> {
         let flight = self.keys.get_mut(&key)?.flight(number)?;
         match told {
+            Told::Value(value) if flight.is_reading => self.read(key, number, value),
+            Told::Value(value) => self.done(key, number, value),
             Told::Done { reply, .. } => match reply {
                 OwnedAnswer::Absent => self.done(key, number, None),
                 OwnedAnswer::Present(value) => self.done(key, number, Some(value)),
@@ -381,16 +526,11 @@ impl State {
                         self.fail(key, number, CommandFault::Lost)
                     }
                 }
+                // (it wasn't one of several keys)
+                OwnedAnswer::Done(_) | OwnedAnswer::Undone(_) => self.fail(key, number, CommandFault::Doubtful),
             },
-            Told::DoneUnseen { .. } | Told::Doubtful if flight.step == Step::Read => self.propose_again(key, number),
             Told::DoneUnseen { .. } if flight.step == Step::Write => self.done_unseen(key, number),
-            Told::DoneUnseen { .. } | Told::Doubtful => self.fail(key, number, CommandFault::Doubtful),
-            Told::Refused(fault) => self.fail(key, number, CommandFault::Node(fault)),
-            Told::Alone => self.fail(key, number, CommandFault::NoMajority),
-            Told::Late => self.fail(key, number, CommandFault::Waiting),
-            Told::MapFull => self.fail(key, number, CommandFault::MapFull),
-            Told::Ending => self.fail(key, number, CommandFault::Ending),
-            _ => self.fail(key, number, CommandFault::StoreEnds),
+            told => self.fail(key, number, CommandFault::of(told)),
         }
     }
 
@@ -409,6 +549,21 @@ impl State {
             Step::Read | Step::Write => None,
         };
         self.propose(key, number, current)
+    }
+
+    /// The key has this. What is past its deadline is removed by a command before anybody is told.
+    fn read(&mut self, key: Vec<u8>, number: u64, value: Option<Vec<u8>>) -> Option<Launch> {
+        let found = self.keys.get_mut(&key)?;
+        let asked = std::mem::take(&mut found.flight(number)?.asked);
+        let (current, now) = (value.clone().map(Stored::read), stored::now());
+        if current.as_ref().is_some_and(|stored| stored.is_over(now)) {
+            asked.into_iter().rev().for_each(|asked| found.waiting.push_front(Queued::One(asked)));
+        } else {
+            let (_, replies) = fold(&asked, current, now);
+            asked.into_iter().zip(replies).for_each(|(asked, reply)| asked.answer(reply));
+        }
+        self.know(&key, value);
+        self.next(key, number)
     }
 
     /// The command was done, where the key had this.
@@ -455,7 +610,7 @@ impl State {
         self.next(key, number)
     }
 
-    fn know(&mut self, key: &[u8], value: Option<Vec<u8>>) {
+    pub(crate) fn know(&mut self, key: &[u8], value: Option<Vec<u8>>) {
         if value.as_ref().is_some_and(|value| value.len() > LONGEST_KNOWN) {
             self.known.remove(key);
             return;
@@ -474,6 +629,24 @@ impl State {
         }
         self.known.remove(&key);
         self.next(key, number)
+    }
+}
+
+impl Flight {
+    /// One that isn't proposed yet; or a read.
+    fn new(number: u64, asked: Vec<Asked>, is_reading: bool) -> Flight {
+        Flight {
+            number,
+            is_reading,
+            asked,
+            together: 0,
+            step: Step::Read,
+            after: None,
+            now: stored::now(),
+            lost: 0,
+            tries: 0,
+            begun: Arc::default(),
+        }
     }
 }
 
@@ -497,13 +670,14 @@ fn fold(asked: &[Asked], current: Option<Stored>, now: u64) -> (Option<Stored>, 
     (current.filter(|stored| !stored.is_over(now)), replies)
 }
 
-/// The command that does all of this, and what the key then has, where that can be told. `current` is what may be there.
+/// The command that does all of this, and what the key then has, where that can be told; none where it has to be read.
+/// `current` is what may be there.
 fn command(
     asked: &[Asked],
     key: &[u8],
     current: Option<Option<Vec<u8>>>,
     now: u64,
-) -> (Step, Option<Option<Vec<u8>>>, OwnedCommand) {
+) -> (Step, Option<Option<Vec<u8>>>, Option<OwnedCommand>) {
     let key = key.to_vec();
     if let Some(first) = asked.iter().position(|asked| asked.action.is_blind()) {
         let (after, _) = fold(&asked[first..], None, now);
@@ -512,20 +686,20 @@ fn command(
             Some(value) => OwnedCommand::Put { key, value },
             None => OwnedCommand::Del { key },
         };
-        return (Step::Write, Some(after), command);
+        return (Step::Write, Some(after), Some(command));
     }
-    let Some(before) = current else { return (Step::Read, None, OwnedCommand::Get { key }) };
+    let Some(before) = current else { return (Step::Read, None, None) };
     let stored = before.clone().map(Stored::read);
     let (after, _) = fold(asked, stored.clone(), now);
     if after == stored {
-        return (Step::Read, Some(before), OwnedCommand::Get { key });
+        return (Step::Read, Some(before), None);
     }
     let new = after.map(Stored::into_bytes);
-    (Step::Compare(before.clone()), Some(new.clone()), OwnedCommand::Cas { key, expected: before, new })
+    (Step::Compare(before.clone()), Some(new.clone()), Some(OwnedCommand::Cas { key, expected: before, new }))
 }
 
 #[cfg(test)]
-mod tests {
+pub(crate) mod tests {
     use super::*;
     use crate::actions::{Keep, Only, Set, Tells};
     use crate::map::{Map, execute};
@@ -538,17 +712,17 @@ mod tests {
     use std::sync::mpsc::sync_channel;
 
     /// The keys of a store, whose driver is the test; its folder is removed in the end.
-    struct Store {
-        keys: Arc<Keys>,
+    pub(crate) struct Store {
+        pub(crate) keys: Arc<Keys>,
         metrics: Arc<Metrics>,
         events: Mutex<Receiver<Event>>,
         folder: PathBuf,
-        messages: Sender<Message>,
+        pub(crate) messages: Sender<Message>,
         told: Mutex<Receiver<Message>>,
     }
 
     impl Store {
-        fn new() -> Store {
+        pub(crate) fn new() -> Store {
             static STORES: AtomicU64 = AtomicU64::new(0);
             let place = STORES.fetch_add(1, Ordering::Relaxed);
             let folder = std::env::temp_dir().join(format!("store-keys-{}-{place}", std::process::id()));
@@ -561,7 +735,7 @@ mod tests {
         }
 
         /// Asks; its reply is told under this number.
-        fn ask(&self, command: u64, key: &str, action: Action) -> u64 {
+        pub(crate) fn ask(&self, command: u64, key: &str, action: Action) -> u64 {
             self.ask_by(1, command, key, action)
         }
 
@@ -574,22 +748,37 @@ mod tests {
         }
 
         /// The next command that is proposed: its client, request and seen stamp.
-        fn proposed(&self) -> (u32, u32, u64, OwnedCommand, Teller) {
-            match self.events.lock().unwrap().recv_timeout(Duration::from_secs(60)).unwrap() {
-                Event::Ask(Ask { what: What::Propose { client, request, seen, command }, reply }) => {
+        pub(crate) fn proposed(&self) -> (u32, u32, u64, OwnedCommand, Teller) {
+            match self.asked() {
+                (What::Propose { client, request, seen, command }, reply) => {
                     assert!(reply.begun().begin());
                     (client, request, seen, command, reply)
                 }
+                _ => panic!("no command"),
+            }
+        }
+
+        /// The next read is of this key; what it is told.
+        pub(crate) fn reads(&self, key: &str) -> Teller {
+            match self.asked() {
+                (What::Get(read), reply) if read == key.as_bytes() => reply,
+                _ => panic!("no read"),
+            }
+        }
+
+        fn asked(&self) -> (What, Teller) {
+            match self.events.lock().unwrap().recv_timeout(Duration::from_secs(60)).unwrap() {
+                Event::Ask(Ask { what, reply }) => (what, reply),
                 _ => panic!(),
             }
         }
 
-        fn is_idle(&self) -> bool {
+        pub(crate) fn is_idle(&self) -> bool {
             self.events.lock().unwrap().try_recv().is_err()
         }
 
         /// What was told, by the numbers.
-        fn told(&self) -> Vec<(u64, Reply)> {
+        pub(crate) fn told(&self) -> Vec<(u64, Reply)> {
             self.told.lock().unwrap().try_iter().map(part).collect()
         }
 
@@ -609,7 +798,7 @@ mod tests {
         }
     }
 
-    fn done(stamp: u64, reply: OwnedAnswer) -> Told {
+    pub(crate) fn done(stamp: u64, reply: OwnedAnswer) -> Told {
         Told::Done { stamp, reply }
     }
 
@@ -617,12 +806,12 @@ mod tests {
         OwnedAnswer::Present(value.into())
     }
 
-    fn set(value: &str) -> Action {
+    pub(crate) fn set(value: &str) -> Action {
         Action::Set(Set { value: value.into(), keep: Keep::None, only: Only::Always, tells: Tells::Ok })
     }
 
-    fn get(key: &str) -> OwnedCommand {
-        OwnedCommand::Get { key: key.into() }
+    pub(crate) fn value(value: &str) -> Told {
+        Told::Value(Some(value.into()))
     }
 
     fn cas(key: &str, expected: Option<&str>, new: Option<&str>) -> OwnedCommand {
@@ -632,28 +821,29 @@ mod tests {
     #[test]
     fn what_waits_is_done_by_one_command() {
         let store = Store::new();
-        (0..3).for_each(|number| _ = store.ask(number, "x", Action::Get));
+        (0..3).for_each(|number| _ = store.ask(number, "x", set("0")));
+        let put = |value: &str| OwnedCommand::Put { key: b"x".to_vec(), value: value.into() };
         let (client, request, seen, command, teller) = store.proposed();
-        assert_eq!((client, request, seen, command), (1, 1, 0, get("x")));
+        assert_eq!((client, request, seen, command), (1, 1, 0, put("0")));
         // Another key doesn't wait for it, and is another client's.
-        store.ask(3, "y", Action::Get);
+        store.ask(3, "y", Action::Delete);
         let (client, request, seen, command, other) = store.proposed();
-        assert_eq!((client, request, seen, command), (9, 1, 0, get("y")));
+        assert_eq!((client, request, seen, command), (9, 1, 0, OwnedCommand::Del { key: b"y".to_vec() }));
         assert!(store.is_idle() && store.told().is_empty());
         teller.send(done(7, present("1")));
-        assert_eq!(store.told(), [(0, Reply::text("1"))]);
+        assert_eq!(store.told(), [(0, Reply::Simple("OK"))]);
         let (client, request, seen, command, teller) = store.proposed();
-        assert_eq!((client, request, seen, command), (1, 2, 7, get("x")));
+        assert_eq!((client, request, seen, command), (1, 2, 7, put("0")));
         other.send(done(3, OwnedAnswer::Absent));
-        assert_eq!(store.told(), [(3, Reply::Nil)]);
+        assert_eq!(store.told(), [(3, Reply::Integer(0))]);
         // What is written whatever was there is put, and what was asked before and after it is told by what was there.
         for (number, action) in [(4, Action::Add(1)), (5, set("5")), (6, Action::Add(2)), (7, Action::Get)] {
             store.ask(number, "x", action);
         }
         teller.send(done(8, present("2")));
-        assert_eq!(store.told(), [(1, Reply::text("2")), (2, Reply::text("2"))]);
+        assert_eq!(store.told(), [(1, Reply::Simple("OK")), (2, Reply::Simple("OK"))]);
         let (_, _, seen, command, teller) = store.proposed();
-        assert_eq!((seen, command), (8, OwnedCommand::Put { key: b"x".to_vec(), value: b"7".to_vec() }));
+        assert_eq!((seen, command), (8, put("7")));
         teller.send(done(9, present("3")));
         let expected =
             [(4, Reply::Integer(4)), (5, Reply::Simple("OK")), (6, Reply::Integer(7)), (7, Reply::text("7"))];
@@ -665,9 +855,7 @@ mod tests {
     fn what_looks_first_is_compared() {
         let store = Store::new();
         store.ask(0, "x", Action::Add(1));
-        let (.., command, teller) = store.proposed();
-        assert_eq!(command, get("x"));
-        teller.send(done(1, OwnedAnswer::Absent));
+        store.reads("x").send(Told::Value(None));
         let (.., command, teller) = store.proposed();
         assert_eq!(command, cas("x", None, Some("1")));
         // Another one was first. What came meanwhile is done with it.
@@ -686,9 +874,7 @@ mod tests {
         assert_eq!(store.told(), [(2, Reply::Error(CommandFault::NotAnInteger))]);
         // Where nothing is to change, the key is read.
         store.ask(3, "x", Action::Add(1));
-        let (.., command, teller) = store.proposed();
-        assert_eq!(command, get("x"));
-        teller.send(done(5, present("1")));
+        store.reads("x").send(value("1"));
         let (.., command, teller) = store.proposed();
         assert_eq!(command, cas("x", Some("1"), Some("2")));
         teller.send(done(6, present("1")));
@@ -696,11 +882,50 @@ mod tests {
     }
 
     #[test]
+    fn what_only_reads_goes_by_itself() {
+        let store = Store::new();
+        store.ask_by(1, 0, "x", set("1"));
+        let writes = store.proposed().4;
+        // Others' reads don't wait for it, nor for one another; what its own connection reads does.
+        store.ask_by(2, 1, "x", Action::Get);
+        let second = store.reads("x");
+        store.ask_by(3, 2, "x", Action::Exists);
+        let third = store.reads("x");
+        store.ask_by(1, 3, "x", Action::Get);
+        assert!(store.is_idle());
+        third.send(Told::Value(None));
+        assert_eq!(store.told(), [(2, Reply::Integer(0))]);
+        // What a connection writes waits until it has read; another one's goes as soon as there may be a command.
+        store.ask_by(2, 4, "x", Action::Delete);
+        writes.send(done(1, OwnedAnswer::Absent));
+        assert_eq!(store.told(), [(0, Reply::Simple("OK"))]);
+        store.reads("x").send(value("1"));
+        assert_eq!(store.told(), [(3, Reply::text("1"))]);
+        assert!(store.is_idle());
+        second.send(value("1"));
+        assert_eq!(store.told(), [(1, Reply::text("1"))]);
+        let (.., command, teller) = store.proposed();
+        assert_eq!(command, OwnedCommand::Del { key: b"x".to_vec() });
+        teller.send(done(2, present("1")));
+        assert_eq!(store.told(), [(4, Reply::Integer(1))]);
+        // Who waits no longer for a read is told so, and the driver may let go of it.
+        let id = store.ask(5, "x", Action::Get);
+        let reads = store.reads("x");
+        assert_eq!(store.keys.withdraw(id, b"x"), Some(CommandFault::NotInTime));
+        assert!(reads.begun().is_given_up());
+        reads.send(value("1"));
+        store.ask(6, "x", Action::Get);
+        store.reads("x").send(Told::Alone);
+        assert_eq!(store.told(), [(6, Reply::Error(CommandFault::NoMajority))]);
+        assert!(store.is_idle());
+    }
+
+    #[test]
     fn what_is_past_its_deadline_is_removed_before_nil_is_told() {
         let store = Store::new();
         store.ask(0, "x", Action::Get);
         let old = Stored::Value { content: b"v".to_vec(), deadline: Some(1) }.into_bytes();
-        store.proposed().4.send(done(1, OwnedAnswer::Present(old.clone())));
+        store.reads("x").send(Told::Value(Some(old.clone())));
         assert!(store.told().is_empty());
         let (.., command, teller) = store.proposed();
         assert_eq!(command, OwnedCommand::Cas { key: b"x".to_vec(), expected: Some(old.clone()), new: None });
@@ -708,7 +933,7 @@ mod tests {
         teller.send(done(2, present("w")));
         assert_eq!(store.told(), [(0, Reply::text("w"))]);
         store.ask(1, "x", Action::Get);
-        store.proposed().4.send(done(3, OwnedAnswer::Present(old.clone())));
+        store.reads("x").send(Told::Value(Some(old.clone())));
         store.proposed().4.send(done(4, OwnedAnswer::Present(old)));
         assert_eq!(store.told(), [(1, Reply::Nil)]);
         assert!(store.is_idle());
@@ -734,7 +959,8 @@ mod tests {
         assert_eq!(store.told(), [(0, Reply::Error(CommandFault::Lost))]);
         // So is a comparison that others are before each time.
         store.ask(1, "x", Action::Add(1));
-        for number in 0..MOST_TRIES {
+        store.reads("x").send(value("0"));
+        for number in 1..MOST_TRIES {
             store.proposed().4.send(done(40, present(&number.to_string())));
         }
         assert!(store.told().is_empty());
@@ -746,11 +972,11 @@ mod tests {
     #[test]
     fn replies_that_nobody_knows() {
         let store = Store::new();
-        for (number, action) in [(0, Action::Get), (1, set("1")), (2, Action::Add(1))] {
+        for (number, action) in [(9, set("0")), (0, Action::Get), (1, set("1")), (2, Action::Add(1))] {
             store.ask(number, "x", action);
         }
-        // What is read is read again.
-        store.proposed().4.send(Told::DoneUnseen { stamp: 5 });
+        store.proposed().4.send(done(5, OwnedAnswer::Absent));
+        assert_eq!(store.told(), [(9, Reply::Simple("OK"))]);
         let (_, _, seen, command, teller) = store.proposed();
         assert_eq!((seen, command), (5, OwnedCommand::Put { key: b"x".to_vec(), value: b"2".to_vec() }));
         teller.send(Told::DoneUnseen { stamp: 6 });
@@ -761,18 +987,17 @@ mod tests {
         }
         store.proposed().4.send(Told::DoneUnseen { stamp: 7 });
         assert_eq!(store.told(), [(3, unseen)]);
-        store.proposed().4.send(Told::Doubtful);
-        store.proposed().4.send(done(8, OwnedAnswer::Absent));
+        store.reads("x").send(Told::Value(None));
         assert_eq!(store.told(), [(4, Reply::Nil)]);
         // Whether a comparison found what it expected nobody knows.
         for told in [Told::DoneUnseen { stamp: 9 }, Told::Doubtful] {
             store.ask(5, "x", Action::Add(1));
-            let (.., command, teller) = store.proposed();
-            if command == get("x") {
-                teller.send(done(9, OwnedAnswer::Absent));
-                store.proposed().4.send(told);
-            } else {
-                teller.send(told);
+            match store.asked() {
+                (What::Get(_), reply) => {
+                    reply.send(Told::Value(None));
+                    store.proposed().4.send(told);
+                }
+                (_, reply) => reply.send(told),
             }
             assert_eq!(store.told(), [(5, Reply::Error(CommandFault::Doubtful))]);
         }
@@ -819,17 +1044,17 @@ mod tests {
         let third = store.ask(2, "x", Action::Add(1));
         // A command that nobody waits for doesn't hold up what follows.
         assert_eq!(store.keys.withdraw(first, b"x"), Some(CommandFault::Unanswered));
-        let (client, .., command, look) = store.proposed();
-        assert_eq!((client, command), (9, get("x")));
-        // Its answer comes late, and is nobody's. Its client is free then.
+        let look = store.reads("x");
+        // Its answer comes late, and is nobody's.
         teller.send(done(1, OwnedAnswer::Absent));
         assert!(store.told().is_empty());
         assert_eq!(store.keys.withdraw(third, b"x"), Some(CommandFault::NotInTime));
-        look.send(done(1, OwnedAnswer::Absent));
+        assert!(look.begun().is_given_up());
+        look.send(Told::Value(None));
         assert!(store.told().is_empty() && store.is_idle());
         // What is withdrawn isn't proposed again, but what was proposed counts.
         let ids = [3, 4].map(|number| store.ask(number, "y", Action::Add(1)));
-        store.proposed().4.send(done(2, OwnedAnswer::Absent));
+        store.reads("y").send(Told::Value(None));
         let (.., command, teller) = store.proposed();
         assert_eq!(command, cas("y", None, Some("2")));
         assert_eq!(store.keys.withdraw(ids[0], b"y"), Some(CommandFault::Unanswered));
@@ -868,10 +1093,7 @@ mod tests {
         assert!(store.is_idle() && store.told().is_empty());
         // What is asked with it is done without it.
         let ids = [1, 2, 3].map(|number| store.ask(number, "x", Action::Add(1)));
-        let (command, reply) = held();
-        assert_eq!(command, get("x"));
-        assert!(reply.begun().begin());
-        reply.send(done(2, OwnedAnswer::Absent));
+        store.reads("x").send(Told::Value(None));
         let (command, first) = held();
         assert_eq!(command, cas("x", None, Some("3")));
         assert_eq!(store.keys.withdraw(ids[0], b"x"), Some(CommandFault::Waiting));
@@ -893,7 +1115,7 @@ mod tests {
         store.metrics.quorum_round_trip.set(19_999);
         store.ask_by(1, 0, "x", Action::Add(1));
         store.ask_by(2, 1, "x", Action::Add(1));
-        store.proposed().4.send(done(1, present("5")));
+        store.reads("x").send(value("5"));
         let (.., command, first) = store.proposed();
         assert_eq!(command, cas("x", Some("5"), Some("7")));
         assert!(store.is_idle());
@@ -941,15 +1163,21 @@ mod tests {
                     let (mut random, events) = (Random::from_seed(seed as u64 + 1), store.events.lock().unwrap());
                     while !is_over.load(Ordering::Relaxed) {
                         let event = events.recv_timeout(Duration::from_millis(10));
-                        let Ok(Event::Ask(Ask { what: What::Propose { command, .. }, reply })) = event else {
-                            continue;
-                        };
-                        let told = match random.below(8) {
-                            0 => OwnedAnswer::Closed,
-                            _ => execute(&mut map.lock().unwrap(), &command),
+                        let told = match event {
+                            Ok(Event::Ask(Ask { what: What::Propose { command, .. }, reply })) => {
+                                let told = match random.below(8) {
+                                    0 => OwnedAnswer::Closed,
+                                    _ => execute(&mut map.lock().unwrap(), &command),
+                                };
+                                (reply, done(1, told))
+                            }
+                            Ok(Event::Ask(Ask { what: What::Get(key), reply })) => {
+                                (reply, Told::Value(map.lock().unwrap().get(&key).cloned()))
+                            }
+                            _ => continue,
                         };
                         thread::sleep(Duration::from_micros(random.below(300)));
-                        reply.send(done(1, told));
+                        told.0.send(told.1);
                     }
                 };
                 scope.spawn(drive);

@@ -1,8 +1,9 @@
 //! What this replica hands to peers that lag: the bytes that lead to its generation, of each peer those that it was
 //! told of first, for as long as they are there.
-use crate::generations_fault::GenerationsFault;
 use crate::messages::{LONGEST_PIECE, Message};
 use crate::way::Way;
+use epaxos::host::FolderFault;
+use epaxos::parts::plan_fault::PlanFault;
 use std::collections::BTreeMap;
 use std::path::Path;
 
@@ -21,14 +22,14 @@ impl Lead {
         newest: u32,
         to: u8,
         (ends, offset): ((u32, u32), u64),
-    ) -> Result<Message, GenerationsFault> {
+    ) -> Result<Message, FolderFault> {
         if let Some(part) = self.ways.get(&to).filter(|way| way.ends() == ends).and_then(|way| piece(way, offset)) {
             return Ok(part);
         }
         let way = Way::to(folder, newest)?;
         // (after a start the same bytes may be there)
         let offset = if way.ends() == ends { offset } else { 0 };
-        let part = piece(&way, offset).ok_or(GenerationsFault::Broken(way.ends().0));
+        let part = piece(&way, offset).ok_or(FolderFault::Plan(PlanFault::Broken(way.ends().0)));
         self.ways.insert(to, way);
         part
     }

@@ -1,7 +1,13 @@
-//! A replicated store over TCP: the host around `epaxos node`, a proved program that speaks over its standard streams.
+//! A replicated store over TCP: the host around the proved core, which the library has in this process.
 // (what tests of their own share with tests in here names this crate so)
 #[cfg(test)]
 extern crate self as store;
+
+/// What hosts that are embedded have too.
+pub use epaxos::parts::{
+    coarse, commits, distances, frames, generation, linearizable, map, members, messages, opening, planning, presence,
+    progress, queries, random, room, round_trips, tally, watch,
+};
 
 pub mod actions;
 pub mod admin;
@@ -10,25 +16,17 @@ pub mod chain;
 pub mod checkpoint;
 pub mod client;
 pub mod clients;
-pub mod coarse;
 pub mod command_fault;
 pub mod commands;
-pub mod commits;
 pub mod connect_fault;
 pub mod connections;
 pub mod core;
 pub mod directory;
 pub mod directory_fault;
-pub mod distances;
 pub mod door;
 pub mod driver;
-pub mod file_fault;
-pub mod follower;
 pub mod following;
-pub mod frames;
-pub mod generation;
 pub mod generations;
-pub mod generations_fault;
 pub mod glob;
 pub mod hosted;
 pub mod identities;
@@ -37,65 +35,56 @@ pub mod joining;
 pub mod keys;
 pub mod lead;
 pub mod life;
-pub mod linearizable;
 pub mod link;
 pub mod link_fault;
 pub mod listing;
-pub mod listing_fault;
 pub mod malformed_fault;
 pub mod manage_fault;
-#[cfg(test)]
-#[path = "../tests/common/map.rs"]
-mod map;
-pub mod members;
 pub mod memory;
-pub mod messages;
 pub mod metrics;
-pub mod node;
+pub mod multi;
 pub mod node_fault;
 pub mod notify;
 pub mod numbers;
 pub mod numbers_fault;
-pub mod opening;
-pub mod openings;
 pub mod options;
 pub mod options_fault;
-pub mod others;
 pub mod outcome;
 pub mod password;
 pub mod peers;
 #[cfg(test)]
 #[path = "../tests/common/plain.rs"]
 mod plain;
-pub mod planning;
 pub mod plants;
+#[path = "../../../bindings/rust/epaxos/tests/common/ports.rs"]
 pub mod ports;
-pub mod presence;
+#[cfg(test)]
+mod ports_tests;
 pub mod processes;
-pub mod random;
+pub mod reading;
 pub mod receipts;
 pub mod receipts_fault;
 pub mod recovery;
 pub mod recovery_fault;
-pub mod reference;
 pub mod replies;
 pub mod resp;
-pub mod room;
-pub mod round_trips;
 pub mod say;
 pub mod scripts;
 pub mod sealed;
+pub mod seen;
+pub mod step;
 pub mod stop_fault;
 pub mod stored;
 pub mod summed_log;
 pub mod sweep;
 pub mod table;
-pub mod tally;
 pub mod teller;
 pub mod timed;
-pub mod transactions;
-pub mod under_way;
+pub mod transacting;
+pub mod transaction;
+pub mod txn;
+pub mod view;
 pub mod waiting;
-pub mod watch;
+pub mod watching;
 pub mod way;
 pub mod wishes;

@@ -3,6 +3,7 @@ use super::*;
 use crate::driver::tests::driver_over;
 use crate::driver::{Ask, Event, What};
 use crate::link::Link;
+use crate::members::Member;
 use crate::peers::{Peers, Place};
 use crate::plain::Plain;
 use std::path::PathBuf;
@@ -44,7 +45,7 @@ impl Trial {
             driver_over(name, Place { replicas: replicas.into(), replica: 0 }, Peers::over(links));
         for peer in 1..replicas {
             assert!(driver.membership.identities.meet(peer, [peer; 16]).unwrap());
-            driver.others.hear(peer, 1, false);
+            driver.progress.others.hear(peer, 1, false);
         }
         Trial { driver, sender, ways, folder }
     }
@@ -99,12 +100,12 @@ fn made_up_machines_are_refused() {
     trial.reach([1, 0]);
     assert_eq!(trial.ask(replace(2, 9, false)), not_waiting(2, 9));
     assert_eq!(trial.ask(replace(2, 9, true)), not_waiting(2, 9));
-    assert!(!trial.driver.generation.is_asked && trial.driver.wishes.is_empty());
+    assert!(!trial.driver.progress.generation.is_asked && trial.driver.wishes.is_empty());
     trial.driver.membership.waiting.note(4, [4; 16]);
     trial.reach([1, 1]);
     let members = trial.ask(resize(5, &[3, 4])).unwrap();
     assert!(members.contains(&format!("4 {} a:4\n", "04".repeat(16))), "{members}");
-    assert!(trial.driver.generation.is_asked);
+    assert!(trial.driver.progress.generation.is_asked);
 }
 
 #[test]
@@ -141,7 +142,7 @@ fn a_generation_without_a_majority_is_not_begun() {
     assert!(trial.ask(replace(2, 8, true)).is_ok());
     trial.driver.membership.waiting.forget(2);
     trial.driver.drop_unfit_wishes();
-    assert!(trial.driver.wishes.is_empty() && !trial.driver.generation.is_asked);
+    assert!(trial.driver.wishes.is_empty() && !trial.driver.progress.generation.is_asked);
     // Two at once, of which each by itself would leave a majority: the machine that comes for the second one has gone since.
     [1, 2].into_iter().for_each(|it| trial.driver.membership.waiting.note(it, [8; 16]));
     assert!(trial.ask(replace(2, 8, false)).is_ok());
@@ -196,6 +197,8 @@ fn nothing_is_dropped_while_it_is_handed() {
         left.iter().map(|it| it.exists()).collect::<Vec<_>>()
     };
     trial.driver.hand_part(1, (0, 0), 0).unwrap();
+    // (as if it had been just now, also where the machine is slow)
+    trial.driver.handed = trial.driver.handed.map(|handed| handed + Duration::from_secs(60));
     trial.driver.is_drop_due = true;
     assert_eq!(tick(&mut trial.driver), [true, true, true]);
     trial.driver.handed = Some(Instant::now() - HANDING);

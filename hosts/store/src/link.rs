@@ -17,6 +17,11 @@ pub trait Link: Send + Sync {
     /// Whether the peer is reached just now.
     fn is_reached(&self) -> bool;
 
+    /// Whether nothing waits to be sent that can be.
+    fn is_idle(&self) -> bool {
+        true
+    }
+
     /// How many frames were lost for want of room.
     fn lost(&self) -> u64 {
         0

@@ -1,17 +1,12 @@
-//! The keys that there are at this replica, after all that it knows to be committed: as the core in this process tells them, or, where the core is a
-//! process of its own, as `epaxos contents` does of its folder.
-use crate::clients::fault_of;
+//! The keys that there are at this replica, after all that it knows to be committed.
 use crate::command_fault::CommandFault;
 use crate::commands::List;
 use crate::core::Pairs;
 use crate::driver::{Ask, Event, Told, What};
 use crate::glob::fits;
-use crate::listing_fault::ListingFault;
 use crate::resp::Reply;
 use crate::stored::{Stored, now};
 use crate::teller::Teller;
-use std::path::PathBuf;
-use std::process::{Command, Stdio};
 use std::sync::mpsc::{SyncSender, channel};
 use std::sync::{Arc, Mutex, PoisonError};
 use std::time::{Duration, Instant};
@@ -28,8 +23,6 @@ pub struct Listing {
     /// To the driver.
     events: SyncSender<Event>,
     patience: Duration,
-    program: PathBuf,
-    folder: PathBuf,
     last: Mutex<Option<(Instant, Arc<Vec<Listed>>)>>,
 }
 
@@ -42,9 +35,9 @@ struct Listed {
 }
 
 impl Listing {
-    /// By the driver, which has so long to answer; or by this program, of the folder of its node's generations.
-    pub fn new(events: SyncSender<Event>, patience: Duration, (program, folder): (PathBuf, PathBuf)) -> Listing {
-        Listing { events, patience, program, folder, last: Mutex::new(None) }
+    /// By the driver, which has so long to answer.
+    pub fn new(events: SyncSender<Event>, patience: Duration) -> Listing {
+        Listing { events, patience, last: Mutex::new(None) }
     }
 
     /// The reply, and the keys that it hides, as they are past their deadlines: at most so many as are removed at once.
@@ -76,25 +69,10 @@ impl Listing {
         // (where the driver has ended, the teller tells it)
         let _ = self.events.send(Event::Ask(Ask { what: What::Contents, reply }));
         match told.recv_timeout(self.patience) {
-            Ok(Told::Contents(Some(pairs))) => Ok(by_places(pairs)),
-            Ok(Told::Contents(None)) => self.list_by_program().map_err(CommandFault::Listing),
-            Ok(told) => Err(fault_of(told)),
+            Ok(Told::Contents(pairs)) => Ok(by_places(pairs)),
+            Ok(told) => Err(CommandFault::of(told)),
             Err(_) => Err(CommandFault::NotInTime),
         }
-    }
-
-    fn list_by_program(&self) -> Result<Vec<Listed>, ListingFault> {
-        let output = Command::new(&self.program)
-            .arg("contents")
-            .arg(&self.folder)
-            .stdin(Stdio::null())
-            .output()
-            .map_err(|error| ListingFault::NotRun(self.program.clone(), error.kind()))?;
-        if !output.status.success() {
-            let told = String::from_utf8_lossy(&output.stderr);
-            return Err(ListingFault::Failed(output.status, told.lines().next().unwrap_or_default().into()));
-        }
-        read(&output.stdout).ok_or(ListingFault::NotAList)
     }
 }
 
@@ -104,43 +82,6 @@ fn by_places(pairs: Pairs) -> Vec<Listed> {
     let mut listed: Vec<_> = pairs.into_iter().map(listed).collect();
     listed.sort_by(|first, second| (first.place, &first.key).cmp(&(second.place, &second.key)));
     listed
-}
-
-/// The keys of what `contents` prints, by their places.
-fn read(text: &[u8]) -> Option<Vec<Listed>> {
-    pairs(text).map(by_places)
-}
-
-/// The keys of what `contents` prints, each with its value.
-pub(crate) fn pairs(text: &[u8]) -> Option<Pairs> {
-    let mut lines = text.strip_suffix(b"\n")?.split(|byte| *byte == b'\n');
-    lines.next().filter(|line| line.starts_with(b"generation "))?;
-    lines.map(read_line).collect()
-}
-
-fn read_line(line: &[u8]) -> Option<(Vec<u8>, Vec<u8>)> {
-    let space = line.iter().position(|byte| *byte == b' ')?;
-    Some((word(&line[..space])?, word(&line[space + 1..])?))
-}
-
-/// The bytes that a word spells.
-fn word(word: &[u8]) -> Option<Vec<u8>> {
-    if word == b"%-" {
-        return Some(Vec::new());
-    }
-    let mut bytes = Vec::with_capacity(word.len());
-    let mut rest = word;
-    while let Some((byte, after)) = rest.split_first() {
-        rest = after;
-        if *byte != b'%' {
-            bytes.push(*byte);
-            continue;
-        }
-        let (digits, after) = rest.split_at_checked(2)?;
-        rest = after;
-        bytes.push(u8::from_str_radix(std::str::from_utf8(digits).ok()?, 16).ok()?);
-    }
-    Some(bytes)
 }
 
 /// The key's place in a scan, by the hash of Fowler, Noll and Vo (FNV-1a).
@@ -200,24 +141,8 @@ mod tests {
     use super::*;
     use std::collections::BTreeSet;
 
-    #[test]
-    fn what_contents_prints_is_read() {
-        let text = b"generation 2 entries 7 contents 3 00ff\na 1\nb%20%25 %-\n%ff x%0ay\n";
-        let mut read: Vec<_> = read(text).unwrap().into_iter().map(|it| (it.key, it.stored.into_bytes())).collect();
-        read.sort();
-        assert_eq!(
-            read,
-            [(b"a".to_vec(), b"1".to_vec()), (b"b %".to_vec(), Vec::new()), (b"\xff".to_vec(), b"x\ny".to_vec())]
-        );
-        assert!(super::read(b"generation 1 entries 0 contents 0 00\n").unwrap().is_empty());
-        for odd in [&b""[..], b"a 1\n", b"generation 1\na\n", b"generation 1\na %1\n", b"generation 1\na 1"] {
-            assert!(super::read(odd).is_none());
-        }
-    }
-
     fn listed(keys: impl IntoIterator<Item = String>) -> Vec<Listed> {
-        let lines: String = keys.into_iter().map(|key| format!("{key} 1\n")).collect();
-        read(format!("generation 1 entries 1 contents 1 00\n{lines}").as_bytes()).unwrap()
+        by_places(keys.into_iter().map(|key| (key.into_bytes(), b"1".to_vec())).collect())
     }
 
     #[test]
@@ -246,8 +171,9 @@ mod tests {
 
     #[test]
     fn what_is_past_its_deadline_is_not_listed() {
-        let text = b"generation 1 entries 1 contents 2 00\na %ff%01%00%00%00%00%00%00%00%01x\nlock %ff%02%00%00%00%00%00%00%00%01%00%00%00%00%00%00%00%00\n";
-        let there = read(text).unwrap();
+        let over = b"\xff\x01\0\0\0\0\0\0\0\x01x".to_vec();
+        let lock = [&b"\xff\x02\0\0\0\0\0\0\0\x01"[..], &[0; 8]].concat();
+        let there = by_places(vec![(b"a".to_vec(), over), (b"lock".to_vec(), lock)]);
         assert_eq!(answer(&List::Size, &there), Reply::Integer(1));
         assert_eq!(answer(&List::Keys(b"*".to_vec()), &there), Reply::Array(vec![Reply::text("lock")]));
         let list =

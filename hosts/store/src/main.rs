@@ -1,5 +1,6 @@
 //! One replica of the store.
 use epaxos::State;
+use epaxos::host::FolderFault;
 use signal_hook::consts::{SIGINT, SIGTERM};
 use signal_hook::iterator::Signals;
 use std::fmt;
@@ -28,7 +29,6 @@ use store::listing::Listing;
 use store::members::Members;
 use store::memory::Memory;
 use store::metrics::{self, Metrics};
-use store::node::{Node, Settings};
 use store::node_fault::NodeFault;
 use store::notify;
 use store::numbers::Numbers;
@@ -79,7 +79,6 @@ fn main() -> ExitCode {
     };
     name(options.replica);
     let admin = options.admin.clone();
-    // Where it is killed the node's input closes, and so the node ends too, with all that it has taken on the disk.
     let due = Arc::<Due>::default();
     let fault = match start(options, due.clone()) {
         Ok(driver) => StoreFault::Stop(driver.run()),
@@ -148,7 +147,7 @@ impl StoreFault {
             | StoreFault::Key(_)
             | StoreFault::Unguarded(_)
             | StoreFault::NoAddress(_) => true,
-            StoreFault::Node(fault) => fault.is_lasting(),
+            StoreFault::Node(fault) => fault.is_refusal(),
             StoreFault::Stop(stop) => stop.is_lasting(),
             // (a path that is too long, or that something else has)
             StoreFault::Admin(_, error) => {
@@ -190,7 +189,7 @@ fn words() -> Result<Vec<String>, OptionsFault> {
     std::env::args_os().skip(1).map(|word| word.into_string().map_err(OptionsFault::NotText)).collect()
 }
 
-fn start(options: Options, due: Arc<Due>) -> Result<Driver<AnyCore>, StoreFault> {
+fn start(options: Options, due: Arc<Due>) -> Result<Driver<Hosted>, StoreFault> {
     let mut place = Place { replicas: options.peers.len(), replica: options.replica };
     let own = &options.peers[usize::from(place.replica)];
     let key = options.peer_key.as_deref().map(Key::read).transpose().map_err(StoreFault::Key)?;
@@ -214,7 +213,7 @@ fn start(options: Options, due: Arc<Due>) -> Result<Driver<AnyCore>, StoreFault>
     let shared = Shared {
         events: sender.clone(),
         keys: Keys::start(sender.clone(), numbers.clone(), metrics.clone()).map_err(StoreFault::Thread)?,
-        listing: Arc::new(Listing::new(sender.clone(), options.patience, (program(&options), directory.generations()))),
+        listing: Arc::new(Listing::new(sender.clone(), options.patience)),
         patience: options.patience,
         password: password(options.auth.as_deref())?,
         operators: options.admin.to_string(),
@@ -256,9 +255,8 @@ fn start(options: Options, due: Arc<Due>) -> Result<Driver<AnyCore>, StoreFault>
     if joins {
         (membership, peers) = open(place, &options.peers, for_peers)?;
         serve(for_clients, shared, &membership)?;
-        let follower = is_hosted(&options).then_some(epaxos::Core::Library);
         let (membership, directory, peers, events) = (&membership, &directory, &peers, &events);
-        let joining = Joining { membership, directory, peers, events, follower };
+        let joining = Joining { membership, directory, peers, events };
         let begin = joining.wait().map_err(StoreFault::Stop)?;
         let opening = match &begin {
             Begin::Take(path) => {
@@ -268,7 +266,7 @@ fn start(options: Options, due: Arc<Due>) -> Result<Driver<AnyCore>, StoreFault>
         };
         let of = Place { replicas: opening.replicas.into(), ..place };
         check_place(of, opening.generation)?;
-        (node, state) = start_node(&options, of, &directory, (&begin, 0), &sender)?;
+        (node, state) = start_core(&options, of, &directory, &begin)?;
         receipts = open_receipts(&directory, state.generation)?;
         directory.end_joining().map_err(StoreFault::Directory)?;
         if of.replicas != place.replicas {
@@ -278,7 +276,7 @@ fn start(options: Options, due: Arc<Due>) -> Result<Driver<AnyCore>, StoreFault>
         }
     } else {
         let opening;
-        (node, state, opening) = start_again(&options, &directory, &sender)?;
+        (node, state, opening) = start_again(&options, &directory)?;
         place.replicas = opening.replicas.into();
         receipts = open_receipts(&directory, state.generation)?;
         Numbers::new(&options.directory, place.replica).check(receipts.named.client).map_err(StoreFault::Numbers)?;
@@ -292,16 +290,12 @@ fn start(options: Options, due: Arc<Due>) -> Result<Driver<AnyCore>, StoreFault>
     }
     let sealer = numbers.lock().unwrap_or_else(PoisonError::into_inner).give().map_err(StoreFault::Numbers)?;
     let watch = Watch::new(place, Instant::now(), Random::new().below(u64::MAX));
-    if !watch.is_measured() {
-        warn(
-            "built without the library, which goes by measured round trips: what is late is recovered after a second or two",
-        );
-    }
+    let watch = watch.map_err(|fault| StoreFault::Node(FolderFault::Open(fault).into()))?;
     let (replica, replicas, generation) = (place.replica, place.replicas, state.generation);
-    let (listen, process) = (&options.listen, node.process());
+    let (listen, process) = (&options.listen, std::process::id());
     notify::ready(&format!("replica {replica} of {replicas} serves"));
     say(&format!(
-        "replica {replica} of {replicas} in generation {generation}, clients at {listen}, peers at {own}, node process {process}"
+        "replica {replica} of {replicas} in generation {generation}, clients at {listen}, peers at {own}, process {process}"
     ));
     let driver = Driver::new(Parts {
         node,
@@ -319,7 +313,7 @@ fn start(options: Options, due: Arc<Due>) -> Result<Driver<AnyCore>, StoreFault>
         sealer,
         metrics,
     });
-    Ok(driver.with_most_map(options.most_map))
+    Ok(driver.with_most_map(options.most_map).with_together(options.together))
 }
 
 fn open_receipts(directory: &Directory, generation: u32) -> Result<Receipts, StoreFault> {
@@ -365,14 +359,10 @@ fn addresses(options: &Options, opening: &Opening) -> Result<Vec<String>, StoreF
     (0..opening.replicas.into()).map(address).collect()
 }
 
-/// Starts the node of a folder that has a replica, or is to have one by `--new`: what it is then, and what its generation opened with.
+/// Starts the core of a folder that has a replica, or is to have one by `--new`: what it is then, and what its generation opened with.
 /// Where it was ended while it took a peer's opening it takes that again. Where it closes a generation whose seal wants another number of
 /// replicas, which nobody knows before, that is taken back, and it closes it once more, for as many.
-fn start_again(
-    options: &Options,
-    directory: &Directory,
-    events: &SyncSender<Event>,
-) -> Result<(AnyCore, State, Opening), StoreFault> {
+fn start_again(options: &Options, directory: &Directory) -> Result<(Hosted, State, Opening), StoreFault> {
     let whole = directory.whole();
     let read = |path: PathBuf| Opening::read(&path).map_err(|error| StoreFault::Stop(StopFault::File(path, error)));
     let mut begin = match options.start {
@@ -382,7 +372,6 @@ fn start_again(
     };
     // Of a generation that was taken back: its number, and how many replicas it is to have.
     let mut wanted = None;
-    let mut run = 0;
     loop {
         let found = match &begin {
             _ if wanted.is_some() => wanted.take(),
@@ -396,7 +385,7 @@ fn start_again(
         let (generation, replicas) = found.unwrap_or((1, options.peers.len() as u8));
         let place = Place { replicas: replicas.into(), replica: options.replica };
         check_place(place, generation)?;
-        match start_node(options, place, directory, (&begin, run), events) {
+        match start_core(options, place, directory, &begin) {
             Ok((mut node, state)) => {
                 // (where it stays it is refused at the next start, or is the very one that is there)
                 let _ = std::fs::remove_file(&whole);
@@ -415,7 +404,7 @@ fn start_again(
             }
             Err(fault) => return Err(fault),
         }
-        (begin, run) = (Begin::Again, run + 1);
+        begin = Begin::Again;
     }
 }
 
@@ -425,50 +414,16 @@ fn check_place(place: Place, generation: u32) -> Result<(), StoreFault> {
     if is_one { Ok(()) } else { Err(StoreFault::Stop(StopFault::Left(generation))) }
 }
 
-/// A core, wherever it runs.
-type AnyCore = Box<dyn Core + Send>;
-
-/// The program `epaxos`.
-fn program(options: &Options) -> PathBuf {
-    options.node.clone().unwrap_or_else(|| "epaxos".into())
-}
-
-/// Whether the core runs in this process.
-fn is_hosted(options: &Options) -> bool {
-    options.node.is_none() && epaxos::Core::has_library()
-}
-
-/// Starts the core, and waits until it has read its log: what it is then. It runs in the program that is named; else in this process, where the store
-/// was built with the library; else in the program on the `PATH`.
-fn start_node(
+/// Starts the core, and waits until it has read its log: what it is then.
+fn start_core(
     options: &Options,
     place: Place,
     directory: &Directory,
-    (begin, run): (&Begin, u64),
-    events: &SyncSender<Event>,
-) -> Result<(AnyCore, State), StoreFault> {
-    let folder = directory.generations();
-    if is_hosted(options) {
-        let hosting = Hosting { place, folder, core: epaxos::Core::Library, checkpoint: options.checkpoint };
-        let hosted = Hosted::start(hosting, begin, run).map_err(StoreFault::Node)?;
-        return tell_of(Box::new(hosted));
-    }
-    let events = events.clone();
-    let settings = Settings {
-        program: program(options),
-        replicas: place.replicas,
-        replica: place.replica,
-        folder,
-        errors: directory.errors().map_err(StoreFault::Thread)?,
-        errors_path: directory.errors_path(),
-        on_end: Arc::new(move |run| _ = events.send(Event::NodeEnded(run))),
-    };
-    tell_of(Box::new(Node::start(settings, begin, run).map_err(StoreFault::Node)?))
-}
-
-/// Tells what a core tells at its start.
-fn tell_of(mut node: AnyCore) -> Result<(AnyCore, State), StoreFault> {
-    let state = node.state().map_err(StoreFault::Node)?;
-    node.told().iter().for_each(|line| warn(&format!("the node tells: {line}")));
-    Ok((node, state))
+    begin: &Begin,
+) -> Result<(Hosted, State), StoreFault> {
+    let hosting = Hosting { place, folder: directory.generations(), checkpoint: options.checkpoint };
+    let mut hosted = Hosted::start(hosting, begin).map_err(StoreFault::Node)?;
+    let state = hosted.state().map_err(StoreFault::Node)?;
+    hosted.told().iter().for_each(|line| warn(&format!("the core tells: {line}")));
+    Ok((hosted, state))
 }

@@ -1,6 +1,7 @@
 //! Why what somebody who runs the store has asked for isn't done.
 use crate::connect_fault::ConnectFault;
 use crate::identities::{Identity, digits};
+use epaxos::parts::wishes::ChangeFault;
 use std::fmt;
 
 /// Why `EPAXOS SEAL`, `REPLACE` or `RESIZE` isn't done.
@@ -28,6 +29,21 @@ pub enum ManageFault {
     Overruled,
     /// This machine, of this identity, takes no part yet.
     Joining(Identity),
+}
+
+impl From<ChangeFault> for ManageFault {
+    fn from(fault: ChangeFault) -> ManageFault {
+        match fault {
+            ChangeFault::NoReplica(replica) => ManageFault::NoReplica(replica),
+            ChangeFault::ThisOne => ManageFault::ThisOne,
+            ChangeFault::Reached(replica) => ManageFault::Reached(replica),
+            ChangeFault::NotASize => ManageFault::NotASize,
+            ChangeFault::NotWaiting(replica, identity) => ManageFault::NotWaiting(replica, identity),
+            ChangeFault::Alone { reached, replicas } => ManageFault::Alone { reached, replicas },
+            ChangeFault::NoMajority { reached, replicas } => ManageFault::NoMajority { reached, replicas },
+            ChangeFault::Overruled => ManageFault::Overruled,
+        }
+    }
 }
 
 impl fmt::Display for ManageFault {

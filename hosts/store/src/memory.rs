@@ -47,6 +47,11 @@ impl Share {
         true
     }
 
+    /// Has it be of so many bytes more; false, and as it was, where there is no room for them.
+    pub fn grow(&mut self, more: usize) -> bool {
+        self.resize(self.bytes + more)
+    }
+
     /// What is there already counts, whether or not there is room: nothing more is taken then.
     pub fn count(&mut self, more: usize) {
         self.memory.used.fetch_add(more, Ordering::Relaxed);

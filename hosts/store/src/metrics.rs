@@ -78,6 +78,10 @@ pub struct Metrics {
     /// How often the node was asked, each time all that was to be asked then.
     pub asks: Number,
     pub syncs: Number,
+    /// Commands of clients that went together with others.
+    pub together: Number,
+    /// Commands of the protocol that were proposed for clients.
+    pub proposals: Number,
     pub open_instances: Number,
     pub peers_reached: Number,
     /// How long the answer of the farthest member of the fast quorum takes at least, in microseconds. 0: too few have come.
@@ -89,6 +93,9 @@ pub struct Metrics {
     pub accepts: Number,
     /// Recoveries that it has begun.
     pub recoveries: Number,
+    /// Questions what interferes with reads, and those that were sent again.
+    pub questions: Number,
+    pub questions_again: Number,
     /// Keys that were past their deadlines at the last look and aren't removed yet.
     pub expired: Number,
     /// 1 where this replica takes part: it serves a generation, and reaches a majority.
@@ -106,8 +113,20 @@ impl Metrics {
         for (name, what, kind, number) in [
             ("epaxos_store_commands_answered_total", "Commands that were answered.", "counter", &self.answered),
             ("epaxos_store_commands_refused_total", "Commands that ended by an error.", "counter", &self.refused),
-            ("epaxos_store_asks_total", "Round trips to the node.", "counter", &self.asks),
+            ("epaxos_store_asks_total", "Calls of the core.", "counter", &self.asks),
             ("epaxos_store_syncs_total", "Syncs of the log.", "counter", &self.syncs),
+            (
+                "epaxos_store_proposals_total",
+                "Commands of the protocol that this replica has proposed for clients.",
+                "counter",
+                &self.proposals,
+            ),
+            (
+                "epaxos_store_together_total",
+                "Commands of clients that went together with others, by one command of the protocol.",
+                "counter",
+                &self.together,
+            ),
             (
                 "epaxos_store_frames_lost_total",
                 "Frames to peers that were dropped for want of room.",
@@ -122,7 +141,7 @@ impl Metrics {
             ),
             (
                 "epaxos_store_frames_refused_total",
-                "Frames of peers that the node refused.",
+                "Frames of peers that the core refused.",
                 "counter",
                 &self.frames_refused,
             ),
@@ -133,6 +152,13 @@ impl Metrics {
                 &self.accepts,
             ),
             ("epaxos_store_recoveries_total", "Recoveries that this replica began.", "counter", &self.recoveries),
+            ("epaxos_store_questions_total", "Questions of reads to peers.", "counter", &self.questions),
+            (
+                "epaxos_store_questions_again_total",
+                "Questions of reads that were sent again.",
+                "counter",
+                &self.questions_again,
+            ),
             ("epaxos_store_expired_kept", "Keys past their deadlines that aren't removed yet.", "gauge", &self.expired),
             (
                 "epaxos_store_takes_part",

@@ -1,6 +1,6 @@
 //! Client numbers, none of which is ever given twice, by any replica and over all its starts.
-use crate::identities::replace;
 use crate::numbers_fault::NumbersFault;
+use epaxos::parts::files;
 use std::fs;
 use std::io;
 use std::path::{Path, PathBuf};
@@ -71,7 +71,7 @@ fn set_next_aside(folder: &Path) -> Result<u32, NumbersFault> {
     if blocks >= MOST_BLOCKS {
         return Err(NumbersFault::UsedUp);
     }
-    let written = replace(folder, NAME, &format!("{}\n", blocks + 1));
+    let written = files::write(folder, NAME, format!("{}\n", blocks + 1).as_bytes());
     written.map_err(|error| NumbersFault::Unusable(folder.join(NAME), error.kind()))?;
     Ok(blocks)
 }

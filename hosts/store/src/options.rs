@@ -3,7 +3,7 @@ use crate::admin::{self, Admin};
 use crate::generation::Limits;
 use crate::options_fault::OptionsFault;
 use crate::plants::Plant;
-use epaxos::MOST_COMMANDS;
+use epaxos::{MOST_COMMANDS, MOST_TOLD};
 use std::fmt::Display;
 use std::path::PathBuf;
 use std::str::FromStr;
@@ -12,7 +12,7 @@ use std::time::Duration;
 const TEXT: &str = "\
 store: one replica of a replicated store, for clients of the Redis protocol
 
-    store --replica R --peers HOST:PORT,HOST:PORT,HOST:PORT --dir DIR [--new] [--listen HOST:PORT] [--peer-key FILE] [--node PATH]
+    store --replica R --peers HOST:PORT,HOST:PORT,HOST:PORT --dir DIR [--new] [--listen HOST:PORT] [--peer-key FILE]
           [--patience S]
     store recover --help   recovery after the loss of a majority
 
@@ -32,9 +32,9 @@ store: one replica of a replicated store, for clients of the Redis protocol
     --memory BYTES         memory limit for unfinished requests of all clients; default {MEMORY}
     --most-map BYTES       the map may have so many: key, value and 5 for each key; what might make it longer is refused (OOM), in the last sixteenth
                            maybe earlier; reads and deletes go on. The same at all replicas. Default: no bound
+    --together N           what clients write to so many keys at most goes by one command of the protocol, if it waits together: 1 to 16;
+                           default {TOGETHER}
     --metrics HOST:PORT    where Prometheus reads /metrics; a port alone is one of 127.0.0.1; default: nowhere
-    --node PATH            the program `epaxos`, in which the core then runs, with its log; default: the core runs in the store itself, where that
-                           was built with the library, else in the `epaxos` on the PATH
     --patience S           after so many seconds a client is told TRYAGAIN; default 10. What was proposed may still be done
     --join                 in the place of --new: for a machine that comes in the place of a lost one; it tells its identity and waits
                            until a generation begins that names it (EPAXOS REPLACE, at another replica's admin socket)
@@ -48,15 +48,18 @@ store: one replica of a replicated store, for clients of the Redis protocol
     --version              the version
 
 Example, one of three on this machine (start the others with 1 and 2 in the places of 0):
-    store --replica 0 --peers 127.0.0.1:7100,127.0.0.1:7101,127.0.0.1:7102 --listen 7000 --dir /tmp/store/0 --node ./epaxos --new
+    store --replica 0 --peers 127.0.0.1:7100,127.0.0.1:7101,127.0.0.1:7102 --listen 7000 --dir /tmp/store/0 --new
 
-It runs until it is killed; SIGTERM is the way. Status 1: it can't start, or its node has ended. 2: the command line. 3: no start with these words
+It runs until it is killed; SIGTERM is the way. Status 1: it can't start, or goes on no more. 2: the command line. 3: no start with these words
 and this folder can go on; standard error says why.
 ";
 
-/// When a generation ends, where nothing is told.
-pub const LIMITS: Limits = Limits { numbers: MOST_COMMANDS / 10 * 9, dependencies: 600, log: 16 << 20 };
+/// When a generation ends, where nothing is told. (What a change takes grows with what the generation changed; and
+/// while an opening is being written it may be three times as long.)
+pub const LIMITS: Limits = Limits { numbers: MOST_COMMANDS / 3, dependencies: 600, log: 16 << 20 };
 const KEPT: usize = 2;
+/// What clients write to so many keys goes together, where nothing is told.
+pub const TOGETHER: usize = MOST_TOLD;
 /// An opening is written once the logs since the last one have so many bytes, where nothing is told.
 pub const CHECKPOINT: u64 = 64 << 20;
 const MEMORY: usize = 512 << 20;
@@ -66,7 +69,7 @@ pub fn help() -> String {
     let numbers = [("{NUMBERS}", LIMITS.numbers.into()), ("{DEPENDENCIES}", LIMITS.dependencies.into())];
     let others =
         [("{LOG}", LIMITS.log), ("{CHECKPOINT}", CHECKPOINT), ("{KEPT}", KEPT as u64), ("{MEMORY}", MEMORY as u64)];
-    let all = numbers.into_iter().chain(others);
+    let all = numbers.into_iter().chain(others).chain([("{TOGETHER}", TOGETHER as u64)]);
     let text = TEXT.replace("{ADMIN}", admin::NAME);
     all.fold(text, |text, (word, number): (&str, u64)| text.replace(word, &number.to_string()))
 }
@@ -100,9 +103,9 @@ pub struct Options {
     pub memory: usize,
     /// How many bytes the map may have.
     pub most_map: Option<u64>,
+    /// So many keys that clients write are written by one command at most.
+    pub together: usize,
     pub metrics: Option<String>,
-    /// The program in which the core runs, where one is named.
-    pub node: Option<PathBuf>,
     pub patience: Duration,
     pub limits: Limits,
     /// How many bytes the logs have since an opening was written when the next one is.
@@ -125,11 +128,11 @@ pub fn read(words: impl IntoIterator<Item = String>) -> Result<Words, OptionsFau
     let mut words = words.into_iter();
     let (mut replica, mut peers, mut directory) = (None, None, None);
     let mut listen = "127.0.0.1:7000".to_string();
-    let mut node = None;
     let mut patience = Duration::from_secs(10);
     let mut plant = None;
     let (mut is_insecure, mut peer_key) = (false, None);
     let (mut auth, mut memory, mut metrics, mut most_map) = (None, MEMORY, None, None);
+    let mut together = TOGETHER;
     let (mut admin, mut admin_auth) = (None, None);
     let mut start = Start::Again;
     let (mut limits, mut checkpoint, mut kept) = (LIMITS, CHECKPOINT, KEPT);
@@ -166,9 +169,11 @@ pub fn read(words: impl IntoIterator<Item = String>) -> Result<Words, OptionsFau
             "--admin" => admin = Some(read_admin(value()?)),
             "--admin-auth" => admin_auth = Some(PathBuf::from(value()?)),
             "--memory" => memory = number(&word, &value()?, 1 << 20, usize::MAX)?,
+            "--together" => together = number(&word, &value()?, 1, MOST_TOLD)?,
             "--most-map" => most_map = Some(number(&word, &value()?, 1 << 10, i64::MAX as u64)?),
             "--metrics" => metrics = Some(with_host(value()?)),
-            "--node" => node = Some(PathBuf::from(value()?)),
+            // (of earlier versions: the core is in the store now)
+            "--node" => _ = value()?,
             "--patience" => patience = Duration::from_secs_f64(number(&word, &value()?, 0.1, 3600.0)?),
             "--seal-numbers" => limits.numbers = number(&word, &value()?, 10, 8_900)?,
             "--seal-dependencies" => limits.dependencies = number(&word, &value()?, 10, 62_999)?,
@@ -202,8 +207,8 @@ pub fn read(words: impl IntoIterator<Item = String>) -> Result<Words, OptionsFau
         admin_auth,
         memory,
         most_map,
+        together,
         metrics,
-        node,
         patience,
         limits,
         checkpoint,

@@ -1,5 +1,5 @@
 //! What a core is asked at once, and what comes of it.
-use epaxos::{Event, Fault, Fields, Instance, OpenInstance, Proposed, Receipt};
+use epaxos::{Event, Fault, Fields, Proposed, Receipt};
 
 /// What a core is asked at once.
 #[derive(Default)]
@@ -19,13 +19,6 @@ impl Asked<'_> {
     }
 }
 
-/// A frame, and the replica that it is for.
-#[derive(Clone, PartialEq, Eq, Debug)]
-pub struct Outgoing {
-    pub to: u8,
-    pub frame: Vec<u8>,
-}
-
 /// What came of what a core was asked.
 #[derive(Default, Debug)]
 pub struct Outcome {
@@ -37,18 +30,10 @@ pub struct Outcome {
     pub entries: Option<u32>,
     /// The commands that were proposed, in their order.
     pub proposed: Vec<Proposed>,
-    pub frames: Vec<Outgoing>,
+    /// Each with its receiver.
+    pub frames: Vec<(u8, Vec<u8>)>,
     /// The bytes of receipts, one behind the other.
     pub receipts: Vec<u8>,
-}
-
-/// What there is to report of entries, and of open instances.
-#[derive(Clone, Default, PartialEq, Eq, Debug)]
-pub struct Report {
-    pub frames: Vec<Outgoing>,
-    /// The instances that got committed, own and others'.
-    pub committed: Vec<Instance>,
-    pub open: Vec<OpenInstance>,
 }
 
 /// The receipts of these bytes.

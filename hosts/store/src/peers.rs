@@ -9,9 +9,10 @@ use crate::identities::{Identities, Identity};
 use crate::link::Link;
 use crate::link_fault::LinkFault;
 use crate::say::{say, warn};
-use crate::sealed::{self, Channel, Direction, Hello, Key};
+use crate::sealed::{self, Channel, Direction, Hello, Key, MAGIC};
 use crate::timed::Timed;
 use crate::waiting::Waiting;
+pub use epaxos::parts::place::Place;
 use std::collections::{HashMap, VecDeque};
 use std::io::{self, BufReader, BufWriter, Read, Write};
 use std::net::{Shutdown, TcpListener, TcpStream, ToSocketAddrs};
@@ -44,18 +45,13 @@ const SILENCE: Duration = Duration::from_secs(5);
 const SILENT: Duration = Duration::from_secs(60);
 /// At most so many connections to the peers' port that nobody has greeted on: one more ends the oldest of them.
 const MOST_STRANGERS: usize = 64;
+/// Whether all was sent is looked at that often, where it is waited for.
+const BETWEEN_LOOKS: Duration = Duration::from_millis(1);
 const LEAST_PAUSE: Duration = Duration::from_millis(20);
 const GREATEST_PAUSE: Duration = Duration::from_millis(500);
 
 /// The most replicas that there may be.
 pub const MOST_REPLICAS: usize = 7;
-
-/// This replica among the others.
-#[derive(Clone, Copy)]
-pub struct Place {
-    pub replicas: usize,
-    pub replica: u8,
-}
 
 /// What this replica is to the others: its place, whom it knows, the key that all share, and who waits to be let in.
 pub struct Membership {
@@ -142,6 +138,14 @@ impl Peers {
         self.link(replica).is_some_and(|link| link.is_reached())
     }
 
+    /// Waits until all that can be sent was, for so long at most.
+    pub fn flush(&self, patience: Duration) {
+        let until = Instant::now() + patience;
+        while self.links.iter().flatten().any(|link| !link.is_idle()) && Instant::now() < until {
+            thread::sleep(BETWEEN_LOOKS);
+        }
+    }
+
     /// How many frames were lost for want of room.
     pub fn lost(&self) -> u64 {
         self.links.iter().flatten().map(|link| link.lost()).sum()
@@ -189,21 +193,23 @@ impl Link for TcpLink {
             queue.bytes -= oldest.len();
             self.lost.fetch_add(1, Ordering::Relaxed);
         }
-        // (each word takes a call of the system, also where nobody waits)
-        if queue.is_awaited {
-            self.changed.notify_one();
-        }
+        self.wake(queue);
     }
 
     fn send_first(&self, bytes: Vec<u8>) {
         let mut queue = self.queue();
         queue.bytes += bytes.len();
         queue.frames.push_front(bytes);
-        self.changed.notify_one();
+        self.wake(queue);
     }
 
     fn is_reached(&self) -> bool {
         self.is_reached.load(Ordering::Relaxed)
+    }
+
+    fn is_idle(&self) -> bool {
+        let queue = self.queue();
+        !self.is_reached() || (queue.frames.is_empty() && queue.is_awaited)
     }
 
     fn lost(&self) -> u64 {
@@ -217,8 +223,9 @@ impl Link for TcpLink {
     }
 
     fn part(&self, fault: LinkFault) {
-        self.queue().over = Some(fault);
-        self.changed.notify_one();
+        let mut queue = self.queue();
+        queue.over = Some(fault);
+        self.wake(queue);
     }
 
     fn hurry(&self) {
@@ -243,6 +250,16 @@ impl TcpLink {
 
     fn queue(&self) -> MutexGuard<'_, Queue> {
         self.queue.lock().unwrap_or_else(|poisoned| poisoned.into_inner())
+    }
+
+    /// Tells the thread that sends, where it waits: each word takes a call of the system. (Told while the queue is
+    /// locked, the thread would wait for that.)
+    fn wake(&self, mut queue: MutexGuard<'_, Queue>) {
+        let is_awaited = std::mem::take(&mut queue.is_awaited);
+        drop(queue);
+        if is_awaited {
+            self.changed.notify_one();
+        }
     }
 
     fn address(&self) -> MutexGuard<'_, String> {
@@ -316,8 +333,7 @@ impl TcpLink {
         thread::scope(|scope| {
             scope.spawn(|| {
                 let over = heard_out(reading, receiving);
-                self.queue().over = Some(over);
-                self.changed.notify_one();
+                self.part(over);
             });
             let cause = self.send_while_open(&stream, sending);
             let _ = stream.shutdown(Shutdown::Both);
@@ -383,7 +399,7 @@ fn greet(
     stream.set_nodelay(true)?;
     stream.set_write_timeout(Some(WRITE_PATIENCE))?;
     let mut timed = Timed::new(&stream, CONNECT_PATIENCE);
-    let mut channel = sealed::call(&mut timed, key, &Hello::new(place.replicas as u8, place.replica, to)?)?;
+    let mut channel = sealed::call(&mut timed, key, &Hello::new(MAGIC, [place.replicas as u8, place.replica, to])?)?;
     channel.sending.write(&mut timed, GREETING, &[&identities.own()[..], says].concat())?;
     // The other end answers the greeting: whoever only takes the connection, and closes it, wasn't reached.
     let (kind, answer) = channel.receiving.read(&mut timed, LONGEST_GREETING)?;
@@ -503,7 +519,7 @@ impl Receiving {
         stream.set_write_timeout(Some(WRITE_PATIENCE))?;
         let mut timed = Timed::new(stream, GREETING_PATIENCE);
         let hello = sealed::heard(&mut timed)?;
-        let Some(from) = greeter(self.membership.place, hello.ends()) else {
+        let Some(from) = greeter(self.membership.place, hello.ends(&MAGIC)) else {
             self.complain(stream, "is not from a replica that has this one as its peer")?;
             return Ok(None);
         };
@@ -694,7 +710,7 @@ mod tests {
     #[test]
     fn a_silent_peer_is_lost() {
         let (near, far) = std::os::unix::net::UnixStream::pair().unwrap();
-        let hello = Hello::new(3, 0, 1).unwrap();
+        let hello = Hello::new(MAGIC, [3, 0, 1]).unwrap();
         let (mut calling, mut answering) = (near, far);
         let key = Key::none();
         let channel = thread::scope(|scope| {
@@ -722,5 +738,27 @@ mod tests {
         assert!(queue.bytes <= MOST_WAITING && queue.bytes == queue.frames.len() * LONGEST_FRAME);
         assert_eq!(queue.frames.back().map(|frame| frame[0]), Some(199));
         assert_eq!(link.lost.load(Ordering::Relaxed), 200 - queue.frames.len() as u64);
+    }
+
+    #[test]
+    fn what_can_be_sent_is_waited_for() {
+        let link = Arc::new(TcpLink::new(1, "127.0.0.1:1".into(), membership("flush", 0, Key::none())));
+        let peers = Peers::over(vec![None, Some(link.clone() as Arc<dyn Link>)]);
+        let took = |patience| {
+            let start = Instant::now();
+            peers.flush(patience);
+            start.elapsed()
+        };
+        let (short, long) = (Duration::from_millis(20), Duration::from_secs(60));
+        link.send(vec![7; SHORTEST_FRAME]);
+        // (what goes to nobody isn't waited for)
+        assert!(took(long) < long);
+        link.is_reached.store(true, Ordering::Relaxed);
+        assert!(took(short) >= short);
+        // It was taken, and isn't written yet; then it is.
+        link.queue().frames.clear();
+        assert!(took(short) >= short);
+        link.queue().is_awaited = true;
+        assert!(took(long) < long);
     }
 }

@@ -1,8 +1,8 @@
 //! Misbehaviours of a store, so that the trial can be seen to catch them. Never for use.
 use crate::outcome::receipts;
 use crate::random::Random;
-use epaxos::{Answer, Fields};
-use sha2::{Digest, Sha256};
+use epaxos::Answer;
+use epaxos::parts::reading;
 
 /// The misbehaviours.
 #[derive(Clone, Copy, PartialEq, Eq, Debug)]
@@ -17,6 +17,16 @@ pub enum Plant {
     Again,
     /// An opening that a peer hands lacks a key.
     Lacking,
+    /// A read asks one replica fewer than it has to.
+    Fewer,
+    /// What a key had when the question was sent is told.
+    Before,
+    /// A question serves reads that were asked after it was sent.
+    After,
+    /// The last instance that was found isn't waited for.
+    Partly,
+    /// What interferes is told of another generation, and taken.
+    Foreign,
 }
 
 impl Plant {
@@ -28,6 +38,23 @@ impl Plant {
             "changed" => Some(Plant::Changed),
             "again" => Some(Plant::Again),
             "lacking" => Some(Plant::Lacking),
+            "fewer" => Some(Plant::Fewer),
+            "before" => Some(Plant::Before),
+            "after" => Some(Plant::After),
+            "partly" => Some(Plant::Partly),
+            "foreign" => Some(Plant::Foreign),
+            _ => None,
+        }
+    }
+
+    /// The one that is planted in reads.
+    pub fn in_reads(self) -> Option<reading::Plant> {
+        match self {
+            Plant::Fewer => Some(reading::Plant::Fewer),
+            Plant::Before => Some(reading::Plant::Before),
+            Plant::After => Some(reading::Plant::Later),
+            Plant::Partly => Some(reading::Plant::Partly),
+            Plant::Foreign => Some(reading::Plant::Foreign),
             _ => None,
         }
     }
@@ -53,39 +80,14 @@ pub fn changed(bytes: &[u8]) -> Vec<u8> {
 
 /// The bytes of an opening without one of its keys. None where it has none.
 pub fn lacking(opening: &[u8]) -> Option<Vec<u8>> {
-    let (body, digest) = opening.split_last_chunk::<32>()?;
-    let mut fields = Fields::new(body);
-    fields.run(18)?;
-    if fields.u8()? == 1 {
-        let length = fields.u32()?;
-        fields.run(length as usize)?;
-    }
-    let at = |fields: &Fields| body.len() - fields.rest().len();
-    let before = at(&fields);
-    let count = fields.u32()?;
-    let rest = count.checked_sub(1)?;
-    let lost = Random::new().below(count.into()) as u32;
-    for _ in 0..lost {
-        skip_key(&mut fields)?;
-    }
-    let start = at(&fields);
-    skip_key(&mut fields)?;
-    let mut out = [&body[..before], &rest.to_be_bytes(), &body[before + 4..start], fields.rest()].concat();
-    debug_assert_eq!(Sha256::digest(body)[..], digest[..]);
-    out.extend(Sha256::digest(&out));
-    Some(out)
-}
-
-/// Reads over a key and its value.
-pub(crate) fn skip_key(fields: &mut Fields) -> Option<()> {
-    let (key, value) = (fields.u8()?, fields.u32()?);
-    fields.run(usize::from(key) + value as usize).map(|_| ())
+    crate::opening::lacking(opening, |count| Random::new().below(count.into()) as u32)
 }
 
 #[cfg(test)]
 mod tests {
     use super::*;
     use crate::opening::Opening;
+    use sha2::{Digest, Sha256};
 
     #[test]
     fn an_opening_lacks_a_key() {
@@ -102,9 +104,9 @@ mod tests {
             std::fs::write(&path, bytes).unwrap();
             Opening::read(&path).unwrap()
         };
-        assert_eq!(read(&less), Opening { keys: 1, map: 7, ..read(&opening) });
+        assert_eq!(read(&less), Opening { map: 7, ..read(&opening) });
         let none = lacking(&less).unwrap();
-        assert_eq!((read(&none).keys, lacking(&none)), (0, None));
+        assert_eq!((read(&none).map, lacking(&none)), (0, None));
         assert_eq!(Sha256::digest(&none[..none.len() - 32])[..], none[none.len() - 32..]);
         std::fs::remove_file(path).unwrap();
     }

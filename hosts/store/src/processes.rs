@@ -29,6 +29,15 @@ pub fn processor_time(process: u32) -> Duration {
     Duration::from_millis(ticks * 1_000 / TICKS) + running
 }
 
+/// The processor time of a process's threads that run, but of those of these names.
+pub fn threads_time(process: u32, but: &[&str]) -> Duration {
+    let tasks = fs::read_dir(format!("/proc/{process}/task")).into_iter().flatten().flatten().map(|task| task.path());
+    let is_counted = |name: &str| !but.contains(&name.trim_end());
+    let counted = tasks.filter(|task| fs::read_to_string(task.join("comm")).is_ok_and(|name| is_counted(&name)));
+    let texts = counted.filter_map(|task| fs::read_to_string(task.join("schedstat")).ok());
+    texts.filter_map(|text| text.split_whitespace().next()?.parse().ok()).map(Duration::from_nanos).sum()
+}
+
 /// How many bytes a process, and its children that run, have had written to disks.
 pub fn written(process: u32) -> u64 {
     let text = fs::read_to_string(format!("/proc/{process}/io")).unwrap_or_default();
@@ -52,6 +61,14 @@ mod tests {
         child.kill().unwrap();
         child.wait().unwrap();
         assert!(!children(own).contains(&child.id()));
+        let start = Instant::now();
+        let own_time = move || threads_time(own, &[]).saturating_sub(threads_time(own, &["at work"]));
+        let work = move || {
+            while own_time() < Duration::from_millis(50) {
+                assert!(start.elapsed() < Duration::from_secs(60));
+            }
+        };
+        std::thread::Builder::new().name("at work".into()).spawn(work).unwrap().join().unwrap();
         let (before, start) = (processor_time(own), Instant::now());
         while processor_time(own) < before + Duration::from_millis(50) {
             assert!(start.elapsed() < Duration::from_secs(60));

@@ -2,23 +2,25 @@
 //!
 //! An opening tells all that the generations before it have done, whoever has it. So the next generation may begin by the newest one that is here,
 //! if nothing was done since: in a generation of which no majority ever acted nothing was.
-use crate::core::{Begin, Core};
+use crate::core::{Begin, Core as _, Pairs};
 use crate::directory::{self, Directory};
-use crate::generations::{left_for, look, reference, whole};
 use crate::hosted::{Hosted, Hosting};
-use crate::identities::{self, Identities, Identity, by_chance, digits};
-use crate::listing::pairs;
+use crate::identities::{Identities, Identity, by_chance, digits};
 use crate::members::{Member, Members};
 use crate::node_fault::NodeFault;
 use crate::opening::Opening;
 use crate::outcome::Asked;
 use crate::peers::{MOST_REPLICAS, Place};
 use crate::planning::{first, newest};
-use crate::plants::skip_key;
 use crate::random::Random;
 use crate::recovery_fault::RecoveryFault;
 use crate::say::error;
-use epaxos::{Cluster, Fields, Reference, Setup};
+use epaxos::host::{FolderFault, Name};
+use epaxos::parts::files;
+use epaxos::parts::folder::{look, reference, whole};
+use epaxos::parts::opening::map_of;
+use epaxos::parts::plan_fault::PlanFault;
+use epaxos::{Cluster, Reference, Setup};
 use sha2::{Digest, Sha256};
 use std::cell::RefCell;
 use std::collections::BTreeMap;
@@ -26,17 +28,16 @@ use std::fmt::Write as _;
 use std::fs::{self, File};
 use std::io::{self, Read, Write as _};
 use std::path::{Path, PathBuf};
-use std::process::{Command, ExitCode, Stdio};
+use std::process::ExitCode;
 
 const TEXT: &str = "\
 store recover: begins a new generation of the machines that are left, when the newest generation has lost its majority and is stuck
 
-    store recover [--write] [--accept-loss] [--node PATH] FOLDER FOLDER ..
+    store recover [--write] [--accept-loss] FOLDER FOLDER ..
 
     FOLDER         the folders of all machines that are left, or copies of them; stop their stores first
     --write        writes the new generation's opening to FOLDER/opening.take, which the store's next start takes; without it nothing is changed
     --accept-loss  goes on though acknowledged commands may be lost; the map is then that of the folder with the most committed commands
-    --node PATH    the program `epaxos`, which reads the logs; default: the library that the store was built with, else `epaxos` on the PATH
 
 All other machines must be gone for good: what they have done in the newest generation is lost, and a new one can't be joined by them.
 If the folders are on several machines, copy them to one (rsync -a), and copy each opening.take back.
@@ -58,7 +59,6 @@ struct Words {
     folders: Vec<PathBuf>,
     writes: bool,
     accepts_loss: bool,
-    core: epaxos::Core,
 }
 
 /// Does what these words ask, which stand behind `recover`.
@@ -84,18 +84,13 @@ pub fn main(words: impl Iterator<Item = String>) -> ExitCode {
     }
 }
 
-fn read(mut words: impl Iterator<Item = String>) -> Result<Option<Words>, RecoveryFault> {
-    let core = epaxos::Core::Found;
-    let mut read = Words { folders: Vec::new(), writes: false, accepts_loss: false, core };
-    while let Some(word) = words.next() {
+fn read(words: impl Iterator<Item = String>) -> Result<Option<Words>, RecoveryFault> {
+    let mut read = Words { folders: Vec::new(), writes: false, accepts_loss: false };
+    for word in words {
         match word.as_str() {
             "--help" | "-h" => return Ok(None),
             "--write" => read.writes = true,
             "--accept-loss" => read.accepts_loss = true,
-            "--node" => {
-                let path = words.next().ok_or(RecoveryFault::Words("--node wants a value".into()))?;
-                read.core = epaxos::Core::Process(path.into());
-            }
             other if other.starts_with("--") => return Err(RecoveryFault::Words(format!("unknown word {other}"))),
             _ => read.folders.push(word.into()),
         }
@@ -115,25 +110,23 @@ struct Left {
     known: Vec<Option<Identity>>,
     /// The generations whose openings it has, or logs that lead to them, in rising order; there is one.
     generations: Vec<u32>,
-    core: epaxos::Core,
     /// The openings that logs led to.
     replayed: RefCell<BTreeMap<u32, Vec<u8>>>,
 }
 
 impl Left {
     /// The replica of a folder, of which nothing is changed.
-    fn open(path: &Path, core: &epaxos::Core) -> Result<Left, RecoveryFault> {
+    fn open(path: &Path) -> Result<Left, RecoveryFault> {
         let directory = Directory::look(path).map_err(RecoveryFault::Directory)?;
         directory.check_files().map_err(RecoveryFault::Directory)?;
         let none = || RecoveryFault::NoReplica(path.to_path_buf());
-        let held = look(&directory.generations()).map_err(|fault| RecoveryFault::Directory(fault.into()))?;
-        let newest = Some(newest(&held)).filter(|newest| *newest > 0).ok_or_else(none)?;
-        if let Err(fault) = first(&held, newest) {
-            return Err(RecoveryFault::Node(NodeFault::Generations(fault)));
-        }
+        let refused = |fault: FolderFault| RecoveryFault::Node(NodeFault::Folder(fault));
+        let held = look(&directory.folder()).map_err(refused)?;
+        let refused = |fault: PlanFault| refused(fault.into());
+        let newest = Some(newest(&held).map_err(refused)?).filter(|newest| *newest > 0).ok_or_else(none)?;
+        first(&held, newest).map_err(refused)?;
         let generations = held.iter().map(|one| one.number).filter(|one| first(&held, *one).is_ok()).collect();
-        let left =
-            left_for(&directory.generations()).map_err(|error| RecoveryFault::File(directory.generations(), error))?;
+        let left = held.iter().map(|one| one.left_for).max().unwrap_or(0);
         if left > newest {
             return Err(RecoveryFault::Left(path.to_path_buf(), left));
         }
@@ -154,8 +147,8 @@ impl Left {
         {
             return Err(RecoveryFault::Made(waits, opening.generation));
         }
-        let (identity, core, replayed) = (identities.own(), core.clone(), RefCell::default());
-        Ok(Left { directory, replica, identity, known, generations, core, replayed })
+        let (identity, replayed) = (identities.own(), RefCell::default());
+        Ok(Left { directory, replica, identity, known, generations, replayed })
     }
 
     fn newest(&self) -> u32 {
@@ -182,8 +175,7 @@ impl Left {
             return Ok(bytes.clone());
         }
         let place = Place { replicas: MOST_REPLICAS, replica: self.replica };
-        let core = if epaxos::Core::has_library() { epaxos::Core::Library } else { self.core.clone() };
-        let hosting = Hosting { place, folder: self.directory.generations(), core, checkpoint: u64::MAX };
+        let hosting = Hosting { place, folder: self.directory.generations(), checkpoint: u64::MAX };
         let bytes = hosting.opening(generation).map_err(RecoveryFault::Node)?.bytes;
         self.replayed.borrow_mut().insert(generation, bytes.clone());
         Ok(bytes)
@@ -191,14 +183,14 @@ impl Left {
 
     /// The reference that stood for the opening of a generation, where it was begun by one.
     fn reference(&self, generation: u32) -> Result<Option<Reference>, RecoveryFault> {
-        let folder = self.directory.generations();
-        let is_there = folder.join(format!("{generation}/reference")).exists();
+        let folder = self.directory.folder();
+        let is_there = folder.file(generation, Name::Reference).exists();
         let read = is_there.then(|| reference(&folder, generation)).transpose();
-        read.map_err(|fault| RecoveryFault::Node(NodeFault::Generations(fault)))
+        read.map_err(|fault| RecoveryFault::Node(fault.into()))
     }
 
     /// How many commands are committed in the newest generation as far as its log tells, and the last stamp.
-    fn look_into(&self, core: &epaxos::Core) -> Result<(usize, u64), RecoveryFault> {
+    fn look_into(&self) -> Result<(usize, u64), RecoveryFault> {
         let (bytes, opening) = self.opening(self.newest())?;
         let path = self.directory.log(self.newest());
         let log = match fs::read(&path) {
@@ -211,9 +203,8 @@ impl Left {
         let cluster = Cluster::try_from(opening.replicas);
         let cluster = cluster.map_err(|_| RecoveryFault::BadOpening(path.clone(), "no such size".into()))?;
         let reference = self.reference(self.newest())?;
-        let core = if reference.is_some() && epaxos::Core::has_library() { &epaxos::Core::Library } else { core };
         let new = Setup::new(cluster, self.replica);
-        let setup = Setup { opening: Some(&bytes), reference, core: core.clone(), ..new };
+        let setup = Setup { opening: Some(&bytes), reference, ..new };
         let mut replica = setup.open(&log).map_err(|fault| RecoveryFault::BadLog(path.clone(), fault))?;
         let core = |fault| RecoveryFault::Core(path.clone(), fault);
         // (nothing is told to anybody)
@@ -232,7 +223,7 @@ impl Left {
 
 /// The text that tells what was found, and what was done.
 fn recover(words: &Words, chance: u32) -> Result<String, RecoveryFault> {
-    let mut all = words.folders.iter().map(|path| Left::open(path, &words.core)).collect::<Result<Vec<Left>, _>>()?;
+    let mut all = words.folders.iter().map(|path| Left::open(path)).collect::<Result<Vec<Left>, _>>()?;
     all.sort_by_key(|left| left.replica);
     check_cluster(&all)?;
     let mut text = String::new();
@@ -270,7 +261,7 @@ fn recover(words: &Words, chance: u32) -> Result<String, RecoveryFault> {
     }
     let (mut since, mut most) = (opening.since, (0, of_newest[0]));
     for left in &of_newest {
-        let (committed, stamp) = left.look_into(&words.core)?;
+        let (committed, stamp) = left.look_into()?;
         since = since.max(stamp);
         if committed > most.0 {
             most = (committed, left);
@@ -293,7 +284,7 @@ fn recover(words: &Words, chance: u32) -> Result<String, RecoveryFault> {
     tell_gone(&mut text, newest, &opening, &all);
     let generation = newest.checked_add(LEAP + 1 + chance).ok_or(RecoveryFault::LastGeneration)?;
     let members = members_of(&all, size)?;
-    let map = if committed > 0 { furthest_map(furthest, &words.core)? } else { map_of(&bytes).unwrap_or_default() };
+    let map = if committed > 0 { furthest_map(furthest)? } else { map_of(&bytes).unwrap_or_default().to_vec() };
     let made = write_opening(size, (generation, since), &members, &map);
     let numbers = all.iter().map(|left| left.replica.to_string()).collect::<Vec<_>>().join(", ");
     let keys = u32::from_be_bytes(map.first_chunk().copied().unwrap_or_default());
@@ -305,7 +296,7 @@ fn recover(words: &Words, chance: u32) -> Result<String, RecoveryFault> {
     }
     for left in &all {
         let path = left.directory.whole();
-        let written = identities::replace(left.directory.path(), directory::WHOLE, &made);
+        let written = files::write(left.directory.path(), directory::WHOLE, &made);
         written.map_err(|error| RecoveryFault::File(path.clone(), error))?;
         let _ = writeln!(text, "wrote {}", path.display());
     }
@@ -399,34 +390,24 @@ fn members_of(all: &[Left], size: u8) -> Result<Members, RecoveryFault> {
     Ok(members)
 }
 
-/// The bytes of an opening's map.
-fn map_of(opening: &[u8]) -> Option<Vec<u8>> {
-    let (body, _) = opening.split_last_chunk::<32>()?;
-    let mut fields = Fields::new(body);
-    fields.run(18)?;
-    if fields.u8()? == 1 {
-        let length = fields.u32()?;
-        fields.run(length as usize)?;
-    }
-    let at = |fields: &Fields| body.len() - fields.rest().len();
-    let start = at(&fields);
-    for _ in 0..fields.u32()? {
-        skip_key(&mut fields)?;
-    }
-    Some(body[start..at(&fields)].to_vec())
-}
-
-/// The bytes of the map that a replica has once it has executed all that it knows to be committed, as `epaxos contents` tells it: by a copy, since its
-/// folder isn't changed.
-fn furthest_map(left: &Left, core: &epaxos::Core) -> Result<Vec<u8>, RecoveryFault> {
+/// The bytes of the map that a replica has once it has executed all that it knows to be committed: by a copy, since its folder isn't changed.
+fn furthest_map(left: &Left) -> Result<Vec<u8>, RecoveryFault> {
     let scratch = std::env::temp_dir().join(format!("store-recover-{}", std::process::id()));
-    let map = execute_all(left, core, &scratch).and_then(|()| contents(core, &scratch));
+    let contents = execute_all(left, &scratch);
     let _ = fs::remove_dir_all(&scratch);
-    map
+    let contents = contents?;
+    let mut map = (contents.len() as u32).to_be_bytes().to_vec();
+    for (key, value) in contents {
+        map.push(key.len() as u8);
+        map.extend((value.len() as u32).to_be_bytes());
+        map.extend(key);
+        map.extend(value);
+    }
+    Ok(map)
 }
 
-/// Has a copy of a replica's newest generation, in this folder, execute all that it knows to be committed.
-fn execute_all(left: &Left, core: &epaxos::Core, scratch: &Path) -> Result<(), RecoveryFault> {
+/// What keys have once a copy of a replica's newest generation, in this folder, has executed all that it knows to be committed.
+fn execute_all(left: &Left, scratch: &Path) -> Result<Pairs, RecoveryFault> {
     let (generation, folder) = (left.newest(), scratch.join(left.newest().to_string()));
     let ((bytes, opening), reference) = (left.opening(generation)?, left.reference(generation)?);
     let copied = fs::create_dir_all(&folder)
@@ -439,30 +420,10 @@ fn execute_all(left: &Left, core: &epaxos::Core, scratch: &Path) -> Result<(), R
     });
     copied.and(bound).map_err(|error| RecoveryFault::File(folder, error))?;
     let place = Place { replicas: opening.replicas.into(), replica: left.replica };
-    let core = if reference.is_some() && epaxos::Core::has_library() { &epaxos::Core::Library } else { core };
-    let hosting = Hosting { place, folder: scratch.to_path_buf(), core: core.clone(), checkpoint: u64::MAX };
-    let mut hosted = Hosted::start(hosting, &Begin::Again, 0).map_err(RecoveryFault::Node)?;
-    hosted.carry_out(&Asked { executes_all: true, ..Asked::default() }).map(drop).map_err(RecoveryFault::Node)
-}
-
-fn contents(core: &epaxos::Core, folder: &Path) -> Result<Vec<u8>, RecoveryFault> {
-    let program = if let epaxos::Core::Process(program) = core { program.clone() } else { "epaxos".into() };
-    let output = Command::new(&program).arg("contents").arg(folder).stdin(Stdio::null()).output();
-    let output = output.map_err(|error| RecoveryFault::Contents(format!("{}: {error}", program.display())))?;
-    if !output.status.success() {
-        return Err(RecoveryFault::Contents(String::from_utf8_lossy(&output.stderr).trim_end().into()));
-    }
-    let no_list = || RecoveryFault::Contents("what it tells isn't a list".into());
-    let mut pairs = pairs(&output.stdout).ok_or_else(no_list)?;
-    pairs.sort_unstable();
-    let mut map = (pairs.len() as u32).to_be_bytes().to_vec();
-    for (key, value) in pairs {
-        map.push(u8::try_from(key.len()).map_err(|_| no_list())?);
-        map.extend((value.len() as u32).to_be_bytes());
-        map.extend(key);
-        map.extend(value);
-    }
-    Ok(map)
+    let hosting = Hosting { place, folder: scratch.to_path_buf(), checkpoint: u64::MAX };
+    let mut hosted = Hosted::start(hosting, &Begin::Again).map_err(RecoveryFault::Node)?;
+    hosted.carry_out(&Asked { executes_all: true, ..Asked::default() }).map_err(RecoveryFault::Node)?;
+    hosted.contents().map_err(RecoveryFault::Node)
 }
 
 /// An opening (docs/FORMATS.md, section 12): of this generation, with these members and this map, and nothing that was executed before it.
@@ -489,19 +450,17 @@ mod tests {
     fn words() {
         let read = |line: &str| read(line.split_whitespace().map(str::to_string));
         let folders = |names: &[&str]| names.iter().map(PathBuf::from).collect();
-        let core = epaxos::Core::Found;
-        let told = Words { folders: folders(&["a", "b"]), writes: false, accepts_loss: false, core };
+        let told = Words { folders: folders(&["a", "b"]), writes: false, accepts_loss: false };
         assert_eq!(read("a b").unwrap(), Some(told));
-        let core = epaxos::Core::Process("e".into());
-        let told = Words { folders: folders(&["a"]), writes: true, accepts_loss: true, core };
-        assert_eq!(read("--write a --accept-loss --node e").unwrap(), Some(told));
+        let told = Words { folders: folders(&["a"]), writes: true, accepts_loss: true };
+        assert_eq!(read("--write a --accept-loss").unwrap(), Some(told));
         assert_eq!(read("a --help").unwrap(), None);
-        for line in ["", "--write", "--writ a", "a --node"] {
+        for line in ["", "--write", "--writ a", "a --node e"] {
             assert!(matches!(read(line), Err(RecoveryFault::Words(_))), "{line}");
         }
     }
 
-    /// By the second opening of examples/openings.txt.
+    /// By the second opening of tests/vectors/openings.txt.
     #[test]
     fn an_opening_keeps_the_map_and_has_other_members() {
         let digits = |text: &str| -> Vec<u8> {
@@ -518,7 +477,7 @@ mod tests {
         assert_eq!((0..page.len() - 40).find_map(|cut| map_of(&page[..cut])), None);
         let one = Member { identity: Some([1; 16]), address: Some("a:7".into()) };
         let members = Members(vec![one, Member::default(), Member::default()]);
-        let made = write_opening(3, (258, 7), &members, &map);
+        let made = write_opening(3, (258, 7), &members, map);
         let (body, digest) = made.split_at(made.len() - 32);
         let seal = format!("members 1\n0 {} a:7\n1 - -\n2 - -\n", "01".repeat(16));
         let told = [

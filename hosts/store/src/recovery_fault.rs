@@ -49,8 +49,6 @@ pub enum RecoveryFault {
     },
     /// Something that was acknowledged may be lost: why.
     Loss(String),
-    /// The map that a replica has executed can't be listed: why.
-    Contents(String),
     /// There are no more generations.
     LastGeneration,
 }
@@ -60,8 +58,8 @@ impl RecoveryFault {
     pub fn is_lasting(&self) -> bool {
         match self {
             RecoveryFault::Directory(fault) => fault.is_lasting(),
-            RecoveryFault::Node(fault) => fault.is_lasting(),
-            RecoveryFault::File(..) | RecoveryFault::Core(..) | RecoveryFault::Contents(_) => false,
+            RecoveryFault::Node(fault) => fault.is_refusal(),
+            RecoveryFault::File(..) | RecoveryFault::Core(..) => false,
             _ => true,
         }
     }
@@ -114,7 +112,6 @@ impl fmt::Display for RecoveryFault {
             RecoveryFault::Loss(why) => {
                 write!(f, "acknowledged commands may be lost: {why}. To accept that, add --accept-loss")
             }
-            RecoveryFault::Contents(why) => write!(f, "epaxos contents failed: {why}"),
             RecoveryFault::LastGeneration => f.write_str("there are no more generations"),
         }
     }

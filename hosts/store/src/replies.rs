@@ -92,7 +92,7 @@ pub enum Combine {
 }
 
 impl Combine {
-    fn combine(self, mut parts: Vec<Reply>) -> Reply {
+    pub fn combine(self, mut parts: Vec<Reply>) -> Reply {
         let several = parts.len() > 1;
         if let Some(place) = parts.iter().position(|part| matches!(part, Reply::Error(_))) {
             return match parts.swap_remove(place) {
@@ -130,6 +130,8 @@ pub enum Part {
     Come(Reply),
     /// Asked of a key, under a number.
     Asked(Vec<u8>, u64),
+    /// A transaction, of this number.
+    Joint(u64),
     /// Asked of the driver, and of no use once its client waits no longer, who is told this then.
     Wanted(Option<Reply>),
 }
@@ -214,7 +216,10 @@ impl Window {
     fn change(&self, change: impl FnOnce(&mut Used)) {
         let mut used = self.used();
         change(&mut used);
-        if used.is_awaited {
+        let is_awaited = used.is_awaited;
+        // (told while this is locked, who waits would wait for it)
+        drop(used);
+        if is_awaited {
             self.change.notify_all();
         }
     }
@@ -356,6 +361,7 @@ impl<W: Write> Replies<W> {
                 Part::Come(_) => None,
                 // Where there is none the reply is under way.
                 Part::Asked(key, id) => self.keys.withdraw(*id, key).map(Reply::Error),
+                Part::Joint(number) => self.keys.withdraw_transaction(*number).map(Reply::Error),
                 Part::Wanted(other) => Some(other.take().unwrap_or(Reply::Error(CommandFault::NotInTime))),
             };
             if let Some(reply) = reply {

@@ -35,6 +35,8 @@ pub enum Reply {
     Integer(i64),
     Bulk(Vec<u8>),
     Nil,
+    /// Nil where an array was expected.
+    NilArray,
     Array(Vec<Reply>),
     /// Names with what they have. In version 2 an array of both, in turn.
     Map(Vec<(Reply, Reply)>),
@@ -51,7 +53,7 @@ impl Reply {
             Reply::Bulk(bytes) => bytes.len(),
             Reply::Array(items) => items.iter().map(Reply::size).sum(),
             Reply::Map(pairs) => pairs.iter().map(|(name, item)| name.size() + item.size()).sum(),
-            Reply::Simple(_) | Reply::Error(_) | Reply::Integer(_) | Reply::Nil => 0,
+            Reply::Simple(_) | Reply::Error(_) | Reply::Integer(_) | Reply::Nil | Reply::NilArray => 0,
         };
         size_of::<Reply>() + within
     }
@@ -67,6 +69,7 @@ impl Reply {
                 out.write_all(b"\r\n")
             }
             Reply::Nil => out.write_all(if version == Version::Two { b"$-1\r\n" } else { b"_\r\n" }),
+            Reply::NilArray => out.write_all(if version == Version::Two { b"*-1\r\n" } else { b"_\r\n" }),
             Reply::Array(items) => {
                 write!(out, "*{}\r\n", items.len())?;
                 items.iter().try_for_each(|item| item.write(out, version))

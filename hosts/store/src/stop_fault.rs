@@ -35,7 +35,7 @@ impl StopFault {
     /// Whether the replica must not come back with this folder.
     pub fn is_lasting(&self) -> bool {
         match self {
-            StopFault::Node(fault) => fault.is_lasting(),
+            StopFault::Node(fault) => fault.is_refusal(),
             StopFault::Forgotten { .. } | StopFault::Replaced(_) | StopFault::Left(_) => true,
             _ => false,
         }

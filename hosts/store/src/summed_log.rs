@@ -1,5 +1,4 @@
 //! A log in a file, of which it is known at any time what a reference to it would say.
-use crate::reference::Sum;
 use epaxos::{Log, LogFile, Ready};
 use sha2::{Digest, Sha256};
 use std::io;
@@ -18,7 +17,7 @@ impl SummedLog {
     }
 
     /// How many bytes were put there, and their SHA-256.
-    pub fn named(&self) -> (u64, Sum) {
+    pub fn named(&self) -> (u64, [u8; 32]) {
         (self.length, self.sum.clone().finalize().into())
     }
 }
@@ -41,18 +40,15 @@ impl Log for SummedLog {
 #[cfg(test)]
 mod tests {
     use super::*;
-    use epaxos::{Call, Cluster, Command, Core, Setup};
+    use epaxos::{Call, Cluster, Command, Setup};
     use std::fs;
 
     #[test]
     fn the_sum_is_that_of_the_file() {
-        if !Core::has_library() {
-            return;
-        }
         let folder = std::env::temp_dir().join(format!("store-summed-{}", std::process::id()));
         fs::create_dir_all(&folder).unwrap();
         let path = folder.join("log");
-        let setup = Setup { core: Core::Library, ..Setup::new(Cluster::Three, 0) };
+        let setup = Setup { ..Setup::new(Cluster::Three, 0) };
         let is_named = |log: &SummedLog| {
             let bytes = fs::read(&path).unwrap();
             log.named() == (bytes.len() as u64, Sha256::digest(&bytes).into())

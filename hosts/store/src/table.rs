@@ -14,16 +14,18 @@ const READS: bool = false;
 const WRITES: bool = true;
 const NONE: (i64, i64, i64) = (0, 0, 0);
 const ONE: (i64, i64, i64) = (1, 1, 1);
+const TWO: (i64, i64, i64) = (1, 2, 1);
 const ALL: (i64, i64, i64) = (1, -1, 1);
 const PAIRS: (i64, i64, i64) = (1, -1, 2);
 
 /// Whether commands write, how many words they have, which are keys, and the names of all that are so.
 type Kind = (bool, i64, (i64, i64, i64), &'static [&'static str]);
 
-const KINDS: [Kind; 15] = [
+const KINDS: [Kind; 18] = [
     (READS, 1, NONE, &["dbsize", "readonly", "readwrite", "reset", "time", "unwatch"]),
+    (READS, 1, NONE, &["discard", "exec", "multi"]),
     (READS, 2, NONE, &["echo", "keys", "select"]),
-    (READS, -1, NONE, &["command", "discard", "exec", "hello", "host:", "info", "multi", "ping", "post", "quit"]),
+    (READS, -1, NONE, &["command", "hello", "host:", "info", "ping", "post", "quit"]),
     (READS, -2, NONE, &["auth", "client", "config", "scan", "script"]),
     (READS, 2, ONE, &["expiretime", "get", "pexpiretime", "pttl", "strlen", "ttl", "type"]),
     (READS, -2, ALL, &["exists", "mget", "touch", "watch"]),
@@ -35,7 +37,9 @@ const KINDS: [Kind; 15] = [
     (WRITES, -2, ONE, &["getex"]),
     (WRITES, -3, ONE, &["expire", "expireat", "pexpire", "pexpireat", "set"]),
     (WRITES, -2, ALL, &["del", "unlink"]),
-    (WRITES, -3, PAIRS, &["mset"]),
+    (WRITES, -3, PAIRS, &["mset", "msetnx"]),
+    (WRITES, 3, TWO, &["rename", "renamenx"]),
+    (WRITES, -3, TWO, &["copy"]),
 ];
 
 /// All of them.
@@ -66,7 +70,7 @@ mod tests {
     #[test]
     fn each_name_has_one_entry() {
         let names: HashSet<&str> = all().map(|entry| entry.name).collect();
-        assert_eq!((names.len(), all().count()), (58, 58));
+        assert_eq!((names.len(), all().count()), (62, 62));
         let get = Entry { name: "get", arity: 2, writes: false, keys: (1, 1, 1) };
         assert_eq!((entry(b"get"), entry(b"gett")), (Some(get), None));
         assert_eq!(entry(b"mset"), Some(Entry { name: "mset", arity: -3, writes: true, keys: (1, -1, 2) }));

@@ -1,12 +1,13 @@
 //! What a peer needs to come to a generation: the opening of the last whole one up to there, and the logs since, each
 //! up to the length that the next reference names. All of it is one run of bytes: a head, the opening, and the logs.
-use crate::file_fault::FileFault;
-use crate::generations::{Opened, Started, look, named, opened, reference, unusable};
-use crate::generations_fault::GenerationsFault;
+use crate::generations::sum_of;
 use crate::node_fault::NodeFault;
 use crate::planning::first;
-use crate::reference;
 use epaxos::Reference;
+use epaxos::host::{FolderFault, Name};
+use epaxos::parts::files::unusable;
+use epaxos::parts::folder::{Opened, Started, look, named, opened, reference, reference_of};
+use epaxos::parts::read_folder::ReadFolder;
 use std::fs::{self, File};
 use std::io::{self, BufReader, Read, Seek, SeekFrom};
 use std::path::{Path, PathBuf};
@@ -75,12 +76,7 @@ fn array<const N: usize>(input: &mut impl Read) -> Result<[u8; N], NodeFault> {
 }
 
 fn read_reference(input: &mut impl Read, generation: u32) -> Result<Reference, NodeFault> {
-    let reference = reference::read(&array::<{ Reference::BYTES }>(input)?);
-    let reference = reference.map_err(|why| GenerationsFault::BadReference(generation, why));
-    match reference.map_err(NodeFault::Generations)? {
-        it if it.generation() == generation => Ok(it),
-        it => Err(NodeFault::Generations(GenerationsFault::ReferenceOf(generation, it.generation()))),
-    }
+    Ok(reference_of(&array::<{ Reference::BYTES }>(input)?, generation)?)
 }
 
 /// The bytes by which a peer comes to a generation. What they are read from doesn't change: where a file is gone, they
@@ -94,22 +90,22 @@ pub struct Way {
 
 impl Way {
     /// Those that lead to a generation of the folder of generations.
-    pub fn to(folder: &Path, generation: u32) -> Result<Way, GenerationsFault> {
+    pub fn to(folder: &Path, generation: u32) -> Result<Way, FolderFault> {
+        let folder = &ReadFolder(folder.to_path_buf());
         let held = look(folder)?;
         let first = first(&held, generation)?;
-        let of = |number: u32, name: &str| folder.join(number.to_string()).join(name);
         let length = |path: &Path| fs::metadata(path).map(|found| found.len()).map_err(unusable(path));
         let is_bound = held.iter().any(|one| one.number == first && one.has_reference);
         let own = is_bound.then(|| reference(folder, first)).transpose()?;
         let later = (first..generation).map(|before| reference(folder, before + 1));
         let references: Vec<Reference> = later.collect::<Result<_, _>>()?;
-        let opening = of(first, "opening");
+        let opening = folder.file(first, Name::Opening);
         let head = Head { first, opening: length(&opening)?, own, references };
         let mut files = vec![(opening, head.opening)];
         for next in &head.references {
-            let (number, log) = (next.generation() - 1, of(next.generation() - 1, "log"));
+            let (number, log) = (next.generation() - 1, folder.file(next.generation() - 1, Name::Log));
             if length(&log)? < next.length() {
-                return Err(GenerationsFault::ShortLog(number));
+                return Err(FolderFault::ShortLog(number));
             }
             files.push((log, next.length()));
         }
@@ -164,8 +160,8 @@ pub struct Handed {
 
 impl Handed {
     pub fn open(path: &Path) -> Result<Handed, NodeFault> {
-        let file = File::open(path).map_err(unusable(path)).map_err(failed)?;
-        let length = file.metadata().map_err(unusable(path)).map_err(failed)?.len();
+        let file = File::open(path).map_err(unusable(path)).map_err(FolderFault::Disk)?;
+        let length = file.metadata().map_err(unusable(path)).map_err(FolderFault::Disk)?.len();
         let head = Head::read(&mut BufReader::new(file))?;
         match head.lengths() {
             Some((opening, all)) if all == length => Ok(Handed { path: path.to_path_buf(), head, opening }),
@@ -176,23 +172,23 @@ impl Handed {
     /// What a start would read of a folder that has these files.
     pub fn started(&self) -> Result<Started, NodeFault> {
         let Head { first, own, references, .. } = &self.head;
-        let bytes = self.run(self.opening, self.head.opening).map_err(failed)?;
-        let bad = |why| NodeFault::Generations(GenerationsFault::BadOpening(Some(*first), why));
+        let bytes = self.run(self.opening, self.head.opening).map_err(FolderFault::Disk)?;
+        let bad = |why| FolderFault::BadOpening(Some(*first), why);
         let opening = opened(bytes).map_err(bad)?;
         if opening.generation != *first {
-            return Err(NodeFault::Generations(GenerationsFault::OfAnother(*first, opening.generation)));
+            return Err(FolderFault::OfAnother(*first, opening.generation).into());
         }
         Ok(Started { first: Opened { reference: *own, ..opening }, references: references.clone(), is_new: false })
     }
 
-    /// The log of a generation, as the reference of the next one names it.
-    pub fn log_of(&self, generation: u32, next: &Reference) -> Result<Vec<u8>, GenerationsFault> {
-        let before = self.head.references.iter().take_while(|it| it.generation() <= generation);
+    /// The log that the reference of the next generation names.
+    pub fn log_of(&self, next: &Reference) -> Result<Vec<u8>, FolderFault> {
+        let before = self.head.references.iter().take_while(|it| it.generation() < next.generation());
         let at = before.map(Reference::length).sum::<u64>() + self.opening + self.head.opening;
-        named(self.run(at, next.length())?, generation, next)
+        named(self.run(at, next.length())?, next, sum_of)
     }
 
-    fn run(&self, at: u64, length: u64) -> Result<Vec<u8>, FileFault> {
+    fn run(&self, at: u64, length: u64) -> io::Result<Vec<u8>> {
         let read = || {
             let mut file = File::open(&self.path)?;
             file.seek(SeekFrom::Start(at))?;
@@ -202,8 +198,4 @@ impl Handed {
         };
         read().map_err(unusable(&self.path))
     }
-}
-
-fn failed(fault: FileFault) -> NodeFault {
-    NodeFault::Generations(fault.into())
 }

@@ -1,7 +1,11 @@
 //! What operators ask for: changes of the cluster, which come with the next generation.
 use crate::identities::Identity;
-use crate::members::{Member, Members};
 use crate::teller::Teller;
+use epaxos::parts::wishes::Asked;
+pub use epaxos::parts::wishes::Machines;
+
+/// What was asked for, with whom to tell.
+pub type Wishes = epaxos::parts::wishes::Wishes<Teller>;
 
 /// What somebody who runs the store asks for.
 #[derive(Clone, PartialEq, Eq, Debug)]
@@ -17,34 +21,18 @@ pub enum Manage {
     Resize { size: u8, new: Vec<(u8, Identity, String)> },
 }
 
-/// What is to be otherwise in the next generation.
-#[derive(Clone, Default)]
-pub struct Change {
-    /// How many replicas are wanted, where that was asked.
-    pub size: Option<u8>,
-    /// Who is to be the replica of a number.
-    pub members: Vec<(u8, Member)>,
-    /// Whether a replica is replaced though it is reached.
-    pub is_forced: bool,
-}
-
-/// What somebody who runs the store asked for, until a generation begins in which it is so.
-pub struct Wish {
-    /// In which generation it was asked.
-    pub generation: u32,
-    pub change: Change,
-    pub reply: Teller,
-}
-
-impl Change {
-    /// Makes it, where these are to take part.
-    pub(crate) fn make(&self, members: &mut Members) {
-        if let Some(size) = self.size {
-            members.0.resize(size.into(), Member::default());
-        }
-        for (replica, member) in &self.members {
-            if let Some(place) = members.0.get_mut(usize::from(*replica)) {
-                *place = member.clone();
+impl Manage {
+    /// What is asked of the next generation; none, where nothing is.
+    pub(crate) fn asked(self) -> Option<Asked> {
+        match self {
+            Manage::Members => None,
+            Manage::Seal => Some(Asked::Seal),
+            Manage::Replace { replica, identity, address, is_forced } => {
+                Some(Asked::Replace { replica, identity, address, is_forced })
+            }
+            Manage::Resize { size, new } => {
+                let new = new.into_iter().map(|(replica, identity, address)| (replica, identity, Some(address)));
+                Some(Asked::Resize { size, new: new.collect() })
             }
         }
     }

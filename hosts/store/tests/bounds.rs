@@ -146,13 +146,15 @@ fn connections_that_say_nothing_keep_nobody_from_asking_how_it_is() {
             }
         })
     };
-    for _ in 0..20 {
+    let is_soon = || {
         let start = Instant::now();
         let mut client = memory.client();
         assert_eq!(ask(&mut client, "PING"), Reply::Simple("PONG".into()));
         assert!(matches!(ask(&mut client, "INFO"), Reply::Bulk(Some(_))));
-        assert!(start.elapsed() < Duration::from_secs(4), "{:?}", start.elapsed());
-    }
+        start.elapsed() < Duration::from_secs(4)
+    };
+    // (who waits to be turned away waits 5 s; where the machine is busy it is tried again)
+    wait("20 answers, each in 4 s", || (0..20).all(|_| is_soon()));
     is_over.store(true, Ordering::Relaxed);
     flood.join().unwrap();
     drop(silent);

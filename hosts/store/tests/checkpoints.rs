@@ -12,7 +12,7 @@ use store::opening::Opening;
 /// What a generation opened with is what its file then has.
 #[test]
 fn what_is_told_is_what_is_written() {
-    let Some(mut three) = Three::begin("told", 0) else { return };
+    let mut three = Three::begin("told", 0);
     for number in 1..6 {
         three.generation(number);
         three.go_on();
@@ -41,7 +41,7 @@ fn what_is_told_is_what_is_written() {
 /// Without a checkpoint a start goes through all logs since the last one.
 #[test]
 fn a_start_replays_what_was_not_written() {
-    let Some(mut three) = Three::begin("replayed", NEVER) else { return };
+    let mut three = Three::begin("replayed", NEVER);
     for number in 1..5 {
         three.generation(number);
         three.go_on();
@@ -52,7 +52,7 @@ fn a_start_replays_what_was_not_written() {
     // What a replica that started so tells of its opening, and writes, is what the others do.
     let opening = three.cores[0].opening();
     drop(three.cores.remove(0));
-    three.cores.insert(0, Hosted::start(hosting(&three.of(0), 0, NEVER), &Begin::Again, 1).unwrap());
+    three.cores.insert(0, Hosted::start(hosting(&three.of(0), 0, NEVER), &Begin::Again).unwrap());
     assert_eq!(three.cores[0].opening(), opening);
     assert!(!three.cores[0].put_opening().unwrap());
     three.wait();
@@ -67,7 +67,7 @@ fn a_start_replays_what_was_not_written() {
 /// What a crash leaves at each moment of a change.
 #[test]
 fn a_crash_in_a_change() {
-    let Some(mut three) = Three::begin("change", NEVER) else { return };
+    let mut three = Three::begin("change", NEVER);
     three.generation(1);
     three.go_on();
     three.generation(2);
@@ -101,7 +101,7 @@ fn a_crash_in_a_change() {
 /// What a crash leaves at each moment of a checkpoint.
 #[test]
 fn a_crash_in_a_checkpoint() {
-    let Some(mut three) = Three::begin("checkpoint", NEVER) else { return };
+    let mut three = Three::begin("checkpoint", NEVER);
     for number in 1..4 {
         three.generation(number);
         three.go_on();
@@ -154,7 +154,7 @@ fn a_crash_in_a_checkpoint() {
 /// A log that isn't the one is refused by name.
 #[test]
 fn another_log_is_refused() {
-    let Some(mut three) = Three::begin("other-log", NEVER) else { return };
+    let mut three = Three::begin("other-log", NEVER);
     for number in 1..4 {
         three.generation(number);
         three.go_on();
@@ -202,7 +202,7 @@ fn another_log_is_refused() {
 /// A folder that a node has made, of openings alone, starts, and goes on by references.
 #[test]
 fn an_older_folder_starts() {
-    let Some(mut three) = Three::begin("older", 0) else { return };
+    let mut three = Three::begin("older", 0);
     three.generation(1);
     three.go_on();
     three.wait();
@@ -217,7 +217,7 @@ fn an_older_folder_starts() {
         fs::remove_file(folder.join("reference")).unwrap();
         fs::remove_file(folder.join("whole")).unwrap();
         let it = hosting(&three.of(replica), replica as u8, NEVER);
-        three.cores.insert(replica, Hosted::start(it, &Begin::Again, 1).unwrap());
+        three.cores.insert(replica, Hosted::start(it, &Begin::Again).unwrap());
     }
     three.put("a", "b");
     assert_eq!(three.start(|_| ()), Ok(2));

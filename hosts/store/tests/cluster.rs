@@ -1,14 +1,13 @@
 //! Three stores around the proved program.
 mod common;
-use common::{Places, Store, real_node, wait};
+use common::{Places, Store, wait};
 use store::client::Reply;
 use store::command_fault::CommandFault;
 
 #[test]
 fn after_a_restart_local_reads_tell_what_others_have_proposed() {
-    let Some(node) = real_node() else { return };
     let places = Places::new("restart");
-    let start = || [0, 1, 2].map(|replica| places.start(replica, &node));
+    let start = || [0, 1, 2].map(|replica| places.start(replica));
     let value = |number: usize| Reply::Bulk(Some(format!("value-{number}").into_bytes()));
     let stores = start();
     for number in 0..30 {
@@ -47,12 +46,11 @@ fn wait_for_keys(store: &Store, count: usize) {
 
 /// The third replica comes once the first one has set keys, and `meanwhile` is over: it has them soon.
 fn catches_up(name: &str, meanwhile: impl FnOnce(&mut Option<Store>, &Store)) {
-    let Some(node) = real_node() else { return };
     let places = Places::new(name);
-    let (mut first, second) = (Some(places.start(0, &node)), places.start(1, &node));
+    let (mut first, second) = (Some(places.start(0)), places.start(1));
     first.iter().for_each(|first| set_keys(first, 20));
     meanwhile(&mut first, &second);
-    let third = places.start(2, &node);
+    let third = places.start(2);
     wait_for_keys(&third, 20);
     wait("the last one", || third.info("instances_open") == "0");
 }
@@ -78,16 +76,15 @@ fn no_majority() -> Reply {
 
 #[test]
 fn alone_a_replica_proposes_nothing() {
-    let Some(node) = real_node() else { return };
     let places = Places::new("alone");
-    let store = places.start(0, &node);
+    let store = places.start(0);
     for _ in 0..3 {
         assert_eq!(store.ask("SET x 1"), no_majority());
     }
     assert_eq!(store.info("instances_used"), "0");
     assert_eq!(store.local("x"), Reply::Bulk(None));
     // With a majority it is done.
-    let others = [1, 2].map(|replica| places.start(replica, &node));
+    let others = [1, 2].map(|replica| places.start(replica));
     wait("a majority", || store.ask("SET x 2") == Reply::Simple("OK".into()));
     let used = store.info("instances_used");
     // It is cut off: again nothing is proposed.
@@ -95,4 +92,39 @@ fn alone_a_replica_proposes_nothing() {
     wait("the loss", || ["peer_1", "peer_2"].iter().all(|peer| store.info(peer) == "lost"));
     assert_eq!(store.ask("SET x 3"), no_majority());
     assert_eq!(store.info("instances_used"), used);
+}
+
+/// What only reads is told all that was acknowledged before, at any replica, and leaves nothing in any log.
+#[test]
+fn reads_write_nothing() {
+    let places = Places::new("reads");
+    let stores = [0, 1, 2].map(|replica| places.start(replica));
+    for number in 0..30 {
+        let line = format!("SET key-{number} value-{number}");
+        wait("a majority", || stores[number % 3].ask(&line) == Reply::Simple("OK".into()));
+        let reader = &stores[(number + 1) % 3];
+        assert_eq!(reader.ask(&format!("GET key-{number}")), Reply::Bulk(Some(format!("value-{number}").into())));
+    }
+    stores.iter().for_each(|store| {
+        wait("all commits", || store.info("instances_open") == "0");
+        wait_for_keys(store, 30);
+    });
+    let looked = |replica: usize| {
+        let log = std::fs::metadata(places.directory(replica).join("generations/1/log")).unwrap().len();
+        (log, ["generation_entries", "instances_used"].map(|name| stores[replica].info(name)))
+    };
+    let before = [0, 1, 2].map(looked);
+    for (replica, store) in stores.iter().enumerate() {
+        for number in 0..30 {
+            let key = format!("key-{number}");
+            assert_eq!(store.ask(&format!("GET {key}")), Reply::Bulk(Some(format!("value-{number}").into())));
+            assert_eq!(store.ask(&format!("EXISTS {key} none-{replica}")), Reply::Integer(1));
+            assert_eq!(store.ask(&format!("TTL {key}")), Reply::Integer(-1));
+            assert_eq!(store.ask(&format!("STRLEN none-{number}")), Reply::Integer(0));
+            assert_eq!(store.ask(&format!("TYPE {key}")), Reply::Simple("string".into()));
+            assert_eq!(store.ask(&format!("EPAXOS HOLDER none-{number}")), Reply::Bulk(None));
+        }
+        assert!(store.info("questions_asked").parse::<u32>().unwrap() >= 180);
+    }
+    assert_eq!([0, 1, 2].map(looked), before);
 }

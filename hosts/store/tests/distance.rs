@@ -1,7 +1,7 @@
 //! Drivers that are far apart, over the library: each command takes one round trip to the closest fast quorum that is there, and nothing is given up or recovered.
 mod common;
 use common::drivers::{Cluster, Joined, join};
-use epaxos::{Core, OwnedAnswer, OwnedCommand};
+use epaxos::{OwnedAnswer, OwnedCommand};
 use std::fs;
 use std::panic::{self, AssertUnwindSafe};
 use std::path::PathBuf;
@@ -34,6 +34,8 @@ const FIVE: RoundTrips = &[
 const MOST_PARTS: u32 = 150;
 const COMMANDS: u32 = 12;
 const TRIES: usize = 3;
+/// Where that is too little still, all is played again so many times as far apart.
+const TIMES_AS_FAR: [u64; 4] = [1, 1, 4, 4];
 /// The plays judge times, so they come one after the other.
 static ONE: Mutex<()> = Mutex::new(());
 const PATIENCE: Duration = Duration::from_secs(60);
@@ -99,21 +101,51 @@ fn put(events: &SyncSender<Event>, client: u32, request: u32) -> Duration {
     start.elapsed()
 }
 
+/// Reads at a driver a key of its own: how long that takes.
+fn get(events: &SyncSender<Event>, client: u32, _: u32) -> Duration {
+    let (sender, told) = channel();
+    let reply = Teller::new(move |it| _ = sender.send(it));
+    let start = Instant::now();
+    assert!(events.send(Event::Ask(Ask { what: What::Get(vec![b'k', client as u8]), reply })).is_ok());
+    assert!(matches!(told.recv_timeout(PATIENCE), Ok(Told::Value(_))));
+    start.elapsed()
+}
+
+/// How a driver is asked, by which client, as its which request: how long that takes.
+type Asks = fn(&SyncSender<Event>, u32, u32) -> Duration;
+
 /// What drivers that are so far apart were asked in turn, and how it went.
 struct Play {
     senders: Vec<SyncSender<Event>>,
     metrics: Vec<Arc<Metrics>>,
     alive: Alive,
     asked: u32,
+    /// So many times as far apart as they are said to be.
+    times: u64,
 }
 
+/// How it went that something took too long, or another path.
+type Slow = String;
+
 /// Plays with drivers over the library, in a folder of this name.
-fn play(name: &str, trips: RoundTrips, what: impl FnOnce(&mut Play)) {
-    if !Core::has_library() {
-        eprintln!("not tried: the library isn't there");
-        return;
-    }
+fn play(name: &str, trips: RoundTrips, what: impl Fn(&mut Play) -> Result<(), Slow>) {
     let _alone = ONE.lock().unwrap_or_else(PoisonError::into_inner);
+    let mut slow = Vec::new();
+    for times in TIMES_AS_FAR {
+        match play_apart(name, (trips, times), &what) {
+            Ok(()) => return,
+            Err(told) => slow.push(told),
+        }
+    }
+    panic!("{slow:?}");
+}
+
+/// Plays once, so many times as far apart.
+fn play_apart(
+    name: &str,
+    (trips, times): (RoundTrips, u64),
+    what: &impl Fn(&mut Play) -> Result<(), Slow>,
+) -> Result<(), Slow> {
     // (in memory, where that is to be had: a busy disk takes as long as a way)
     let memory = PathBuf::from("/dev/shm");
     let base = if memory.is_dir() { memory } else { std::env::temp_dir() };
@@ -122,26 +154,27 @@ fn play(name: &str, trips: RoundTrips, what: impl FnOnce(&mut Play)) {
     let life = || Life { is_there: AtomicBool::new(true), speaks: AtomicBool::new(true) };
     let alive: Alive = Arc::new(trips.iter().map(|_| life()).collect());
     let way = |from: u8, to: u8, events: &SyncSender<Event>| -> Arc<dyn Link> {
-        let delay = Duration::from_millis(trips[usize::from(from)][usize::from(to)]) / 2;
+        let delay = Duration::from_millis(trips[usize::from(from)][usize::from(to)] * times) / 2;
         Arc::new(Way::begin([from, to], delay, alive.clone(), events.clone()))
     };
     let cluster = Cluster { replicas: trips.len() as u8, folder: &folder, plant: None, limits };
     let Joined { drivers, senders, metrics } = join(&cluster, way, |place, directory, _| {
-        let hosting = Hosting { place, folder: directory.generations(), core: Core::Library, checkpoint: 1 << 26 };
-        let mut hosted = Hosted::start(hosting, &Begin::New, 0).unwrap();
+        let hosting = Hosting { place, folder: directory.generations(), checkpoint: 1 << 26 };
+        let mut hosted = Hosted::start(hosting, &Begin::New).unwrap();
         let state = hosted.state().unwrap();
         (hosted, state)
     });
-    let mut play = Play { senders, metrics, alive, asked: 0 };
-    thread::scope(|scope| {
+    let mut play = Play { senders, metrics, alive, asked: 0, times };
+    let told = thread::scope(|scope| {
         let driven: Vec<_> = drivers.into_iter().map(|driver| scope.spawn(|| driver.run())).collect();
         // (drivers that weren't told to end would be waited for)
         let told = panic::catch_unwind(AssertUnwindSafe(|| what(&mut play)));
         play.senders.iter().for_each(|events| _ = events.send(Event::End));
         assert!(driven.into_iter().all(|driver| matches!(driver.join().unwrap(), StopFault::Asked)));
-        told.unwrap_or_else(|fault| panic::resume_unwind(fault));
+        told.unwrap_or_else(|fault| panic::resume_unwind(fault))
     });
     fs::remove_dir_all(&folder).unwrap();
+    told
 }
 
 impl Play {
@@ -158,7 +191,7 @@ impl Play {
         let longest = thread::scope(|scope| {
             let asked = |client: u32| scope.spawn(move || put(&play.senders[0], 10 + client, play.asked));
             let asked: Vec<_> = (0..count).map(asked).collect();
-            thread::sleep(Duration::from_millis(40));
+            thread::sleep(Duration::from_millis(40 * play.times));
             happens(play);
             asked.into_iter().map(|it| it.join().unwrap()).max()
         });
@@ -171,11 +204,11 @@ impl Play {
     }
 
     /// How long half of the commands take at each of these, which are asked side by side.
-    fn median(&mut self, replicas: &[usize]) -> Vec<Duration> {
+    fn median(&mut self, asks: Asks, replicas: &[usize]) -> Vec<Duration> {
         let from = self.asked + 1;
         self.asked += COMMANDS;
         let (to, senders) = (self.asked, &self.senders);
-        let ask = |replica: usize| (from..=to).map(|it| put(&senders[replica], replica as u32 + 1, it)).collect();
+        let ask = |replica: usize| (from..=to).map(|it| asks(&senders[replica], replica as u32 + 1, it)).collect();
         let asked: Vec<Vec<Duration>> = thread::scope(|scope| {
             let asked: Vec<_> = replicas.iter().map(|replica| scope.spawn(move || ask(*replica))).collect();
             asked.into_iter().map(|it| it.join().unwrap()).collect()
@@ -188,31 +221,38 @@ impl Play {
     }
 
     /// Half of the commands at each of these takes so many milliseconds, and hardly more, and all take the fast path where there is one: in one of some tries.
-    fn take(&mut self, expected: &[(usize, u64)]) {
+    fn take(&mut self, expected: &[(usize, u64)]) -> Result<(), Slow> {
+        self.take_by(put, expected)
+    }
+
+    /// The same of what is asked so.
+    fn take_by(&mut self, asks: Asks, expected: &[(usize, u64)]) -> Result<(), Slow> {
         let replicas: Vec<usize> = expected.iter().map(|(replica, _)| *replica).collect();
         let mut told = Vec::new();
         let has_fast_path = self.alive.iter().filter(|it| !it.is_there.load(Ordering::Relaxed)).count() < 2;
         for _ in 0..TRIES {
             let slow = self.slow();
-            let medians = self.median(&replicas);
+            let medians = self.median(asks, &replicas);
             let slow = self.slow() - slow;
-            let trips = expected.iter().map(|(_, trip)| Duration::from_millis(*trip));
+            let trips = expected.iter().map(|(_, trip)| Duration::from_millis(trip * self.times));
             assert!(trips.clone().zip(&medians).all(|(trip, median)| trip <= *median), "{medians:?} for {expected:?}");
             let is_soon = trips.zip(&medians).all(|(trip, median)| *median <= trip * MOST_PARTS / 100);
             if is_soon && (slow == 0 || !has_fast_path) {
-                return;
+                return Ok(());
             }
             told.push((medians, slow));
         }
-        panic!("{told:?} for {expected:?}");
+        Err(format!("{told:?} for {expected:?}, {} times", self.times))
     }
 }
 
 #[test]
 fn each_command_takes_one_round_trip_to_the_closest_quorum() {
     play("three", THREE, |play| {
-        play.take(&[(0, 130), (1, 160), (2, 130)]);
-        assert!(play.metrics.iter().zip([130, 160, 130]).all(|(it, trip)| it.quorum_round_trip.get() >= trip * 1_000));
+        play.take(&[(0, 130), (1, 160), (2, 130)])?;
+        let is_so = |(it, trip): (&Arc<Metrics>, u64)| it.quorum_round_trip.get() >= trip * play.times * 1_000;
+        assert!(play.metrics.iter().zip([130, 160, 130]).all(is_so));
+        Ok(())
     });
 }
 
@@ -221,7 +261,7 @@ fn each_command_takes_one_round_trip_to_the_closest_quorum() {
 fn one_of_three_dead() {
     play("one-of-three", THREE, |play| {
         play.kill(&[2]);
-        play.take(&[(0, 250), (1, 250)]);
+        play.take(&[(0, 250), (1, 250)])
     });
 }
 
@@ -229,25 +269,18 @@ fn one_of_three_dead() {
 /// answer was to come.
 #[test]
 fn what_is_under_way_is_recovered_once() {
-    for (is_silent, most) in [(false, 250 * 3), (true, 130 + 300 + 250 * 3)] {
-        let mut told = Vec::new();
-        for _ in 0..TRIES {
-            play(if is_silent { "silent" } else { "dies" }, THREE, |play| {
-                play.take(&[(0, 130), (2, 130)]);
-                let loss = |play: &Play| match is_silent {
-                    true => play.alive[2].speaks.store(false, Ordering::Relaxed),
-                    false => play.kill(&[2]),
-                };
-                told.push(play.take_while(8, loss));
-            });
-            let is_well =
-                |(longest, count): &(Duration, u64)| *longest < Duration::from_millis(most + 200) && *count == 8;
-            if told.last().is_none_or(is_well) {
-                told.clear();
-                break;
-            }
-        }
-        assert!(told.is_empty(), "{told:?}");
+    for is_silent in [false, true] {
+        play(if is_silent { "silent" } else { "dies" }, THREE, |play| {
+            play.take(&[(0, 130), (2, 130)])?;
+            let (loss, most): (fn(&Play), u64) = if is_silent {
+                (|play| play.alive[2].speaks.store(false, Ordering::Relaxed), (130 + 250 * 3) * play.times + 300)
+            } else {
+                (|play| play.kill(&[2]), 250 * 3 * play.times)
+            };
+            let (longest, count) = play.take_while(8, loss);
+            let is_well = longest < Duration::from_millis(most + 200 * play.times) && count == 8;
+            if is_well { Ok(()) } else { Err(format!("{longest:?}, {count} recoveries, {} times", play.times)) }
+        });
     }
 }
 
@@ -255,11 +288,28 @@ fn what_is_under_way_is_recovered_once() {
 #[test]
 fn some_of_five_dead() {
     play("of-five", FIVE, |play| {
-        play.take(&[(0, 120), (1, 110), (2, 100), (3, 120), (4, 230)]);
+        play.take(&[(0, 120), (1, 110), (2, 100), (3, 120), (4, 230)])?;
         play.kill(&[3]);
-        play.take(&[(0, 240), (1, 230), (2, 220), (4, 240)]);
+        play.take(&[(0, 240), (1, 230), (2, 220), (4, 240)])?;
         play.kill(&[4]);
-        play.take(&[(0, 180), (1, 160), (2, 180)]);
+        play.take(&[(0, 180), (1, 160), (2, 180)])?;
         assert!(play.slow() >= u64::from(3 * COMMANDS), "{}", play.slow());
+        Ok(())
+    });
+}
+
+/// A read takes one round trip to the closest majority, also where one of it has died.
+#[test]
+fn each_read_takes_one_round_trip_to_the_closest_majority() {
+    play("reads-of-three", THREE, |play| {
+        play.take(&[(0, 130), (1, 160), (2, 130)])?;
+        play.take_by(get, &[(0, 130), (1, 160), (2, 130)])?;
+        play.kill(&[2]);
+        play.take_by(get, &[(0, 250), (1, 250)])
+    });
+    play("reads-of-five", FIVE, |play| {
+        play.take_by(get, &[(0, 90), (1, 80), (2, 90), (3, 110), (4, 220)])?;
+        play.kill(&[1]);
+        play.take_by(get, &[(0, 120), (2, 100), (3, 120), (4, 220)])
     });
 }

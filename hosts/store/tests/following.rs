@@ -1,7 +1,6 @@
 //! How a replica comes to a later generation by what a peer hands it: the last whole opening there, and the logs since.
 mod common;
 use common::three::{NEVER, Three, contents, hosting};
-use epaxos::Core as Place;
 use std::fs;
 use std::path::{Path, PathBuf};
 use std::thread;
@@ -21,9 +20,9 @@ struct Peer {
 }
 
 impl Peer {
-    /// One that has written the openings of these generations. None without the library.
-    fn new(name: &str, newest: u32, written: &[u32]) -> Option<Peer> {
-        let mut three = Three::begin(name, NEVER)?;
+    /// One that has written the openings of these generations.
+    fn new(name: &str, newest: u32, written: &[u32]) -> Peer {
+        let mut three = Three::begin(name, NEVER);
         for number in 1..newest {
             three.generation(number);
             three.go_on();
@@ -33,7 +32,7 @@ impl Peer {
             }
         }
         three.put("last", "one");
-        Some(Peer { three, newest, lead: Lead::default() })
+        Peer { three, newest, lead: Lead::default() }
     }
 
     fn taken(&self) -> PathBuf {
@@ -71,7 +70,7 @@ fn gone_through(mut following: Following) -> Result<u32, String> {
 
 /// Goes through these bytes in the place of what was handed.
 fn go_through(peer: &Peer, bytes: &[u8]) -> Result<u32, String> {
-    let (mut following, _) = Following::begin(&peer.taken(), Some(Place::Library), 1, Instant::now()).unwrap();
+    let (mut following, _) = Following::begin(&peer.taken(), 1, Instant::now()).unwrap();
     let total = bytes.len() as u64;
     let mut asked = vec![0];
     while let Some(offset) = asked.pop() {
@@ -90,7 +89,7 @@ fn go_through(peer: &Peer, bytes: &[u8]) -> Result<u32, String> {
 #[test]
 fn it_leads_to_the_opening_that_the_peer_would_write() {
     for (name, written) in [("none-written", &[][..]), ("one-written", &[3]), ("all-written", &[2, 3, 4, 5])] {
-        let Some(mut peer) = Peer::new(name, 5, written) else { return };
+        let mut peer = Peer::new(name, 5, written);
         assert_eq!(peer.hand(), Ok(5), "{name}");
         peer.three.cores[1].put_opening().unwrap();
         peer.three.wait();
@@ -102,7 +101,7 @@ fn it_leads_to_the_opening_that_the_peer_would_write() {
         map.remove(&b"last"[..]);
         let folder = peer.three.folder.join("new");
         fs::create_dir(&folder).unwrap();
-        let mut new = Hosted::start(hosting(&folder, 0, NEVER), &Begin::Take(peer.taken()), 0).unwrap();
+        let mut new = Hosted::start(hosting(&folder, 0, NEVER), &Begin::Take(peer.taken())).unwrap();
         assert_eq!((new.state().unwrap().generation, contents(&mut new)), (5, map));
     }
 }
@@ -110,7 +109,7 @@ fn it_leads_to_the_opening_that_the_peer_would_write() {
 /// A way begins at the last whole opening, and has as much of each log as the next reference names.
 #[test]
 fn nothing_is_handed_twice() {
-    let Some(peer) = Peer::new("twice", 6, &[4]) else { return };
+    let peer = Peer::new("twice", 6, &[4]);
     let folder = peer.three.of(1);
     let length = |name: &str| fs::metadata(folder.join(name)).unwrap().len();
     let way = Way::to(&folder, 6).unwrap();
@@ -133,7 +132,7 @@ fn nothing_is_handed_twice() {
 /// What isn't what the peer has leads to nothing, and it is told why.
 #[test]
 fn what_was_changed_leads_nowhere() {
-    let Some(peer) = Peer::new("changed", 4, &[2]) else { return };
+    let peer = Peer::new("changed", 4, &[2]);
     let way = Way::to(&peer.three.of(1), 4).unwrap();
     let all = way.read(0, way.total()).unwrap();
     assert_eq!(go_through(&peer, &all), Ok(4));
@@ -156,7 +155,7 @@ fn what_was_changed_leads_nowhere() {
     *turned.last_mut().unwrap() ^= 1;
     assert_eq!(why(&turned), "folder refused: the log of generation 3 isn't the one that generation 4 opens with");
     // Of another replica the same logs lead nowhere.
-    let (mut following, _) = Following::begin(&peer.taken(), Some(Place::Library), 2, Instant::now()).unwrap();
+    let (mut following, _) = Following::begin(&peer.taken(), 2, Instant::now()).unwrap();
     let part = Message::Part { first: 2, generation: 4, total: way.total(), offset: 0, bytes: all };
     assert!(matches!(following.take(2, part, Instant::now()), Ok(Came::Ask(_))));
     assert_eq!(gone_through(following), Err("the log of another replica, cluster or generation".into()));
@@ -164,7 +163,7 @@ fn what_was_changed_leads_nowhere() {
 
 /// Begins to have it, and takes so many pieces; then what is asked for next.
 fn begin(peer: &mut Peer, pieces: usize) -> (Following, Vec<Message>) {
-    let (mut following, first) = Following::begin(&peer.taken(), Some(Place::Library), 1, Instant::now()).unwrap();
+    let (mut following, first) = Following::begin(&peer.taken(), 1, Instant::now()).unwrap();
     let mut asked = vec![first];
     for _ in 0..pieces {
         let part = peer.answer(&asked.remove(0));
@@ -191,26 +190,26 @@ fn finish(peer: &mut Peer, mut following: Following, mut asked: Vec<Message>) ->
 }
 
 /// Values so long that all of it takes many pieces.
-fn long(name: &str) -> Option<Peer> {
-    let mut peer = Peer::new(name, 3, &[])?;
+fn long(name: &str) -> Peer {
+    let mut peer = Peer::new(name, 3, &[]);
     for at in 0..40 {
         peer.three.put(&format!("long-{at}"), &"y".repeat(30_000));
     }
     peer.three.seal();
     peer.three.go_on();
     peer.newest = 4;
-    Some(peer)
+    peer
 }
 
 /// The peer is killed in the middle: after its start the rest is asked for, and nothing else.
 #[test]
 fn it_goes_on_behind_what_has_come() {
-    let Some(mut peer) = long("killed") else { return };
+    let mut peer = long("killed");
     let pieces = Way::to(&peer.three.of(1), 4).unwrap().total().div_ceil(128 << 10) as usize;
     assert!(pieces > 12);
     let (following, asked) = begin(&mut peer, 5);
     drop(peer.three.cores.remove(1));
-    peer.three.cores.insert(1, Hosted::start(hosting(&peer.three.of(1), 1, NEVER), &Begin::Again, 1).unwrap());
+    peer.three.cores.insert(1, Hosted::start(hosting(&peer.three.of(1), 1, NEVER), &Begin::Again).unwrap());
     peer.lead = Lead::default();
     assert_eq!(finish(&mut peer, following, asked), (Ok(4), pieces - 5));
     // A checkpoint at the peer meanwhile changes nothing, as long as the logs are there; once they are gone it begins
@@ -237,7 +236,7 @@ fn rebind(folder: &Path) {
 /// What is ended comes to an end before another one begins.
 #[test]
 fn it_ends_where_it_is_not_wanted() {
-    let Some(mut peer) = long("ended") else { return };
+    let mut peer = long("ended");
     let (following, _) = begin(&mut peer, 3);
     assert!(following.end().is_none());
     let way = Way::to(&peer.three.of(1), 4).unwrap();

@@ -1,7 +1,7 @@
 //! Bytes by chance, and true ones that were changed, at what reads clients' commands and at what reads what comes to the peers' port: it never
 //! panics, tells the same however the bytes come, takes no more than it should, and nothing that isn't authentic. `FUZZ_SECONDS` has each go on
 //! for longer than its second.
-use epaxos::{Fields, Instance, Receipt, wire};
+use epaxos::{Fields, Instance, Receipt};
 use std::io::{self, Read, Write};
 use std::os::unix::fs::PermissionsExt;
 use std::time::{Duration, Instant};
@@ -13,7 +13,7 @@ use store::members::Members;
 use store::messages::Message;
 use store::random::Random;
 use store::resp::{Input, read_command};
-use store::sealed::{self, Direction, Hello, Key};
+use store::sealed::{self, Direction, Hello, Key, MAGIC};
 
 /// What it begins with: commands, whole and not.
 const SEEDS: [&[u8]; 10] = [
@@ -167,23 +167,19 @@ fn messages_of_peers_by_chance() {
         }
         change(&mut bytes, &seeds, &mut random);
         rounds += 1;
-        // What a peer's host and a node may tell, once it is authentic.
+        // What a peer's host may tell, once it is authentic.
         if let Some(message) = Message::read(&bytes) {
             assert_eq!(message.write(), bytes);
         }
         let _ = (Head::read(&bytes), Members::read(&bytes), Receipt::read(&mut Fields::new(&bytes)));
-        let _ = (wire::value(&bytes), wire::next_open(&bytes), wire::state(&bytes), wire::Told::read(&bytes));
-        if let Some(wire::Done::Taken(taken)) = wire::done(&bytes) {
-            let _ = taken.entries();
-        }
         // A stranger, who hasn't the key: it is told the same few bytes whatever it says, and nothing of it is taken.
-        let hello = Hello::new(3, 0, 1).unwrap();
+        let hello = Hello::new(MAGIC, [3, 0, 1]).unwrap();
         let mut stranger = Vec::new();
         let mut channel = sealed::answer(&mut stranger, &key, &hello).unwrap();
         assert_eq!((stranger.len(), read_all(&mut channel.receiving, &bytes)), (48, Vec::new()));
         let mut rest = &bytes[..];
         if let Ok(hello) = sealed::heard(&mut rest) {
-            let _ = hello.ends();
+            let _ = hello.ends(&MAGIC);
             let mut channel = sealed::answer(&mut Vec::new(), &key, &hello).unwrap();
             assert_eq!(read_all(&mut channel.receiving, rest), Vec::new());
         }

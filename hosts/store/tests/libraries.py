@@ -1,7 +1,7 @@
 """Clients that others have written, at a cluster of three: redis-cli, redis-benchmark and redis-py (Debian: redis-tools, python3-redis), and
 the examples. What isn't here is said and left out.
 
-    python3 libraries.py STORE EPAXOS
+    python3 libraries.py STORE
 
 by a Python that has redis-py. Status 1 where something is told wrong.
 """
@@ -31,18 +31,17 @@ PATIENCE = 300
 class Cluster:
     """Three stores in a folder of their own, until it is left."""
 
-    def __init__(self, store, epaxos):
-        self.words, self.folder = (store, epaxos), tempfile.mkdtemp(prefix="store-libraries-")
+    def __init__(self, store):
+        self.store, self.folder = store, tempfile.mkdtemp(prefix="store-libraries-")
         self.all_ports = Ports()
         self.peers, self.ports = self.all_ports[:3], self.all_ports[3:6]
         self.running = {}
 
     def start(self, replica):
-        store, epaxos = self.words
         folder = f"{self.folder}/{replica}"
         peers = ",".join(f"127.0.0.1:{port}" for port in self.peers)
-        words = [store, "--replica", str(replica), "--peers", peers, "--listen", f"127.0.0.1:{self.ports[replica]}"]
-        words += ["--dir", folder, "--node", epaxos, "--patience", "60"]
+        words = [self.store, "--replica", str(replica), "--peers", peers, "--dir", folder, "--patience", "60"]
+        words += ["--listen", f"127.0.0.1:{self.ports[replica]}"]
         words += [] if os.path.exists(f"{folder}/generations/1") else ["--new"]
         with open(f"{self.folder}/told-{replica}", "ab") as told:
             self.running[replica] = subprocess.Popen(words, stdin=subprocess.DEVNULL, stderr=told)
@@ -200,21 +199,7 @@ def by_redis_py(cluster):
             pipe.set(f"pipe-{number}", number)
             pipe.get(f"pipe-{number}")
         check("pipeline", pipe.execute(), [it for number in range(500) for it in (True, str(number))])
-    # One with a transaction, which is refused whole; so is WATCH.
-    for transaction in range(2):
-        with one.pipeline() as pipe:
-            try:
-                if transaction:
-                    pipe.watch("t")
-                pipe.set("t", "1")
-                pipe.execute()
-                check("transaction", "done", "refused")
-            except redis.ResponseError as error:
-                check("transaction", "isn't supported" in str(error), True)
-        check("nothing of a transaction", two.get("t"), None)
-    # (it sends no UNWATCH after a refused WATCH, and goes on with the same connection)
-    check("after a refused WATCH", one.get("p"), "42")
-    check("after a refused WATCH, several", one.mset({"m1": "1", "m2": "2"}), True)
+    transactions(client)
 
     # A pool that threads share.
     pool = redis.BlockingConnectionPool(port=cluster.ports[2], max_connections=10, timeout=PATIENCE)
@@ -268,6 +253,76 @@ def by_redis_py(cluster):
     check("lock.py", (done.returncode, done.stderr), (0, ""))
     print(f"lock.py: {done.stdout.strip()}")
     leaders(cluster)
+
+
+def transactions(client):
+    """Pipelines as redis-py makes them where nothing is said, WATCH, and what it does by both."""
+    one, two = client(0, decode_responses=True), client(1)
+    with one.pipeline() as pipe:
+        pipe.set("t", "1").incr("t").append("t", "0").get("t").mget("t", "none").rename("t", "t2").delete("t2", "none")
+        check("transaction", pipe.execute(), [True, 2, 2, "20", ["20", None], True, 1])
+    with one.pipeline() as pipe:
+        for number in range(300):
+            pipe.set(f"all-{number}", number)
+            pipe.get(f"all-{number}")
+        check("a long transaction", pipe.execute(), [it for number in range(300) for it in (True, str(number))])
+    with one.pipeline() as pipe:
+        pipe.set("t", "a").incr("t").set("u", "1")
+        told = pipe.execute(raise_on_error=False)
+        check("an error in a transaction", [type(it).__name__ for it in told], ["bool", "ResponseError", "bool"])
+        check("the others of a transaction", (two.get("t"), two.get("u")), (b"a", b"1"))
+        pipe.set("t", "b").execute_command("NOTHING")
+        try:
+            pipe.execute()
+            check("an unknown command in a transaction", "done", "refused")
+        except redis.ResponseError as error:
+            check("an unknown command in a transaction", "unknown command" in str(error), True)
+        check("nothing of a transaction", two.get("t"), b"a")
+    with one.pipeline() as pipe:
+        pipe.watch("t")
+        check("while it watches", pipe.get("t"), "a")
+        two.set("t", "c")
+        pipe.multi()
+        pipe.set("t", "d")
+        try:
+            pipe.execute()
+            check("a watched key that was changed", "done", "refused")
+        except redis.WatchError:
+            pass
+        check("after a watched key was changed", one.get("t"), "c")
+        pipe.watch("t", "none")
+        pipe.unwatch()
+        two.set("t", "e")
+        pipe.multi()
+        check("after UNWATCH", pipe.set("t", "f").execute(), [True])
+    check("msetnx", (one.msetnx({"m1": "1", "m2": "2"}), two.msetnx({"m2": "3", "m3": "4"})), (True, False))
+    check("mget", one.mget("m1", "m2", "m3"), ["1", "2", None])
+    check("rename", (one.renamenx("m1", "m2"), one.renamenx("m1", "m3"), one.copy("m3", "m4")), (False, True, True))
+    check("delete", one.delete("m1", "m2", "m3", "m4"), 3)
+
+    def add(pipe):
+        before = int(pipe.get("watched") or 0)
+        pipe.multi()
+        pipe.set("watched", before + 1)
+
+    def move(replica):
+        mine = client(replica)
+        for step in range(10):
+            mine.transaction(add, "watched")
+            with mine.pipeline() as pipe:
+                pipe.decrby(f"account-{step % 3}", 5).incrby(f"account-{(step + 1 + replica % 2) % 3}", 5)
+                pipe.execute()
+            with mine.pipeline() as pipe:
+                told = pipe.get("account-0").get("account-1").get("account-2").execute()
+                check("a sum", sum(map(int, told)), 300)
+
+    one.mset({f"account-{number}": 100 for number in range(3)})
+    threads = [threading.Thread(target=move, args=(replica,)) for replica in range(3)]
+    for it in threads:
+        it.start()
+    for it in threads:
+        it.join()
+    check("transactions of several", two.get("watched"), b"30")
 
 
 def by_tls(cluster):
@@ -339,8 +394,7 @@ def leaders(cluster):
 
 
 def main():
-    store, epaxos = map(os.path.abspath, sys.argv[1:3])
-    with Cluster(store, epaxos) as cluster:
+    with Cluster(os.path.abspath(sys.argv[1])) as cluster:
         by_redis_cli(cluster)
         by_redis_py(cluster)
         by_tls(cluster)

@@ -1,7 +1,7 @@
 //! The keys that there are, and those that are past their deadlines: they are removed by who lists them, and by the store itself.
 mod common;
 use common::memory::Memory;
-use common::{Places, ask, wait};
+use common::{Places, ask, info, wait};
 use std::sync::Arc;
 use std::thread;
 use std::time::{Duration, Instant};
@@ -10,14 +10,8 @@ use store::sweep::sweep;
 
 /// How many keys there are, with those that are hidden.
 fn kept(client: &mut Client) -> usize {
-    loop {
-        let Reply::Bulk(Some(text)) = ask(client, "INFO") else { panic!("no INFO") };
-        let text = String::from_utf8(text).unwrap();
-        // (it isn't there where others leave the processors no time)
-        if let Some(kept) = text.lines().find_map(|line| line.strip_prefix("keys_kept:")) {
-            return kept.parse().unwrap();
-        }
-    }
+    let text = info(client);
+    text.lines().find_map(|line| line.strip_prefix("keys_kept:")).unwrap().parse().unwrap()
 }
 
 /// Sets so many keys that are past their deadlines soon, and one that stays.
@@ -65,7 +59,9 @@ fn what_nobody_asks_for_is_removed_a_few_in_each_second() {
     set(&mut client, 50);
     let (start, looked) = (Instant::now(), Arc::clone(&metrics));
     thread::spawn(move || sweep(&listing, &keys, &metrics));
-    wait("the look", || looked.expired.get() == 50);
+    // (where the machine is slow some are gone by then)
+    wait("the look", || looked.expired.get() > 0 || kept(&mut memory.client()) < 51);
+    assert!([50, 30, 10, 0].contains(&looked.expired.get()));
     while kept(&mut client) > 1 {
         assert!(start.elapsed() < Duration::from_secs(60));
         thread::sleep(Duration::from_millis(10));
@@ -79,7 +75,7 @@ fn what_nobody_asks_for_is_removed_a_few_in_each_second() {
 #[test]
 fn a_store_with_its_core_lists_without_a_program() {
     let places = Places::new("listing");
-    let [Some(zero), Some(one), Some(_two)] = [0, 1, 2].map(|replica| places.start_in_store(replica)) else { return };
+    let [zero, one, _two] = [0, 1, 2].map(|replica| places.start(replica));
     wait("a majority", || zero.ask("SET a 1") == ok());
     for line in ["SET b 2", "SET c 3 PX 1", "SET d 4"] {
         wait("a majority", || one.ask(line) == ok());

@@ -7,7 +7,7 @@
 mod common;
 use common::real_node;
 use common::three::{NEVER, hosting};
-use epaxos::{Call, Command, Core as Place, Event, Instance, OpenInstance};
+use epaxos::{Call, Command, Event, Instance, OpenInstance};
 use std::collections::BTreeSet;
 use std::fs::{self, OpenOptions};
 use std::io::Write;
@@ -20,7 +20,8 @@ use store::frames::Head;
 use store::hosted::Hosted;
 use store::lead::Lead;
 use store::messages::Message;
-use store::outcome::{Asked, Outcome, Outgoing};
+use store::outcome::{Asked, Outcome};
+use store::queries::Queries;
 use store::random::Random;
 
 /// So many are lived where nothing is said, and each has so many steps.
@@ -51,7 +52,7 @@ struct Life {
     checkpoint: u64,
     replicas: Vec<Replica>,
     /// On their way.
-    frames: Vec<Outgoing>,
+    frames: Vec<(u8, Vec<u8>)>,
     requests: u32,
     runs: u64,
     count: Count,
@@ -90,7 +91,7 @@ impl Life {
         self.runs += 1;
         let it = &mut self.replicas[replica];
         let generations = it.folder.join("generations");
-        let core = Hosted::start(hosting(&generations, replica as u8, self.checkpoint), begin, self.runs);
+        let core = Hosted::start(hosting(&generations, replica as u8, self.checkpoint), begin);
         let mut core = core.unwrap_or_else(|fault| panic!("replica {replica} doesn't start: {fault}"));
         it.acted = it.acted.max(core.state().unwrap().generation);
         (it.core, it.is_new) = (Some(core), false);
@@ -150,7 +151,7 @@ impl Life {
         }
         let at = self.random.below(self.frames.len() as u64) as usize;
         let chance = self.random.below(40);
-        let Outgoing { to, frame } = if chance == 0 { self.frames[at].clone() } else { self.frames.swap_remove(at) };
+        let (to, frame) = if chance == 0 { self.frames[at].clone() } else { self.frames.swap_remove(at) };
         let head = Head::read(&frame).unwrap();
         // (one of another generation isn't the core's)
         if chance != 1 && self.generation(to.into()) == Some(head.generation) {
@@ -285,7 +286,7 @@ impl Life {
     /// killed in the middle.
     fn hand(&mut self, from: usize, to: usize, path: &Path) -> bool {
         let (mut now, step) = (Instant::now(), Duration::from_millis(700));
-        let (mut following, first) = Following::begin(path, Some(Place::Library), from as u8, now).unwrap();
+        let (mut following, first) = Following::begin(path, from as u8, now).unwrap();
         let mut asked = vec![first];
         loop {
             if self.random.below(30) == 0 {
@@ -360,7 +361,7 @@ impl Life {
                     self.follow(replica);
                 }
             }
-            while let Some(Outgoing { to, frame }) = self.frames.pop() {
+            while let Some((to, frame)) = self.frames.pop() {
                 if self.generation(to.into()) == Head::read(&frame).map(|head| head.generation) {
                     self.take(to.into(), Event::Handle(&frame));
                 }
@@ -376,7 +377,7 @@ impl Life {
             let is_one = all.windows(2).all(|two| two[0] == two[1]);
             if is_quiet && self.frames.is_empty() && is_one && all.len() > 1 {
                 let maps = self.replicas.iter_mut().filter_map(|it| it.core.as_mut());
-                let maps: Vec<_> = maps.map(|core| core.contents().unwrap().unwrap()).collect();
+                let maps: Vec<_> = maps.map(|core| core.contents().unwrap()).collect();
                 assert!(maps.windows(2).all(|two| two[0] == two[1]), "the maps differ: {}", self.folder.display());
                 return;
             }
@@ -434,7 +435,7 @@ fn number(name: &str, other: u64) -> u64 {
 
 #[test]
 fn random_lives_are_accepted() {
-    let Some(program) = real_node().filter(|_| Place::has_library()) else { return };
+    let Some(program) = real_node() else { return };
     let (first, lives) = (number("LIFE", 1), number("LIVES", LIVES));
     let mut all = (Count::default(), 0, 0);
     for seed in first..first + lives {

@@ -1,7 +1,7 @@
 //! Locks under kills: clients take, renew and give back locks at three replicas while these are killed, and note what they were told. Then
 //! no two of them had a lock at one time, and tokens rise. `LOCKS_SECONDS` has it go on for longer than its few seconds.
 mod common;
-use common::{Places, real_node};
+use common::Places;
 use std::sync::Mutex;
 use std::sync::atomic::{AtomicBool, AtomicUsize, Ordering};
 use std::thread;
@@ -157,11 +157,10 @@ impl Drop for Ends<'_> {
 
 #[test]
 fn no_two_have_a_lock() {
-    let Some(node) = real_node() else { return };
     let seconds = std::env::var("LOCKS_SECONDS").ok().and_then(|text| text.parse().ok()).unwrap_or(SECONDS);
     let time = Duration::from_secs(seconds);
     let places = Places::new("locks");
-    let stores = [0, 1, 2].map(|replica| Mutex::new(Some(places.start(replica, &node))));
+    let stores = [0, 1, 2].map(|replica| Mutex::new(Some(places.start(replica))));
     let ports = [0, 1, 2].map(|replica| places.port(replica));
     let (start, is_over, turns) = (Instant::now(), AtomicBool::new(false), AtomicUsize::new(0));
     // How often each lock was held.
@@ -196,7 +195,7 @@ fn no_two_have_a_lock() {
             // (a store that is let go is killed)
             *stores[replica].lock().unwrap() = None;
             thread::sleep(Duration::from_millis(random.below(800)));
-            *stores[replica].lock().unwrap() = Some(places.start(replica, &node));
+            *stores[replica].lock().unwrap() = Some(places.start(replica));
             kills += 1;
         }
         drop(ends);

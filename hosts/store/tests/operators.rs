@@ -1,9 +1,8 @@
 //! Commands of operators: the admin socket, and that no command leaves a cluster without a majority.
 mod common;
-use common::{Places, SYNCED, Store, ask, real_node, script, wait};
+use common::{Places, SERVES, Store, ask, wait};
 use std::fs;
 use std::os::unix::fs::PermissionsExt;
-use std::path::Path;
 use std::process::Command;
 use store::client::{Client, Reply};
 
@@ -42,13 +41,12 @@ fn wait_for_peers(store: &Store, peers: &[usize]) {
 }
 
 /// Starts a machine beside the others that is to be this replica, at the places of another one: it, its identity and its address.
-fn join(places: &Places, node: &Path, replica: usize, at: usize) -> (Store, String, String) {
+fn join(places: &Places, replica: usize, at: usize) -> (Store, String, String) {
     let peers: Vec<_> = (0..5).map(|it| places.peer(if it == replica { at } else { it })).collect();
     let peers = if replica < 3 { &peers[..3] } else { &peers };
     let mut command = Command::new(env!("CARGO_BIN_EXE_store"));
     command.args(["--replica", &replica.to_string(), "--peers", &peers.join(","), "--join"]);
     command.args(["--listen", &places.port(at).to_string()]).arg("--dir").arg(places.directory(at));
-    command.arg("--node").arg(node);
     let store = places.launch(&mut command, at);
     let wish = format!("EPAXOS REPLACE {replica} ");
     store.tells(&wish);
@@ -59,9 +57,7 @@ fn join(places: &Places, node: &Path, replica: usize, at: usize) -> (Store, Stri
 #[test]
 fn the_clients_port_takes_none() {
     let places = Places::new("operators");
-    // (whatever it is asked, this node answers nothing more)
-    let node = script(&places.folder, &format!("{SYNCED}exec cat >/dev/null\n"));
-    let store = places.start(0, &node);
+    let store = places.start(0);
     let socket = places.directory(0).join("admin.sock");
     assert_eq!(fs::metadata(&socket).unwrap().permissions().mode() & 0o777, 0o600);
     let mut client = store.client();
@@ -85,25 +81,24 @@ fn the_clients_port_takes_none() {
     // A second start in the same place, after a kill, takes the place of the socket that was left.
     drop(store);
     assert!(socket.exists());
-    let _store = places.launch(&mut places.command(0, &node), 0);
+    let _store = places.launch(&mut places.command(0), 0);
     wait("its socket", || Client::connect_at(&socket, std::time::Duration::from_secs(60)).is_ok());
 }
 
 #[test]
 fn by_tcp_a_password_comes_first() {
     let places = Places::new("by-tcp");
-    let node = script(&places.folder, &format!("{SYNCED}exec cat >/dev/null\n"));
     let secret = places.folder.join("secret");
     fs::write(&secret, "a-long-secret-of-operators\n").unwrap();
     fs::set_permissions(&secret, fs::Permissions::from_mode(0o600)).unwrap();
     let port = places.port(4);
     for place in [format!("0.0.0.0:{port}"), port.to_string()] {
-        let mut refused = places.launch(places.command(0, &node).args(["--admin", &place]), 0);
+        let mut refused = places.launch(places.command(0).args(["--admin", &place]), 0);
         assert_eq!(refused.status(), Some(2));
         assert!(refused.told().contains("needs a password: add --admin-auth FILE"), "{}", refused.told());
     }
     let words = ["--admin", &format!("0.0.0.0:{port}"), "--admin-auth", secret.to_str().unwrap()];
-    let store = places.start_with(0, &node, &words);
+    let store = places.start_with(0, &words);
     is_refused(&store.ask("EPAXOS SEAL"), &["NOPERM ", &format!("0.0.0.0:{port}")]);
     let mut operator = Client::connect(port, std::time::Duration::from_secs(60)).unwrap();
     for line in ["EPAXOS SEAL", "EPAXOS MEMBERS", "INFO", "PING", "HELLO 3"] {
@@ -117,9 +112,8 @@ fn by_tcp_a_password_comes_first() {
 
 #[test]
 fn made_up_machines_end_no_cluster() {
-    let Some(node) = real_node() else { return };
     let places = Places::new("made-up");
-    let stores = [0, 1, 2].map(|replica| places.start(replica, &node));
+    let stores = [0, 1, 2].map(|replica| places.start(replica));
     let [zero, one, two] = &stores;
     set(&[zero, one, two], 0..10);
     // Looks change nothing, and are for all.
@@ -150,13 +144,12 @@ fn made_up_machines_end_no_cluster() {
 
 #[test]
 fn a_machine_is_let_in_that_waits_at_its_address() {
-    let Some(node) = real_node() else { return };
     let places = Places::new("let-in");
-    let stores = [0, 1, 2].map(|replica| places.start(replica, &node));
+    let stores = [0, 1, 2].map(|replica| places.start(replica));
     let [zero, one, two] = stores;
     set(&[&zero, &one, &two], 0..10);
     wait_for_peers(&zero, &[1, 2]);
-    let (new, identity, address) = join(&places, &node, 2, 4);
+    let (new, identity, address) = join(&places, 2, 4);
     wait("its greeting", || told(zero.ask("EPAXOS MEMBERS")).contains(&format!("2 {identity} waits to be let in")));
     new.tells("hasn't let this machine in yet");
     assert!(!new.told().contains("must not come back"), "{}", new.told());
@@ -170,7 +163,7 @@ fn a_machine_is_let_in_that_waits_at_its_address() {
     assert!(told(zero.operate(&format!("{line} {address} FORCE"))).starts_with("generation "));
     // The old one is thrown out, and the new one takes its place.
     two.tells("this one must not come back");
-    new.tells("node process");
+    new.tells(SERVES);
     has_all(&new, 0..10);
     set(&[&zero, &one, &new], 10..20);
     // Asked again it is so.

@@ -76,8 +76,8 @@ def main():
     minutes = [second / 60 for second in column("seconds")]
     above = Panel(TOP, minutes, "The most that a store takes, in MB")
     megabytes = lambda name: [value / MEGABYTE for value in column(name)]
-    disk, node, store = map(megabytes, ("disk_bytes", "node_bytes", "store_bytes"))
-    above.lines([("its folder, with three generations", "#b33", disk), ("its node's memory", "#36c", node), ("its own memory", "#393", store)])
+    disk, store = map(megabytes, ("disk_bytes", "store_bytes"))
+    above.lines([("its folder, with three generations", "#b33", disk), ("its memory", "#36c", store)])
     told, seconds = column("commands"), column("seconds")
     rates = [(told[at] - told[at - 1]) / (seconds[at] - seconds[at - 1]) for at in range(1, len(rows))]
     below = Panel(TOP + HEIGHT + BETWEEN, minutes, "Commands told a second (left), and the newest generation (right)")

@@ -1,4 +1,4 @@
-"""Ports for a cluster on this machine, as src/ports.rs gives them to the tests beside this one."""
+"""Ports for a cluster on this machine, as common/ports.rs of bindings/rust/epaxos/tests gives them to other tests."""
 
 import os
 import socket

@@ -1,7 +1,6 @@
 //! Recovery after the loss of a majority: `store recover`, over the folders that are left.
 mod common;
-use common::{Places, Store, real_node, wait};
-use std::path::Path;
+use common::{Places, SERVES, Store, wait};
 use std::process::{Command, Output};
 use store::client::Reply;
 
@@ -20,12 +19,11 @@ fn has_all(store: &Store, numbers: std::ops::Range<usize>) {
 }
 
 /// Starts a machine that waits to be this replica of so many, at the places of another one: it, and the words that let it in.
-fn join(places: &Places, node: &Path, (replica, count): (usize, usize), at: usize) -> (Store, String) {
+fn join(places: &Places, (replica, count): (usize, usize), at: usize) -> (Store, String) {
     let peers: Vec<_> = (0..count).map(|it| places.peer(if it == replica { at } else { it })).collect();
     let mut command = Command::new(env!("CARGO_BIN_EXE_store"));
     command.args(["--replica", &replica.to_string(), "--peers", &peers.join(","), "--join"]);
     command.args(["--listen", &places.port(at).to_string()]).arg("--dir").arg(places.directory(at));
-    command.arg("--node").arg(node);
     let store = places.launch(&mut command, at);
     let wish = format!("EPAXOS REPLACE {replica} ");
     store.tells(&wish);
@@ -39,23 +37,23 @@ fn operate(store: &Store, line: &str) {
 }
 
 /// Has `store recover` look at these replicas' folders: its status, and what it tells.
-fn recover(places: &Places, node: &Path, words: &[&str], replicas: &[usize]) -> (i32, String) {
+fn recover(places: &Places, words: &[&str], replicas: &[usize]) -> (i32, String) {
     let mut command = Command::new(env!("CARGO_BIN_EXE_store"));
-    command.arg("recover").args(words).arg("--node").arg(node);
+    command.arg("recover").args(words);
     command.args(replicas.iter().map(|replica| places.directory(*replica)));
     let Output { status, stdout, stderr } = command.output().unwrap();
     (status.code().unwrap(), String::from_utf8([stdout, stderr].concat()).unwrap())
 }
 
 /// The same where it is done, and tells all of these.
-fn recovered(places: &Places, node: &Path, words: &[&str], replicas: &[usize], parts: &[&str]) {
-    let (status, told) = recover(places, node, words, replicas);
+fn recovered(places: &Places, words: &[&str], replicas: &[usize], parts: &[&str]) {
+    let (status, told) = recover(places, words, replicas);
     assert!(status == 0 && parts.iter().all(|part| told.contains(part)), "{status} {told}");
 }
 
 /// The same where it isn't done, and nothing is changed.
-fn refused(places: &Places, node: &Path, words: &[&str], replicas: &[usize], part: &str) {
-    let (status, told) = recover(places, node, words, replicas);
+fn refused(places: &Places, words: &[&str], replicas: &[usize], part: &str) {
+    let (status, told) = recover(places, words, replicas);
     assert!(status == 3 && told.contains("nothing was changed: ") && told.contains(part), "{status} {told}");
 }
 
@@ -65,11 +63,10 @@ fn has_opening(places: &Places, replica: usize) -> bool {
 
 #[test]
 fn four_new_machines_are_lost() {
-    let Some(node) = real_node() else { return };
     let places = Places::new("grown");
-    let stores = [0, 1, 2].map(|replica| places.start(replica, &node));
+    let stores = [0, 1, 2].map(|replica| places.start(replica));
     set(&stores.each_ref(), 0..30);
-    let new = [3, 4, 5, 6].map(|replica| join(&places, &node, (replica, 7), replica));
+    let new = [3, 4, 5, 6].map(|replica| join(&places, (replica, 7), replica));
     let named: Vec<&str> = new.iter().map(|(_, named)| named.as_str()).collect();
     operate(&stores[0], &format!("EPAXOS RESIZE 7 {}", named.join(" ")));
     for (store, _) in &new {
@@ -88,11 +85,10 @@ fn four_new_machines_are_lost() {
         assert_eq!(store.take().unwrap().end("TERM"), Some(0));
     }
     // Too few of them are refused, and so many that they can just be started.
-    refused(&places, &node, &["--write"], &[0], "1 is no majority of 3");
-    refused(&places, &node, &["--write"], &[0, 1, 2, 3, 4, 5, 6], "a majority: just start these stores");
+    refused(&places, &["--write"], &[0], "1 is no majority of 3");
+    refused(&places, &["--write"], &[0, 1, 2, 3, 4, 5, 6], "a majority: just start these stores");
     recovered(
         &places,
-        &node,
         &[],
         &[0, 1, 2],
         &["generation 2 has lost its majority: 3 of its 7 replicas are here", "then add --write"],
@@ -104,11 +100,11 @@ fn four_new_machines_are_lost() {
         "WARNING: replica 3 of generation 2, ",
         "3 replicas, of which 0, 1, 2 are here, and 30 keys",
     ];
-    recovered(&places, &node, &["--write"], &[0, 1, 2], &parts);
+    recovered(&places, &["--write"], &[0, 1, 2], &parts);
     assert!((0..3).all(|replica| has_opening(&places, replica)));
-    refused(&places, &node, &["--write"], &[0, 1, 2], "from an earlier recovery");
+    refused(&places, &["--write"], &[0, 1, 2], "from an earlier recovery");
     // They go on, by the words that they had.
-    let stores = [0, 1, 2].map(|replica| places.start(replica, &node));
+    let stores = [0, 1, 2].map(|replica| places.start(replica));
     for store in &stores {
         assert!(store.told().contains("of 3 in generation 1"), "{}", store.told());
         has_all(store, 0..30);
@@ -118,45 +114,43 @@ fn four_new_machines_are_lost() {
     operate(&stores[1], "EPAXOS SEAL");
     stores.iter().for_each(|store| has_all(store, 0..60));
     // One of the four that comes back all the same does nothing by itself.
-    let three = places.launch(places.command_of(3, 7, &node).args(["--patience", "5"]), 3);
-    three.tells("node process");
+    let three = places.launch(places.command_of(3, 7).args(["--patience", "5"]), 3);
+    three.tells(SERVES);
     assert!(matches!(three.ask("SET x 1"), Reply::Error(_)));
     set(&stores.each_ref(), 60..70);
 }
 
 #[test]
 fn two_replicas_were_thrown_out() {
-    let Some(node) = real_node() else { return };
     let places = Places::new("thrown-out");
-    let [mut zero, one, two] = [0, 1, 2].map(|replica| places.start(replica, &node));
+    let [mut zero, one, two] = [0, 1, 2].map(|replica| places.start(replica));
     set(&[&zero, &one, &two], 0..20);
-    let (new, named) = join(&places, &node, (2, 3), 4);
+    let (new, named) = join(&places, (2, 3), 4);
     operate(&zero, &format!("EPAXOS REPLACE {named} FORCE"));
     drop((two, new));
     set(&[&zero, &one], 20..40);
-    let (new, named) = join(&places, &node, (1, 3), 5);
+    let (new, named) = join(&places, (1, 3), 5);
     operate(&zero, &format!("EPAXOS REPLACE {named} FORCE"));
     drop((one, new));
     wait("the loss", || ["peer_1", "peer_2"].iter().all(|peer| zero.info(peer) == "lost"));
     assert!(matches!(zero.ask("SET x 1"), Reply::Error(_)));
     // (a store that runs keeps its folder)
-    let (status, told) = recover(&places, &node, &["--write"], &[0, 1, 2]);
+    let (status, told) = recover(&places, &["--write"], &[0, 1, 2]);
     assert!(status == 1 && told.contains("is in use"), "{status} {told}");
     assert_eq!(zero.end("TERM"), Some(0));
     let parts = ["has a majority here: everything that was acknowledged up to its end is kept", "and 40 keys"];
-    recovered(&places, &node, &["--write"], &[0, 1, 2], &parts);
-    let stores = [0, 1, 2].map(|replica| places.start(replica, &node));
+    recovered(&places, &["--write"], &[0, 1, 2], &parts);
+    let stores = [0, 1, 2].map(|replica| places.start(replica));
     stores.iter().for_each(|store| has_all(store, 0..40));
     set(&stores.each_ref(), 40..60);
 }
 
 #[test]
 fn what_may_be_lost_is_accepted_first() {
-    let Some(node) = real_node() else { return };
     let places = Places::new("lost");
     let start = |replica: usize| {
-        let store = places.launch(&mut places.command_of(replica, 5, &node), replica);
-        store.tells("node process");
+        let store = places.launch(&mut places.command_of(replica, 5), replica);
+        store.tells(SERVES);
         store
     };
     let stores = [0, 1, 2, 3, 4].map(start);
@@ -164,19 +158,19 @@ fn what_may_be_lost_is_accepted_first() {
     has_all(&stores[2], 0..30);
     drop(stores);
     // Three of the five are lost for good.
-    refused(&places, &node, &["--write"], &[0, 2], "--accept-loss");
+    refused(&places, &["--write"], &[0, 2], "--accept-loss");
     let parts = ["WARNING: machines that aren't here took part in generation 1", "and 30 keys"];
-    recovered(&places, &node, &["--write", "--accept-loss"], &[0, 2], &parts);
+    recovered(&places, &["--write", "--accept-loss"], &[0, 2], &parts);
     let stores = [0, 2].map(start);
     stores.iter().for_each(|store| has_all(store, 0..30));
     set(&stores.each_ref(), 30..40);
     // One of the three that comes back isn't let in; a new machine is.
-    let one = places.launch(&mut places.command_of(1, 5, &node), 1);
+    let one = places.launch(&mut places.command_of(1, 5), 1);
     one.tells("must not come back");
     assert!(matches!(one.ask("SET x 1"), Reply::Error(_)));
     drop(one);
-    let (new, named) = join(&places, &node, (1, 3), 5);
+    let (new, named) = join(&places, (1, 3), 5);
     operate(&stores[0], &format!("EPAXOS REPLACE {named}"));
-    new.tells("node process");
+    new.tells(SERVES);
     has_all(&new, 0..40);
 }

@@ -2,7 +2,7 @@
 that are played again, wrong keys, noise, connections that drip, 5,000 connections to the clients' port, floods; in the end a folder that is put
 back from an older copy. Nothing that clients are told may be wrong: strangers may cost them waits, which are printed.
 
-    python3 strangers.py STORE EPAXOS [SECONDS]
+    python3 strangers.py STORE [SECONDS]
 
 Needs redis-py. Status 1 where something was told wrong.
 """
@@ -78,8 +78,8 @@ class Link:
 
 
 class Cluster:
-    def __init__(self, store, epaxos):
-        self.words, self.folder = (store, epaxos), tempfile.mkdtemp(prefix="store-strangers-")
+    def __init__(self, store):
+        self.store, self.folder = store, tempfile.mkdtemp(prefix="store-strangers-")
         self.ports = Ports()
         self.peers, self.clients = self.ports[:3], self.ports[3:6]
         self.links = [[Link(self.peers[to]) if to != at else None for to in range(3)] for at in range(3)]
@@ -88,10 +88,9 @@ class Cluster:
             file.write(os.urandom(24).hex())
 
     def start(self, at):
-        store, epaxos = self.words
         link = lambda to: self.links[at][to].port if to != at else self.peers[at]
-        words = [store, "--replica", str(at), "--peers", ",".join(f"127.0.0.1:{link(to)}" for to in range(3))]
-        words += ["--listen", f"127.0.0.1:{self.clients[at]}", "--dir", f"{self.folder}/{at}", "--node", epaxos]
+        words = [self.store, "--replica", str(at), "--peers", ",".join(f"127.0.0.1:{link(to)}" for to in range(3))]
+        words += ["--listen", f"127.0.0.1:{self.clients[at]}", "--dir", f"{self.folder}/{at}"]
         words += ["--peer-key", f"{self.folder}/key", "--patience", "30"]
         words += [] if os.path.exists(f"{self.folder}/{at}/generations/1") or os.path.exists(f"{self.folder}/begun-{at}") else ["--new"]
         with open(f"{self.folder}/told-{at}", "ab") as told:
@@ -294,9 +293,8 @@ def judge_older(cluster, last):
 def main():
     most = resource.getrlimit(resource.RLIMIT_NOFILE)[1]
     resource.setrlimit(resource.RLIMIT_NOFILE, (most if most < 16_384 else 16_384, most))
-    store, epaxos = map(os.path.abspath, sys.argv[1:3])
-    seconds = float(sys.argv[3]) if len(sys.argv) > 3 else 20
-    cluster = Cluster(store, epaxos)
+    seconds = float(sys.argv[2]) if len(sys.argv) > 2 else 20
+    cluster = Cluster(os.path.abspath(sys.argv[1]))
     try:
         for at in range(3):
             cluster.start(at)

@@ -1,11 +1,11 @@
 //! Whoever connects to the peers' port and is no peer is told of, each kind for itself.
 mod common;
-use common::{Places, SYNCED, script, wait};
+use common::{Places, wait};
 use std::fs;
 use std::io::{self, Read, Write};
 use std::net::TcpStream;
 use std::os::unix::fs::PermissionsExt;
-use store::sealed::{Hello, Key, call};
+use store::sealed::{Hello, Key, MAGIC, call};
 
 /// What is written, where nothing is answered.
 struct Caught(Vec<u8>);
@@ -29,14 +29,13 @@ impl Read for Caught {
 #[test]
 fn a_scanner_does_not_hide_another_key() {
     let places = Places::new("strangers");
-    let node = script(&places.folder, &format!("{SYNCED}exec cat >/dev/null\n"));
     let key = |name: &str, text: &str| {
         let path = places.folder.join(name);
         fs::write(&path, text).unwrap();
         fs::set_permissions(&path, fs::Permissions::from_mode(0o600)).unwrap();
         path.display().to_string()
     };
-    let store = places.start_with(0, &node, &["--peer-key", &key("key", "a-key-that-nobody-can-guess")]);
+    let store = places.start_with(0, &["--peer-key", &key("key", "a-key-that-nobody-can-guess")]);
     let scan =
         || TcpStream::connect(places.peer(0)).unwrap().write_all(b"GET / HTTP/1.1\r\nHost: nobody\r\n\r\n").unwrap();
     let scanned = "WARN store 0: a connection from 127.0.0.1:";
@@ -47,7 +46,7 @@ fn a_scanner_does_not_hide_another_key() {
     (0..20).for_each(|_| scan());
     // Replica 1 begins as it should, and what it then says isn't made by this key.
     let mut hello = Caught(Vec::new());
-    let _ = call(&mut hello, &Key::none(), &Hello::new(3, 1, 0).unwrap());
+    let _ = call(&mut hello, &Key::none(), &Hello::new(MAGIC, [3, 1, 0]).unwrap());
     let mut other = TcpStream::connect(places.peer(0)).unwrap();
     other.write_all(&hello.0).unwrap();
     other.read_exact(&mut [0; 16]).unwrap();

@@ -7,7 +7,7 @@
 //! A folder has, for generation G, `G/opening` or `G/reference`, `G/whole` where the first is what the second stood for, `G/log`, and `G/left` once a later one is
 //! begun.
 
-use epaxos::{Call, Checkpoint, Cluster, Command, Core, LogFile, Output, Reference, Replica, Setup, Succession, Sum};
+use epaxos::{Call, Checkpoint, Cluster, Command, LogFile, Output, Reference, Replica, Setup, Succession, Sum};
 use std::collections::BTreeMap;
 use std::error::Error;
 use std::fs::{self, File};
@@ -111,7 +111,7 @@ impl Folder {
         }
         let opening = self.read(first, "opening")?;
         let reference = self.reference(first)?;
-        let setup = Setup { opening: opening.as_deref(), reference, core: Core::Library, ..Setup::new(CLUSTER, me) };
+        let setup = Setup { opening: opening.as_deref(), reference, ..Setup::new(CLUSTER, me) };
         let mut replica = match self.log(first, newest)? {
             Some(log) => setup.open(&log)?,
             None => setup.begin()?,
@@ -293,7 +293,7 @@ fn main() -> Res<()> {
                 let (folder, generation) = (host.folder.clone(), host.generation);
                 let keeping = move || folder.keep(generation, checkpoint, &reference).map_err(|it| it.to_string());
                 thread::spawn(keeping).join().map_err(|_| "a thread ended")??;
-                if host.folder.read(generation, "opening")? != file {
+                if host.folder.read(generation, "opening")? != Some(file) {
                     return Err("the pieces aren't the file that `close` gives".into());
                 }
             }

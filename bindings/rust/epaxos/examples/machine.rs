@@ -1,22 +1,29 @@
 //! A machine of one's own that is replicated: accounts, and transfers between them.
 //!
 //!     cargo run --example machine
+//!     cargo run --release --example machine -- 100
 //!
-//! The core puts opaque commands in one order by their keys, which here are the accounts that they touch, and knows nothing of what they do. Each replica has a
-//! machine, which does the commands in the order in which its replica executes them. All replicas are in one thread here, and their logs are in memory:
-//! `three.rs` has files.
+//! The core puts opaque commands in one order by their keys, which here are the accounts that they touch, and knows
+//! nothing of what they do. Each replica has a machine, which does the commands in the order in which its replica
+//! executes them. All replicas are in one thread here, and their logs are in memory: `three.rs` has files. With a
+//! number, so many simulated clusters of hosts have the machine, through crashes, generations and lost disks.
 #![forbid(unsafe_code)]
 
-use epaxos::{Answer, Call, Cluster, Command, Executed, Instance, Replica};
+use epaxos::host::{Machine, Ordered};
+use epaxos::sim::{Plan, Seen, Workload, run_machine, shrunk_machine};
+use epaxos::{Answer, Call, Cluster, Command, Executed, Instance, OwnedCommand, Replica};
 use std::collections::{BTreeMap, VecDeque};
 use std::error::Error;
+use std::io::{self, ErrorKind};
 
-/// What a command does: so much goes from its first key to its second one, if that is there; without a second key it is paid in.
+/// What a command does: so much goes from its first key to its second one, if that is there; without a second key it is
+/// paid in.
 fn body(amount: u64) -> [u8; 8] {
     amount.to_be_bytes()
 }
 
-/// The machine: a function of its state and the command, without clock, chance, or anything that one replica has and another hasn't.
+/// The machine: a function of its state and the command, without clock, chance, or anything that one replica has and
+/// another hasn't.
 #[derive(Default, PartialEq, Eq, Debug)]
 struct Bank {
     accounts: BTreeMap<Vec<u8>, u64>,
@@ -26,20 +33,25 @@ struct Bank {
 
 impl Bank {
     /// Does what was executed, if it is a command of this machine that was done.
-    fn apply(&mut self, executed: &Executed) {
+    fn execute(&mut self, executed: &Executed) {
         let (Some(Command::Opaque { first, second, body, .. }), Answer::Ordered) = (executed.command, executed.answer)
         else {
             return;
         };
+        let is_done = self.pay((first, second), body);
+        self.replies.insert(executed.instance, is_done);
+    }
+
+    /// Whether it was done.
+    fn pay(&mut self, (first, second): (&[u8], Option<&[u8]>), body: &[u8]) -> bool {
         let amount = body.try_into().map_or(0, u64::from_be_bytes);
-        let is_done = match second {
+        match second {
             None => {
                 *self.accounts.entry(first.to_vec()).or_default() += amount;
                 true
             }
             Some(to) => self.transfer(first, to, amount),
-        };
-        self.replies.insert(executed.instance, is_done);
+        }
     }
 
     fn transfer(&mut self, from: &[u8], to: &[u8], amount: u64) -> bool {
@@ -52,7 +64,93 @@ impl Bank {
     }
 }
 
+/// The same for a host, which tells its clients itself: the reply is what the account has, to who only looks, and else
+/// whether it was done.
+impl Machine for Bank {
+    fn apply(&mut self, ordered: &Ordered) -> Vec<u8> {
+        if ordered.is_reading {
+            return body(self.accounts.get(ordered.first).copied().unwrap_or_default()).into();
+        }
+        vec![self.pay((ordered.first, ordered.second), ordered.body).into()]
+    }
+
+    fn snapshot(&self) -> Vec<u8> {
+        let account = |(name, has): (&Vec<u8>, &u64)| [&[name.len() as u8], &name[..], &body(*has)].concat();
+        self.accounts.iter().flat_map(account).collect()
+    }
+
+    fn restore(&mut self, mut snapshot: &[u8]) -> io::Result<()> {
+        let mut take = |length: usize| snapshot.split_off(..length).ok_or(ErrorKind::InvalidData);
+        self.accounts.clear();
+        while let Ok([length]) = take(1) {
+            let name = take(usize::from(*length))?.to_vec();
+            let has = take(8)?.try_into().map(u64::from_be_bytes).map_err(io::Error::other)?;
+            self.accounts.insert(name, has);
+        }
+        Ok(())
+    }
+}
+
+/// What simulated clients ask for, and what the replies say that each account has.
+#[derive(Clone, Default)]
+struct Trial(BTreeMap<Vec<u8>, u64>);
+
+impl Workload for Trial {
+    fn machine(&self) -> Box<dyn Machine> {
+        Box::<Bank>::default()
+    }
+
+    fn command(&mut self, below: &mut dyn FnMut(u64) -> u64) -> OwnedCommand {
+        let mut name = || [&b"anna"[..], b"ben", b"carl", b"dora"][below(4) as usize].to_vec();
+        let (first, other) = (name(), name());
+        let (kind, amount) = (below(4), body(1 + below(50)).into());
+        let second = Some(other).filter(|other| kind > 1 && *other != first);
+        let (is_reading, body) = if kind == 0 { (true, Vec::new()) } else { (false, amount) };
+        OwnedCommand::Opaque { is_reading, first, second, body }
+    }
+
+    fn check(&mut self, asked: &Ordered, reply: &[u8]) -> Result<(), String> {
+        let has = self.0.get(asked.first).copied().unwrap_or_default();
+        if asked.is_reading {
+            return if reply == body(has) { Ok(()) } else { Err(format!("it has {has}")) };
+        }
+        let amount = asked.body.try_into().map_or(0, u64::from_be_bytes);
+        let is_paid = asked.second.is_none() || amount <= has;
+        if reply != [u8::from(is_paid)] {
+            return Err(format!("it has {has}, of which {amount} is taken"));
+        }
+        match asked.second.filter(|_| is_paid) {
+            Some(to) => {
+                self.0.insert(asked.first.to_vec(), has - amount);
+                *self.0.entry(to.to_vec()).or_default() += amount;
+            }
+            None if is_paid => _ = self.0.insert(asked.first.to_vec(), has + amount),
+            None => {}
+        }
+        Ok(())
+    }
+}
+
+/// Simulated clusters have the machine.
+fn simulate(seeds: u64) -> Result<(), Box<dyn Error>> {
+    let mut all = Seen::default();
+    for seed in 1..=seeds {
+        let (seen, failure) = run_machine(&Plan::of_seed(seed), &Trial::default());
+        if let Some(failure) = failure {
+            println!("{}", shrunk_machine(&Plan::of_seed(seed), &Trial::default()));
+            return Err(format!("seed {seed}: {failure}").into());
+        }
+        all += seen;
+    }
+    let Seen { commands, generations, crashes, replaced, .. } = all;
+    println!("{seeds} seeds: {commands} commands, {generations} generations, {crashes} crashes, {replaced} replaced");
+    Ok(())
+}
+
 fn main() -> Result<(), Box<dyn Error>> {
+    if let Some(seeds) = std::env::args().nth(1) {
+        return simulate(seeds.parse()?);
+    }
     let mut replicas: Vec<Replica> = (0..3).map(|me| Replica::new(Cluster::Three, me)).collect::<Result<_, _>>()?;
     let mut logs: [Vec<u8>; 3] = Default::default();
     for (replica, log) in replicas.iter_mut().zip(&mut logs) {
@@ -82,7 +180,7 @@ fn main() -> Result<(), Box<dyn Error>> {
             replica.execute_all()?;
             let output = replica.ready()?.commit(log)?;
             frames.extend(output.frames().map(|frame| (frame.to, frame.bytes.to_vec())));
-            output.executed().for_each(|executed| bank.apply(&executed));
+            output.executed().for_each(|executed| bank.execute(&executed));
             for receipt in output.receipts() {
                 let is_done = bank.replies[&receipt.instance];
                 println!(

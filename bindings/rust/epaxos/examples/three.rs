@@ -3,10 +3,11 @@
 //!     cargo run --example three -- FOLDER
 //!
 //! Begins the replicas in the folder, or goes on with those that are there. Each of three clients puts 100 values, at a replica of its own; the keys are the
-//! same ones for all. Then the maps are compared. What is left can be audited: each replica has a folder, as `epaxos collect` reads it.
+//! same ones for all. Each tenth value it reads at the next replica, by a read that writes nothing. Then the maps are
+//! compared. What is left can be audited: each replica has a folder, as `epaxos collect` reads it.
 #![forbid(unsafe_code)]
 
-use epaxos::{Call, Cluster, Command, LogFile, Patience, Replica, Setup, Waits};
+use epaxos::{Call, Cluster, Command, Instance, LogFile, OwnedReading, Patience, Replica, Setup, Waits};
 use std::error::Error;
 use std::fs::{self, File};
 use std::io::Write;
@@ -31,12 +32,26 @@ enum Told {
         value: String,
         done: Sender<u64>,
     },
+    /// What interferes with a read of this key?
+    Look {
+        key: String,
+        found: Sender<Vec<Instance>>,
+    },
+    /// A client reads, for whom this was found.
+    Read(Read),
     /// What does the map have at these keys?
     Map {
         keys: Vec<String>,
         values: Sender<Vec<Option<Vec<u8>>>>,
     },
     End,
+}
+
+/// A read that writes nothing.
+struct Read {
+    key: String,
+    found: Vec<Instance>,
+    value: Sender<Option<Vec<u8>>>,
 }
 
 /// A replica with all that its thread has.
@@ -50,6 +65,9 @@ struct Host {
     begun: Instant,
     /// The clients that wait, by their numbers.
     waiting: Vec<(u32, Sender<u64>)>,
+    /// The looks and the reads that wait.
+    looks: Vec<(String, Sender<Vec<Instance>>)>,
+    reads: Vec<Read>,
 }
 
 impl Host {
@@ -76,7 +94,8 @@ impl Host {
         };
         let receipts = File::options().append(true).create(true).open(folder.join("receipts"))?;
         let patience = Patience::new(CLUSTER, me, Waits::MICROSECONDS, u64::from(me))?;
-        Ok(Host { replica, file, receipts, peers, patience, begun: Instant::now(), waiting: Vec::new() })
+        let (waiting, looks, reads) = (Vec::new(), Vec::new(), Vec::new());
+        Ok(Host { replica, file, receipts, peers, patience, begun: Instant::now(), waiting, looks, reads })
     }
 
     /// Takes what comes until it is to end.
@@ -95,6 +114,8 @@ impl Host {
                         self.replica.propose(call, Command::Put { key: key.as_bytes(), value: value.as_bytes() })?;
                         self.waiting.push((call.client, done));
                     }
+                    Told::Look { key, found } => self.looks.push((key, found)),
+                    Told::Read(read) => self.reads.push(read),
                     Told::Map { keys, values } => {
                         self.replica.execute_all()?;
                         self.settle()?;
@@ -107,7 +128,12 @@ impl Host {
                     Told::End => return Ok(()),
                 }
             }
-            self.replica.advance()?;
+            // (a read waits for what others have proposed, too)
+            if self.reads.is_empty() {
+                self.replica.advance()?
+            } else {
+                self.replica.execute_all()?
+            }
             self.settle()?;
         }
     }
@@ -127,24 +153,67 @@ impl Host {
         }
         let now = self.begun.elapsed().as_micros() as u64;
         let open: Vec<_> = output.open().collect();
+        self.tell_readers()?;
         let late = self.patience.turn(now, &open, &[])?;
         for event in &late {
             let _refused = self.replica.take(event);
         }
         Ok(())
     }
+
+    /// Answers looks and reads, once all that was taken is on the disk. A read whose instances aren't all executed waits.
+    fn tell_readers(&mut self) -> Result<(), Box<dyn Error + Send + Sync>> {
+        for (key, found) in self.looks.drain(..) {
+            let _ = found.send(self.replica.interfering(&[key.as_bytes()])?.concat());
+        }
+        let reads: Vec<_> = self.reads.iter().map(|it| (it.key.as_bytes(), &it.found[..])).collect();
+        let told = self.replica.read(&reads)?;
+        for (read, told) in std::mem::take(&mut self.reads).into_iter().zip(told) {
+            match told {
+                OwnedReading::Waits(_) => self.reads.push(read),
+                OwnedReading::Present(value) => _ = read.value.send(Some(value)),
+                OwnedReading::Absent | OwnedReading::Closed => _ = read.value.send(None),
+            }
+        }
+        Ok(())
+    }
 }
 
-/// A client: puts values one after the other, and hands on the stamps that it is told.
-fn client(number: u32, at: &Sender<Told>) -> Result<(), Box<dyn Error + Send + Sync>> {
-    let (done, stamps) = channel();
+/// A client of replica `me`: puts values one after the other, and hands on the stamps that it is told.
+fn client(number: u32, me: usize, replicas: &[Sender<Told>]) -> Result<(), Box<dyn Error + Send + Sync>> {
     let mut seen = 0;
     for request in 1..=PUTS {
+        // (where the replica ends without an answer nobody has `done` any more, and the wait ends)
+        let (done, stamps) = channel();
         let (key, value) = (format!("key {}", request % KEYS), format!("{number}.{request}"));
-        at.send(Told::Put { call: Call { client: number, request, seen }, key, value, done: done.clone() })?;
+        let put =
+            Told::Put { call: Call { client: number, request, seen }, key: key.clone(), value: value.clone(), done };
+        replicas[me].send(put)?;
         seen = stamps.recv()?;
+        // What was put is read anywhere, or what another client put since.
+        if request % 10 == 0 {
+            let read = String::from_utf8(read(key, &replicas[(me + 1) % 3], &replicas[(me + 2) % 3])?)?;
+            if read != value && read.starts_with(&format!("{number}.")) {
+                return Err(format!("read {read} behind {value}").into());
+            }
+        }
     }
     Ok(())
+}
+
+/// Reads the key at a replica: this one and another one, so F + 1, tell what interferes with the read.
+fn read(key: String, reader: &Sender<Told>, other: &Sender<Told>) -> Result<Vec<u8>, Box<dyn Error + Send + Sync>> {
+    let (found, looks) = channel();
+    for replica in [reader, other] {
+        replica.send(Told::Look { key: key.clone(), found: found.clone() })?;
+    }
+    drop(found);
+    let mut found = [looks.recv()?, looks.recv()?].concat();
+    found.sort();
+    found.dedup();
+    let (value, values) = channel();
+    reader.send(Told::Read(Read { key, found, value }))?;
+    values.recv()?.ok_or_else(|| "a key that was put has no value".into())
 }
 
 /// How often the cluster was started in the folder before.
@@ -177,11 +246,15 @@ pub fn run(folder: &Path) -> Result<(), Box<dyn Error>> {
     let begun = Instant::now();
     let mut replicas = Vec::new();
     for (me, inbox) in (0..).zip(inboxes) {
-        let (folder, peers) = (folder.join(me.to_string()), senders.clone());
-        replicas.push(thread::spawn(move || Host::open(&folder, me, starts == 0, peers)?.run(&inbox)));
+        let opened = Host::open(&folder.join(me.to_string()), me, starts == 0, senders.clone());
+        let host = opened.map_err(|error| error.to_string())?;
+        replicas.push(thread::spawn(move || host.run(&inbox)));
     }
-    let clients: Vec<_> =
-        (first..).zip(senders.clone()).map(|(number, at)| thread::spawn(move || client(number, &at))).collect();
+    let clients = (first..).zip(0..3).map(|(number, me)| {
+        let replicas = senders.clone();
+        thread::spawn(move || client(number, me, &replicas))
+    });
+    let clients: Vec<_> = clients.collect();
     for client in clients {
         client.join().expect("a client panicked").map_err(|error| error.to_string())?;
     }
@@ -189,13 +262,17 @@ pub fn run(folder: &Path) -> Result<(), Box<dyn Error>> {
 
     // The last commits may still be on their way to the others.
     let keys: Vec<String> = (0..KEYS).map(|it| format!("key {it}")).collect();
-    let deadline = Instant::now() + Duration::from_secs(10);
+    let deadline = Instant::now() + Duration::from_secs(60);
     loop {
         let (values, maps) = channel();
         for at in &senders {
             at.send(Told::Map { keys: keys.clone(), values: values.clone() })?;
         }
+        drop(values);
         let maps: Vec<_> = maps.iter().take(3).collect();
+        if maps.len() < 3 {
+            return Err("a replica has ended".into());
+        }
         if maps[0] == maps[1] && maps[1] == maps[2] && maps[0].iter().all(Option::is_some) {
             for (key, value) in keys.iter().zip(&maps[0]) {
                 println!("{key}: {}", String::from_utf8_lossy(value.as_deref().unwrap_or_default()));

@@ -1,6 +1,7 @@
 //! What a command was answered.
 #![forbid(unsafe_code)]
 
+use crate::ValuesOf;
 use crate::bytes::{Fields, push_block};
 
 /// An answer whose value is lent, as it is told.
@@ -43,17 +44,25 @@ pub enum AnswerOf<B> {
     Closed,
     /// A command of a machine of your own has its place: it is your machine that answers.
     Ordered,
+    /// A [`Tx`](crate::Command::Tx) found all that it requires, and was done: with what each of the keys that it asks
+    /// for had before it.
+    Done(ValuesOf<B>),
+    /// A [`Tx`](crate::Command::Tx) didn't find all that it requires, and has written nothing: with what each of the
+    /// keys that it asks for had, and has.
+    Undone(ValuesOf<B>),
 }
 
 impl<B> AnswerOf<B> {
-    /// Whether the command was done.
+    /// Whether the command was done. One that is [`Undone`](AnswerOf::Undone) wasn't, though it has its place, and its
+    /// answer is final.
     ///
     /// ```
-    /// # use epaxos::Answer;
+    /// # use epaxos::{Answer, OwnedAnswer, OwnedValues};
     /// assert!(Answer::Ordered.is_done() && !Answer::Closed.is_done());
+    /// assert!(!OwnedAnswer::Undone(OwnedValues::default()).is_done());
     /// ```
     pub fn is_done(&self) -> bool {
-        !matches!(self, AnswerOf::Lost | AnswerOf::Closed)
+        !matches!(self, AnswerOf::Lost | AnswerOf::Closed | AnswerOf::Undone(_))
     }
 
     /// The same answer, its value put through `of`.
@@ -64,6 +73,8 @@ impl<B> AnswerOf<B> {
             AnswerOf::Lost => AnswerOf::Lost,
             AnswerOf::Closed => AnswerOf::Closed,
             AnswerOf::Ordered => AnswerOf::Ordered,
+            AnswerOf::Done(values) => AnswerOf::Done(values.map(of)),
+            AnswerOf::Undone(values) => AnswerOf::Undone(values.map(of)),
         }
     }
 }
@@ -91,7 +102,8 @@ impl<B: AsRef<[u8]>> AnswerOf<B> {
 }
 
 impl<'a> Answer<'a> {
-    /// The value that it tells, if it tells one.
+    /// The value that the command's first key had, if it tells one. (What a [`Tx`](crate::Command::Tx) asks for is told
+    /// by its answer's [values](crate::ValuesOf).)
     ///
     /// ```
     /// # use epaxos::Answer;
@@ -122,6 +134,14 @@ impl<'a> Answer<'a> {
             Answer::Lost => out.push(2),
             Answer::Closed => out.push(3),
             Answer::Ordered => out.push(4),
+            Answer::Done(values) => {
+                out.push(5);
+                values.write(out);
+            }
+            Answer::Undone(values) => {
+                out.push(6);
+                values.write(out);
+            }
         }
     }
 
@@ -138,6 +158,8 @@ impl<'a> Answer<'a> {
             2 => Some(Answer::Lost),
             3 => Some(Answer::Closed),
             4 => Some(Answer::Ordered),
+            5 => ValuesOf::read(fields).map(Answer::Done),
+            6 => ValuesOf::read(fields).map(Answer::Undone),
             _ => None,
         }
     }

@@ -1,6 +1,8 @@
 //! Fields of bytes, read one after the other; numbers have the highest byte first.
 #![forbid(unsafe_code)]
 
+use crate::LONGEST_VALUE;
+
 /// Bytes that are read from the front, field after field, as docs/FORMATS.md lays them out. Numbers have the highest byte first. What reads past the end
 /// is None, and reads nothing.
 ///
@@ -13,7 +15,7 @@
 /// assert_eq!(fields.u32(), None);
 /// assert_eq!(fields.rest(), [9]);
 /// ```
-#[derive(Clone, Copy, PartialEq, Eq, Debug)]
+#[derive(Clone, Copy, Default, PartialEq, Eq, Debug)]
 pub struct Fields<'a> {
     rest: &'a [u8],
 }
@@ -121,4 +123,29 @@ impl<'a> Fields<'a> {
 pub(crate) fn push_block(out: &mut Vec<u8>, run: &[u8]) {
     out.extend((run.len() as u32).to_be_bytes());
     out.extend(run);
+}
+
+/// Appends a value, or that there is none: 0, or 1 and a block.
+pub(crate) fn push_part(out: &mut Vec<u8>, part: Option<&[u8]>) {
+    match part {
+        None => out.push(0),
+        Some(value) => {
+            out.push(1);
+            push_block(out, value);
+        }
+    }
+}
+
+/// Reads what `push_part` has written of a value that isn't too long. None where the bytes are none.
+pub(crate) fn read_part<'a>(fields: &mut Fields<'a>) -> Option<Option<&'a [u8]>> {
+    match fields.u8()? {
+        0 => Some(None),
+        1 => read_value(fields).map(Some),
+        _ => None,
+    }
+}
+
+/// Reads a block that isn't too long for a value.
+pub(crate) fn read_value<'a>(fields: &mut Fields<'a>) -> Option<&'a [u8]> {
+    fields.block().filter(|it| it.len() <= LONGEST_VALUE)
 }

@@ -37,11 +37,4 @@ impl Call {
     pub fn new(client: u32, request: u32) -> Call {
         Call { client, request, seen: 0 }
     }
-
-    /// Appends its bytes, as a proposal begins with them.
-    pub(crate) fn write(&self, out: &mut Vec<u8>) {
-        out.extend(self.client.to_be_bytes());
-        out.extend(self.request.to_be_bytes());
-        out.extend(self.seen.to_be_bytes());
-    }
 }

@@ -2,7 +2,8 @@
 #![forbid(unsafe_code)]
 
 use crate::Fault;
-use crate::core::Pieces;
+use crate::ffi::CheckpointHandle;
+use crate::library;
 use std::fmt;
 use std::io::{self, Write};
 use std::iter::FusedIterator;
@@ -13,14 +14,15 @@ use std::iter::FusedIterator;
 /// It shares the map's entries with the replica, and needs nothing of it: any thread may take the pieces, whatever the replica does. All of them, one after the
 /// other, are the file; the last one is its digest alone, 32 bytes. It is an iterator of pieces of some [`PIECE`](Checkpoint::PIECE) bytes.
 ///
-/// Let it go when the file is written: while it is there, the replica's next `succeed` has to copy the map.
+/// It keeps what is left of the generation before, which takes some time to let go: [`let_go`](Checkpoint::let_go)
+/// does it, in the thread that calls it.
 ///
 /// ```
 /// fn is_send<T: Send + 'static>() {}
 /// is_send::<epaxos::Checkpoint>();
 /// ```
 pub struct Checkpoint {
-    pieces: Box<dyn Pieces>,
+    file: CheckpointHandle,
     is_over: bool,
 }
 
@@ -32,10 +34,21 @@ impl fmt::Debug for Checkpoint {
 
 impl Checkpoint {
     /// How many bytes the iterator's pieces have, or fewer; one with a field that is longer has more.
+    ///
+    /// ```
+    /// assert_eq!(epaxos::Checkpoint::PIECE, 65_536);
+    /// ```
     pub const PIECE: usize = 1 << 16;
 
-    pub(crate) fn of(pieces: Box<dyn Pieces>) -> Checkpoint {
-        Checkpoint { pieces, is_over: false }
+    pub(crate) fn of(file: CheckpointHandle) -> Checkpoint {
+        Checkpoint { file, is_over: false }
+    }
+
+    /// Lets go what is left of the generation before, its journal above all; else it goes with the checkpoint. It
+    /// takes the longer the more that generation did, so do it in
+    /// a thread that has time.
+    pub fn let_go(&mut self) {
+        self.file.rest();
     }
 
     /// Lends the next piece: at most `most` bytes, or 189,004 where that is more, since no field is cut; never none. None: all was given.
@@ -55,7 +68,7 @@ impl Checkpoint {
         if self.is_over {
             return Ok(None);
         }
-        let piece = self.pieces.next(most)?;
+        let piece = library::next_piece(&mut self.file, most)?;
         self.is_over = piece.is_none();
         Ok(piece)
     }

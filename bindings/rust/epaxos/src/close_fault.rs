@@ -29,7 +29,7 @@ pub enum CloseFault {
     OutOfRange,
     /// No generation is left: their numbers are used up.
     LastGeneration,
-    /// The core is gone, and this is what it said last.
+    /// The library answers what no call of its should: what that is.
     Ended(String),
 }
 
@@ -41,7 +41,7 @@ impl fmt::Display for CloseFault {
             CloseFault::Unsynced => f.write_str("what was taken is not on the disk yet"),
             CloseFault::OutOfRange => f.write_str("the replica has no part in the next generation"),
             CloseFault::LastGeneration => f.write_str("no generation is left"),
-            CloseFault::Ended(what) => write!(f, "the core has ended: {what}"),
+            CloseFault::Ended(what) => write!(f, "the core is of no use any more: {what}"),
         }
     }
 }

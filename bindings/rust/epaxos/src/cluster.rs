@@ -1,7 +1,8 @@
 //! How many replicas there are.
 #![forbid(unsafe_code)]
 
-use crate::OutOfRange;
+use crate::{OutOfRange, library};
+use std::sync::OnceLock;
 
 /// How many replicas there are: three, five or seven, of which one, two or three may be down.
 ///
@@ -60,23 +61,13 @@ impl Cluster {
     /// # Ok::<(), Box<dyn std::error::Error>>(())
     /// ```
     pub fn first_opening(self) -> &'static [u8] {
-        match self {
-            Cluster::Three => {
-                b"EPOP\x03\x03\0\0\0\x01\0\0\0\0\0\0\0\0\0\0\0\0\0\0\0\0\0\
-                \xeb\x5a\x8a\xa7\x86\x54\xc4\x33\xae\x5a\xe2\xe8\xb6\x46\x8a\x4d\
-                \x6a\xf5\xd3\xdd\xe1\x05\xad\xa9\xfd\x77\xd6\x26\xeb\x39\x47\x8e"
-            }
-            Cluster::Five => {
-                b"EPOP\x03\x05\0\0\0\x01\0\0\0\0\0\0\0\0\0\0\0\0\0\0\0\0\0\
-                \x60\x54\x28\x5f\x9b\x43\x63\xa8\x34\x03\x0c\x78\xa2\x04\xed\x44\
-                \xfd\x98\x29\xa9\x1d\x13\x7d\xb1\x81\x02\x6d\x33\x0a\x4a\x70\x8c"
-            }
-            Cluster::Seven => {
-                b"EPOP\x03\x07\0\0\0\x01\0\0\0\0\0\0\0\0\0\0\0\0\0\0\0\0\0\
-                \xc6\x21\xa2\x95\xc7\x29\x69\x25\xa3\x76\xd3\x20\xdd\xbd\xdc\x40\
-                \x8a\xb4\xaa\xb1\xa2\x77\x13\x47\x68\x0c\xb2\x6c\x88\xb2\xf7\xa8"
-            }
+        static OPENINGS: [OnceLock<Vec<u8>>; 3] = [const { OnceLock::new() }; 3];
+        let kept = &OPENINGS[usize::from(self.faults() - 1)];
+        if kept.get().is_none() {
+            // (where there was no memory for it, the next call tries again)
+            let _kept = library::first_opening(self.replicas()).map(|made| kept.set(made));
         }
+        kept.get().map_or(&[], Vec::as_slice)
     }
 }
 

@@ -1,8 +1,8 @@
 //! What a client asks for.
 #![forbid(unsafe_code)]
 
-use crate::bytes::{Fields, push_block};
-use crate::{Fault, LONGEST_KEY, LONGEST_VALUE};
+use crate::bytes::{Fields, push_part, read_part};
+use crate::{Fault, LONGEST_KEY, LONGEST_VALUE, TxBuilder, TxOf};
 
 /// A command whose bytes are lent, as calls take it.
 ///
@@ -89,6 +89,9 @@ pub enum CommandOf<B> {
         /// Yours: who takes part in the next generation.
         value: B,
     },
+    /// Asks for some keys, and writes some, if all that it requires is there, and nothing otherwise. The answer is
+    /// [`Done`](crate::Answer::Done) or [`Undone`](crate::Answer::Undone). [`Command::tx`] makes it.
+    Tx(TxOf<B>),
 }
 
 const GET: u8 = 2;
@@ -99,8 +102,7 @@ const CAS: u8 = 6;
 const ASK: u8 = 7;
 const ACT: u8 = 8;
 const SEAL: u8 = 9;
-/// What a no-op is in frames: it takes an instance, and does nothing.
-pub(crate) const NO_OP: u8 = 1;
+const TX: u8 = 10;
 
 impl<B> CommandOf<B> {
     /// Whether it ends the generation.
@@ -129,6 +131,7 @@ impl<B> CommandOf<B> {
                 body: of(body),
             },
             CommandOf::Seal { value } => CommandOf::Seal { value: of(value) },
+            CommandOf::Tx(tx) => CommandOf::Tx(tx.map(of)),
         }
     }
 }
@@ -157,6 +160,27 @@ impl<B: AsRef<[u8]>> CommandOf<B> {
 }
 
 impl<'a> Command<'a> {
+    /// Begins a command over many keys: what is required of some, what is asked for, and what is written, in any order.
+    ///
+    /// ```
+    /// use epaxos::Command;
+    ///
+    /// // 10 go from one account to another, if both have what was read:
+    /// let transfer = Command::tx()
+    ///     .require(b"alice", b"30")
+    ///     .require_absent(b"bob")
+    ///     .put(b"alice", b"20")
+    ///     .put(b"bob", b"10")
+    ///     .build()?;
+    /// # let mut replica = epaxos::Replica::new(epaxos::Cluster::Three, 0)?;
+    /// # replica.ready()?.commit(&mut Vec::new())?;
+    /// replica.propose(epaxos::Call::new(1, 1), transfer.lent())?;
+    /// # Ok::<(), Box<dyn std::error::Error>>(())
+    /// ```
+    pub fn tx() -> TxBuilder<'a> {
+        TxBuilder::new()
+    }
+
     /// Its op, its keys, and its body if that lies in one piece. (A second key of no bytes is none.)
     fn parts(&self) -> (u8, &'a [u8], &'a [u8], &'a [u8]) {
         let none: &[u8] = &[];
@@ -170,19 +194,22 @@ impl<'a> Command<'a> {
                 (if is_reading { ASK } else { ACT }, first, second.unwrap_or(none), body)
             }
             Command::Seal { value } => (SEAL, none, none, value),
+            Command::Tx(tx) => (TX, none, none, tx.body()),
         }
     }
 
     /// Whether it can be spelled: the lengths of its keys and its values are in their ranges.
     pub(crate) fn check(&self) -> Result<(), Fault> {
         let (op, first, second, body) = self.parts();
-        let keys = if op == SEAL { 0..=0 } else { 1..=LONGEST_KEY };
+        let keys = if op == SEAL || op == TX { 0..=0 } else { 1..=LONGEST_KEY };
         let others = match self {
             Command::Swap { .. } | Command::Opaque { second: Some(_), .. } => 1..=LONGEST_KEY,
             _ => 0..=0,
         };
         let longest = match self {
             Command::Cas { expected, new, .. } => [expected, new].into_iter().flatten().map(|it| it.len()).max(),
+            // (whoever made it has looked at its values)
+            Command::Tx(_) => None,
             _ => Some(body.len()),
         };
         let is_well = keys.contains(&first.len())
@@ -210,8 +237,8 @@ impl<'a> Command<'a> {
         out.extend(body);
         if let Command::Cas { expected, new, .. } = self {
             let begin = out.len();
-            write_part(out, *expected);
-            write_part(out, *new);
+            push_part(out, *expected);
+            push_part(out, *new);
             let length = (out.len() - begin) as u32;
             out[at..at + 4].copy_from_slice(&length.to_be_bytes());
         }
@@ -245,30 +272,12 @@ impl<'a> Command<'a> {
                 Command::Opaque { is_reading: op == ASK, first: key, second: (second > 0).then_some(other), body }
             }
             SEAL => Command::Seal { value: body },
+            TX => Command::Tx(TxOf::read(body)?),
             _ => return None,
         };
         // (keys and a body are where the op has some)
         let is_whole = command.parts() == (op, key, other, if op == CAS { &[] } else { body });
         (is_whole && command.check().is_ok()).then_some(command)
-    }
-}
-
-/// A part of a comparison's body.
-fn write_part(out: &mut Vec<u8>, part: Option<&[u8]>) {
-    match part {
-        None => out.push(0),
-        Some(value) => {
-            out.push(1);
-            push_block(out, value);
-        }
-    }
-}
-
-fn read_part<'a>(fields: &mut Fields<'a>) -> Option<Option<&'a [u8]>> {
-    match fields.u8()? {
-        0 => Some(None),
-        1 => fields.block().map(Some),
-        _ => None,
     }
 }
 
@@ -285,7 +294,12 @@ mod tests {
 
     #[test]
     fn commands_word_for_word() {
+        let one = Command::tx().require_absent(b"x").put(b"x", b"1").tell(b"y").build().unwrap();
+        let all = Command::tx().tell(b"d").require_absent(b"c").del(b"c").del(b"b");
+        let all = all.require(b"a", b"1").put(b"a", b"2").tell(b"a").build().unwrap();
         let spelled = [
+            ("tx", one.lent()),
+            ("tx-all", all.lent()),
             ("get", Command::Get { key: b"ab" }),
             ("put", Command::Put { key: b"c", value: b"v" }),
             ("del", Command::Del { key: b"c" }),
@@ -310,6 +324,32 @@ mod tests {
         {
             assert_eq!(Command::read(&vector(&name)), None, "{name}");
         }
+        for name in [
+            "none", "empty", "nothing", "both", "flag", "order", "twice", "prefix", "guard", "left", "short", "told",
+            "key",
+        ]
+        .map(|it| format!("bad-tx-{it}"))
+        {
+            assert_eq!(Command::read(&vector(&name)), None, "{name}");
+        }
+    }
+
+    /// Bytes with one of them changed are no command, or spell another one.
+    #[test]
+    fn one_spelling() {
+        let mut others = 0;
+        for name in ["tx", "tx-all", "cas"] {
+            let bytes = vector(name);
+            for (at, byte) in (0..bytes.len()).flat_map(|at| (0..=255).map(move |byte| (at, byte))) {
+                let mut changed = bytes.clone();
+                changed[at] = byte;
+                if let Some(command) = Command::read(&changed) {
+                    assert_eq!(bytes_of(command), changed, "{name}: {byte} at {at}");
+                    others += 1;
+                }
+            }
+        }
+        assert!(others > 1_000);
     }
 
     #[test]

@@ -2,6 +2,7 @@
 #![forbid(unsafe_code)]
 
 use crate::bytes::Fields;
+use crate::ffi;
 
 /// What all keys of a replica's map have: each key that has a value, with its value, in rising order of keys.
 ///
@@ -27,9 +28,12 @@ impl<'a> Contents<'a> {
     }
 }
 
-fn pair<'a>(fields: &mut Fields<'a>) -> Option<(&'a [u8], &'a [u8])> {
-    let (key, value) = (fields.u8()?, fields.u32()?);
-    Some((fields.run(key.into())?, fields.run(value as usize)?))
+/// The key that comes next of a map's bytes, and its value. None where there is no whole one.
+pub(crate) fn pair<'a>(fields: &mut Fields<'a>) -> Option<(&'a [u8], &'a [u8])> {
+    let pair = ffi::pair(fields.rest())?;
+    let bytes = fields.run(pair.len as usize)?;
+    let part = |at: u32, length: u32| bytes.get(at as usize..)?.get(..length as usize);
+    Some((part(pair.key_at, pair.key_len)?, part(pair.value_at, pair.value_len)?))
 }
 
 impl<'a> Iterator for Contents<'a> {
@@ -46,41 +50,3 @@ impl<'a> Iterator for Contents<'a> {
 }
 
 impl ExactSizeIterator for Contents<'_> {}
-
-/// The bytes of a map that `epaxos contents` prints: a line of the generation, and one of two words for each key. None where it prints something else.
-pub(crate) fn of_text(text: &[u8]) -> Option<Vec<u8>> {
-    let mut lines = text.strip_suffix(b"\n")?.split(|byte| *byte == b'\n');
-    lines.next().filter(|line| line.starts_with(b"generation "))?;
-    let mut bytes = vec![0; 4];
-    let mut count = 0u32;
-    for line in lines {
-        let space = line.iter().position(|byte| *byte == b' ')?;
-        let (key, value) = (word(&line[..space])?, word(&line[space + 1..])?);
-        bytes.push(u8::try_from(key.len()).ok()?);
-        bytes.extend(u32::try_from(value.len()).ok()?.to_be_bytes());
-        bytes.extend(key);
-        bytes.extend(value);
-        count += 1;
-    }
-    bytes[..4].copy_from_slice(&count.to_be_bytes());
-    Some(bytes)
-}
-
-/// The bytes that a word spells (docs/FORMATS.md, section 3).
-fn word(word: &[u8]) -> Option<Vec<u8>> {
-    if word == b"%-" {
-        return Some(Vec::new());
-    }
-    let (mut bytes, mut rest) = (Vec::with_capacity(word.len()), word);
-    while let Some((byte, after)) = rest.split_first() {
-        rest = after;
-        if *byte != b'%' {
-            bytes.push(*byte);
-            continue;
-        }
-        let (digits, after) = rest.split_at_checked(2)?;
-        rest = after;
-        bytes.push(u8::from_str_radix(std::str::from_utf8(digits).ok()?, 16).ok()?);
-    }
-    Some(bytes)
-}

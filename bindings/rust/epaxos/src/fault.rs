@@ -47,7 +47,7 @@ pub enum Fault {
     Unsynced,
     /// The library has no replica behind its handle: another thread is in a call with it, which safe code keeps out.
     NoReplica,
-    /// The core is gone, and this is what it said last. Open the replica again, from its log.
+    /// The library answers what no call of its should: what that is. Open the replica again, from its log.
     Ended(String),
 }
 
@@ -100,7 +100,7 @@ impl fmt::Display for Fault {
                 "what was taken, or the log behind a start, is not on the disk yet: ready and commit come first"
             }
             Fault::NoReplica => "the replica is in use by another thread",
-            Fault::Ended(what) => return write!(f, "the core has ended: {what}"),
+            Fault::Ended(what) => return write!(f, "the core is of no use any more: {what}"),
         })
     }
 }

@@ -1,25 +1,13 @@
 //! The calls of the library, as bindings/c/epaxos.h has them. All of the crate's unsafe code is here.
 #![allow(unsafe_code)]
 
+#[rustfmt::skip]
+mod header;
+
 use crate::{Call, Command, Instance, Reference, Succession, Waits};
+use header::*;
+pub(crate) use header::{FrameHead, HeldGeneration, Pair, Place, ReferenceHead, StartPlan, StartWish, VERSION};
 use std::{ptr, slice};
-
-/// What the header is of.
-pub(crate) const VERSION: u32 = 6;
-
-/// `struct ep_replica`
-#[repr(C)]
-struct Held {
-    at: *mut u8,
-}
-
-/// `struct ep_bytes`
-#[repr(C)]
-#[derive(Clone, Copy, Debug)]
-struct Bytes {
-    at: *const u8,
-    len: usize,
-}
 
 impl Bytes {
     const EMPTY: Bytes = Bytes::of(&[]);
@@ -34,161 +22,19 @@ impl Bytes {
     }
 }
 
-/// `struct ep_setup`
-#[repr(C)]
-struct Setup {
-    opening: Bytes,
-    log: Bytes,
-    replicas: u8,
-    replica: u8,
-    is_new: u8,
-}
-
-/// `struct ep_succession`
-#[repr(C)]
-struct Next {
-    digest: Bytes,
-    log: Bytes,
-    replicas: u8,
-    replica: u8,
-    is_new: u8,
-}
-
-impl Next {
+impl header::Succession {
     /// The replica of this number; new, or with this log.
-    fn of(reference: &Reference, digest: &[u8; 32], replica: u8, log: Option<&[u8]>) -> Next {
+    fn of(reference: &Reference, digest: &[u8; 32], replica: u8, log: Option<&[u8]>) -> header::Succession {
         let (log, is_old) = Bytes::of_any(log);
         let replicas = reference.cluster().replicas();
-        Next { digest: Bytes::of(digest), log, replicas, replica, is_new: 1 - is_old }
+        header::Succession { digest: Bytes::of(digest), log, replicas, replica, is_new: 1 - is_old }
     }
 }
 
-/// `struct ep_checkpoint`
-#[repr(C)]
-#[derive(Debug)]
-struct Given {
-    at: *mut u8,
-}
-
-/// `struct ep_place`: where bytes are refused.
-#[repr(C)]
-#[derive(Clone, Copy, Default, Debug)]
-pub(crate) struct Place {
-    pub(crate) at: u64,
-    pub(crate) by: u64,
-}
-
-/// `struct ep_call`
-#[repr(C)]
-struct Caller {
-    seen: u64,
-    client: u32,
-    request: u32,
-    has_spared: u8,
-    spared: u8,
-}
-
-/// `struct ep_exchange`
-#[repr(C)]
-struct Exchange {
-    expected: Bytes,
-    desired: Bytes,
-    has_expected: u8,
-    has_desired: u8,
-}
-
-/// `struct ep_touching`
-#[repr(C)]
-struct Touching {
-    first: Bytes,
-    second: Bytes,
-    has_second: u8,
-    is_reading: u8,
-}
-
-/// `struct ep_instance`
-#[repr(C)]
-#[derive(Clone, Copy)]
-struct Named {
-    number: u16,
-    replica: u8,
-}
-
-impl Named {
-    fn of(instance: Instance) -> Named {
-        Named { number: instance.number, replica: instance.replica }
+impl header::Instance {
+    fn of(instance: Instance) -> header::Instance {
+        header::Instance { number: instance.number, replica: instance.replica }
     }
-}
-
-/// `struct ep_leading`
-#[repr(C)]
-struct Leading {
-    phase: u8,
-    answers: u8,
-}
-
-/// `struct ep_waits`
-#[repr(C)]
-struct Spans {
-    seed: u64,
-    granularity: u32,
-    initial: u32,
-    told: u32,
-    longest: u32,
-    replicas: u8,
-    replica: u8,
-}
-
-/// `struct ep_patience`
-#[repr(C)]
-#[derive(Debug)]
-struct Begun {
-    at: *mut u8,
-}
-
-// SAFETY: a test of the crate holds these, and the structs, to the header, and a tool of the repository holds the header to the library.
-#[rustfmt::skip]
-unsafe extern "C" {
-    safe fn ep_version() -> u32;
-    fn ep_open(replica: *mut Held, setup: *const Setup, place: *mut Place) -> u8;
-    fn ep_free(replica: *mut Held) -> u8;
-    fn ep_propose_get(replica: *mut Held, call: *const Caller, key: *const u8, key_len: usize) -> u8;
-    fn ep_propose_put(replica: *mut Held, call: *const Caller, key: *const u8, key_len: usize, value: *const u8, value_len: usize) -> u8;
-    fn ep_propose_del(replica: *mut Held, call: *const Caller, key: *const u8, key_len: usize) -> u8;
-    fn ep_propose_swap(replica: *mut Held, call: *const Caller, first: *const u8, first_len: usize, second: *const u8, second_len: usize) -> u8;
-    fn ep_propose_cas(replica: *mut Held, call: *const Caller, key: *const u8, key_len: usize, exchange: *const Exchange) -> u8;
-    fn ep_propose_opaque(replica: *mut Held, call: *const Caller, touching: *const Touching, body: *const u8, body_len: usize) -> u8;
-    fn ep_propose_seal(replica: *mut Held, call: *const Caller, value: *const u8, value_len: usize) -> u8;
-    fn ep_handle(replica: *mut Held, frame: *const u8, frame_len: usize) -> u8;
-    fn ep_give_up(replica: *mut Held, instance: Named) -> u8;
-    fn ep_recover(replica: *mut Held, instance: Named) -> u8;
-    fn ep_execute(replica: *mut Held, instance: Named, waits_for: *mut Named) -> u8;
-    fn ep_advance(replica: *mut Held) -> u8;
-    fn ep_execute_all(replica: *mut Held) -> u8;
-    fn ep_ready(replica: *mut Held, log: *mut Bytes, is_anew: *mut u8) -> u8;
-    fn ep_synced(replica: *mut Held, count: usize) -> u8;
-    fn ep_answers(replica: *mut Held, told: u32, most: u8, answers: *mut Bytes) -> u8;
-    fn ep_prepare(replica: *mut Held, told: u32, most: u8) -> u8;
-    fn ep_told(replica: *mut Held, answers: *mut Bytes) -> u8;
-    fn ep_ask(replica: *mut Held, request: *const u8, request_len: usize) -> u8;
-    fn ep_get(replica: *mut Held, key: *const u8, key_len: usize, value: *mut Bytes) -> u8;
-    fn ep_contents(replica: *mut Held, contents: *mut Bytes) -> u8;
-    fn ep_handled(replica: *mut Held, peer: u8, entries: *mut u32) -> u8;
-    fn ep_leads(replica: *mut Held, instance: Named, leading: *mut Leading) -> u8;
-    fn ep_close(replica: *mut Held, replicas: u8, opening: *mut Bytes) -> u8;
-    fn ep_succeed(replica: *mut Held, checkpoint: *mut Given, succession: *const Next, place: *mut Place) -> u8;
-    fn ep_checkpoint_next(checkpoint: *mut Given, most: usize, piece: *mut Bytes) -> u8;
-    fn ep_checkpoint_free(checkpoint: *mut Given) -> u8;
-    fn ep_open_bound(replica: *mut Held, opening: *const u8, opening_len: usize, succession: *const Next, place: *mut Place) -> u8;
-    fn ep_patience_begin(patience: *mut Begun, waits: *const Spans) -> u8;
-    fn ep_patience_free(patience: *mut Begun) -> u8;
-    fn ep_patience_measure(patience: *mut Begun, peer: u8, took: u32) -> u8;
-    fn ep_patience_reach(patience: *mut Begun, peer: u8, is_reached: u8) -> u8;
-    fn ep_patience_hurry(patience: *mut Begun) -> u8;
-    fn ep_patience_put_off(patience: *mut Begun, instance: Named, ballot: u16, now: u64) -> u8;
-    fn ep_patience_turn(patience: *mut Begun, now: u64, instances: *const u8, instances_len: usize, late: *mut Bytes) -> u8;
-    fn ep_patience_due(patience: *mut Begun, due: *mut u64) -> u8;
-    fn ep_first_opening(replicas: u8, out: *mut u8, out_len: usize, len: *mut usize) -> u8;
 }
 
 /// What the library is of.
@@ -196,19 +42,87 @@ pub(crate) fn version() -> u32 {
     ep_version()
 }
 
+// SAFETY, of each call below: a pointer and a length are of one slice, and what is written to is a place of the
+// pointer's own type.
+
 /// Copies the file that generation 1 of so many replicas opens with: how many bytes it has, and the status.
 pub(crate) fn first_opening(replicas: u8, out: &mut [u8]) -> (usize, u8) {
     let mut length = 0;
-    // SAFETY: the pointer and the room are of one slice.
     let status = unsafe { ep_first_opening(replicas, out.as_mut_ptr(), out.len(), &mut length) };
     (length, status)
+}
+
+/// Copies the reference of a generation of so many replicas, by a log of this length with this SHA-256: the status.
+pub(crate) fn reference((replicas, generation, length): (u8, u32, u64), sum: &[u8; 32], out: &mut [u8]) -> u8 {
+    let (closed, mut len) = (ClosedLog { sum: Bytes::of(sum), length, generation, replicas }, 0);
+    unsafe { ep_reference(&closed, out.as_mut_ptr(), out.len(), &mut len) }
+}
+
+/// What the header of a frame says.
+pub(crate) fn frame_head(frame: &[u8]) -> Option<FrameHead> {
+    let mut head = FrameHead::default();
+    let status = unsafe { ep_frame_head(frame.as_ptr(), frame.len(), &mut head) };
+    (status == 0).then_some(head)
+}
+
+/// Where the first key of a map's bytes and its value stand.
+pub(crate) fn pair(pairs: &[u8]) -> Option<Pair> {
+    let mut pair = Pair::default();
+    let status = unsafe { ep_pair(pairs.as_ptr(), pairs.len(), &mut pair) };
+    (status == 0).then_some(pair)
+}
+
+/// What a reference says, where the bytes are one.
+pub(crate) fn read_reference(reference: &[u8]) -> Option<ReferenceHead> {
+    let (mut head, mut place) = (ReferenceHead::default(), Place::default());
+    let status = unsafe { ep_read_reference(reference.as_ptr(), reference.len(), &mut head, &mut place) };
+    (status == 0).then_some(head)
+}
+
+/// The greatest generation that is there; or the status.
+pub(crate) fn newest(held: &[HeldGeneration]) -> Result<u32, u8> {
+    let mut newest = 0;
+    match unsafe { ep_newest(held.as_ptr(), held.len(), &mut newest) } {
+        0 => Ok(newest),
+        status => Err(status),
+    }
+}
+
+/// How a replica starts that has this; or the status, and the generation that it names.
+pub(crate) fn plan(held: &[HeldGeneration], wish: &StartWish) -> Result<StartPlan, (u8, u64)> {
+    let (mut plan, mut place) = (StartPlan::default(), Place::default());
+    match unsafe { ep_plan(held.as_ptr(), held.len(), wish, &mut plan, &mut place) } {
+        0 => Ok(plan),
+        status => Err((status, place.at)),
+    }
+}
+
+/// From which generation on logs are replayed to open this one; or the status, and the generation that it names.
+pub(crate) fn first(held: &[HeldGeneration], generation: u32) -> Result<u32, (u8, u32)> {
+    let mut first = 0;
+    match unsafe { ep_first(held.as_ptr(), held.len(), generation, &mut first) } {
+        0 => Ok(first),
+        status => Err((status, first)),
+    }
+}
+
+/// The generation that the name of a folder spells.
+pub(crate) fn generation_in(name: &[u8]) -> Option<u32> {
+    let mut generation = 0;
+    let status = unsafe { ep_generation_in(name.as_ptr(), name.len(), &mut generation) };
+    (status == 0).then_some(generation)
+}
+
+/// The later generation that the mark of this one names.
+pub(crate) fn left_in(mark: &[u8], generation: u32) -> u32 {
+    unsafe { ep_left_in(mark.as_ptr(), mark.len(), generation) }
 }
 
 /// A replica of the library, and what it lends.
 ///
 /// Each call answers a status of the header. It ends what was lent before, also where it is refused.
 pub(crate) struct Handle {
-    held: Held,
+    held: Replica,
     lent: Bytes,
 }
 
@@ -223,7 +137,7 @@ impl Handle {
         let (log, is_old) = Bytes::of_any(log);
         let setup = Setup { opening: Bytes::of(opening), log, replicas, replica, is_new: 1 - is_old };
         let (mut handle, mut place) =
-            (Handle { held: Held { at: ptr::null_mut() }, lent: Bytes::EMPTY }, Place::default());
+            (Handle { held: Replica { at: ptr::null_mut() }, lent: Bytes::EMPTY }, Place::default());
         match unsafe { ep_open(&mut handle.held, &setup, &mut place) } {
             0 => Ok(handle),
             status => Err((status, place)),
@@ -238,9 +152,9 @@ impl Handle {
         log: Option<&[u8]>,
     ) -> Result<Handle, (u8, Place)> {
         let digest = reference.digest();
-        let next = Next::of(reference, &digest, me, log);
+        let next = header::Succession::of(reference, &digest, me, log);
         let (mut handle, mut place) =
-            (Handle { held: Held { at: ptr::null_mut() }, lent: Bytes::EMPTY }, Place::default());
+            (Handle { held: Replica { at: ptr::null_mut() }, lent: Bytes::EMPTY }, Place::default());
         match unsafe { ep_open_bound(&mut handle.held, opening.as_ptr(), opening.len(), &next, &mut place) } {
             0 => Ok(handle),
             status => Err((status, place)),
@@ -250,9 +164,9 @@ impl Handle {
     /// Goes on in the next generation, with the file that that opens with; or the status, and where the log is refused.
     pub(crate) fn succeed(&mut self, succession: &Succession) -> Result<CheckpointHandle, (u8, Place)> {
         let digest = succession.reference.digest();
-        let next = Next::of(&succession.reference, &digest, succession.me, succession.log);
+        let next = header::Succession::of(&succession.reference, &digest, succession.me, succession.log);
         let (mut checkpoint, mut place) =
-            (CheckpointHandle { held: Given { at: ptr::null_mut() }, lent: Bytes::EMPTY }, Place::default());
+            (CheckpointHandle { held: Checkpoint { at: ptr::null_mut() }, lent: Bytes::EMPTY }, Place::default());
         match unsafe { ep_succeed(self.held(), &mut checkpoint.held, &next, &mut place) } {
             0 => Ok(checkpoint),
             status => Err((status, place)),
@@ -265,7 +179,7 @@ impl Handle {
     }
 
     /// The replica, of which nothing is lent any more.
-    fn held(&mut self) -> *mut Held {
+    fn held(&mut self) -> *mut Replica {
         self.lent = Bytes::EMPTY;
         &mut self.held
     }
@@ -283,7 +197,7 @@ impl Handle {
         let held = self.held();
         let Call { client, request, seen } = *call;
         let has_spared = u8::from(spared.is_some());
-        let caller = &Caller { seen, client, request, has_spared, spared: spared.unwrap_or_default() };
+        let caller = &header::Call { seen, client, request, has_spared, spared: spared.unwrap_or_default() };
         match *command {
             Command::Get { key } => unsafe { ep_propose_get(held, caller, key.as_ptr(), key.len()) },
             Command::Put { key, value } => unsafe {
@@ -305,6 +219,7 @@ impl Handle {
                     Touching { first: Bytes::of(first), second, has_second, is_reading: u8::from(is_reading) };
                 unsafe { ep_propose_opaque(held, caller, &touching, body.as_ptr(), body.len()) }
             }
+            Command::Tx(tx) => unsafe { ep_propose_tx(held, caller, tx.body().as_ptr(), tx.body().len()) },
             Command::Seal { value } => unsafe { ep_propose_seal(held, caller, value.as_ptr(), value.len()) },
         }
     }
@@ -314,17 +229,17 @@ impl Handle {
     }
 
     pub(crate) fn give_up(&mut self, instance: Instance) -> u8 {
-        unsafe { ep_give_up(self.held(), Named::of(instance)) }
+        unsafe { ep_give_up(self.held(), header::Instance::of(instance)) }
     }
 
     pub(crate) fn recover(&mut self, instance: Instance) -> u8 {
-        unsafe { ep_recover(self.held(), Named::of(instance)) }
+        unsafe { ep_recover(self.held(), header::Instance::of(instance)) }
     }
 
     /// With the instance that it waits for, where the status says so.
     pub(crate) fn execute(&mut self, instance: Instance) -> (u8, Instance) {
-        let mut waits_for = Named::of(instance);
-        let status = unsafe { ep_execute(self.held(), Named::of(instance), &mut waits_for) };
+        let mut waits_for = header::Instance::of(instance);
+        let status = unsafe { ep_execute(self.held(), header::Instance::of(instance), &mut waits_for) };
         (status, Instance { replica: waits_for.replica, number: waits_for.number })
     }
 
@@ -357,9 +272,17 @@ impl Handle {
         status
     }
 
-    /// Has answers made of what is lent.
-    pub(crate) fn prepare(&mut self, told: u32, most: u8) -> u8 {
-        unsafe { ep_prepare(self.held(), told, most) }
+    /// The same, with what was proposed and executed.
+    pub(crate) fn answers_all(&mut self, told: u32, most: u8) -> u8 {
+        let mut lent = Bytes::EMPTY;
+        let status = unsafe { ep_answers_all(self.held(), told, most, &mut lent) };
+        self.lent = lent;
+        status
+    }
+
+    /// Has such answers made of what is lent.
+    pub(crate) fn prepare_all(&mut self, told: u32, most: u8) -> u8 {
+        unsafe { ep_prepare_all(self.held(), told, most) }
     }
 
     /// Lends them.
@@ -400,7 +323,7 @@ impl Handle {
     /// How the instance is led.
     pub(crate) fn leads(&mut self, instance: Instance) -> u8 {
         let mut leading = Leading { phase: 0, answers: 0 };
-        unsafe { ep_leads(self.held(), Named::of(instance), &mut leading) }
+        unsafe { ep_leads(self.held(), header::Instance::of(instance), &mut leading) }
     }
 
     /// Lends the next generation's opening.
@@ -421,7 +344,7 @@ impl Drop for Handle {
 /// A file that is given in pieces, and the piece that it lends.
 #[derive(Debug)]
 pub(crate) struct CheckpointHandle {
-    held: Given,
+    held: Checkpoint,
     lent: Bytes,
 }
 
@@ -437,6 +360,12 @@ impl CheckpointHandle {
         let status = unsafe { ep_checkpoint_next(&mut self.held, most, &mut lent) };
         self.lent = lent;
         status
+    }
+
+    /// Lets go what is left of the generation before.
+    pub(crate) fn rest(&mut self) {
+        self.lent = Bytes::EMPTY;
+        unsafe { ep_checkpoint_rest(&mut self.held) };
     }
 
     /// What the last call has lent.
@@ -458,7 +387,7 @@ impl Drop for CheckpointHandle {
 /// What tells when to wait no longer, and what it lends.
 #[derive(Debug)]
 pub(crate) struct PatienceHandle {
-    held: Begun,
+    held: Patience,
     lent: Bytes,
 }
 
@@ -473,8 +402,8 @@ impl PatienceHandle {
             return Err(u8::MAX);
         }
         let Waits { granularity, initial, told, longest } = waits;
-        let spans = Spans { seed, granularity, initial, told, longest, replicas, replica };
-        let mut handle = PatienceHandle { held: Begun { at: ptr::null_mut() }, lent: Bytes::EMPTY };
+        let spans = header::Waits { seed, granularity, initial, told, longest, replicas, replica };
+        let mut handle = PatienceHandle { held: Patience { at: ptr::null_mut() }, lent: Bytes::EMPTY };
         match unsafe { ep_patience_begin(&mut handle.held, &spans) } {
             0 => Ok(handle),
             status => Err(status),
@@ -482,7 +411,7 @@ impl PatienceHandle {
     }
 
     /// That of which nothing is lent any more.
-    fn held(&mut self) -> *mut Begun {
+    fn held(&mut self) -> *mut Patience {
         self.lent = Bytes::EMPTY;
         &mut self.held
     }
@@ -500,7 +429,7 @@ impl PatienceHandle {
     }
 
     pub(crate) fn put_off(&mut self, instance: Instance, ballot: u16, now: u64) -> u8 {
-        unsafe { ep_patience_put_off(self.held(), Named::of(instance), ballot, now) }
+        unsafe { ep_patience_put_off(self.held(), header::Instance::of(instance), ballot, now) }
     }
 
     /// Lends what is asked for.

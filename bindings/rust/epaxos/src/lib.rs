@@ -42,7 +42,8 @@
 //! # Ok(()) }
 //! ```
 //!
-//! `examples/three.rs` is a cluster of three threads with a file each, `examples/lock.rs` a lock, `examples/machine.rs` a replicated machine of your own.
+//! `examples/three.rs` is a cluster of three threads with a file each, `examples/lock.rs` a lock,
+//! `examples/accounts.rs` transfers by commands over many keys, `examples/machine.rs` a replicated machine of your own.
 //!
 //! # What is lost on its way
 //!
@@ -59,17 +60,19 @@
 //!
 //! A frame that comes twice does no harm; it costs its receiver an entry of its log.
 //!
+//! # Reads
+//!
+//! [`Replica::get`] looks into one replica's map, which may be old. A client's read is a [`Command::Get`], or a
+//! [`Replica::read`], which takes no instance and writes nothing, once F + 1 replicas have told what interferes with it
+//! ([`Replica::interfering`]). `examples/three.rs` reads so.
+//!
 //! # Where the core runs
 //!
-//! There are two cores behind the same calls, made from the same sources. **The library** runs in the program itself; the crate is linked with it if it is
-//! found when the crate is built. **A process** of its own for each replica, `epaxos node`, is the other one: it is slower, and its memory is its own.
-//! Neither keeps anything that outlives it: you keep the log. [`Setup`] and [`Core`] choose; by default a replica takes the library, if there is one.
+//! In the program itself: the library `libepaxos.a`, with which the crate is linked as it is built. It keeps nothing that outlives it: you keep the log.
 //!
-//! `./epaxos --build` at the top of the repository proves and builds both, and `./epaxos --build --unproved` builds both in minutes, without their proofs;
-//! [`Replica::said`] then says so. Build the crate again after that. `EPAXOS_LIBRARY` names another folder of `libepaxos.a` when the crate is built, and
-//! `EPAXOS` another program when yours runs.
-//!
-//! A host that runs a process `epaxos node` itself, which then keeps the log, finds its bytes in [`wire`].
+//! `./epaxos --build` at the top of the repository proves and builds it, and `./epaxos --build --unproved` builds it in minutes, without its proofs;
+//! [`Replica::said`] then says so. Build the crate again after that. `EPAXOS_LIBRARY` names another folder of `libepaxos.a` when the crate is built. A host in
+//! another language, or one that wants the core in a process of its own, runs the program `epaxos node`.
 //!
 //! # What is proved, and what you owe
 //!
@@ -119,7 +122,7 @@
 //! ([`Output::is_sealed`]), [`Replica::close`] hands out the opening of the next generation, with which each replica begins anew, of another number of replicas if you like.
 //! A command whose answer is [`Answer::Closed`] is asked again there. Keep the opening of generation 2 as `2/opening`, and its log as `2/log`.
 //!
-//! Over the library a replica goes on in memory, without a stop: [`Replica::succeed`] puts the next generation in its place, with the map as it is. The disk gets a
+//! Or a replica goes on in memory, without a stop: [`Replica::succeed`] puts the next generation in its place, with the map as it is. The disk gets a
 //! [`Reference`] of 82 bytes, and the opening itself when there is time, by a [`Checkpoint`], in pieces. `examples/generations.rs` is such a host.
 #![deny(unsafe_code)]
 
@@ -132,18 +135,18 @@ mod cluster;
 mod command;
 mod commit_fault;
 mod contents;
-mod core;
 mod event;
 mod executed;
 mod fault;
-#[cfg(has_library)]
 mod ffi;
-mod found;
+mod followed;
 mod frame;
+pub mod host;
 mod instance;
 mod leading;
-#[cfg(has_library)]
+mod lent;
 mod library;
+mod lock;
 mod log;
 mod log_file;
 mod open_fault;
@@ -151,29 +154,34 @@ mod open_instance;
 mod out_of_range;
 mod output;
 mod own_log;
+#[doc(hidden)]
+pub mod parts;
 mod past;
 mod patience;
 mod place;
-mod process;
-mod program;
 mod proposed;
+mod question;
+mod reading;
 mod ready;
 mod receipt;
 mod records;
 mod reference;
 mod replica;
-mod running;
-mod scratch;
+mod report;
+pub mod service;
 mod setup;
+pub mod sim;
 mod state;
-#[cfg(has_library)]
 mod status;
 mod succeed_fault;
 mod succession;
 mod sum;
+mod tx;
+mod tx_builder;
+mod tx_fault;
+mod values;
 #[cfg(test)]
 mod vectors;
-pub mod wire;
 mod writing;
 
 pub use answer::{Answer, AnswerOf, OwnedAnswer};
@@ -185,7 +193,6 @@ pub use cluster::Cluster;
 pub use command::{Command, CommandOf, OwnedCommand};
 pub use commit_fault::CommitFault;
 pub use contents::Contents;
-pub use core::Core;
 pub use event::Event;
 pub use executed::Executed;
 pub use fault::Fault;
@@ -200,6 +207,7 @@ pub use out_of_range::OutOfRange;
 pub use output::Output;
 pub use patience::{Patience, Waits};
 pub use proposed::Proposed;
+pub use reading::{OwnedReading, Reading, ReadingOf};
 pub use ready::Ready;
 pub use receipt::Receipt;
 pub use reference::Reference;
@@ -210,6 +218,10 @@ pub use state::State;
 pub use succeed_fault::SucceedFault;
 pub use succession::Succession;
 pub use sum::Sum;
+pub use tx::{Item, OwnedTx, Tx, TxOf};
+pub use tx_builder::TxBuilder;
+pub use tx_fault::TxFault;
+pub use values::{OwnedValues, Values, ValuesOf};
 pub use writing::{Writing, Written};
 
 /// A replica proposes so many commands in a generation at most. Its numbers above are for seals.
@@ -233,9 +245,38 @@ pub const MOST_INSTANCES: u16 = 9_000;
 /// ```
 pub const LONGEST_KEY: usize = 255;
 
+/// A cluster has so many instances at most, and so many may be named for a [read](Replica::read).
+///
+/// ```
+/// assert_eq!(epaxos::MOST_FOUND, 7 * usize::from(epaxos::MOST_INSTANCES));
+/// ```
+pub const MOST_FOUND: usize = 63_000;
+
 /// A value has 0 to so many bytes.
 ///
 /// ```
 /// assert_eq!(epaxos::LONGEST_VALUE, 65_535);
 /// ```
 pub const LONGEST_VALUE: usize = 65_535;
+
+/// A [`Tx`](Command::Tx) names 1 to so many keys.
+///
+/// ```
+/// assert_eq!(epaxos::MOST_KEYS, 1_024);
+/// ```
+pub const MOST_KEYS: usize = 1_024;
+
+/// A [`Tx`](Command::Tx) asks for so many keys at most.
+///
+/// ```
+/// assert_eq!(epaxos::MOST_TOLD, 16);
+/// ```
+pub const MOST_TOLD: usize = 16;
+
+/// A [`Tx`](Command::Tx) has so many bytes at most ([`Tx::body`]).
+///
+/// ```
+/// // two values as long as can be, as a comparison has them
+/// assert_eq!(epaxos::LONGEST_TX, 2 * (5 + epaxos::LONGEST_VALUE));
+/// ```
+pub const LONGEST_TX: usize = 131_080;

@@ -1,19 +1,22 @@
-//! The core in this process: the library.
+//! The core: the library.
 #![forbid(unsafe_code)]
 
 use crate::bytes::Fields;
-use crate::core::{Host, Lent, Pieces};
 use crate::ffi::{self, CheckpointHandle, Handle, Place};
+use crate::lent::Lent;
+use crate::question::{self, Question};
 use crate::status::{self, DONE, NONE, NOT_COMMITTED, TOO_SHORT};
-use crate::wire::{self, Question};
 use crate::{Begin, CloseFault, Cluster, Event, Fault, Instance, OpenFault, State, SucceedFault, Succession};
 use std::ops::Range;
 
 /// No entry has this number: behind it there is nothing to tell.
 const NOTHING: u32 = u32::MAX;
 
-/// What a library says that isn't proved.
-const SAID: &str = if cfg!(library_is_unproved) { "not proved: built with --unproved" } else { "" };
+/// How many bytes the length of an answer has.
+const LENGTH: usize = 4;
+
+/// What the library says.
+pub(crate) const SAID: &str = if cfg!(library_is_unproved) { "not proved: built with --unproved" } else { "" };
 
 pub(crate) struct Library {
     handle: Handle,
@@ -23,19 +26,19 @@ pub(crate) struct Library {
     is_anew: bool,
     /// Whether what there is to tell of it was made, so that more may be taken.
     is_begun: bool,
-    /// Where the last answer stands in what the handle lends.
+    /// Where the last report stands in what the handle lends, and what was proposed and executed by what it tells of.
     told: Range<usize>,
+    followed: Range<usize>,
     request: Vec<u8>,
 }
 
 impl Library {
     pub(crate) fn open(begin: &Begin) -> Result<Library, OpenFault> {
         if ffi::version() != ffi::VERSION {
-            return Err(OpenFault::NoCore("the library that the crate was built with is of another version".into()));
+            return Err(OpenFault::OtherLibrary);
         }
         let replicas = begin.cluster.replicas();
-        let first = if begin.opening.is_none() { first_opening(replicas)? } else { Vec::new() };
-        let opening = begin.opening.unwrap_or(&first);
+        let opening = begin.opening.unwrap_or_else(|| begin.cluster.first_opening());
         // (no bytes are no opening; to the library they would be another version)
         if opening.is_empty() {
             return Err(open_fault(status::OPENING_SHORT, Place::default()));
@@ -45,7 +48,16 @@ impl Library {
             Some(reference) => Handle::open_bound(opening, reference, begin.me, begin.log),
         };
         let handle = opened.map_err(|(status, place)| open_fault(status, place))?;
-        Ok(Library { handle, me: begin.me, lent: 0, is_anew: false, is_begun: false, told: 0..0, request: Vec::new() })
+        Ok(Library {
+            handle,
+            me: begin.me,
+            lent: 0,
+            is_anew: false,
+            is_begun: false,
+            told: 0..0,
+            followed: 0..0,
+            request: Vec::new(),
+        })
     }
 
     /// While something is lent nothing is told. (A refused call of the library would end the lending of the bytes.)
@@ -58,16 +70,26 @@ impl Library {
         if self.is_begun { Ok(()) } else { self.check_not_lent() }
     }
 
-    /// Notes where the last of the answers stands that the handle lends.
-    fn note_told(&mut self) -> Result<(), Fault> {
-        let (_, last) = last_two(self.handle.lent()).ok_or_else(bad_answers)?;
-        self.told = last;
+    /// What is asked while something isn't on the disk is answered only then.
+    fn check_synced(&mut self) -> Result<(), Fault> {
+        self.check_not_lent()?;
+        match self.handle.leads(Instance { replica: self.me, number: 1 }) {
+            status @ (status::LENT | status::UNSYNCED) => Err(fault(status)),
+            _ => Ok(()),
+        }
+    }
+
+    /// Notes where the last of the answers stand that the handle lends: a report, and what was proposed and executed.
+    fn note_all(&mut self) -> Result<(), Fault> {
+        self.followed = last(self.handle.lent()).ok_or_else(bad_answers)?;
+        let before = self.followed.start.saturating_sub(LENGTH);
+        self.told = last(&self.handle.lent()[..before]).ok_or_else(bad_answers)?;
         Ok(())
     }
-}
 
-impl Host for Library {
-    fn take(&mut self, event: &Event) -> Result<(), Fault> {
+    /// Takes an event. While something is lent to be written, nothing is taken, unless what there is to tell of it was
+    /// made (`begin`).
+    pub(crate) fn take(&mut self, event: &Event) -> Result<(), Fault> {
         self.check_may_take()?;
         let handle = &mut self.handle;
         match event {
@@ -83,56 +105,78 @@ impl Host for Library {
         }
     }
 
-    fn advance(&mut self) -> Result<(), Fault> {
+    /// Executes all own instances that are ready.
+    pub(crate) fn advance(&mut self) -> Result<(), Fault> {
         self.check_may_take()?;
         done(self.handle.advance())
     }
 
-    fn execute_all(&mut self) -> Result<(), Fault> {
+    /// Executes all instances that are ready.
+    pub(crate) fn execute_all(&mut self) -> Result<(), Fault> {
         self.check_may_take()?;
         done(self.handle.execute_all())
     }
 
-    fn lend(&mut self) -> Result<(), Fault> {
+    /// Lends what is to be written, or the same again.
+    pub(crate) fn lend(&mut self) -> Result<(), Fault> {
         let (status, is_anew) = self.handle.ready();
         done(status)?;
         (self.lent, self.is_anew) = (self.handle.lent().len(), is_anew);
         Ok(())
     }
 
-    fn lent(&self) -> Lent<'_> {
+    pub(crate) fn lent(&self) -> Lent<'_> {
         let bytes = if self.lent > 0 { self.handle.lent() } else { &[] };
         Lent { bytes, is_anew: self.is_anew && self.lent > 0 }
     }
 
-    fn sync(&mut self) -> Result<(), Fault> {
+    /// What was lent is on the disk.
+    pub(crate) fn sync(&mut self) -> Result<(), Fault> {
         done(self.handle.synced(self.lent))?;
         self.lent = 0;
         Ok(())
     }
 
-    fn begin(&mut self, told: u32, most: u8) -> Result<(), Fault> {
-        done(self.handle.prepare(told, most))?;
+    /// Makes what `tell` would gather once all that was taken, and is lent, is on the disk. Meanwhile more may be
+    /// taken.
+    pub(crate) fn begin(&mut self, told: u32, most: u8) -> Result<(), Fault> {
+        done(self.handle.prepare_all(told, most))?;
         self.is_begun = true;
         Ok(())
     }
 
-    fn tell(&mut self, told: u32, most: u8) -> Result<(), Fault> {
-        done(self.handle.answers(told, most))?;
-        self.note_told()
+    /// Gathers what there is to tell behind the first `told` entries, all of which are on the disk, and of `most` open
+    /// instances.
+    pub(crate) fn tell(&mut self, told: u32, most: u8) -> Result<(), Fault> {
+        done(self.handle.answers_all(told, most))?;
+        self.note_all()
     }
 
-    fn release(&mut self) -> Result<(), Fault> {
+    /// Gathers that once more, but for what was proposed and executed.
+    pub(crate) fn tell_again(&mut self, told: u32, most: u8) -> Result<(), Fault> {
+        done(self.handle.answers(told, most))?;
+        self.told = last(self.handle.lent()).ok_or_else(bad_answers)?;
+        Ok(())
+    }
+
+    /// Gathers what `begin` made, all of which is on the disk.
+    pub(crate) fn release(&mut self) -> Result<(), Fault> {
         done(self.handle.prepared())?;
         self.is_begun = false;
-        self.note_told()
+        self.note_all()
     }
 
-    fn told(&self) -> &[u8] {
+    /// What was gathered, in the bytes of a report.
+    pub(crate) fn told(&self) -> &[u8] {
         self.handle.lent().get(self.told.clone()).unwrap_or_default()
     }
 
-    fn get(&mut self, key: &[u8]) -> Result<Option<&[u8]>, Fault> {
+    /// What was proposed and executed by what was gathered.
+    pub(crate) fn followed(&self) -> &[u8] {
+        self.handle.lent().get(self.followed.clone()).unwrap_or_default()
+    }
+
+    pub(crate) fn get(&mut self, key: &[u8]) -> Result<Option<&[u8]>, Fault> {
         self.check_not_lent()?;
         match self.handle.get(key) {
             DONE => Ok(Some(self.handle.lent())),
@@ -141,35 +185,48 @@ impl Host for Library {
         }
     }
 
-    fn contents(&mut self) -> Result<&[u8], Fault> {
+    /// What all keys have: bytes that [`Contents`](crate::Contents) reads.
+    pub(crate) fn contents(&mut self) -> Result<&[u8], Fault> {
         self.check_not_lent()?;
         done(self.handle.contents())?;
         Ok(self.handle.lent())
     }
 
-    fn handled(&mut self, peer: u8) -> Result<u32, Fault> {
+    /// The greatest entry number in the frames from this peer that were handled.
+    pub(crate) fn handled(&mut self, peer: u8) -> Result<u32, Fault> {
         self.check_not_lent()?;
         let (status, entries) = self.handle.handled(peer);
         done(status).map(|()| entries)
     }
 
-    fn state(&mut self) -> Result<State, Fault> {
-        self.check_not_lent()?;
-        // (asked while something isn't on the disk, the answer would wait)
-        if let status @ (status::LENT | status::UNSYNCED) = self.handle.leads(Instance { replica: self.me, number: 1 })
-        {
-            return Err(fault(status));
-        }
-        self.request.clear();
-        wire::push_question(&mut self.request, Question::State);
-        done(self.handle.ask(&self.request))?;
-        done(self.handle.answers(NOTHING, 0))?;
-        let answers = self.handle.lent();
-        let (state, _) = last_two(answers).ok_or_else(bad_answers)?;
-        wire::state(&answers[state]).ok_or_else(bad_answers)
+    pub(crate) fn state(&mut self) -> Result<State, Fault> {
+        let mut state = None;
+        self.ask_all(&[Question::State], &mut |answer| {
+            state = question::state(answer);
+            state.is_some()
+        })?;
+        state.ok_or_else(bad_answers)
     }
 
-    fn close(&mut self, next: Cluster) -> Result<Vec<u8>, CloseFault> {
+    /// Asks questions that change nothing, and tells each answer, in their order; `tell` says whether it is one. While
+    /// something isn't on the disk nothing is asked.
+    pub(crate) fn ask_all(&mut self, questions: &[Question], tell: &mut dyn FnMut(&[u8]) -> bool) -> Result<(), Fault> {
+        self.check_synced()?;
+        for question in questions {
+            self.request.clear();
+            question.push(&mut self.request);
+            done(self.handle.ask(&self.request))?;
+        }
+        done(self.handle.answers(NOTHING, 0))?;
+        // (before them may stand answers to what was asked when memory was short; behind them there is a report)
+        let answers = blocks(self.handle.lent()).ok_or_else(bad_answers)?;
+        let first = answers.len().checked_sub(questions.len() + 1).ok_or_else(bad_answers)?;
+        let untold = answers[first..].iter().take(questions.len()).find(|answer| !tell(answer));
+        untold.map_or(Ok(()), |answer| Err(refusal(answer)))
+    }
+
+    /// The opening of the next generation, for so many replicas.
+    pub(crate) fn close(&mut self, next: Cluster) -> Result<Vec<u8>, CloseFault> {
         if self.lent > 0 {
             return Err(CloseFault::Unsynced);
         }
@@ -185,18 +242,16 @@ impl Host for Library {
         }
     }
 
-    fn outlives_close(&self) -> bool {
-        true
-    }
-
-    fn succeed(&mut self, succession: &Succession) -> Result<Box<dyn Pieces>, SucceedFault> {
+    /// Goes on in the next generation, of which it gives the opening file. At `Memory` and `Log` it is gone.
+    pub(crate) fn succeed(&mut self, succession: &Succession) -> Result<CheckpointHandle, SucceedFault> {
         if self.lent > 0 {
             return Err(SucceedFault::Unsynced);
         }
         match self.handle.succeed(succession) {
             Ok(checkpoint) => {
-                (self.me, self.is_anew, self.is_begun, self.told) = (succession.me, false, false, 0..0);
-                Ok(Box::new(checkpoint))
+                (self.me, self.is_anew, self.is_begun) = (succession.me, false, false);
+                (self.told, self.followed) = (0..0, 0..0);
+                Ok(checkpoint)
             }
             Err((status::MEMORY, _)) => {
                 // (it may be there without its file)
@@ -212,44 +267,42 @@ impl Host for Library {
             Err((status, _)) => Err(SucceedFault::Ended(unknown(status))),
         }
     }
+}
 
-    fn said(&self) -> String {
-        SAID.into()
+/// Lends the next piece of the file, of some `most` bytes. None: all was given.
+pub(crate) fn next_piece(file: &mut CheckpointHandle, most: usize) -> Result<Option<&[u8]>, Fault> {
+    match file.next(most) {
+        DONE => Ok(Some(file.piece())),
+        NONE => Ok(None),
+        status => Err(fault(status)),
     }
 }
 
-impl Pieces for CheckpointHandle {
-    fn next(&mut self, most: usize) -> Result<Option<&[u8]>, Fault> {
-        match CheckpointHandle::next(self, most) {
-            DONE => Ok(Some(self.piece())),
-            NONE => Ok(None),
-            status => Err(fault(status)),
-        }
-    }
-}
-
-/// The opening of generation 1.
-fn first_opening(replicas: u8) -> Result<Vec<u8>, OpenFault> {
+/// The opening of generation 1. None where there is no memory for it.
+pub(crate) fn first_opening(replicas: u8) -> Option<Vec<u8>> {
     let mut bytes = Vec::new();
     loop {
         match ffi::first_opening(replicas, &mut bytes) {
-            (_, DONE) => return Ok(bytes),
+            (_, DONE) => return Some(bytes),
             (length, TOO_SHORT) if length > bytes.len() => bytes.resize(length, 0),
-            (_, status) => return Err(open_fault(status, Place::default())),
+            _ => return None,
         }
     }
 }
 
-/// Where the last answer but one, and the last one, stand in a run of them, each without its length. None where the run isn't of whole answers; where there
-/// is one answer, the first place has nothing.
-fn last_two(answers: &[u8]) -> Option<(Range<usize>, Range<usize>)> {
-    let (mut fields, mut at, mut places) = (Fields::new(answers), 0, (0..0, 0..0));
+/// Where the last of a run of answers stands, without its length. None where the run isn't of whole ones.
+fn last(answers: &[u8]) -> Option<Range<usize>> {
+    let len = blocks(answers)?.last()?.len();
+    Some(answers.len() - len..answers.len())
+}
+
+/// Answers, each without its length. None where the run isn't of whole ones.
+fn blocks(answers: &[u8]) -> Option<Vec<&[u8]>> {
+    let (mut fields, mut all) = (Fields::new(answers), Vec::new());
     while !fields.is_over() {
-        let answer = fields.block()?;
-        at += 4 + answer.len();
-        places = (places.1, at - answer.len()..at);
+        all.push(fields.block()?);
     }
-    (!places.1.is_empty()).then_some(places)
+    Some(all)
 }
 
 fn done(status: u8) -> Result<(), Fault> {
@@ -269,6 +322,11 @@ fn fault(status: u8) -> Fault {
 /// What no call answers that is made here.
 fn unknown(status: u8) -> String {
     format!("the library answers status {status}")
+}
+
+/// Why an answer isn't the one that was asked for.
+fn refusal(answer: &[u8]) -> Fault {
+    question::refusal(answer).unwrap_or_else(bad_answers)
 }
 
 fn bad_answers() -> Fault {

@@ -66,7 +66,7 @@ pub trait Log {
 impl Log for Vec<u8> {
     fn keep(&mut self, ready: &Ready) -> io::Result<()> {
         let header = &self[..HEADER.min(self.len())];
-        match Place::of(ready, header, records::whole(self) as u64) {
+        match Place::of(ready, header, records::whole(self).0 as u64) {
             Some(Place::Instead) => self.clear(),
             Some(Place::Behind) => {}
             Some(Place::There) => return Ok(()),

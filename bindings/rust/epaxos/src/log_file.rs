@@ -1,6 +1,7 @@
 //! A log in a file.
 #![forbid(unsafe_code)]
 
+use crate::lock::Lock;
 use crate::place::Place;
 use crate::records::{self, HEADER};
 use crate::{Log, Ready};
@@ -45,10 +46,6 @@ pub struct LogFile {
     has_failed: bool,
     _lock: Lock,
 }
-
-/// A lock that is held.
-#[derive(Debug)]
-struct Lock(File);
 
 impl LogFile {
     /// That of a replica that begins. [`keep`](Log::keep) makes the file, with the log's beginning in it: a start that ends before leaves none.
@@ -104,7 +101,7 @@ impl LogFile {
     }
 
     fn of(path: &Path, file: Option<File>, log: &[u8], lock: Lock) -> LogFile {
-        let (header, bytes) = (log[..HEADER.min(log.len())].to_vec(), records::whole(log) as u64);
+        let (header, bytes) = (log[..HEADER.min(log.len())].to_vec(), records::whole(log).0 as u64);
         LogFile { path: path.into(), file, header, bytes, writer: None, has_failed: false, _lock: lock }
     }
 
@@ -188,13 +185,6 @@ impl Log for LogFile {
     }
 }
 
-impl Drop for Lock {
-    /// A process that is just being started may still have the lock's file open.
-    fn drop(&mut self) {
-        let _ = self.0.unlock();
-    }
-}
-
 /// The path of a file beside this one: its name, and this behind it.
 fn beside(path: &Path, end: &str) -> PathBuf {
     let mut name = path.as_os_str().to_os_string();
@@ -205,16 +195,11 @@ fn beside(path: &Path, end: &str) -> PathBuf {
 /// A lock that another program, or another thread, may not have too.
 fn lock(path: &Path) -> io::Result<Lock> {
     let name = beside(path, ".lock");
-    let lock = OpenOptions::new().write(true).create(true).truncate(false).open(&name);
-    let lock = lock.map_err(|error| match error.kind() {
-        ErrorKind::NotFound => refused(error.kind(), path, NO_FOLDER),
-        _ => named(&name, &error),
-    })?;
-    match lock.try_lock() {
-        Ok(()) => Ok(Lock(lock)),
-        Err(TryLockError::WouldBlock) => Err(refused(ErrorKind::WouldBlock, path, IN_USE)),
-        Err(TryLockError::Error(error)) => Err(named(&name, &error)),
-    }
+    Lock::take(&name).map_err(|refusal| match refusal {
+        TryLockError::WouldBlock => refused(ErrorKind::WouldBlock, path, IN_USE),
+        TryLockError::Error(error) if error.kind() == ErrorKind::NotFound => refused(error.kind(), path, NO_FOLDER),
+        TryLockError::Error(error) => named(&name, &error),
+    })
 }
 
 /// Why there is no log, behind the file's name, and what to do.
@@ -230,7 +215,7 @@ fn refused(kind: ErrorKind, path: &Path, why: &str) -> io::Error {
 }
 
 /// What the system says, behind the file's name.
-fn named(path: &Path, error: &io::Error) -> io::Error {
+pub(crate) fn named(path: &Path, error: &io::Error) -> io::Error {
     io::Error::new(error.kind(), format!("{}: {error}", path.display()))
 }
 

@@ -36,9 +36,9 @@ pub enum OpenFault {
     BadLog(String),
     /// The bytes are no opening, or one for another number of replicas: why.
     BadOpening(String),
-    /// There is no program that could be started: what was looked for.
-    NoCore(String),
-    /// The core has ended before it said a word, and this is what it said on its fault output.
+    /// The library that the crate was built with is of another version.
+    OtherLibrary,
+    /// The library answers what no call of its should: what that is.
     Ended(String),
 }
 
@@ -57,8 +57,8 @@ impl fmt::Display for OpenFault {
             }
             OpenFault::BadLog(why) => write!(f, "the log can't be gone on from: {why}"),
             OpenFault::BadOpening(why) => write!(f, "the opening is refused: {why}"),
-            OpenFault::NoCore(what) => write!(f, "there is no core: {what}"),
-            OpenFault::Ended(what) => write!(f, "the core has ended: {what}"),
+            OpenFault::OtherLibrary => f.write_str("the library that the crate was built with is of another version"),
+            OpenFault::Ended(what) => write!(f, "the core is of no use any more: {what}"),
         }
     }
 }

@@ -1,8 +1,8 @@
 //! What may be sent and told.
 #![forbid(unsafe_code)]
 
-use crate::records::Follower;
-use crate::wire::Told;
+use crate::followed::Followed;
+use crate::report::Report;
 use crate::{Executed, Frame, Instance, Leading, OpenInstance, Proposed, Receipt};
 
 /// What may be sent and told, now that what it rests on is on the disk. Each thing is told once, in the order of the entries.
@@ -24,13 +24,13 @@ use crate::{Executed, Frame, Instance, Leading, OpenInstance, Proposed, Receipt}
 /// # Ok::<(), Box<dyn std::error::Error>>(())
 /// ```
 pub struct Output<'a> {
-    told: Told<'a>,
-    follower: &'a Follower,
+    told: Report<'a>,
+    followed: Followed<'a>,
 }
 
 impl<'a> Output<'a> {
-    pub(crate) fn new(told: Told<'a>, follower: &'a Follower) -> Output<'a> {
-        Output { told, follower }
+    pub(crate) fn new(told: Report<'a>, followed: Followed<'a>) -> Output<'a> {
+        Output { told, followed }
     }
 
     /// How many entries there are, all of which were told with this. A host that keeps the number beside the log can have a start go on
@@ -82,7 +82,7 @@ impl<'a> Output<'a> {
     /// # }
     /// ```
     pub fn proposed(&self) -> impl ExactSizeIterator<Item = Proposed> + use<'a> {
-        self.follower.proposed()
+        self.followed.proposed()
     }
 
     /// The instances that got committed, own and others': they may be executed, once what they depend on is committed too.
@@ -106,7 +106,12 @@ impl<'a> Output<'a> {
     /// # }
     /// ```
     pub fn executed(&self) -> impl ExactSizeIterator<Item = Executed<'a>> + use<'a> {
-        self.follower.executed()
+        self.followed.executed()
+    }
+
+    /// The instances that were executed, also where it is told again by a report.
+    pub(crate) fn executed_instances(&self) -> impl Iterator<Item = Instance> + use<'a> {
+        self.told.executed()
     }
 
     /// The least instances that are open, in rising order, as many as [`ready_with_open`](crate::Replica::ready_with_open) was asked for.

@@ -2,7 +2,7 @@
 #![forbid(unsafe_code)]
 
 use crate::Begin;
-use crate::core::Lent;
+use crate::lent::Lent;
 use crate::records::HEADER;
 use std::sync::atomic::{AtomicU64, Ordering};
 

@@ -1,16 +1,10 @@
 //! When to wait no longer.
 #![forbid(unsafe_code)]
 
-#[cfg(has_library)]
 use crate::ffi::PatienceHandle as Handle;
+use crate::status::{DONE, MEMORY, OUT_OF_RANGE};
 use crate::{Cluster, Event, Fault, Instance, OpenFault, OpenInstance, Phase};
-#[cfg(not(has_library))]
-use none::Handle;
 
-/// The statuses of bindings/c/epaxos.h that are told apart here.
-const DONE: u8 = 0;
-const MEMORY: u8 = 1;
-const OUT_OF_RANGE: u8 = 3;
 /// The kind of a request that gives up.
 const GIVE_UP: u8 = 3;
 /// In place of a phase: a peer tells that the instance is committed.
@@ -47,14 +41,13 @@ impl Waits {
 }
 
 /// Tells when to give up and when to recover, without a clock: it is handed the time, how long peers take to answer, and what is open. It is the library's
-/// proved one, so the crate has to be built with the library ([`Core::has_library`](crate::Core::has_library)); the replica's own core may be a process.
+/// proved one.
 ///
 /// Any answer would be safe; it is a question of time alone. What comes in time is neither given up nor
 /// recovered while as many members are reached as it needs.
 ///
 /// ```
 /// # let mut log = Vec::new();
-/// # if !epaxos::Core::has_library() { return Ok(()) }
 /// use epaxos::{Call, Cluster, Command, Patience, Replica, Waits};
 ///
 /// let mut replica = Replica::new(Cluster::Three, 0)?;
@@ -83,12 +76,12 @@ impl Patience {
     ///
     /// # Errors
     ///
-    /// [`OpenFault::NoCore`] where the crate was built without the library, [`OpenFault::OutOfRange`], [`OpenFault::Memory`].
+    /// [`OpenFault::OutOfRange`], [`OpenFault::Memory`], [`OpenFault::OtherLibrary`].
     ///
     /// ```
-    /// # use epaxos::{Cluster, Core, Patience, Waits};
+    /// # use epaxos::{Cluster, Patience, Waits};
     /// let patience = Patience::new(Cluster::Five, 3, Waits::MICROSECONDS, 3);
-    /// assert_eq!(patience.is_ok(), Core::has_library());
+    /// assert!(patience.is_ok());
     /// assert!(Patience::new(Cluster::Five, 5, Waits::MICROSECONDS, 3).is_err());
     /// ```
     pub fn new(cluster: Cluster, me: u8, waits: Waits, seed: u64) -> Result<Patience, OpenFault> {
@@ -99,9 +92,7 @@ impl Patience {
             }
             Err(MEMORY) => Err(OpenFault::Memory),
             Err(OUT_OF_RANGE) => Err(OpenFault::OutOfRange),
-            Err(_) => Err(OpenFault::NoCore(
-                "the crate was built without the library of its version, which tells when to wait no longer".into(),
-            )),
+            Err(_) => Err(OpenFault::OtherLibrary),
         }
     }
 
@@ -115,7 +106,7 @@ impl Patience {
     ///
     /// ```
     /// # use epaxos::{Cluster, Patience, Waits};
-    /// # let Ok(mut patience) = Patience::new(Cluster::Three, 0, Waits::MICROSECONDS, 1) else { return };
+    /// # let mut patience = Patience::new(Cluster::Three, 0, Waits::MICROSECONDS, 1).unwrap();
     /// assert!(patience.measure(1, 150_000).is_ok() && patience.measure(7, 1).is_err());
     /// ```
     pub fn measure(&mut self, peer: u8, took: u32) -> Result<(), Fault> {
@@ -130,7 +121,7 @@ impl Patience {
     ///
     /// ```
     /// # use epaxos::{Cluster, Patience, Waits};
-    /// # let Ok(mut patience) = Patience::new(Cluster::Three, 0, Waits::MICROSECONDS, 1) else { return };
+    /// # let mut patience = Patience::new(Cluster::Three, 0, Waits::MICROSECONDS, 1).unwrap();
     /// assert!(patience.reach(2, false).is_ok());
     /// ```
     pub fn reach(&mut self, peer: u8, is_reached: bool) -> Result<(), Fault> {
@@ -141,7 +132,7 @@ impl Patience {
     ///
     /// ```
     /// # use epaxos::{Cluster, Patience, Waits};
-    /// # let Ok(mut patience) = Patience::new(Cluster::Three, 0, Waits::MICROSECONDS, 1) else { return };
+    /// # let mut patience = Patience::new(Cluster::Three, 0, Waits::MICROSECONDS, 1).unwrap();
     /// patience.hurry();
     /// ```
     pub fn hurry(&mut self) {
@@ -157,7 +148,7 @@ impl Patience {
     ///
     /// ```
     /// # use epaxos::{Cluster, Instance, Patience, Waits};
-    /// # let Ok(mut patience) = Patience::new(Cluster::Three, 0, Waits::MICROSECONDS, 1) else { return };
+    /// # let mut patience = Patience::new(Cluster::Three, 0, Waits::MICROSECONDS, 1).unwrap();
     /// assert!(patience.put_off(Instance { replica: 1, number: 1 }, 3, 1_000).is_ok());
     /// ```
     pub fn put_off(&mut self, instance: Instance, ballot: u16, now: u64) -> Result<(), Fault> {
@@ -173,7 +164,7 @@ impl Patience {
     ///
     /// ```
     /// # use epaxos::{Cluster, Event, Instance, OpenInstance, Patience, Waits};
-    /// # let Ok(mut patience) = Patience::new(Cluster::Three, 0, Waits::MICROSECONDS, 1) else { return };
+    /// # let mut patience = Patience::new(Cluster::Three, 0, Waits::MICROSECONDS, 1).unwrap();
     /// let open = OpenInstance { instance: Instance { replica: 1, number: 1 }, since: None, led: None, spared: None };
     /// assert_eq!(patience.turn(0, &[open], &[]), Ok(vec![]));
     /// // once to twice the time-out of a peer that was never measured, and the way to the leader
@@ -205,7 +196,7 @@ impl Patience {
     ///
     /// ```
     /// # use epaxos::{Cluster, Patience, Waits};
-    /// # let Ok(mut patience) = Patience::new(Cluster::Three, 0, Waits::MICROSECONDS, 1) else { return };
+    /// # let mut patience = Patience::new(Cluster::Three, 0, Waits::MICROSECONDS, 1).unwrap();
     /// assert_eq!(patience.next_due(), None);
     /// ```
     pub fn next_due(&mut self) -> Option<u64> {
@@ -242,47 +233,4 @@ fn phase(open: &OpenInstance) -> u8 {
 
 fn answers(open: &OpenInstance) -> u8 {
     open.led.map_or(0, |led| led.answers)
-}
-
-/// What stands for the library where there is none: nothing is begun.
-#[cfg(not(has_library))]
-mod none {
-    use crate::{Instance, Waits};
-
-    #[derive(Debug)]
-    pub(super) enum Handle {}
-
-    impl Handle {
-        pub(super) fn begin(_replicas: u8, _me: u8, _waits: Waits, _seed: u64) -> Result<Handle, u8> {
-            Err(u8::MAX)
-        }
-
-        pub(super) fn measure(&mut self, _peer: u8, _took: u32) -> u8 {
-            match *self {}
-        }
-
-        pub(super) fn reach(&mut self, _peer: u8, _is_reached: bool) -> u8 {
-            match *self {}
-        }
-
-        pub(super) fn hurry(&mut self) -> u8 {
-            match *self {}
-        }
-
-        pub(super) fn put_off(&mut self, _instance: Instance, _ballot: u16, _now: u64) -> u8 {
-            match *self {}
-        }
-
-        pub(super) fn turn(&mut self, _now: u64, _open: &[u8]) -> u8 {
-            match *self {}
-        }
-
-        pub(super) fn late(&self) -> &[u8] {
-            match *self {}
-        }
-
-        pub(super) fn due(&mut self) -> Option<u64> {
-            match *self {}
-        }
-    }
 }

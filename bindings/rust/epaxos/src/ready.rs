@@ -1,7 +1,7 @@
 //! What is to be put on the disk.
 #![forbid(unsafe_code)]
 
-use crate::core::Lent;
+use crate::lent::Lent;
 use crate::own_log::OwnLog;
 use crate::{CommitFault, Fault, Log, Output, Replica, Writing};
 

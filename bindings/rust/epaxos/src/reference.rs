@@ -1,15 +1,14 @@
 //! What a generation opens with, by the log that leaves it.
 #![forbid(unsafe_code)]
 
-use crate::bytes::Fields;
+use crate::ffi;
 use crate::records::HEADER;
 use crate::{Cluster, OutOfRange, Sum};
 
-const MAGIC: &[u8; 4] = b"EPOR";
 const BINDING: &[u8; 4] = b"EPOB";
 const VERSION: u8 = 3;
-/// How many bytes stand before the digest.
-const BODY: usize = 50;
+/// Where the log's sum stands.
+const SUM_AT: usize = 18;
 
 /// A reference: a generation opens with what the log of the generation before, of so many bytes and with this SHA-256, leaves.
 ///
@@ -36,7 +35,7 @@ pub struct Reference {
 
 impl Reference {
     /// How many bytes a reference has.
-    pub const BYTES: usize = BODY + 32;
+    pub const BYTES: usize = 82;
 
     /// That of a generation of this cluster, to a log of so many bytes.
     ///
@@ -76,17 +75,9 @@ impl Reference {
         self.sum
     }
 
-    fn body(&self) -> Vec<u8> {
-        let mut body = [&MAGIC[..], &[VERSION, self.cluster.replicas()]].concat();
-        body.extend(self.generation.to_be_bytes());
-        body.extend(self.length.to_be_bytes());
-        body.extend(self.sum);
-        body
-    }
-
     /// The digest that the generation's log names.
     pub fn digest(&self) -> [u8; 32] {
-        Sum::of(&self.body())
+        self.bytes().last_chunk().copied().unwrap_or_default()
     }
 
     /// The bytes of the file.
@@ -98,8 +89,10 @@ impl Reference {
     /// # Ok::<(), epaxos::OutOfRange>(())
     /// ```
     pub fn bytes(&self) -> Vec<u8> {
-        let mut bytes = self.body();
-        bytes.extend(self.digest());
+        let mut bytes = vec![0; Reference::BYTES];
+        let Reference { cluster, generation, length, sum } = *self;
+        // (its ranges were looked at as it was made)
+        ffi::reference((cluster.replicas(), generation, length), &sum, &mut bytes);
         bytes
     }
 
@@ -109,15 +102,9 @@ impl Reference {
     /// assert_eq!(epaxos::Reference::read(b"EPOR"), None);
     /// ```
     pub fn read(bytes: &[u8]) -> Option<Reference> {
-        let mut fields = Fields::new(bytes);
-        if fields.run(MAGIC.len())? != MAGIC || fields.u8()? != VERSION {
-            return None;
-        }
-        let cluster = Cluster::try_from(fields.u8()?).ok()?;
-        let (generation, length) = (fields.u32()?, fields.u64()?);
-        let sum = *fields.run(32)?.first_chunk()?;
-        let reference = Reference::new(cluster, generation, length, sum).ok()?;
-        (bytes == reference.bytes()).then_some(reference)
+        let head = ffi::read_reference(bytes)?;
+        let sum = *bytes.get(SUM_AT..)?.first_chunk()?;
+        Reference::new(Cluster::try_from(head.replicas).ok()?, head.generation, head.length, sum).ok()
     }
 
     /// Whether these are the bytes of the log that it names, from its first: as many, with its sum.
@@ -148,6 +135,11 @@ impl Reference {
     /// # Ok::<(), epaxos::OutOfRange>(())
     /// ```
     pub fn binding(&self, opening: &[u8; 32]) -> Vec<u8> {
-        [&BINDING[..], &[VERSION], &self.digest(), opening].concat()
+        binding(&self.digest(), opening)
     }
+}
+
+/// What says that the opening of the second digest is what the reference of the first one stood for.
+pub(crate) fn binding(reference: &[u8; 32], opening: &[u8; 32]) -> Vec<u8> {
+    [&BINDING[..], &[VERSION], reference, opening].concat()
 }

@@ -1,14 +1,17 @@
 //! A replica.
 #![forbid(unsafe_code)]
 
-use crate::core::{Host, Lent};
+use crate::followed::Followed;
+use crate::lent::Lent;
+use crate::library::{Library, SAID};
 use crate::own_log::OwnLog;
 use crate::past::Past;
-use crate::records::Follower;
-use crate::wire::Told;
+use crate::question::{self, Question};
+use crate::report::Report;
 use crate::{
-    Begin, Call, Checkpoint, CloseFault, Cluster, Command, Contents, Event, Fault, Instance, OpenFault, OutOfRange,
-    Output, Ready, Reference, Setup, State, SucceedFault, Succession, Written, found,
+    Begin, Call, Checkpoint, CloseFault, Cluster, Command, Contents, Event, Fault, Instance, LONGEST_KEY, MOST_FOUND,
+    OpenFault, OutOfRange, Output, OwnedReading, Reading, Ready, Reference, Setup, State, SucceedFault, Succession,
+    Written,
 };
 use std::cell::Cell;
 use std::fmt;
@@ -31,14 +34,7 @@ use std::marker::PhantomData;
 /// is_sync::<epaxos::Replica>();
 /// ```
 pub struct Replica {
-    host: Box<dyn Host>,
-    follower: Follower,
-    /// One that has found nothing.
-    idle: Follower,
-    /// Whether what the follower found was told.
-    is_told: bool,
-    /// How many of the bytes that are lent next the follower has gone over.
-    passed: usize,
+    library: Library,
     /// How many entries were told.
     told: u32,
     cut: u64,
@@ -64,7 +60,7 @@ impl Replica {
     ///
     /// # Errors
     ///
-    /// [`OpenFault::OutOfRange`] where the number isn't below the cluster's size; [`OpenFault::NoCore`].
+    /// [`OpenFault::OutOfRange`] where the number isn't below the cluster's size; [`OpenFault::Memory`].
     ///
     /// ```
     /// use epaxos::{Cluster, Replica};
@@ -106,7 +102,7 @@ impl Replica {
     }
 
     pub(crate) fn begun(setup: &Setup, log: Option<&[u8]>) -> Result<Replica, OpenFault> {
-        let Setup { cluster, me, opening, reference, .. } = *setup;
+        let Setup { cluster, me, opening, reference, told } = *setup;
         if me >= cluster.replicas() {
             return Err(OpenFault::OutOfRange);
         }
@@ -114,14 +110,10 @@ impl Replica {
         if let Some(reference) = reference {
             begin.check(&reference)?;
         }
-        let host = found::start(&setup.core, &begin)?;
-        let Past { follower, passed, told, cut } = Past::of(log, setup.told)?;
+        let library = Library::open(&begin)?;
+        let Past { told, cut } = Past::of(log, told)?;
         Ok(Replica {
-            host,
-            follower,
-            idle: Follower::default(),
-            is_told: false,
-            passed,
+            library,
             told,
             cut,
             own_log: OwnLog::of(&begin),
@@ -183,10 +175,9 @@ impl Replica {
     /// [`SucceedFault`]: but for [`Memory`](SucceedFault::Memory) and [`Log`](SucceedFault::Log), by which the replica is gone, it is as it was.
     ///
     /// ```
-    /// use epaxos::{Call, Cluster, Command, Core, Instance, Replica, Succession, SucceedFault, Sum};
+    /// use epaxos::{Call, Cluster, Command, Instance, Replica, Succession, SucceedFault, Sum};
     ///
     /// # fn main() -> Result<(), Box<dyn std::error::Error>> {
-    /// # if !Core::has_library() || std::env::var_os("EPAXOS").is_some() { return Ok(()) }
     /// # let (mut log, mut log_of_one) = (Vec::new(), Vec::new());
     /// let mut zero = Replica::new(Cluster::Three, 0)?;
     /// let mut one = Replica::new(Cluster::Three, 1)?;
@@ -229,24 +220,23 @@ impl Replica {
             return Err(SucceedFault::OtherReference);
         }
         let past = Past::of(log, told).map_err(SucceedFault::Log)?;
-        let checkpoint = Checkpoint::of(self.host.succeed(succession)?);
-        let Past { follower, passed, told, cut } = past;
-        (self.follower, self.passed, self.told, self.cut) = (follower, passed, told, cut);
+        let checkpoint = Checkpoint::of(self.library.succeed(succession)?);
+        (self.told, self.cut) = (past.told, past.cut);
         (self.own_log, self.end) = (OwnLog::begun(me, reference.generation()), 0);
-        (self.is_told, self.replicas) = (false, cluster.replicas());
+        self.replicas = cluster.replicas();
         Ok(checkpoint)
     }
 
-    /// What the core has told people: lines, mostly none. A program that isn't proved says so here.
+    /// What people are to be told of the core, or nothing: a library that isn't proved says so here.
     ///
     /// ```
     /// # use epaxos::{Cluster, Replica};
     /// let replica = Replica::new(Cluster::Three, 0)?;
-    /// eprint!("{}", replica.said());
+    /// eprintln!("{}", replica.said());
     /// # Ok::<(), epaxos::OpenFault>(())
     /// ```
-    pub fn said(&self) -> String {
-        self.host.said()
+    pub fn said(&self) -> &'static str {
+        SAID
     }
 
     /// Takes an event, of which nothing is told before it is on the disk.
@@ -265,11 +255,11 @@ impl Replica {
     /// # Ok::<(), Box<dyn std::error::Error>>(())
     /// ```
     pub fn take(&mut self, event: &Event) -> Result<(), Fault> {
-        self.host.take(event)
+        self.library.take(event)
     }
 
     /// Takes events, one after the other, and tells of each what came of it: what is refused changes nothing, and the next one is taken all the
-    /// same. Where the core is a process, this asks for many with one write.
+    /// same.
     ///
     /// ```
     /// # let mut log = Vec::new();
@@ -281,7 +271,7 @@ impl Replica {
     /// # Ok::<(), Box<dyn std::error::Error>>(())
     /// ```
     pub fn take_all(&mut self, events: &[Event]) -> Vec<Result<(), Fault>> {
-        self.host.take_all(events)
+        events.iter().map(|event| self.take(event)).collect()
     }
 
     /// Proposes a client's command. Its instance is told by [`Output::proposed`], and its answer by [`Output::receipts`].
@@ -422,7 +412,7 @@ impl Replica {
     /// # Ok::<(), Box<dyn std::error::Error>>(())
     /// ```
     pub fn advance(&mut self) -> Result<(), Fault> {
-        self.host.advance()
+        self.library.advance()
     }
 
     /// Executes all instances that are ready, others' too: before a local read, or where a machine of one's own is to keep up.
@@ -440,7 +430,7 @@ impl Replica {
     /// # Ok::<(), Box<dyn std::error::Error>>(())
     /// ```
     pub fn execute_all(&mut self) -> Result<(), Fault> {
-        self.host.execute_all()
+        self.library.execute_all()
     }
 
     /// What all that was taken leaves to be done: bytes for the log first, then frames and receipts.
@@ -483,25 +473,14 @@ impl Replica {
     /// # Ok::<(), Box<dyn std::error::Error>>(())
     /// ```
     pub fn ready_with_open(&mut self, most: u8) -> Result<Ready<'_>, Fault> {
-        self.host.lend()?;
-        if self.is_told {
-            self.follower.clear();
-            self.is_told = false;
-        }
-        self.own_log.lent(self.host.lent());
-        self.end = self.own_log.with(self.host.lent());
-        let lent = self.host.lent().bytes;
-        let records = lent.get(self.passed..).unwrap_or_default();
-        if !records.is_empty() {
-            let followed = self.follower.follow(records);
-            self.passed = lent.len();
-            followed.ok_or_else(|| Fault::Ended("its records can't be followed".into()))?;
-        }
+        self.library.lend()?;
+        self.own_log.lent(self.library.lent());
+        self.end = self.own_log.with(self.library.lent());
         Ok(Ready::new(self, most))
     }
 
     pub(crate) fn lent(&self) -> Lent<'_> {
-        self.host.lent()
+        self.library.lent()
     }
 
     pub(crate) fn own_log(&self) -> &OwnLog {
@@ -509,23 +488,22 @@ impl Replica {
     }
 
     pub(crate) fn synced(&mut self, most: u8) -> Result<Output<'_>, Fault> {
-        self.host.sync()?;
+        self.library.sync()?;
         self.own_log.bytes = self.end;
-        self.passed = 0;
         if std::mem::take(&mut self.is_begun) {
-            self.host.release()?;
+            self.library.release()?;
         } else {
-            self.host.tell(self.told, most)?;
+            self.library.tell(self.told, most)?;
         }
-        let told = Told::read(self.host.told()).ok_or_else(bad_report)?;
+        let told = Report::read(self.library.told()).ok_or_else(bad_report)?;
+        let followed = Followed::read(self.library.followed()).ok_or_else(bad_report)?;
         self.told = told.entries;
-        self.is_told = true;
-        Ok(Output::new(told, &self.follower))
+        Ok(Output::new(told, followed))
     }
 
     pub(crate) fn begin(&mut self, most: u8) -> Result<(), Fault> {
         if !self.is_begun {
-            self.host.begin(self.told, most)?;
+            self.library.begin(self.told, most)?;
             self.is_begun = true;
         }
         Ok(())
@@ -574,12 +552,13 @@ impl Replica {
     /// # Ok::<(), Box<dyn std::error::Error>>(())
     /// ```
     pub fn report(&mut self, after: u32, most: u8) -> Result<Output<'_>, Fault> {
-        self.host.tell(after, most)?;
-        let told = Told::read(self.host.told()).ok_or_else(bad_report)?;
-        Ok(Output::new(told, &self.idle))
+        self.library.tell_again(after, most)?;
+        let told = Report::read(self.library.told()).ok_or_else(bad_report)?;
+        Ok(Output::new(told, Followed::default()))
     }
 
-    /// What this replica's map has at the key, after all that was executed here: a local read, which may be old. A client's read is a command.
+    /// What this replica's map has at the key, after all that was executed here: a local read, which may be old. A
+    /// client's read is a command, or a [`read`](Replica::read).
     ///
     /// # Errors
     ///
@@ -595,7 +574,96 @@ impl Replica {
     /// # Ok::<(), Box<dyn std::error::Error>>(())
     /// ```
     pub fn get(&mut self, key: &[u8]) -> Result<Option<&[u8]>, Fault> {
-        self.host.get(key)
+        self.library.get(key)
+    }
+
+    /// Which instances interfere with a read of each of these keys, in rising order: those of all writes of the key,
+    /// and of all seals, that this replica has recorded, whether committed or not. It is one of F + 1 answers that a
+    /// [`read`](Replica::read) is given.
+    ///
+    /// # Errors
+    ///
+    /// [`Fault::Unsynced`], [`Fault::OutOfRange`], as [`get`](Replica::get); [`Fault::Memory`].
+    ///
+    /// ```
+    /// # let mut log = Vec::new();
+    /// # use epaxos::{Call, Cluster, Command, Replica};
+    /// let mut replica = Replica::new(Cluster::Three, 0)?;
+    /// replica.ready()?.commit(&mut log)?;             // its log comes first
+    /// replica.propose(Call::new(1, 1), Command::Put { key: b"x", value: b"1" })?;
+    /// replica.ready()?.commit(&mut log)?;
+    /// let found = replica.interfering(&[b"x", b"y"])?;
+    /// assert_eq!((found[0][0].to_string(), found[1].len()), ("0.1".into(), 0));
+    /// # Ok::<(), Box<dyn std::error::Error>>(())
+    /// ```
+    pub fn interfering(&mut self, keys: &[&[u8]]) -> Result<Vec<Vec<Instance>>, Fault> {
+        keys.iter().try_for_each(|key| check_key(key))?;
+        let questions: Vec<Question> = keys.iter().map(|key| Question::Interfering(key)).collect();
+        let mut found = Vec::with_capacity(keys.len());
+        self.library
+            .ask_all(&questions, &mut |answer| question::interfering(answer).map(|it| found.push(it)).is_some())?;
+        Ok(found)
+    }
+
+    /// Clients' reads of keys that write nothing, each as good as the command: it stands behind all that was answered
+    /// when it was asked for. It takes no instance, no entry and no frame.
+    ///
+    /// Each key comes with what was found for it: the union of what F + 1 replicas were asked for, *after* the client
+    /// asked: [`interfering`](Replica::interfering) at each of them, of which this one may be one; F is 1 of three
+    /// replicas, 2 of five, 3 of seven. How a replica's host asks another one is yours; the question names the
+    /// generation. One answer is for all reads of the key that were asked for before its question was sent, and for
+    /// none that was asked for later.
+    ///
+    /// Where a read [waits](crate::ReadingOf::Waits), execute what is ready ([`execute_all`](Replica::execute_all)),
+    /// and once that instance is executed read again, with the same instances; where it stays open it is recovered as any
+    /// other is. Where the generation is [closed](crate::ReadingOf::Closed), ask anew in the next one, the replicas
+    /// too.
+    ///
+    /// # Errors
+    ///
+    /// [`Fault::Unsynced`], as [`get`](Replica::get); [`Fault::OutOfRange`] of a key or an instance that can't be, or
+    /// of more than [`MOST_FOUND`] of them; [`Fault::Memory`].
+    ///
+    /// ```
+    /// use epaxos::{Call, Cluster, Command, OwnedReading, Replica};
+    ///
+    /// # let (mut log, mut log_of_one) = (Vec::new(), Vec::new());
+    /// let mut zero = Replica::new(Cluster::Three, 0)?;
+    /// let mut one = Replica::new(Cluster::Three, 1)?;
+    /// zero.ready()?.commit(&mut log)?;
+    /// one.ready()?.commit(&mut log_of_one)?;
+    /// zero.propose(Call::new(1, 1), Command::Put { key: b"x", value: b"1" })?;
+    /// let frame = zero.ready()?.commit(&mut log)?.frames().next().unwrap().bytes.to_vec();
+    /// one.handle(&frame)?;
+    /// let answer = one.ready()?.commit(&mut log_of_one)?.frames().next().unwrap().bytes.to_vec();
+    /// zero.handle(&answer)?;
+    /// zero.execute_all()?;                            // the put is done, as its client is told
+    /// let commit = zero.ready()?.commit(&mut log)?.frames().next().unwrap().bytes.to_vec();
+    ///
+    /// // A client asks replica 1 for x, which hasn't heard that the put is committed.
+    /// let mut found = one.interfering(&[b"x"])?.concat();
+    /// found.extend(zero.interfering(&[b"x"])?.concat());      // (by a message, and its answer)
+    /// found.sort();
+    /// found.dedup();
+    /// assert_eq!(one.read(&[(b"x", &found)])?, [OwnedReading::Waits(found[0])]);
+    /// one.handle(&commit)?;
+    /// one.execute_all()?;
+    /// one.ready()?.commit(&mut log_of_one)?;
+    /// assert_eq!(one.read(&[(b"x", &found)])?, [OwnedReading::Present(b"1".into())]);
+    /// # Ok::<(), Box<dyn std::error::Error>>(())
+    /// ```
+    pub fn read(&mut self, reads: &[(&[u8], &[Instance])]) -> Result<Vec<OwnedReading>, Fault> {
+        for (key, found) in reads {
+            check_key(key)?;
+            if found.len() > MOST_FOUND {
+                return Err(Fault::OutOfRange);
+            }
+        }
+        let questions: Vec<Question> = reads.iter().map(|(key, found)| Question::Read { key, found }).collect();
+        let mut told = Vec::with_capacity(reads.len());
+        self.library
+            .ask_all(&questions, &mut |answer| Reading::read(answer).map(|it| told.push(it.to_owned())).is_some())?;
+        Ok(told)
     }
 
     /// What all keys of this replica's map have, after all that was executed here: a local read, as [`get`](Replica::get). It takes a copy of the map.
@@ -615,7 +683,7 @@ impl Replica {
     /// # Ok::<(), Box<dyn std::error::Error>>(())
     /// ```
     pub fn contents(&mut self) -> Result<Contents<'_>, Fault> {
-        Contents::read(self.host.contents()?).ok_or_else(bad_report)
+        Contents::read(self.library.contents()?).ok_or_else(bad_report)
     }
 
     /// How many entries of a peer this replica knows of: the greatest number among the entries whose frames it has handled, 0 where it has handled none. It is in
@@ -644,7 +712,7 @@ impl Replica {
         if peer >= self.replicas {
             return Err(Fault::OutOfRange);
         }
-        self.host.handled(peer)
+        self.library.handled(peer)
     }
 
     /// How far it is in its generation.
@@ -662,7 +730,7 @@ impl Replica {
     /// # Ok::<(), Box<dyn std::error::Error>>(())
     /// ```
     pub fn state(&mut self) -> Result<State, Fault> {
-        self.host.state()
+        self.library.state()
     }
 
     /// Closes the generation, once a seal was executed: the opening of the next one, for so many replicas. Keep it on the disk, begin each replica with it
@@ -686,15 +754,11 @@ impl Replica {
     /// # Ok(()) }
     /// ```
     pub fn close(mut self, next: Cluster) -> Result<Vec<u8>, (Box<Replica>, CloseFault)> {
-        match self.host.close(next) {
-            Ok(opening) => Ok(opening),
-            Err(fault) => Err((Box::new(self), fault)),
-        }
+        self.next_opening(next).map_err(|fault| (Box::new(self), fault))
     }
 
     /// The same, where the replica goes on: peers that lag may still need its answers. So the next generation can be made ready meanwhile: write the
-    /// opening beside its place, and begin a replica with it. Before that one's log is on the disk, let this one go: it must not act any more then. None
-    /// where the core is a process, which ends as it closes.
+    /// opening beside its place, and begin a replica with it. Before that one's log is on the disk, let this one go: it must not act any more then.
     ///
     /// # Errors
     ///
@@ -706,15 +770,16 @@ impl Replica {
     /// # let mut log = Vec::new();
     /// let mut replica = Replica::new(Cluster::Three, 0)?;
     /// replica.ready()?.commit(&mut log)?;
-    /// match replica.next_opening(Cluster::Three) {
-    ///     Err(fault) => assert_eq!(fault, CloseFault::NotSealed),
-    ///     Ok(opening) => assert_eq!(opening, None),           // the core is a process
-    /// }
+    /// assert_eq!(replica.next_opening(Cluster::Three), Err(CloseFault::NotSealed));
     /// # Ok::<(), Box<dyn std::error::Error>>(())
     /// ```
-    pub fn next_opening(&mut self, next: Cluster) -> Result<Option<Vec<u8>>, CloseFault> {
-        if self.host.outlives_close() { self.host.close(next).map(Some) } else { Ok(None) }
+    pub fn next_opening(&mut self, next: Cluster) -> Result<Vec<u8>, CloseFault> {
+        self.library.close(next)
     }
+}
+
+fn check_key(key: &[u8]) -> Result<(), Fault> {
+    if (1..=LONGEST_KEY).contains(&key.len()) { Ok(()) } else { Err(Fault::OutOfRange) }
 }
 
 fn bad_report() -> Fault {

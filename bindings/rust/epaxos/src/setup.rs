@@ -1,7 +1,7 @@
 //! How a replica is begun.
 #![forbid(unsafe_code)]
 
-use crate::{Cluster, Core, OpenFault, Reference, Replica};
+use crate::{Cluster, OpenFault, Reference, Replica};
 
 /// How a replica is begun, or gone on with, where [`Replica::new`] and [`Replica::open`] don't say enough.
 ///
@@ -30,8 +30,6 @@ pub struct Setup<'a> {
     /// How many entries of the log were told before: behind them the first [`Output`](crate::Output) begins. None: all that the log has. More than the log
     /// has are [`OpenFault::Forgotten`].
     pub told: Option<u32>,
-    /// Where its core runs.
-    pub core: Core,
 }
 
 impl<'a> Setup<'a> {
@@ -42,7 +40,7 @@ impl<'a> Setup<'a> {
     /// assert_eq!(Setup::new(Cluster::Five, 4).opening, None);
     /// ```
     pub fn new(cluster: Cluster, me: u8) -> Setup<'a> {
-        Setup { cluster, me, opening: None, reference: None, told: None, core: Core::Found }
+        Setup { cluster, me, opening: None, reference: None, told: None }
     }
 
     /// A replica before any event. Once in the generation: a replica that was lost must not be begun again under its number.

@@ -1,18 +1,48 @@
-//! The statuses of bindings/c/epaxos.h that are told apart here: DONE is EP_DONE. Where a fault has a name's number, that is its status.
+//! The statuses of bindings/c/epaxos.h. Where a fault has a name's number, that is its status.
+//! `tools/generate` writes this file.
+#![allow(dead_code)]
 #![forbid(unsafe_code)]
 
 pub(crate) const DONE: u8 = 0;
 pub(crate) const MEMORY: u8 = 1;
 pub(crate) const OUT_OF_RANGE: u8 = 3;
+pub(crate) const SPACE_FULL: u8 = 4;
+pub(crate) const SEQ_EXHAUSTED: u8 = 5;
+pub(crate) const NOT_LEADING: u8 = 6;
+pub(crate) const TOO_FEW_ANSWERS: u8 = 7;
+pub(crate) const ALREADY_COMMITTED: u8 = 8;
+pub(crate) const BALLOTS_EXHAUSTED: u8 = 9;
 pub(crate) const NOT_COMMITTED: u8 = 10;
+pub(crate) const NOT_A_RUN: u8 = 11;
+pub(crate) const BAD_BUNDLE: u8 = 12;
+pub(crate) const NOT_MINE: u8 = 13;
+pub(crate) const BAD_FRAME: u8 = 14;
+pub(crate) const STAMP_FULL: u8 = 15;
+pub(crate) const NO_GENERATION: u8 = 16;
+pub(crate) const HAS_GENERATION: u8 = 17;
+pub(crate) const LEFT: u8 = 18;
+pub(crate) const OLDER: u8 = 19;
+pub(crate) const OTHER_FILE: u8 = 20;
+pub(crate) const BROKEN: u8 = 21;
 pub(crate) const NO_REPLICA: u8 = 32;
+pub(crate) const HAS_REPLICA: u8 = 33;
 pub(crate) const LENT: u8 = 34;
 pub(crate) const UNSYNCED: u8 = 35;
+pub(crate) const NOT_LENT: u8 = 36;
+pub(crate) const NOT_ALL: u8 = 37;
 pub(crate) const NONE: u8 = 38;
 pub(crate) const TOO_SHORT: u8 = 39;
+pub(crate) const NOT_ONE: u8 = 40;
+pub(crate) const REFUSED: u8 = 41;
 pub(crate) const NOT_SEALED: u8 = 42;
 pub(crate) const LAST_GENERATION: u8 = 43;
+pub(crate) const NO_PATIENCE: u8 = 44;
+pub(crate) const HAS_PATIENCE: u8 = 45;
+pub(crate) const UNTOLD: u8 = 46;
+pub(crate) const NO_CHECKPOINT: u8 = 30;
+pub(crate) const HAS_CHECKPOINT: u8 = 31;
 pub(crate) const NO_LOG: u8 = 48;
+pub(crate) const LOG_EXISTS: u8 = 49;
 pub(crate) const OTHER_LOG: u8 = 50;
 pub(crate) const NO_HEADER: u8 = 51;
 pub(crate) const OTHER_VERSION: u8 = 52;

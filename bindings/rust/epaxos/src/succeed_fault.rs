@@ -37,9 +37,7 @@ pub enum SucceedFault {
     Log(OpenFault),
     /// There is no replica any more: an earlier call has lost it.
     NoReplica,
-    /// The core is a process, which serves one generation. [`close`](crate::Replica::close) it, or take the library.
-    NoLibrary,
-    /// The core is gone, and this is what it said last.
+    /// The library answers what no call of its should: what that is.
     Ended(String),
 }
 
@@ -54,8 +52,7 @@ impl fmt::Display for SucceedFault {
             SucceedFault::OtherReference => f.write_str("the reference is to another log"),
             SucceedFault::Log(fault) => fault.fmt(f),
             SucceedFault::NoReplica => f.write_str("there is no replica"),
-            SucceedFault::NoLibrary => f.write_str("the core is a process, which serves one generation"),
-            SucceedFault::Ended(what) => write!(f, "the core has ended: {what}"),
+            SucceedFault::Ended(what) => write!(f, "the core is of no use any more: {what}"),
         }
     }
 }

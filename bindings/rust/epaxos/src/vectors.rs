@@ -1,16 +1,17 @@
-//! The worked bytes of the repository (examples/*.txt), to which all who write or read them are held.
+//! The worked bytes of the repository (tests/vectors/*.txt), to which all who write or read them are held.
 #![forbid(unsafe_code)]
 
-use crate::wire::{self, Done, Entry, Question, Told};
+use crate::question::{self, Question};
+use crate::report::Report;
 use crate::{
-    Answer, Call, Cluster, Command, Event, Fault, Fields, Frame, Instance, Leading, OpenInstance, Phase, Receipt,
+    Answer, Cluster, Fault, Fields, Frame, Instance, Leading, OpenInstance, OwnedValues, Phase, Reading, Receipt,
     Reference, State, Sum,
 };
 
-const WIRE: &str = include_str!("../../../../examples/wire.txt");
-const REQUESTS: &str = include_str!("../../../../examples/requests.txt");
-const FRAMES: &str = include_str!("../../../../examples/frames.txt");
-const OPENINGS: &str = include_str!("../../../../examples/openings.txt");
+const WIRE: &str = include_str!("../../../../tests/vectors/wire.txt");
+const REQUESTS: &str = include_str!("../../../../tests/vectors/requests.txt");
+const FRAMES: &str = include_str!("../../../../tests/vectors/frames.txt");
+const OPENINGS: &str = include_str!("../../../../tests/vectors/openings.txt");
 
 /// The bytes of a line that is indented and written in hexadecimal.
 fn hex(line: &str) -> Vec<u8> {
@@ -19,7 +20,7 @@ fn hex(line: &str) -> Vec<u8> {
     digits.chunks(2).map(|it| 16 * value(it[0]) + value(it[1])).collect()
 }
 
-/// The bytes behind this name in examples/wire.txt. Lines that are indented further go on with the one before.
+/// The bytes behind this name in tests/vectors/wire.txt. Lines that are indented further go on with the one before.
 pub(crate) fn vector(name: &str) -> Vec<u8> {
     let mut lines = WIRE.lines().filter_map(|line| line.strip_prefix("    "));
     let first = lines.find_map(|line| line.strip_prefix(name)?.strip_prefix(' ')).expect("the name is there");
@@ -41,7 +42,7 @@ fn the_first_opening() {
     assert_eq!(Cluster::Three.first_opening(), hex(&lines));
 }
 
-/// The indented lines of examples/openings.txt, so many from the one on that begins so.
+/// The indented lines of tests/vectors/openings.txt, so many from the one on that begins so.
 fn opening_lines(begin: &str, count: usize) -> Vec<u8> {
     let lines = OPENINGS.lines().filter_map(|line| line.strip_prefix("    "));
     hex(&lines.skip_while(|line| !line.starts_with(begin)).take(count).collect::<String>())
@@ -72,40 +73,26 @@ fn a_reference_word_for_word() {
 }
 
 const ONE: Instance = Instance { replica: 1, number: 258 };
+const SEVENTH: Instance = Instance { replica: 0, number: 7 };
 
 #[test]
 fn requests_word_for_word() {
-    let put = Event::Propose {
-        call: Call { client: 1, request: 2, seen: 3 },
-        command: Command::Put { key: b"x", value: b"12" },
-    };
-    let Event::Propose { call, command } = put else { unreachable!() };
-    for (name, event) in [
-        ("propose", put),
-        ("propose-sparing", Event::ProposeSparing { call, command, spared: 1 }),
-        ("frame", Event::Handle(&[7, 8])),
-        ("give-up", Event::GiveUp(ONE)),
-        ("recover", Event::Recover(ONE)),
-        ("execute", Event::Execute(ONE)),
-    ] {
-        let mut out = Vec::new();
-        wire::push_event(&mut out, &event).unwrap();
-        assert_eq!(out, vector(name), "{name}");
-    }
     for (name, question) in [
-        ("advance", Question::Advance),
-        ("value-of", Question::Get(b"k")),
-        ("next-open", Question::NextOpen(Some(ONE))),
-        ("first-open", Question::NextOpen(None)),
-        ("sync", Question::Sync),
         ("state", Question::State),
-        ("execute-all", Question::ExecuteAll),
-        ("ready", Question::Ready { told: 258, most: 64 }),
+        ("interfering", Question::Interfering(b"k")),
+        ("read", Question::Read { key: b"k", found: &[ONE, SEVENTH] }),
     ] {
         let mut out = Vec::new();
-        wire::push_question(&mut out, question);
+        question.push(&mut out);
         assert_eq!(out, vector(name), "{name}");
     }
+}
+
+#[test]
+fn a_key_that_cannot_be_has_no_length() {
+    let mut out = Vec::new();
+    Question::Read { key: &[7; 257], found: &[] }.push(&mut out);
+    assert_eq!(out[..7], [0, 0, 1, 7, 17, 0, 7]);
 }
 
 fn receipt<'a>(answer: Answer<'a>, bytes: &'a [u8]) -> Receipt<'a> {
@@ -114,7 +101,12 @@ fn receipt<'a>(answer: Answer<'a>, bytes: &'a [u8]) -> Receipt<'a> {
 
 #[test]
 fn receipts_word_for_word() {
+    let (both, none) = (OwnedValues::new([None, Some("old")]).unwrap(), OwnedValues::default());
+    let one = OwnedValues::new([Some("")]).unwrap();
     for (name, answer) in [
+        ("done", Answer::Done(both.lent())),
+        ("done-untold", Answer::Done(none.lent())),
+        ("undone", Answer::Undone(one.lent())),
         ("absent", Answer::Absent),
         ("present", Answer::Present(b"old")),
         ("lost", Answer::Lost),
@@ -132,75 +124,88 @@ fn receipts_word_for_word() {
         answer.write(&mut out);
         assert_eq!(out, bytes[32..], "{name}");
     }
+    for name in ["bad-done-many", "bad-undone"] {
+        assert_eq!(Answer::read(&mut Fields::new(&vector(name))), None, "{name}");
+    }
+}
+
+/// The frame of a command over many keys has the command's body as it is proposed, behind its header.
+#[test]
+fn a_frame_of_many_keys() {
+    let frame =
+        hex(line(FRAMES, "4550 03 01 00 01 0000 00000001 0000000000000001 00 0001 0000 00 00 0000 00 00000001 0a"));
+    assert_eq!(frame.len(), 62);
+    assert_eq!(frame[48..], vector("tx")[7..]);
 }
 
 #[test]
-fn what_was_taken() {
-    let entries = |answer: &[u8]| match wire::done(answer) {
-        Some(Done::Taken(taken)) => taken.entries().map(|entries| format!("{entries:?}")),
-        _ => None,
-    };
-    let given = vector("present");
-    let one = Entry {
-        number: 4,
-        stamp: 5,
-        took: Some(ONE),
-        frames: vec![Frame { to: 2, bytes: &[6, 7] }],
-        receipts: vec![receipt(Answer::Present(b"old"), &given)],
-    };
-    let bare = |number, stamp| Entry { number, stamp, took: None, frames: vec![], receipts: vec![] };
-    for (name, told) in [("taken", vec![one]), ("taken-two", vec![bare(4, 5), bare(5, 6)]), ("taken-none", vec![])] {
-        let bytes = answer(name);
-        assert_eq!(entries(&bytes), Some(format!("{told:?}")), "{name}");
-        for cut in 0..bytes.len() {
-            assert_eq!(entries(&bytes[..cut]), None, "{name} cut at {cut}");
-        }
-        assert_eq!(entries(&[&bytes[..], &[0]].concat()), None, "{name}");
+fn refusals_word_for_word() {
+    for (name, fault) in [
+        ("no-room", Fault::SpaceFull),
+        ("too-few", Fault::TooFewAnswers),
+        ("not-committed", Fault::NotCommitted(ONE)),
+        ("malformed", Fault::OutOfRange),
+    ] {
+        assert_eq!(question::refusal(&answer(name)), Some(fault), "{name}");
     }
-    for (name, fault) in
-        [("no-room", Fault::SpaceFull), ("too-few", Fault::TooFewAnswers), ("not-committed", Fault::NotCommitted(ONE))]
-    {
-        assert_eq!(wire::done(&answer(name)), Some(Done::Refused(fault)), "{name}");
-    }
-    assert_eq!(wire::done(&answer("malformed")), Some(Done::Refused(Fault::OutOfRange)));
     for bytes in [&[][..], &[0], &[3, 0], &[2, 11, 0, 0, 0], &[2, 4, 0, 0], &[2, 4, 0, 0, 0, 0], &[2, 10, 0, 0, 0]] {
-        assert_eq!(wire::done(bytes), None, "{bytes:?}");
+        assert_eq!(question::refusal(bytes), None, "{bytes:?}");
     }
 }
 
 #[test]
-fn other_answers() {
-    assert_eq!(wire::value(&answer("no-value")), Some(None));
-    assert_eq!(wire::value(&answer("empty-value")), Some(Some(&[][..])));
-    assert_eq!(wire::value(&answer("value")), Some(Some(&b"v"[..])));
-    assert_eq!(wire::next_open(&answer("none-open")), Some(None));
-    assert_eq!(wire::next_open(&answer("open")), Some(Some(ONE)));
-    assert_eq!(wire::synced(&answer("synced")), Some(258));
+fn answers_word_for_word() {
     let told = State { generation: 2, entries: 3, used: 260, dependencies: 1_286, is_sealed: true, stamp: 7 };
-    assert_eq!(wire::state(&answer("state-told")), Some(told));
-    for name in ["no-value", "empty-value", "value", "none-open", "open", "synced", "state-told"] {
+    assert_eq!(question::state(&answer("state-told")), Some(told));
+    assert_eq!(question::interfering(&answer("found-none")), Some(vec![]));
+    assert_eq!(question::interfering(&answer("found")), Some(vec![SEVENTH, ONE]));
+    for (name, reading) in [
+        ("read-absent", Reading::Absent),
+        ("read-empty", Reading::Present(b"")),
+        ("read-value", Reading::Present(b"v")),
+        ("read-waits", Reading::Waits(ONE)),
+        ("read-closed", Reading::Closed),
+    ] {
+        assert_eq!(Reading::read(&answer(name)), Some(reading), "{name}");
+    }
+    for name in [
+        "no-value",
+        "value",
+        "open",
+        "synced",
+        "state-told",
+        "found-none",
+        "found",
+        "read-absent",
+        "read-empty",
+        "read-value",
+        "read-waits",
+        "read-closed",
+    ] {
         let bytes = answer(name);
         for odd in (0..bytes.len()).map(|cut| bytes[..cut].to_vec()).chain([[&bytes[..], &[0]].concat()]) {
-            assert!(wire::value(&odd).is_none() && wire::next_open(&odd).is_none(), "{name}: {odd:?}");
-            assert!(wire::synced(&odd).is_none() && wire::state(&odd).is_none(), "{name}: {odd:?}");
+            assert!(question::state(&odd).is_none() && question::interfering(&odd).is_none(), "{name}: {odd:?}");
+            assert!(Reading::read(&odd).is_none(), "{name}: {odd:?}");
         }
     }
-    assert!(wire::value(&[3, 2]).is_none() && wire::next_open(&[4, 2]).is_none());
+    assert!(Reading::read(&[12, 4]).is_none() && Reading::read(&[3, 0]).is_none());
+    assert!(question::interfering(&[10, 0, 0, 0, 0]).is_none() && question::state(&[6, 0, 0, 1, 2]).is_none());
 }
 
 #[test]
 fn the_report() {
     let (bytes, given) = (answer("report"), vector("absent"));
-    let told = Told::read(&bytes).unwrap();
+    let told = Report::read(&bytes).unwrap();
     assert_eq!((told.entries, told.is_sealed), (4, true));
     assert_eq!(told.frames().collect::<Vec<_>>(), [Frame { to: 2, bytes: &[6, 7] }]);
     assert_eq!(told.receipts().collect::<Vec<_>>(), [receipt(Answer::Absent, &given)]);
     assert_eq!(told.committed().collect::<Vec<_>>(), [Instance { replica: 0, number: 7 }]);
     let leading = Leading { phase: Phase::Accepting, answers: 1 };
-    let open = OpenInstance { instance: Instance { replica: 2, number: 3 }, since: None, led: Some(leading), spared: None };
+    let open =
+        OpenInstance { instance: Instance { replica: 2, number: 3 }, since: None, led: Some(leading), spared: None };
     assert_eq!(told.open().collect::<Vec<_>>(), [open]);
     for cut in 0..bytes.len() {
-        assert_eq!(Told::read(&bytes[..cut]), None, "cut at {cut}");
+        assert_eq!(Report::read(&bytes[..cut]), None, "cut at {cut}");
     }
 }
 
@@ -213,33 +218,12 @@ fn line<'a>(text: &'a str, begin: &str) -> &'a str {
 }
 
 #[test]
-fn the_proposal() {
-    let put = Event::Propose {
-        call: Call { client: 1, request: 2, seen: 3 },
-        command: Command::Put { key: b"x", value: b"1" },
-    };
-    let mut out = Vec::new();
-    wire::push_event(&mut out, &put).unwrap();
-    assert_eq!(out, hex(line(REQUESTS, "0000001a 01")));
-}
-
-#[test]
-fn the_requests_for_what_there_is_to_tell() {
-    for (told, spelled) in [(0, "`00000006 0d 00000000 01`"), (1, "`00000006 0d 00000001 00`")] {
-        assert!(REQUESTS.contains(spelled));
-        let mut out = Vec::new();
-        wire::push_question(&mut out, Question::Ready { told, most: 1 - told as u8 });
-        assert_eq!(out, hex(spelled.trim_matches('`')));
-    }
-}
-
-#[test]
 fn the_state() {
     let answer = hex(line(REQUESTS, "00000016 08 00000002"));
     let state = State { generation: 2, entries: 1, used: 1, dependencies: 0, is_sealed: false, stamp: 6 };
-    assert_eq!(wire::state(&answer[4..]), Some(state));
+    assert_eq!(question::state(&answer[4..]), Some(state));
     for cut in 4..answer.len() {
-        assert_eq!(wire::state(&answer[4..cut]), None);
+        assert_eq!(question::state(&answer[4..cut]), None);
     }
 }
 
@@ -250,21 +234,22 @@ fn what_there_is_to_tell() {
     for part in line(REQUESTS, "0000004f 09").split_whitespace() {
         answer.extend(if part == "FRAME" { frame.clone() } else { hex(part) });
     }
-    let told = Told::read(&answer[4..]).unwrap();
+    let told = Report::read(&answer[4..]).unwrap();
     assert_eq!((told.entries, told.is_sealed), (1, false));
     let frames: Vec<_> = told.frames().map(|it| (it.to, it.bytes)).collect();
     assert_eq!(frames, [(1, &frame[..])]);
     assert_eq!((told.receipts().count(), told.committed().len()), (0, 0));
     let leading = Leading { phase: Phase::Proposing, answers: 0 };
-    let open = OpenInstance { instance: Instance { replica: 0, number: 1 }, since: Some(1), led: Some(leading), spared: None };
+    let open =
+        OpenInstance { instance: Instance { replica: 0, number: 1 }, since: Some(1), led: Some(leading), spared: None };
     assert_eq!(told.open().collect::<Vec<_>>(), [open]);
     for cut in 4..answer.len() {
-        assert_eq!(Told::read(&answer[4..cut]), None);
+        assert_eq!(Report::read(&answer[4..cut]), None);
     }
     answer.push(0);
-    assert_eq!(Told::read(&answer[4..]), None);
+    assert_eq!(Report::read(&answer[4..]), None);
 
     let nothing = hex(line(REQUESTS, "00000017 09"));
-    let told = Told::read(&nothing[4..]).unwrap();
+    let told = Report::read(&nothing[4..]).unwrap();
     assert_eq!((told.entries, told.frames().count(), told.open().count()), (1, 0, 0));
 }

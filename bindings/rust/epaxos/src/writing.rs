@@ -26,6 +26,16 @@ impl fmt::Debug for Writing {
 }
 
 /// That what was being written is on the disk: [`Replica::written`](crate::Replica::written) takes it.
+///
+/// ```
+/// # use epaxos::{Cluster, Replica, Written};
+/// let mut replica = Replica::new(Cluster::Three, 0)?;
+/// let writing = replica.ready()?.begin()?;
+/// // another thread may do this, while the replica takes more
+/// let written: Written = writing.write(&mut Vec::new())?;
+/// assert_eq!(replica.written(written)?.frames().count(), 0);
+/// # Ok::<(), Box<dyn std::error::Error>>(())
+/// ```
 #[derive(Debug)]
 #[must_use = "the replica that it is of has to be told"]
 pub struct Written {

@@ -3,8 +3,7 @@
 
 mod common;
 
-use common::cores;
-use epaxos::{Call, Cluster, Command, CommitFault, Core, Log, LogFile, Replica, Setup};
+use epaxos::{Call, Cluster, Command, CommitFault, Log, LogFile, Replica, Setup};
 use std::fs;
 use std::io::ErrorKind;
 use std::path::PathBuf;
@@ -32,8 +31,8 @@ impl Drop for Folder {
     }
 }
 
-fn setup(core: &Core, me: u8) -> Setup<'static> {
-    Setup { core: core.clone(), ..Setup::new(Cluster::Three, me) }
+fn setup(me: u8) -> Setup<'static> {
+    Setup::new(Cluster::Three, me)
 }
 
 /// What is ready isn't written to this log, which stays as it is, and nothing comes of it.
@@ -48,100 +47,92 @@ fn check_refused(replica: &mut Replica, file: &mut LogFile, path: &PathBuf) {
 }
 
 /// The replica goes on from its log.
-fn check_opens(core: &Core, me: u8, path: &PathBuf, entries: u32) {
+fn check_opens(me: u8, path: &PathBuf, entries: u32) {
     let (mut file, log) = LogFile::open(path).unwrap();
-    let mut replica = Setup { told: Some(entries), ..setup(core, me) }.open(&log).unwrap();
+    let mut replica = Setup { told: Some(entries), ..setup(me) }.open(&log).unwrap();
     assert_eq!(replica.ready().unwrap().commit(&mut file).unwrap().entries(), entries);
     assert_eq!(fs::read(path).unwrap(), log);
 }
 
 #[test]
 fn another_replicas_log_is_refused() {
-    for core in cores() {
-        let folder = Folder::new("logs");
-        let paths = [folder.file("zero"), folder.file("one")];
-        let mut files = [0, 1].map(|me: usize| LogFile::begin(&paths[me]).unwrap());
-        let mut replicas = [0, 1].map(|me| setup(&core, me).begin().unwrap());
-        for (replica, file) in replicas.iter_mut().zip(&mut files) {
-            replica.ready().unwrap().commit(file).unwrap();
-            replica.propose(Call::new(1, 1), PUT).unwrap();
-        }
-        let [zero, one] = &mut replicas;
-        check_refused(zero, &mut files[1], &paths[1]);
-        check_refused(one, &mut files[0], &paths[0]);
-        for (replica, file) in replicas.iter_mut().zip(&mut files) {
-            assert_eq!(replica.ready().unwrap().commit(file).unwrap().frames().count(), 1);
-        }
-        // nor where nothing is to be written
-        let [zero, one] = &mut replicas;
-        check_refused(zero, &mut files[1], &paths[1]);
-        check_refused(one, &mut files[0], &paths[0]);
-        drop(files);
-        check_opens(&core, 0, &paths[0], 1);
-        check_opens(&core, 1, &paths[1], 1);
+    let folder = Folder::new("logs");
+    let paths = [folder.file("zero"), folder.file("one")];
+    let mut files = [0, 1].map(|me: usize| LogFile::begin(&paths[me]).unwrap());
+    let mut replicas = [0, 1].map(|me| setup(me).begin().unwrap());
+    for (replica, file) in replicas.iter_mut().zip(&mut files) {
+        replica.ready().unwrap().commit(file).unwrap();
+        replica.propose(Call::new(1, 1), PUT).unwrap();
     }
+    let [zero, one] = &mut replicas;
+    check_refused(zero, &mut files[1], &paths[1]);
+    check_refused(one, &mut files[0], &paths[0]);
+    for (replica, file) in replicas.iter_mut().zip(&mut files) {
+        assert_eq!(replica.ready().unwrap().commit(file).unwrap().frames().count(), 1);
+    }
+    // nor where nothing is to be written
+    let [zero, one] = &mut replicas;
+    check_refused(zero, &mut files[1], &paths[1]);
+    check_refused(one, &mut files[0], &paths[0]);
+    drop(files);
+    check_opens(0, &paths[0], 1);
+    check_opens(1, &paths[1], 1);
 }
 
 /// Replicas of one number, in two clusters, whose logs are of one length.
 #[test]
 fn another_clusters_log_is_refused() {
-    for core in cores() {
-        let folder = Folder::new("clusters");
-        let paths = [folder.file("here"), folder.file("there")];
-        let mut files = [0, 1].map(|at: usize| LogFile::begin(&paths[at]).unwrap());
-        let mut replicas = [0, 0].map(|me| setup(&core, me).begin().unwrap());
-        for (replica, file) in replicas.iter_mut().zip(&mut files) {
-            replica.ready().unwrap().commit(file).unwrap();
-            replica.propose(Call::new(1, 1), PUT).unwrap();
-        }
-        let [here, there] = &mut replicas;
-        check_refused(here, &mut files[1], &paths[1]);
-        check_refused(there, &mut files[0], &paths[0]);
+    let folder = Folder::new("clusters");
+    let paths = [folder.file("here"), folder.file("there")];
+    let mut files = [0, 1].map(|at: usize| LogFile::begin(&paths[at]).unwrap());
+    let mut replicas = [0, 0].map(|me| setup(me).begin().unwrap());
+    for (replica, file) in replicas.iter_mut().zip(&mut files) {
+        replica.ready().unwrap().commit(file).unwrap();
+        replica.propose(Call::new(1, 1), PUT).unwrap();
     }
+    let [here, there] = &mut replicas;
+    check_refused(here, &mut files[1], &paths[1]);
+    check_refused(there, &mut files[0], &paths[0]);
 }
 
 /// A new replica takes no log's place, nor does one that was opened from another log.
 #[test]
 fn a_log_is_not_begun_anew() {
-    for core in cores() {
-        let folder = Folder::new("anew");
-        let path = folder.file("zero");
-        let mut file = LogFile::begin(&path).unwrap();
-        let mut replica = setup(&core, 0).begin().unwrap();
-        replica.ready().unwrap().commit(&mut file).unwrap();
-        replica.propose(Call::new(1, 1), PUT).unwrap();
-        replica.ready().unwrap().commit(&mut file).unwrap();
-        check_refused(&mut setup(&core, 0).begin().unwrap(), &mut file, &path);
-        drop((file, replica));
-        let (mut file, log) = LogFile::open(&path).unwrap();
-        check_refused(&mut setup(&core, 0).begin().unwrap(), &mut file, &path);
-        check_refused(&mut setup(&core, 0).open(&log[..43]).unwrap(), &mut file, &path);
-        let mut replica = setup(&core, 0).open(&log).unwrap();
-        assert_eq!(replica.ready().unwrap().commit(&mut file).unwrap().entries(), 1);
-    }
+    let folder = Folder::new("anew");
+    let path = folder.file("zero");
+    let mut file = LogFile::begin(&path).unwrap();
+    let mut replica = setup(0).begin().unwrap();
+    replica.ready().unwrap().commit(&mut file).unwrap();
+    replica.propose(Call::new(1, 1), PUT).unwrap();
+    replica.ready().unwrap().commit(&mut file).unwrap();
+    check_refused(&mut setup(0).begin().unwrap(), &mut file, &path);
+    drop((file, replica));
+    let (mut file, log) = LogFile::open(&path).unwrap();
+    check_refused(&mut setup(0).begin().unwrap(), &mut file, &path);
+    check_refused(&mut setup(0).open(&log[..43]).unwrap(), &mut file, &path);
+    let mut replica = setup(0).open(&log).unwrap();
+    assert_eq!(replica.ready().unwrap().commit(&mut file).unwrap().entries(), 1);
 }
 
 /// What is written and not told of isn't written twice; what was said to be there and isn't is missed.
 #[test]
 fn bytes_are_written_once_and_in_order() {
-    for core in cores() {
-        let folder = Folder::new("order");
-        let path = folder.file("zero");
-        let mut file = LogFile::begin(&path).unwrap();
-        let mut replica = setup(&core, 0).begin().unwrap();
-        for request in 0..3 {
-            let ready = replica.ready().unwrap();
-            file.keep(&ready).unwrap();
-            drop(ready);
-            replica.ready().unwrap().commit(&mut file).unwrap();
-            replica.propose(Call::new(1, request + 1), PUT).unwrap();
-        }
-        replica.ready().unwrap().assume_synced().unwrap();
-        replica.propose(Call::new(1, 4), PUT).unwrap();
-        check_refused(&mut replica, &mut file, &path);
-        drop(file);
-        check_opens(&core, 0, &path, 2);
+    let folder = Folder::new("order");
+    let path = folder.file("zero");
+    let mut file = LogFile::begin(&path).unwrap();
+    let mut replica = setup(0).begin().unwrap();
+    for request in 0..3 {
+        let ready = replica.ready().unwrap();
+        file.keep(&ready).unwrap();
+        drop(ready);
+        replica.ready().unwrap().commit(&mut file).unwrap();
+        replica.propose(Call::new(1, request + 1), PUT).unwrap();
     }
+    replica.ready().unwrap().assume_synced().unwrap();
+    replica.propose(Call::new(1, 4), PUT).unwrap();
+    check_refused(&mut replica, &mut file, &path);
+    drop(file);
+    check_opens(0, &path, 2);
 }
 
 /// A log in memory is one replica's too.

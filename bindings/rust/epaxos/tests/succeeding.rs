@@ -3,8 +3,8 @@
 
 mod common;
 
-use common::{Owned, Plain, World, cores};
-use epaxos::{Checkpoint, Cluster, Core, Fault, OpenFault, Reference, Replica, Setup, SucceedFault, Succession, Sum};
+use common::{Owned, Plain, World};
+use epaxos::{Checkpoint, Cluster, Fault, OpenFault, Reference, Replica, Setup, SucceedFault, Succession, Sum};
 use std::collections::BTreeMap;
 
 const GENERATIONS: u32 = 3;
@@ -45,7 +45,7 @@ fn play(world: &mut World, generation: u32) {
 fn succeed(world: &mut World, generation: u32) -> Vec<Gone> {
     let gone = world.seats.iter_mut().map(|seat| {
         let replica = seat.replica.as_mut().unwrap();
-        let told = replica.next_opening(Cluster::Three).unwrap().unwrap();
+        let told = replica.next_opening(Cluster::Three).unwrap();
         let reference = replica.reference(Cluster::Three, Sum::of(&seat.log)).unwrap();
         assert_eq!((reference.generation(), reference.length()), (generation + 1, seat.log.len() as u64));
         let checkpoint = replica.succeed(&Succession::new(reference, seat.me)).unwrap();
@@ -70,7 +70,7 @@ fn map(replica: &mut Replica) -> BTreeMap<Vec<u8>, Vec<u8>> {
 /// Opens the log of a whole generation, as far as it counts.
 fn whole(kept: &Kept, me: u8, log: &[u8]) -> Replica {
     let (opening, reference) = (Some(&kept.opening[..]), kept.reference);
-    let setup = Setup { opening, reference, core: Core::Library, ..Setup::new(Cluster::Three, me) };
+    let setup = Setup { opening, reference, ..Setup::new(Cluster::Three, me) };
     setup.open(log).unwrap()
 }
 
@@ -88,10 +88,7 @@ fn start(generations: &[Kept], me: u8) -> Replica {
 
 #[test]
 fn generations_begin_in_memory() {
-    if !Core::has_library() {
-        return;
-    }
-    let mut world = World::new(Cluster::Three, &Core::Library, None, 3);
+    let mut world = World::new(Cluster::Three, None, 3);
     let mut disks: Vec<Vec<Kept>> = (0..3).map(|_| Vec::new()).collect();
     let mut begun: Vec<(Option<Reference>, Vec<u8>)> =
         (0..3).map(|_| (None, Cluster::Three.first_opening().to_vec())).collect();
@@ -132,14 +129,14 @@ fn generations_begin_in_memory() {
         disks[me].push(Kept { log: seat.log.clone(), reference, opening });
         let replica = seat.replica.as_mut().unwrap();
         let (state, held) = (replica.state().unwrap(), map(replica));
-        let closing = replica.next_opening(Cluster::Three).unwrap().unwrap();
+        let closing = replica.next_opening(Cluster::Three).unwrap();
         // from each generation on it comes back the same: the first by its full file, a later one by what a reference stood for
         for first in 0..disks[me].len() {
             let mut back = start(&disks[me][first..], me as u8);
             assert_eq!(back.ready().unwrap().log(), seat.log);
             back.ready().unwrap().assume_synced().unwrap();
             assert_eq!((back.state().unwrap(), map(&mut back)), (state, held.clone()));
-            assert_eq!(back.next_opening(Cluster::Three).unwrap().unwrap(), closing);
+            assert_eq!(back.next_opening(Cluster::Three).unwrap(), closing);
         }
     }
     torn(&disks[1], &world.seats[1].log);
@@ -188,77 +185,64 @@ fn torn(disk: &[Kept], log: &[u8]) {
 
 #[test]
 fn refusals_leave_the_replica_as_it_was() {
-    for core in cores() {
-        let mut world = World::new(Cluster::Three, &core, None, 5);
-        let sum = Sum::of(&world.seats[0].log);
-        let next = |world: &mut World, sum| world.replica(0).reference(Cluster::Three, sum).unwrap();
-        let reference = next(&mut world, sum);
-        let refused = |world: &mut World, succession: &Succession| world.replica(0).succeed(succession).unwrap_err();
-        let expected = |fault: SucceedFault| if core == Core::Library { fault } else { SucceedFault::NoLibrary };
+    let mut world = World::new(Cluster::Three, None, 5);
+    let sum = Sum::of(&world.seats[0].log);
+    let next = |world: &mut World, sum| world.replica(0).reference(Cluster::Three, sum).unwrap();
+    let reference = next(&mut world, sum);
+    let refused = |world: &mut World, succession: &Succession| world.replica(0).succeed(succession).unwrap_err();
 
-        assert_eq!(refused(&mut world, &Succession::new(reference, 0)), expected(SucceedFault::NotSealed));
-        assert_eq!(refused(&mut world, &Succession::new(reference, 3)), SucceedFault::OutOfRange);
-        for (generation, length) in [(3, 43), (2, 44)] {
-            let other = Reference::new(Cluster::Three, generation, length, sum).unwrap();
-            assert_eq!(refused(&mut world, &Succession::new(other, 0)), SucceedFault::OtherReference);
-        }
-        // what isn't on the disk: taken, lent, and being written by another thread
-        world.propose(0, 1, 1, &Owned::Put(b"x".to_vec(), b"1".to_vec()));
-        assert_eq!(refused(&mut world, &Succession::new(reference, 0)), expected(SucceedFault::Unsynced));
-        let lent = world.replica(0).ready().unwrap().log().to_vec();
-        assert_eq!(refused(&mut world, &Succession::new(reference, 0)), expected(SucceedFault::Unsynced));
-        let writing = world.replica(0).ready().unwrap().begin().unwrap();
-        assert_eq!(refused(&mut world, &Succession::new(reference, 0)), SucceedFault::Unsynced);
-        assert_eq!(writing.ready().log(), lent);
-        let mut log = std::mem::take(&mut world.seats[0].log);
-        let written = writing.write(&mut log).unwrap();
-        let output = world.replica(0).written(written).unwrap();
-        let frames: Vec<_> = output.frames().map(|it| (it.to, it.bytes.to_vec())).collect();
-        world.frames.extend(frames);
-        world.seats[0].log = log;
-
-        // all is there, and goes on
-        world.finish();
-        world.propose(0, 1, 2, &Owned::Seal(b"next".to_vec()));
-        world.settle(0);
-        world.finish();
-        assert_eq!(world.replica(0).get(b"x").unwrap(), Some(&b"1"[..]));
-        let sum = Sum::of(&world.seats[0].log);
-        let reference = next(&mut world, sum);
-        let succeeded = world.replica(0).succeed(&Succession::new(reference, 0));
-        if core != Core::Library {
-            assert_eq!(succeeded.unwrap_err(), SucceedFault::NoLibrary);
-            assert!(world.replica(0).state().unwrap().is_sealed);
-            continue;
-        }
-        let mut pieces = succeeded.unwrap();
-        let file: Vec<u8> = pieces.by_ref().flat_map(|it| it.unwrap()).collect();
-        assert!(pieces.next().is_none() && pieces.piece(1).unwrap().is_none());
-        assert_eq!(Sum::of(&file[..file.len() - 32]), file[file.len() - 32..]);
-        // nothing is taken before its log is begun, and an opening that isn't what the reference stood for begins none
-        assert_eq!(world.replica(0).execute_all(), Err(Fault::Unsynced));
-        let opening = Some(Cluster::Three.first_opening());
-        for opening in [opening, None] {
-            let setup =
-                Setup { opening, reference: Some(reference), core: core.clone(), ..Setup::new(Cluster::Three, 0) };
-            assert!(matches!(setup.begin(), Err(OpenFault::BadOpening(_))));
-        }
-        let setup = Setup { opening: Some(&file), core: core.clone(), ..Setup::new(Cluster::Three, 0) };
-        let log =
-            Setup { reference: Some(reference), ..setup.clone() }.begin().unwrap().ready().unwrap().log().to_vec();
-        assert_eq!(log[11..], reference.digest());
-        assert_eq!(setup.open(&log).unwrap_err(), OpenFault::OtherLog);
-        assert!(Setup { reference: Some(reference), ..setup }.open(&log).is_ok());
+    assert_eq!(refused(&mut world, &Succession::new(reference, 0)), SucceedFault::NotSealed);
+    assert_eq!(refused(&mut world, &Succession::new(reference, 3)), SucceedFault::OutOfRange);
+    for (generation, length) in [(3, 43), (2, 44)] {
+        let other = Reference::new(Cluster::Three, generation, length, sum).unwrap();
+        assert_eq!(refused(&mut world, &Succession::new(other, 0)), SucceedFault::OtherReference);
     }
+    // what isn't on the disk: taken, lent, and being written by another thread
+    world.propose(0, 1, 1, &Owned::Put(b"x".to_vec(), b"1".to_vec()));
+    assert_eq!(refused(&mut world, &Succession::new(reference, 0)), SucceedFault::Unsynced);
+    let lent = world.replica(0).ready().unwrap().log().to_vec();
+    assert_eq!(refused(&mut world, &Succession::new(reference, 0)), SucceedFault::Unsynced);
+    let writing = world.replica(0).ready().unwrap().begin().unwrap();
+    assert_eq!(refused(&mut world, &Succession::new(reference, 0)), SucceedFault::Unsynced);
+    assert_eq!(writing.ready().log(), lent);
+    let mut log = std::mem::take(&mut world.seats[0].log);
+    let written = writing.write(&mut log).unwrap();
+    let output = world.replica(0).written(written).unwrap();
+    let frames: Vec<_> = output.frames().map(|it| (it.to, it.bytes.to_vec())).collect();
+    world.frames.extend(frames);
+    world.seats[0].log = log;
+
+    // all is there, and goes on
+    world.finish();
+    world.propose(0, 1, 2, &Owned::Seal(b"next".to_vec()));
+    world.settle(0);
+    world.finish();
+    assert_eq!(world.replica(0).get(b"x").unwrap(), Some(&b"1"[..]));
+    let sum = Sum::of(&world.seats[0].log);
+    let reference = next(&mut world, sum);
+    let succeeded = world.replica(0).succeed(&Succession::new(reference, 0));
+    let mut pieces = succeeded.unwrap();
+    let file: Vec<u8> = pieces.by_ref().flat_map(|it| it.unwrap()).collect();
+    assert!(pieces.next().is_none() && pieces.piece(1).unwrap().is_none());
+    assert_eq!(Sum::of(&file[..file.len() - 32]), file[file.len() - 32..]);
+    // nothing is taken before its log is begun, and an opening that isn't what the reference stood for begins none
+    assert_eq!(world.replica(0).execute_all(), Err(Fault::Unsynced));
+    let opening = Some(Cluster::Three.first_opening());
+    for opening in [opening, None] {
+        let setup = Setup { opening, reference: Some(reference), ..Setup::new(Cluster::Three, 0) };
+        assert!(matches!(setup.begin(), Err(OpenFault::BadOpening(_))));
+    }
+    let setup = Setup { opening: Some(&file), ..Setup::new(Cluster::Three, 0) };
+    let log = Setup { reference: Some(reference), ..setup.clone() }.begin().unwrap().ready().unwrap().log().to_vec();
+    assert_eq!(log[11..], reference.digest());
+    assert_eq!(setup.open(&log).unwrap_err(), OpenFault::OtherLog);
+    assert!(Setup { reference: Some(reference), ..setup }.open(&log).is_ok());
 }
 
 /// Pieces are short, but for one field that isn't, and the last is the digest alone.
 #[test]
 fn pieces_are_short() {
-    if !Core::has_library() {
-        return;
-    }
-    let mut world = World::new(Cluster::Three, &Core::Library, None, 7);
+    let mut world = World::new(Cluster::Three, None, 7);
     play(&mut world, 1);
     let mut gone = succeed(&mut world, 1);
     for (gone, most) in gone.iter_mut().zip([1, 400, 1_000]) {

@@ -11,7 +11,7 @@ fn main() -> ExitCode {
         eprintln!("usage: folder node --replicas N --replica R --dir FOLDER [--new | --take FILE]");
         return ExitCode::from(1);
     };
-    let told = Hosted::start(hosting, &begin, 0).and_then(|mut core| {
+    let told = Hosted::start(hosting, &begin).and_then(|mut core| {
         let state = core.state();
         core.end();
         state
@@ -23,7 +23,7 @@ fn main() -> ExitCode {
         }
         Err(fault) => {
             eprintln!("{fault}");
-            ExitCode::from(if fault.is_lasting() { 2 } else { 4 })
+            ExitCode::from(if fault.is_refusal() { 2 } else { 4 })
         }
     }
 }
@@ -41,5 +41,5 @@ fn read(mut words: impl Iterator<Item = String>) -> Option<(Hosting, Begin)> {
             _ => return None,
         }
     }
-    Some((Hosting { place, folder, core: epaxos::Core::Found, checkpoint: 0 }, begin))
+    Some((Hosting { place, folder, checkpoint: 0 }, begin))
 }

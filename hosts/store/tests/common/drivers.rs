@@ -11,6 +11,7 @@ use store::generation::Limits;
 use store::identities::Identities;
 use store::link::Link;
 use store::metrics::Metrics;
+use store::options::TOGETHER;
 use store::peers::{MOST_REPLICAS, Membership, Peers, Place};
 use store::plants::Plant;
 use store::receipts::Receipts;
@@ -56,14 +57,14 @@ pub fn join<C: Core>(
         let place = Place { replicas: cluster.replicas.into(), replica };
         let identities = Identities::open(&folder, MOST_REPLICAS, replica).unwrap();
         let (node, state) = begin(place, &directory, sender);
-        drivers.push(Driver::new(Parts {
+        let driver = Driver::new(Parts {
             node,
             state,
             peers: Peers::over(all.clone().map(to).collect()),
             receipts: Receipts::open(&directory.receipts(state.generation)).unwrap(),
             directory,
             membership: Arc::new(Membership { place, identities, key: Key::none(), waiting: Waiting::default() }),
-            watch: Watch::new(place, Instant::now(), u64::from(replica) + 77),
+            watch: Watch::new(place, Instant::now(), u64::from(replica) + 77).unwrap(),
             events,
             plant: cluster.plant,
             limits: cluster.limits,
@@ -71,7 +72,8 @@ pub fn join<C: Core>(
             patience: Duration::from_secs(5),
             sealer: 9_000 * 8 + u32::from(replica) + 1,
             metrics: metrics[usize::from(replica)].clone(),
-        }));
+        });
+        drivers.push(driver.with_together(TOGETHER));
         for peer in all.clone().filter(|peer| *peer != replica) {
             sender.send(Event::PeerReached(peer)).ok();
         }

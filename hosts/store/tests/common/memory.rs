@@ -1,5 +1,4 @@
 //! A store's clients' side over a map in memory, in the place of a driver and its node.
-use super::map::{Map, execute};
 use std::net::TcpListener;
 use std::path::PathBuf;
 use std::sync::atomic::{AtomicU64, Ordering};
@@ -12,6 +11,7 @@ use store::clients::{Shared, listen};
 use store::driver::{Ask, Event, Told, What};
 use store::keys::Keys;
 use store::listing::Listing;
+use store::map::{Map, execute};
 use store::memory::Memory as Bytes;
 use store::metrics::Metrics;
 use store::numbers::Numbers;
@@ -40,8 +40,7 @@ impl Memory {
         let metrics = Arc::<Metrics>::default();
         let keys =
             Keys::start(events.clone(), Arc::new(Mutex::new(Numbers::new(&folder, 0))), metrics.clone()).unwrap();
-        let program = (folder.join("none"), folder.clone());
-        let listing = Arc::new(Listing::new(events.clone(), PATIENCE, program));
+        let listing = Arc::new(Listing::new(events.clone(), PATIENCE));
         metrics.takes_part.set(1);
         let mut shared = Shared {
             events,
@@ -93,11 +92,11 @@ fn drive(asked: &Receiver<Event>, takes: Duration) {
                     EXECUTED.fetch_add(1, Ordering::Relaxed);
                     Told::Done { stamp: 1, reply: execute(&mut map, &command) }
                 }
-                What::Read(key) => Told::Value(map.get(&key).cloned()),
+                What::Get(key) | What::Read(key) => Told::Value(map.get(&key).cloned()),
                 What::Contents => {
                     let mut pairs: Vec<_> = map.iter().map(|(key, value)| (key.clone(), value.clone())).collect();
                     pairs.sort();
-                    Told::Contents(Some(pairs))
+                    Told::Contents(pairs)
                 }
                 _ => Told::Info(format!("replica:0\r\nkeys_kept:{}\r\n", map.len())),
             });

@@ -1,14 +1,12 @@
-//! Stores that a test starts, and their nodes.
+//! Stores that a test starts.
 #![allow(dead_code)] // (each test uses a part)
 pub mod drivers;
-pub mod map;
 pub mod memory;
 pub mod plain;
 pub mod three;
 
 use std::fs;
-use std::io::Write;
-use std::path::{Path, PathBuf};
+use std::path::PathBuf;
 use std::process::{Child, Command, Stdio};
 use std::sync::{Mutex, MutexGuard};
 use std::thread;
@@ -17,32 +15,15 @@ use store::admin;
 use store::client::{Client, Reply};
 use store::ports::Ports;
 
-/// A node of generation 1 that has no entry on the disk, and tells so: the answers to the first requests, a sync and a state.
-pub const SYNCED: &str = "#!/bin/sh\nhead -c 10 >/dev/null; mkdir -p \"$7/1\"; printf 'EPLG\\003\\003\\000' > \"$7/1/log\"; \
-     { printf 'EPOP\\3\\3\\0\\0\\0\\1'; head -c 49 /dev/zero; } > \"$7/1/opening\"; \
-     printf '\\0\\0\\0\\5\\6\\0\\0\\0\\0\\0\\0\\0\\26\\10\\0\\0\\0\\1'; head -c 17 /dev/zero\n";
 /// How long a test waits, and a store has a client wait: other work may leave them little of the processors.
 const PATIENCE: Duration = Duration::from_secs(300);
 /// How long a store is started again that finds a port taken.
-const PORT_PATIENCE: Duration = Duration::from_secs(10);
+const PORT_PATIENCE: Duration = Duration::from_secs(60);
 const STORE_PATIENCE: &str = "60";
+/// What a store tells once it takes clients.
+pub const SERVES: &str = ", clients at ";
 
-/// A node of this script. A process of its own writes it: a file that this one has open for writing is open in what other tests start meanwhile, too,
-/// and then the system doesn't run it.
-pub fn script(folder: &Path, script: &str) -> PathBuf {
-    let node = folder.join("node");
-    let mut writer = Command::new("sh")
-        .args(["-c", "cat > \"$0\" && chmod 755 \"$0\""])
-        .arg(&node)
-        .stdin(Stdio::piped())
-        .spawn()
-        .unwrap();
-    writer.stdin.take().unwrap().write_all(script.as_bytes()).unwrap();
-    assert!(writer.wait().unwrap().success());
-    node
-}
-
-/// The proved program, which .ci/store.py names. Without it there is nothing to test.
+/// The proved program, which .ci/store.py names, and by which logs are judged.
 pub fn real_node() -> Option<PathBuf> {
     let node = std::env::var_os("EPAXOS").map(PathBuf::from);
     if node.is_none() {
@@ -73,20 +54,13 @@ impl Places {
         format!("127.0.0.1:{}", self.ports.port(MOST + replica))
     }
 
-    /// The words that start a replica of three with this node.
-    pub fn command(&self, replica: usize, node: &Path) -> Command {
-        self.command_of(replica, 3, node)
+    /// The words that start a replica of three.
+    pub fn command(&self, replica: usize) -> Command {
+        self.command_of(replica, 3)
     }
 
     /// Those that start a replica of so many.
-    pub fn command_of(&self, replica: usize, count: usize, node: &Path) -> Command {
-        let mut command = self.command_in_store(replica, count);
-        command.arg("--node").arg(node);
-        command
-    }
-
-    /// Those that start a replica whose core is in the store itself, where that was built with the library.
-    pub fn command_in_store(&self, replica: usize, count: usize) -> Command {
+    pub fn command_of(&self, replica: usize, count: usize) -> Command {
         let mut command = Command::new(env!("CARGO_BIN_EXE_store"));
         let peers: Vec<_> = (0..count).map(|replica| self.peer(replica)).collect();
         command.args(["--replica", &replica.to_string(), "--peers", &peers.join(",")]);
@@ -105,31 +79,15 @@ impl Places {
     }
 
     /// Starts a replica, and waits until it takes clients.
-    pub fn start(&self, replica: usize, node: &Path) -> Store {
-        self.start_with(replica, node, &[])
+    pub fn start(&self, replica: usize) -> Store {
+        self.start_with(replica, &[])
     }
 
     /// The same, with more words.
-    pub fn start_with(&self, replica: usize, node: &Path, words: &[&str]) -> Store {
-        let store = self.launch(self.command(replica, node).args(words), replica);
-        store.tells("node process");
+    pub fn start_with(&self, replica: usize, words: &[&str]) -> Store {
+        let store = self.launch(self.command(replica).args(words), replica);
+        store.tells(SERVES);
         store
-    }
-
-    /// Starts a replica of three whose core is in the store itself, and which finds no program. None where there is no library.
-    pub fn start_in_store(&self, replica: usize) -> Option<Store> {
-        self.start_in_store_with(replica, &[])
-    }
-
-    /// The same, with more words.
-    pub fn start_in_store_with(&self, replica: usize, words: &[&str]) -> Option<Store> {
-        if !epaxos::Core::has_library() {
-            eprintln!("not tried: the library isn't there");
-            return None;
-        }
-        let store = self.launch(self.command_in_store(replica, 3).args(words).env("PATH", "/nowhere"), replica);
-        store.tells("node process");
-        Some(store)
     }
 
     /// Starts a replica by these words, and waits for the first that it tells, or for its end. Where it finds a port taken it is started again: a process
@@ -240,17 +198,9 @@ impl Store {
 
     /// A line of INFO, as the core tells it.
     pub fn info(&self, name: &str) -> String {
-        let start = Instant::now();
-        loop {
-            let Reply::Bulk(Some(text)) = self.ask("INFO") else { panic!("no INFO") };
-            let text = String::from_utf8(text).unwrap();
-            let is_brief = text.starts_with("core_is_slow:") && start.elapsed() < PATIENCE;
-            match text.lines().find_map(|line| line.strip_prefix(name)?.strip_prefix(':')) {
-                Some(line) if !is_brief => return line.to_string(),
-                None if !is_brief => panic!("no {name} in {text}"),
-                _ => {}
-            }
-        }
+        let text = info(&mut self.client());
+        let line = text.lines().find_map(|line| line.strip_prefix(name)?.strip_prefix(':'));
+        line.unwrap_or_else(|| panic!("no {name} in {text}")).to_string()
     }
 
     /// The local read of a key.
@@ -272,6 +222,19 @@ impl Drop for Store {
 pub fn ask(client: &mut Client, line: &str) -> Reply {
     let words: Vec<&[u8]> = line.split(' ').map(str::as_bytes).collect();
     client.ask(&words).unwrap()
+}
+
+/// What INFO tells, once the core is quick enough to tell it: other work may leave it little of the processors.
+pub fn info(client: &mut Client) -> String {
+    let start = Instant::now();
+    loop {
+        let Reply::Bulk(Some(text)) = ask(client, "INFO") else { panic!("no INFO") };
+        let text = String::from_utf8(text).unwrap();
+        if !text.starts_with("core_is_slow:") {
+            return text;
+        }
+        assert!(start.elapsed() < PATIENCE, "{text}");
+    }
 }
 
 pub fn wait(what: &str, is_so: impl Fn() -> bool) {

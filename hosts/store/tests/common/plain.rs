@@ -1,16 +1,19 @@
 //! A core in memory, and what is common to those of one cluster: a map for each generation. A command is done to it once another replica has
 //! agreed, so that there are frames to be lost, and late; in a cluster of one at once. So all that can go wrong is the drivers'.
-use super::map::{Map, execute};
-use epaxos::{Call, Event, Fault, Instance, MOST_COMMANDS, OpenInstance, OwnedAnswer, OwnedCommand, Proposed, State};
+use epaxos::{
+    Call, Event, Fault, Instance, MOST_COMMANDS, OpenInstance, OwnedAnswer, OwnedCommand, OwnedReading, Proposed, State,
+};
 use std::collections::{BTreeMap, BTreeSet};
 use std::fs;
 use std::path::PathBuf;
 use std::sync::{Arc, Mutex, MutexGuard, PoisonError};
 use store::core::{Begin, Core, Pairs};
+use store::map::{Map, execute};
 use store::node_fault::NodeFault;
 use store::opening::Opening;
-use store::outcome::{Asked, Outcome, Outgoing, Report};
+use store::outcome::{Asked, Outcome};
 use store::peers::Place;
+use store::queries::{Queries, Report};
 
 /// Kinds of frames: it asks for agreement, agrees, tells of a commit, asks whether there is one.
 const PROPOSES: u8 = 1;
@@ -76,8 +79,7 @@ pub struct Plain {
     pub state: State,
     own: BTreeMap<u16, Own>,
     /// Others' instances that aren't known to be committed.
-    known: BTreeSet<Instance>,
-    run: u64,
+    pub known: BTreeSet<Instance>,
     /// All proposals and frames that came: a frame's bytes, nothing of a proposal.
     pub asked: Vec<Option<Vec<u8>>>,
     /// Whom the proposals named as the spared one.
@@ -92,6 +94,8 @@ pub struct Plain {
     pub handled: Vec<u32>,
     /// Whether the next generation is ready.
     pub is_ready: bool,
+    /// What it tells to interfere with reads, besides nothing.
+    pub found: Vec<Instance>,
 }
 
 impl Plain {
@@ -104,7 +108,6 @@ impl Plain {
             state: State { generation: 1, ..State::default() },
             own: BTreeMap::new(),
             known: BTreeSet::new(),
-            run: 0,
             asked: Vec::new(),
             spared: Vec::new(),
             stuck: u16::MAX,
@@ -112,6 +115,7 @@ impl Plain {
             reported: Vec::new(),
             handled: Vec::new(),
             is_ready: true,
+            found: Vec::new(),
         };
         it.write_opening(1);
         it
@@ -164,7 +168,7 @@ impl Plain {
             frame[20..23].copy_from_slice(&instance.bytes());
             frame[34] = op;
             frame[40..44].copy_from_slice(&self.state.generation.to_be_bytes());
-            outcome.frames.push(Outgoing { to, frame });
+            outcome.frames.push((to, frame));
         }
     }
 
@@ -252,7 +256,6 @@ impl Plain {
 
     /// Goes on to this generation.
     fn go_on(&mut self, generation: u32) {
-        self.run += 1;
         self.state = State { generation, stamp: self.state.stamp, ..State::default() };
         (self.own, self.known, self.stuck) = (BTreeMap::new(), BTreeSet::new(), u16::MAX);
     }
@@ -261,6 +264,39 @@ impl Plain {
 /// The number of a command's op, as far as a driver looks at it.
 fn op(command: &OwnedCommand) -> u8 {
     if command.is_seal() { SEAL } else { 3 }
+}
+
+impl Queries for Plain {
+    type Fault = NodeFault;
+
+    fn report(&mut self, after: u32, most: u8) -> Result<Report, NodeFault> {
+        if after < u32::MAX {
+            self.reported.push(after);
+        }
+        let open = |instance| OpenInstance { instance, since: None, led: None, spared: None };
+        let open = self.open().take(most.into()).map(open).collect();
+        Ok(Report { open, ..self.report.clone() })
+    }
+
+    fn handled(&mut self, peer: u8) -> Result<u32, NodeFault> {
+        Ok(self.handled.get(usize::from(peer)).copied().unwrap_or(0))
+    }
+
+    /// Nothing does: what was done is done at all replicas at once.
+    fn interfering(&mut self, keys: &[&[u8]]) -> Result<Vec<Vec<Instance>>, NodeFault> {
+        Ok(vec![self.found.clone(); keys.len()])
+    }
+
+    fn read(&mut self, reads: &[(&[u8], &[Instance])]) -> Result<Vec<OwnedReading>, NodeFault> {
+        let read = |life: &Life, key: &[u8], found: &[Instance]| match (found.first(), life.map.get(key)) {
+            _ if life.seal.is_some() => OwnedReading::Closed,
+            (Some(instance), _) if self.known.contains(instance) => OwnedReading::Waits(*instance),
+            (_, None) => OwnedReading::Absent,
+            (_, Some(value)) => OwnedReading::Present(value.clone()),
+        };
+        self.world
+            .with(self.state.generation, |life| Ok(reads.iter().map(|(key, found)| read(life, key, found)).collect()))
+    }
 }
 
 impl Core for Plain {
@@ -301,29 +337,16 @@ impl Core for Plain {
         Ok(outcome)
     }
 
-    fn report(&mut self, after: u32, most: u8) -> Result<Report, NodeFault> {
-        if after < u32::MAX {
-            self.reported.push(after);
-        }
-        let open = |instance| OpenInstance { instance, since: None, led: None, spared: None };
-        let open = self.open().take(most.into()).map(open).collect();
-        Ok(Report { open, ..self.report.clone() })
-    }
-
-    fn next_open(&mut self, after: Instance) -> Result<Option<Instance>, NodeFault> {
-        Ok(self.open().find(|instance| *instance > after))
-    }
-
-    fn handled(&mut self, peer: u8) -> Result<u32, NodeFault> {
-        Ok(self.handled.get(usize::from(peer)).copied().unwrap_or(0))
-    }
-
-    fn contents(&mut self) -> Result<Option<Pairs>, NodeFault> {
-        Ok(None)
+    fn contents(&mut self) -> Result<Pairs, NodeFault> {
+        Ok(self.world.with(self.state.generation, |life| life.map.clone()).into_iter().collect())
     }
 
     fn state(&mut self) -> Result<State, NodeFault> {
         Ok(self.state)
+    }
+
+    fn seal(&self) -> Option<Vec<u8>> {
+        self.world.with(self.state.generation, |life| life.seal.clone())
     }
 
     fn is_prepared(&self) -> bool {
@@ -341,19 +364,7 @@ impl Core for Plain {
         Ok(self.state)
     }
 
-    fn run(&self) -> u64 {
-        self.run
-    }
-
-    fn process(&self) -> u32 {
-        0
-    }
-
     fn end(&mut self) {}
-
-    fn ended(&mut self) -> NodeFault {
-        NodeFault::Ended(None, String::new())
-    }
 
     fn told(&mut self) -> Vec<String> {
         Vec::new()

@@ -1,5 +1,5 @@
 //! Three cores in this process, whose frames all come.
-use epaxos::{Call, Command, Core as Place_, Event, OwnedCommand};
+use epaxos::{Call, Command, Event, OwnedCommand};
 use std::collections::BTreeMap;
 use std::fs;
 use std::path::{Path, PathBuf};
@@ -20,24 +20,20 @@ pub struct Three {
 
 pub fn hosting(folder: &Path, replica: u8, checkpoint: u64) -> Hosting {
     let place = Place { replicas: 3, replica };
-    Hosting { place, folder: folder.to_path_buf(), core: Place_::Library, checkpoint }
+    Hosting { place, folder: folder.to_path_buf(), checkpoint }
 }
 
 impl Three {
-    /// None without the library.
-    pub fn begin(name: &str, checkpoint: u64) -> Option<Three> {
-        if !Place_::has_library() {
-            return None;
-        }
+    pub fn begin(name: &str, checkpoint: u64) -> Three {
         let folder = std::env::temp_dir().join(format!("store-checkpoints-{name}-{}", std::process::id()));
         let _ = fs::remove_dir_all(&folder);
         let begin = |replica: u8| {
             let folder = folder.join(replica.to_string());
             fs::create_dir_all(&folder).unwrap();
-            Hosted::start(hosting(&folder, replica, checkpoint), &Begin::New, 0).unwrap()
+            Hosted::start(hosting(&folder, replica, checkpoint), &Begin::New).unwrap()
         };
         let cores = (0..3).map(begin).collect();
-        Some(Three { folder, cores, map: BTreeMap::new(), requests: 0 })
+        Three { folder, cores, map: BTreeMap::new(), requests: 0 }
     }
 
     pub fn of(&self, replica: usize) -> PathBuf {
@@ -50,9 +46,9 @@ impl Three {
         let call = Call::new(1 + replica as u32, self.requests);
         let propose = Asked { events: vec![Event::Propose { call, command }], ..Asked::default() };
         let mut under_way = self.cores[replica].carry_out(&propose).unwrap().frames;
-        while let Some(outgoing) = under_way.pop() {
-            let handle = Asked { events: vec![Event::Handle(&outgoing.frame)], ..Asked::default() };
-            under_way.extend(self.cores[usize::from(outgoing.to)].carry_out(&handle).unwrap().frames);
+        while let Some((to, frame)) = under_way.pop() {
+            let handle = Asked { events: vec![Event::Handle(&frame)], ..Asked::default() };
+            under_way.extend(self.cores[usize::from(to)].carry_out(&handle).unwrap().frames);
         }
         for core in &mut self.cores {
             core.carry_out(&Asked { executes_all: true, ..Asked::default() }).unwrap();
@@ -100,14 +96,14 @@ impl Three {
         let _ = fs::remove_dir_all(&copy);
         copy_all(&self.of(0), &copy);
         change(&copy);
-        let hosted = Hosted::start(hosting(&copy, 0, NEVER), &Begin::Again, 0);
+        let hosted = Hosted::start(hosting(&copy, 0, NEVER), &Begin::Again);
         let mut hosted = hosted.map_err(|fault| fault.to_string())?;
         hosted.carry_out(&Asked { executes_all: true, ..Asked::default() }).unwrap();
         assert_eq!(contents(&mut hosted), self.map);
         let state = hosted.state().unwrap();
         drop(hosted);
         // And once more, over what that start has made of it.
-        let mut hosted = Hosted::start(hosting(&copy, 0, NEVER), &Begin::Again, 0).unwrap();
+        let mut hosted = Hosted::start(hosting(&copy, 0, NEVER), &Begin::Again).unwrap();
         assert_eq!((hosted.state().unwrap().generation, contents(&mut hosted)), (state.generation, self.map.clone()));
         Ok(state.generation)
     }
@@ -134,5 +130,5 @@ pub fn copy_all(from: &Path, to: &Path) {
 }
 
 pub fn contents(core: &mut Hosted) -> BTreeMap<Vec<u8>, Vec<u8>> {
-    core.contents().unwrap().unwrap().into_iter().collect()
+    core.contents().unwrap().into_iter().collect()
 }

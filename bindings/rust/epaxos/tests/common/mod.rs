@@ -1,21 +1,17 @@
 //! Clusters in one thread, whose frames are lost, repeated and overtaken, and whose replicas stop at any moment.
 #![allow(dead_code)]
 
-use epaxos::{Answer, Call, Cluster, Command, Core, Executed, Instance, Patience, Replica, Setup, Waits};
+use epaxos::{
+    Answer, Call, Cluster, Command, Executed, Instance, OwnedCommand, OwnedTx, Patience, Replica, Setup, Waits,
+};
 use std::collections::BTreeMap;
 use std::path::{Path, PathBuf};
 use std::{env, fs, process};
 
-/// The program `epaxos`, of which processes are started.
+/// The program `epaxos`, which collects and audits.
 pub fn program() -> PathBuf {
     let here = Path::new(env!("CARGO_MANIFEST_DIR")).join("../../../epaxos");
     env::var_os("EPAXOS").map_or(here, PathBuf::from)
-}
-
-/// The cores that there are.
-pub fn cores() -> Vec<Core> {
-    let library = Core::has_library().then_some(Core::Library);
-    [Core::Process(program())].into_iter().chain(library).collect()
 }
 
 /// What an audit says of the replicas whose folders these are, in generation 1: of their logs, and of the receipts in the file `receipts` of each.
@@ -59,6 +55,13 @@ pub enum Owned {
     Cas(Vec<u8>, Option<Vec<u8>>, Option<Vec<u8>>),
     Opaque(bool, Vec<u8>, Option<Vec<u8>>, Vec<u8>),
     Seal(Vec<u8>),
+    Tx(OwnedTx),
+}
+
+impl From<OwnedCommand> for Owned {
+    fn from(command: OwnedCommand) -> Owned {
+        Owned::of(command.lent())
+    }
 }
 
 impl Owned {
@@ -75,6 +78,7 @@ impl Owned {
                 Owned::Opaque(is_reading, first.into(), second.map(Into::into), body.into())
             }
             Command::Seal { value } => Owned::Seal(value.into()),
+            Command::Tx(tx) => Owned::Tx(tx.to_owned()),
         }
     }
 
@@ -89,6 +93,7 @@ impl Owned {
                 Command::Opaque { is_reading: *is_reading, first, second: second.as_deref(), body }
             }
             Owned::Seal(value) => Command::Seal { value },
+            Owned::Tx(tx) => Command::Tx(tx.lent()),
         }
     }
 
@@ -97,7 +102,7 @@ impl Owned {
             Owned::Get(key) | Owned::Put(key, _) | Owned::Del(key) | Owned::Cas(key, ..) => vec![key],
             Owned::Opaque(_, key, other, _) => [&key[..]].into_iter().chain(other.as_deref()).collect(),
             Owned::Swap(first, second) => vec![first, second],
-            Owned::Seal(_) => Vec::new(),
+            Owned::Seal(_) | Owned::Tx(_) => Vec::new(),
         }
     }
 }
@@ -110,6 +115,12 @@ pub enum Reply {
     Lost,
     Closed,
     Ordered,
+    Done(Vec<Option<Vec<u8>>>),
+    Undone(Vec<Option<Vec<u8>>>),
+}
+
+fn owned<'a>(values: impl Iterator<Item = Option<&'a [u8]>>) -> Vec<Option<Vec<u8>>> {
+    values.map(|it| it.map(Into::into)).collect()
 }
 
 impl Reply {
@@ -120,6 +131,8 @@ impl Reply {
             Answer::Lost => Reply::Lost,
             Answer::Closed => Reply::Closed,
             Answer::Ordered => Reply::Ordered,
+            Answer::Done(values) => Reply::Done(owned(values.iter())),
+            Answer::Undone(values) => Reply::Undone(owned(values.iter())),
         }
     }
 }
@@ -134,6 +147,23 @@ pub struct Plain {
 impl Plain {
     fn has(&self, key: &[u8]) -> Reply {
         self.map.get(key).map_or(Reply::Absent, |value| Reply::Present(value.clone()))
+    }
+
+    fn at(&self, key: &[u8]) -> Option<&[u8]> {
+        self.map.get(key).map(|it| &it[..])
+    }
+
+    fn apply_tx(&mut self, tx: &OwnedTx) -> Reply {
+        let told = owned(tx.told().map(|key| self.at(key)));
+        if tx.items().any(|it| it.required.is_some_and(|value| self.at(it.key) != value)) {
+            return Reply::Undone(told);
+        }
+        for item in tx.items() {
+            if let Some(value) = item.written {
+                self.set(item.key, value.map(Into::into));
+            }
+        }
+        Reply::Done(told)
     }
 
     fn set(&mut self, key: &[u8], value: Option<Vec<u8>>) {
@@ -165,6 +195,7 @@ impl Plain {
             }
             Owned::Opaque(..) => return Reply::Ordered,
             Owned::Seal(_) => self.is_closed = true,
+            Owned::Tx(tx) => return self.apply_tx(tx),
         }
         had
     }
@@ -206,7 +237,6 @@ pub struct Seat {
 /// A cluster of one generation.
 pub struct World<'a> {
     pub cluster: Cluster,
-    pub core: Core,
     pub opening: Option<&'a [u8]>,
     pub seats: Vec<Seat>,
     pub frames: Vec<(u8, Vec<u8>)>,
@@ -215,9 +245,9 @@ pub struct World<'a> {
 }
 
 impl<'a> World<'a> {
-    pub fn new(cluster: Cluster, core: &Core, opening: Option<&'a [u8]>, seed: u64) -> World<'a> {
+    pub fn new(cluster: Cluster, opening: Option<&'a [u8]>, seed: u64) -> World<'a> {
         let seats = (0..cluster.replicas()).map(|me| {
-            let setup = Setup { core: core.clone(), opening, ..Setup::new(cluster, me) };
+            let setup = Setup { opening, ..Setup::new(cluster, me) };
             Seat {
                 me,
                 replica: Some(setup.begin().unwrap()),
@@ -237,8 +267,7 @@ impl<'a> World<'a> {
             }
         });
         let seats = seats.collect();
-        let mut world =
-            World { cluster, core: core.clone(), opening, seats, frames: Vec::new(), random: Random(seed), now: 0 };
+        let mut world = World { cluster, opening, seats, frames: Vec::new(), random: Random(seed), now: 0 };
         (0..world.seats.len()).for_each(|me| world.settle(me));
         world
     }
@@ -293,12 +322,7 @@ impl<'a> World<'a> {
     pub fn start(&mut self, me: usize, torn: &[u8]) {
         let seat = &mut self.seats[me];
         let log = [&seat.log[..], torn].concat();
-        let setup = Setup {
-            core: self.core.clone(),
-            opening: self.opening,
-            told: Some(seat.entries),
-            ..Setup::new(self.cluster, seat.me)
-        };
+        let setup = Setup { opening: self.opening, told: Some(seat.entries), ..Setup::new(self.cluster, seat.me) };
         let replica = setup.open(&log).unwrap();
         assert_eq!(replica.cut(), torn.len() as u64);
         seat.replica = Some(replica);

@@ -1,5 +1,8 @@
-use Rattle.std.proofs.Common.{[], refl, ◌∙◌}
+use Rattle.std.proofs.Common.{[], Ok, refl, subst, sym, ◌∙◌}
 use Rattle.std.specs.FinMap.{entries}
+use Rattle.ep_rules.specs.OneMap.{Contents}
+use Rattle.ep_bundle.specs.Headers.{contents}
+use Rattle.ep_bundle.specs.Reading.{Reads}
 use Rattle.ep_bundle.proofs.PairLoops.{none_filled, none_many, one_filled, one_many, none_more, all_filled}
 use Rattle.ep_bundle.proofs.pairs.read_contents.Goals as goal
 
@@ -25,4 +28,6 @@ loop-preserved g c = record {
 }
 
 pub returns-clause-bytes : goal.returns-clause-bytes
-returns-clause-bytes g c = λ y0 e0. all_filled c.args.count c.loop.counter c.loop.map c.args.place.now c.loop.place (g.S.Source.left c.args.source.now) (g.S.Source.left c.loop.source) c.loop-test.false c.loop.invariant.bytes y0 e0
+returns-clause-bytes g c = λ y0 e0.
+    subst (λ (m : Contents). Reads (contents c.args.count (record { at = c.args.place.now; bytes = y0 })) (Ok m) c.loop.place (g.S.Source.left c.loop.source)) (sym c.of.ensures)
+    (all_filled c.args.count c.loop.counter c.loop.map c.args.place.now c.loop.place (g.S.Source.left c.args.source.now) (g.S.Source.left c.loop.source) c.loop-test.false c.loop.invariant.bytes y0 e0)

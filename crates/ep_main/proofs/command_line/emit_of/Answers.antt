@@ -8,7 +8,7 @@ use Rattle.ep_main.proofs.command_line.emit_of.Goals as goal
 pub returns-in-Some-clause-named : goal.returns-in-Some-clause-named
 returns-in-Some-clause-named c emit names =
     let first : Some c.in-Some.what.now ≡ first_value (found_of c.args.options.now) (codes "emit") = search rules in
-    named_as emit c.in-Some.what.now _ _ (first ∙ first_value-rows (found_of c.args.options.now) (codes "emit")) c.emit_named.ensures.report c.emit_named.ensures.bundle names
+    named_as emit c.in-Some.what.now _ _ (first ∙ first_value-rows (found_of c.args.options.now) (codes "emit")) c.emit_named.ensures.report c.emit_named.ensures.json c.emit_named.ensures.bundle names
 
 pub returns-in-None-clause-named : goal.returns-in-None-clause-named
 returns-in-None-clause-named c emit names =

@@ -1,6 +1,6 @@
 use Rattle.std.proofs.Common.{rules, ◌≡◌, ◌∙◌, sym, ap, Some, None, true, codes}
 use Rattle.clap.specs.Matches.{found_of, first_value}
-use Rattle.clap.specs.Walk.{Text, first_of, rows_of}
+use Rattle.clap.specs.Walk.{Text}
 use Rattle.clap.proofs.WalkLemmas.{first_value-rows}
 use Rattle.ep_main.proofs.Literals.{some_is, none_isnt}
 use Rattle.ep_main.proofs.command_line.is_chain.Goals as goal

@@ -1,4 +1,4 @@
-use Rattle.std.proofs.Common.{◌≡◌, ◌∙◌, Ok, ap, refl}
+use Rattle.std.proofs.Common.{◌∙◌, Ok, ap, refl}
 use Rattle.clap.specs.Matches.{found_of}
 use Rattle.clap.specs.Walk.{rows_of}
 use Rattle.ep_main.specs.Words.{run_words}

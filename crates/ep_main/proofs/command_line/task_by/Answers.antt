@@ -21,16 +21,18 @@ returns-in-Some-clause-upgrade c target found =
     absurd (audit_no_upgrade c.args.matches.now target named found)
 
 pub returns-in-Some-clause-audit : goal.returns-in-Some-clause-audit
-returns-in-Some-clause-audit c found =
+returns-in-Some-clause-audit c form found =
     let named : subcommand_name_of c.args.matches.now ≡ Some (codes "audit") = search rules in
     let has : option_map (λ p. p.1) (subcommand_rows_of c.args.matches.now) ≡ Some (rows_of (found_of c.in-Some.options.now)) = search rules in
-    c.audit_of.ensures.audit (bundle_met c.args.matches.now _ named has found)
+    let is = bundle_met c.args.matches.now form _ named has found in
+    c.audit_of.ensures.audit form is.0 is.1
 
 pub returns-in-Some-clause-chain : goal.returns-in-Some-clause-chain
-returns-in-Some-clause-chain c names found =
+returns-in-Some-clause-chain c form names found =
     let named : subcommand_name_of c.args.matches.now ≡ Some (codes "audit") = search rules in
     let has : option_map (λ p. p.1) (subcommand_rows_of c.args.matches.now) ≡ Some (rows_of (found_of c.in-Some.options.now)) = search rules in
-    c.audit_of.ensures.chain names (chain_met c.args.matches.now _ names named has found)
+    let is = chain_met c.args.matches.now form _ names named has found in
+    c.audit_of.ensures.chain form names is.0 is.1
 
 pub returns-in-Some-clause-only : goal.returns-in-Some-clause-only
 returns-in-Some-clause-only c =
@@ -39,26 +41,26 @@ returns-in-Some-clause-only c =
     met_audit_tasks c.args.matches.now _ _ named has c.audit_of.ensures.only
 
 pub returns-in_ok-asked-in-None-clause-audit : goal.returns-in_ok-asked-in-None-clause-audit
-returns-in_ok-asked-in-None-clause-audit c found =
-    let named : subcommand_name_of c.args.matches.now ≡ Some (codes "audit") = audit_named c.args.matches.now found in
+returns-in_ok-asked-in-None-clause-audit c form found =
+    let named : subcommand_name_of c.args.matches.now ≡ Some (codes "audit") = audit_named c.args.matches.now form found in
     let bad : ⊥ = search rules in
     absurd bad
 
 pub returns-in_err-asked-in-None-clause-audit : goal.returns-in_err-asked-in-None-clause-audit
-returns-in_err-asked-in-None-clause-audit c found =
-    let named : subcommand_name_of c.args.matches.now ≡ Some (codes "audit") = audit_named c.args.matches.now found in
+returns-in_err-asked-in-None-clause-audit c form found =
+    let named : subcommand_name_of c.args.matches.now ≡ Some (codes "audit") = audit_named c.args.matches.now form found in
     let bad : ⊥ = search rules in
     absurd bad
 
 pub returns-in_ok-asked-in-None-clause-chain : goal.returns-in_ok-asked-in-None-clause-chain
-returns-in_ok-asked-in-None-clause-chain c names found =
-    let named : subcommand_name_of c.args.matches.now ≡ Some (codes "audit") = chain_named c.args.matches.now names found in
+returns-in_ok-asked-in-None-clause-chain c form names found =
+    let named : subcommand_name_of c.args.matches.now ≡ Some (codes "audit") = chain_named c.args.matches.now form names found in
     let bad : ⊥ = search rules in
     absurd bad
 
 pub returns-in_err-asked-in-None-clause-chain : goal.returns-in_err-asked-in-None-clause-chain
-returns-in_err-asked-in-None-clause-chain c names found =
-    let named : subcommand_name_of c.args.matches.now ≡ Some (codes "audit") = chain_named c.args.matches.now names found in
+returns-in_err-asked-in-None-clause-chain c form names found =
+    let named : subcommand_name_of c.args.matches.now ≡ Some (codes "audit") = chain_named c.args.matches.now form names found in
     let bad : ⊥ = search rules in
     absurd bad
 

@@ -37,8 +37,8 @@ returns-in-Run-clause-written g c = put_fails is_write Write c.run_of-made.resul
 
 pub returns-in-Audit-clause-done : goal.returns-in-Audit-clause-done
 returns-in-Audit-clause-done g c zs known =
-    let is : c.args.asked ≡ Audit = search rules in
-    done_as c.args.asked Audit c.audit_of-made.result c.put_made-in-Audit.result zs _ is (c.audit_of-made.ensures.finishes zs known) c.put_made-in-Audit.ensures
+    let is : c.args.asked ≡ Audit c.in-Audit.form = search rules in
+    done_as c.args.asked (Audit c.in-Audit.form) c.audit_of-made.result c.put_made-in-Audit.result zs _ is (c.audit_of-made.ensures.finishes zs known) c.put_made-in-Audit.ensures
 
 pub returns-in-Audit-clause-verdict : goal.returns-in-Audit-clause-verdict
 returns-in-Audit-clause-verdict g c = put_status IsVerdict Write c.audit_of-made.result c.put_made-in-Audit.result _ c.audit_of-made.ensures.verdict c.put_made-in-Audit.ensures

@@ -1,4 +1,4 @@
-use Rattle.ep_main.proofs.Ending.{IsTold, concludes_from, ends, performs}
+use Rattle.ep_main.proofs.Ending.{concludes_from, ends, performs}
 use Rattle.ep_main.proofs.program.perform.Goals as goal
 
 pub returns-clause-performs : goal.returns-clause-performs

@@ -1,4 +1,4 @@
-use Rattle.ep_server.proofs.InFolders.{both_cuts, one_cut}
+use Rattle.ep_server.proofs.InFolders.{both_cuts, one_cut, sized_as}
 use Rattle.ep_server.proofs.in_folder.ready.Goals as goal
 
 pub returns-in-Ok-Some-clause-told : goal.returns-in-Ok-Some-clause-told
@@ -9,3 +9,7 @@ returns-in-Ok-None-clause-told g c = one_cut _ _ _ _ c.open_stage.ensures.told
 
 pub returns-in-Err-clause-told : goal.returns-in-Err-clause-told
 returns-in-Err-clause-told g c = one_cut _ _ _ _ c.open_stage.ensures.told
+
+pub returns-in-Ok-None-clause-ok : goal.returns-in-Ok-None-clause-ok
+returns-in-Ok-None-clause-ok g c =
+    sized_as c.args.options.now.size c.args.options.now.me c.of_size.result c.in_ok-node.node c.of_size.ensures.ok c.in_ok-node.ensures.ok.0 c.in_ok-node.ensures.ok.1

@@ -1,13 +1,12 @@
-use Rattle.std.proofs.Common.{◌≡◌, ◌++◌, drop, [], true}
+use Rattle.std.proofs.Common.{◌≡◌, ◌++◌, drop, []}
 use Rattle.ep_base.specs.Deps.{IsRising}
 use Rattle.ep_rules.specs.InterferenceSet.{touches}
+use Rattle.ep_rules.specs.States.{or_zero}
 use Rattle.ep_space.specs.Gathering.{gather_all}
-use Rattle.ep_space.specs.Keys.{ArePlain}
 use Rattle.ep_space.proofs.gathered.gathered_run.Given as goal
 
 abbrev pub invariant-loop-id : goal.invariant-loop-id
 invariant-loop-id l = record {
-  rest : gather_all (touches l.sought.command.now l.except) l.records.held l.gathered (drop l.id-index l.run) ≡ gather_all (touches l.sought.command.now l.except) l.records.held (record { seq = 0; deps = [] }) l.run;
-  plain : l.sought.is_plain ≡ true → ArePlain l.sought.command.now l.records.held (drop l.id-index l.run);
+  rest : gather_all (touches l.command (or_zero l.except)) l.records.held l.gathered (drop l.id-index l.run) ≡ gather_all (touches l.command (or_zero l.except)) l.records.held (record { seq = 0; deps = [] }) l.run;
   rising : IsRising (l.gathered.deps ++ drop l.id-index l.run);
 }

@@ -1,43 +1,45 @@
 use Rattle.std.proofs.Common.{◌∙◌, [], ap, sym, subst}
 use Rattle.ep_base.specs.Deps.{IsRising, union}
-use Rattle.ep_base.specs.Interference.{keys_of}
 use Rattle.ep_base.proofs.Union.{IsRising-union}
-use Rattle.ep_rules.specs.InterferenceSet.{touches}
-use Rattle.ep_space.specs.Gathering.{gather_all, next_attrs}
+use Rattle.ep_rules.specs.States.{or_zero}
+use Rattle.ep_space.specs.Gathering.{next_attrs}
 use Rattle.ep_space.specs.Keys.{holders, holders_of}
 use Rattle.ep_space.proofs.Bringing.{on_value}
-use Rattle.ep_space.proofs.Gathering.{gathered-keys, plain_holders, union_none}
+use Rattle.ep_space.proofs.Gathering.{met_of, met_holders, gathered-keys, union_none}
 use Rattle.ep_space.proofs.Holders.{rising-holders, rising-holders_of}
 use Rattle.ep_space.proofs.gathered.gathered_with_seals.Goals as goal
-use Rattle.ep_space.proofs.Entered.{empty_of}
 
-pub gathered_plain-requires-clause-rising : goal.gathered_plain-requires-clause-rising
-gathered_plain-requires-clause-rising c = subst IsRising (sym c.requires.holders) (rising-holders_of (keys_of c.args.command.now) c.args.records.now.held)
+pub gathered_whole-requires-clause-rising : goal.gathered_whole-requires-clause-rising
+gathered_whole-requires-clause-rising c = subst IsRising (sym c.requires.holders) (rising-holders_of (met_of c.args.command.now) c.args.records.now.held)
 
-pub gathered_plain-requires-clause-plain : goal.gathered_plain-requires-clause-plain
-gathered_plain-requires-clause-plain c = plain_holders c.args.command.now c.args.records.now.held c.args.run.now (sym c.seals-seals.ensures ∙ empty_of c.seals-seals.result.now c.if-is_empty.ensures) c.requires.holders
+pub gathered_whole-requires-clause-met : goal.gathered_whole-requires-clause-met
+gathered_whole-requires-clause-met c =
+    met_holders c.args.command.now c.requires.no_seal c.requires.no_noop c.args.records.now.held c.args.run.now
+    (sym (union_none c.args.run.now c.run-seals.result.now c.if-is_empty.ensures) ∙ (λ d. union (c.requires.holders d) (c.run-seals.ensures d)))
 
 pub returns-then-is_empty : goal.returns-then-is_empty
 returns-then-is_empty c =
-    let m = c.args.records.now.held in
-    on_value c.gathered_plain.result
+    on_value c.gathered_whole.result
     (λ g e. ap next_attrs e
-    ∙ ap (λ is. next_attrs (gather_all (touches c.args.command.now c.args.except) m (record { seq = 0; deps = [] }) is)) (sym (union_none c.args.run.now c.seals-seals.result.now c.if-is_empty.ensures))
-    ∙ (λ d. next_attrs (gather_all (touches c.args.command.now c.args.except) m (record { seq = 0; deps = [] }) (union (c.requires.holders d) (c.seals-seals.ensures d))))
-    ∙ gathered-keys c.args.command.now c.args.except c.requires.no_seal m)
-    c.gathered_plain.ensures
+    ∙ gathered-keys c.args.command.now (or_zero c.args.except) c.requires.no_seal c.requires.no_noop c.args.records.now.held c.args.run.now
+    (sym (union_none c.args.run.now c.run-seals.result.now c.if-is_empty.ensures) ∙ (λ d. union (c.requires.holders d) (c.run-seals.ensures d))))
+    c.gathered_whole.ensures
 
-pub gathered_run-requires-clause-rising : goal.gathered_run-requires-clause-rising
-gathered_run-requires-clause-rising c =
-    subst IsRising (sym (c.as_slice.ensures.value ∙ c.in_ok-all.ensures ∙ (λ d. union (c.requires.holders d) (c.seals-seals.ensures d))))
-    (IsRising-union (holders_of (keys_of c.args.command.now) c.args.records.now.held) (holders [] c.args.records.now.held) (rising-holders_of (keys_of c.args.command.now) c.args.records.now.held) (rising-holders [] c.args.records.now.held))
+pub gathered_whole-requires-2-clause-rising : goal.gathered_whole-requires-2-clause-rising
+gathered_whole-requires-2-clause-rising c =
+    let m = c.args.records.now.held in
+    subst IsRising (sym (c.as_slice.ensures.value ∙ c.in_ok-all.ensures ∙ (λ d. union (c.requires.holders d) (c.run-seals.ensures d))))
+    (IsRising-union (holders_of (met_of c.args.command.now) m) (holders [] m) (rising-holders_of (met_of c.args.command.now) m) (rising-holders [] m))
+
+pub gathered_whole-requires-2-clause-met : goal.gathered_whole-requires-2-clause-met
+gathered_whole-requires-2-clause-met c =
+    met_holders c.args.command.now c.requires.no_seal c.requires.no_noop c.args.records.now.held c.as_slice.result.now
+    (c.as_slice.ensures.value ∙ c.in_ok-all.ensures ∙ (λ d. union (c.requires.holders d) (c.run-seals.ensures d)))
 
 pub returns : goal.returns
 returns c =
-    let m = c.args.records.now.held in
-    on_value c.gathered_run.result
+    on_value c.gathered_whole-2.result
     (λ g e. ap next_attrs e
-    ∙ ap (λ is. next_attrs (gather_all (touches c.args.command.now c.args.except) m (record { seq = 0; deps = [] }) is)) (c.as_slice.ensures.value ∙ c.in_ok-all.ensures)
-    ∙ (λ d. next_attrs (gather_all (touches c.args.command.now c.args.except) m (record { seq = 0; deps = [] }) (union (c.requires.holders d) (c.seals-seals.ensures d))))
-    ∙ gathered-keys c.args.command.now c.args.except c.requires.no_seal m)
-    c.gathered_run.ensures
+    ∙ gathered-keys c.args.command.now (or_zero c.args.except) c.requires.no_seal c.requires.no_noop c.args.records.now.held c.as_slice.result.now
+    (c.as_slice.ensures.value ∙ c.in_ok-all.ensures ∙ (λ d. union (c.requires.holders d) (c.run-seals.ensures d))))
+    c.gathered_whole-2.ensures

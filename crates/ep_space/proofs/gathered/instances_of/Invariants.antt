@@ -1,10 +1,6 @@
-use Rattle.std.proofs.Common.{◌≡◌, [], drop}
-use Rattle.ep_base.specs.Deps.{IsRising}
+use Rattle.std.proofs.Common.{◌≡◌, ◌++◌, drop}
 use Rattle.ep_space.specs.Gathering.{recorded_in}
 use Rattle.ep_space.proofs.gathered.instances_of.Given as goal
 
 abbrev pub invariant-loop-id : goal.invariant-loop-id
-invariant-loop-id l = record {
-  rest : recorded_in l.all.items (drop l.id-index l.entries) ≡ recorded_in [] l.entries;
-  rising : IsRising l.all.items;
-}
+invariant-loop-id l = l.all.items ++ recorded_in (drop l.id-index l.entries) ≡ recorded_in l.entries

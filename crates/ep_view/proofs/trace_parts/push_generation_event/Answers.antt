@@ -1,6 +1,6 @@
 use Rattle.std.proofs.Common.{◌≡◌, ◌++◌, ◌∙◌, subst, rules}
 use Rattle.std.specs.Prelude.{codes}
-use Rattle.ep_view.specs.Strings.{string_text}
+use Rattle.ep_json.specs.Strings.{string_text}
 use Rattle.ep_view.specs.Editions.{edition_text}
 use Rattle.ep_view.proofs.Joining.{three}
 use Rattle.ep_view.specs.TraceEvents.{generation_event}

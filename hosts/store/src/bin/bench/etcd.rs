@@ -2,6 +2,7 @@
 use crate::options::Options;
 use crate::running::Running;
 use crate::{Connection, MEMBERS, PATIENCE};
+use std::collections::BTreeSet;
 use std::io::{self, BufReader, Read, Write};
 use std::net::TcpStream;
 use std::path::Path;
@@ -38,6 +39,8 @@ const WINDOW: u8 = 8;
 const ACKNOWLEDGED: u8 = 1;
 const END_OF_STREAM: u8 = 1;
 const END_OF_HEADERS: u8 = 4;
+/// So many calls go at once: they fit the window that a server begins with, of 65,535 bytes.
+const MOST_AT_ONCE: usize = 250;
 
 /// A connection that carries one call at a time.
 pub struct Caller {
@@ -79,10 +82,42 @@ fn headers(path: &str) -> Vec<u8> {
     block
 }
 
-/// A field of bytes, fewer than 128.
+/// A field of bytes, fewer than 16,384.
 fn put_field(out: &mut Vec<u8>, number: u8, bytes: &[u8]) {
-    out.extend([number << 3 | 2, bytes.len() as u8]);
+    out.push(number << 3 | 2);
+    let (low, high) = ((bytes.len() & 0x7f) as u8, (bytes.len() >> 7) as u8);
+    if high == 0 {
+        out.push(low)
+    } else {
+        out.extend([low | 0x80, high])
+    }
     out.extend(bytes);
+}
+
+/// A request to put a value.
+fn put_message(key: &[u8], value: &[u8]) -> Vec<u8> {
+    let mut message = Vec::new();
+    put_field(&mut message, 1, key);
+    put_field(&mut message, 2, value);
+    message
+}
+
+/// A transaction: where none of the keys was ever made, each is put.
+fn txn_message(keys: &[String], value: &[u8]) -> Vec<u8> {
+    let mut message = Vec::new();
+    for key in keys {
+        // (the target CREATE, and the revision 0)
+        let mut compare = vec![2 << 3, 1];
+        put_field(&mut compare, 3, key.as_bytes());
+        compare.extend([5 << 3, 0]);
+        put_field(&mut message, 1, &compare);
+    }
+    for key in keys {
+        let mut operation = Vec::new();
+        put_field(&mut operation, 2, &put_message(key.as_bytes(), value));
+        put_field(&mut message, 2, &operation);
+    }
+    message
 }
 
 impl Caller {
@@ -111,16 +146,47 @@ impl Caller {
         self.reader.get_mut().write_all(bytes)
     }
 
-    /// Calls, and waits for the answer's message.
-    fn call(&mut self, path: &str, message: &[u8]) -> io::Result<Vec<u8>> {
+    /// A call's bytes, and its stream.
+    fn put_call(&mut self, out: &mut Vec<u8>, path: &str, message: &[u8]) -> u32 {
         let stream = self.stream;
         self.stream += 2;
         let mut body = vec![0];
         body.extend((message.len() as u32).to_be_bytes());
         body.extend(message);
+        put_frame(out, HEADERS, END_OF_HEADERS, stream, &headers(path));
+        put_frame(out, DATA, END_OF_STREAM, stream, &body);
+        stream
+    }
+
+    /// Calls at once, on streams of their own, and waits until all have ended.
+    fn call_all(&mut self, path: &str, messages: &[Vec<u8>]) -> io::Result<()> {
+        let (mut bytes, mut open) = (Vec::new(), BTreeSet::new());
+        for message in messages {
+            open.insert(self.put_call(&mut bytes, path, message));
+        }
+        self.send(&bytes)?;
+        let mut answered = BTreeSet::new();
+        while !open.is_empty() {
+            let frame = self.read_frame()?;
+            self.acknowledge(&frame)?;
+            if matches!(frame.kind, RESET | GO_AWAY) {
+                return Err(io::Error::other("a call was refused"));
+            }
+            if frame.kind == DATA {
+                answered.insert(frame.stream);
+            }
+            if matches!(frame.kind, DATA | HEADERS) && frame.flags & END_OF_STREAM != 0 && open.remove(&frame.stream) {
+                // An error is headers alone.
+                answered.remove(&frame.stream).then_some(()).ok_or(io::Error::other("a call failed"))?;
+            }
+        }
+        Ok(())
+    }
+
+    /// Calls, and waits for the answer's message.
+    fn call(&mut self, path: &str, message: &[u8]) -> io::Result<Vec<u8>> {
         let mut bytes = Vec::new();
-        put_frame(&mut bytes, HEADERS, END_OF_HEADERS, stream, &headers(path));
-        put_frame(&mut bytes, DATA, END_OF_STREAM, stream, &body);
+        let stream = self.put_call(&mut bytes, path, message);
         self.send(&bytes)?;
         let mut answer = Vec::new();
         loop {
@@ -165,11 +231,20 @@ impl SplitOff for Vec<u8> {
 
 impl Connection for Caller {
     fn set(&mut self, key: &[u8], value: &[u8]) -> Result<(), String> {
-        let mut message = Vec::new();
-        put_field(&mut message, 1, key);
-        put_field(&mut message, 2, value);
         let told = |error| format!("etcd answers a put by {error}");
-        self.call("/etcdserverpb.KV/Put", &message).map(|_| ()).map_err(told)
+        self.call("/etcdserverpb.KV/Put", &put_message(key, value)).map(|_| ()).map_err(told)
+    }
+
+    fn set_together(&mut self, keys: &[String], value: &[u8]) -> Result<(), String> {
+        let told = |error| format!("etcd answers a transaction by {error}");
+        let answer = self.call("/etcdserverpb.KV/Txn", &txn_message(keys, value)).map_err(told)?;
+        has_succeeded(&answer).then_some(()).ok_or("a transaction's keys were there".into())
+    }
+
+    fn set_at_once(&mut self, keys: &[String], value: &[u8]) -> Result<(), String> {
+        let messages: Vec<Vec<u8>> = keys.iter().map(|key| put_message(key.as_bytes(), value)).collect();
+        let told = |error| format!("etcd answers puts at once by {error}");
+        messages.chunks(MOST_AT_ONCE).try_for_each(|some| self.call_all("/etcdserverpb.KV/Put", some)).map_err(told)
     }
 
     fn get(&mut self, key: &[u8]) -> Result<Vec<u8>, String> {
@@ -211,6 +286,18 @@ fn field(mut bytes: &[u8], wanted: u64) -> Option<&[u8]> {
     found
 }
 
+/// Whether a transaction's answer says that it was done: field 2 is there, and is 1.
+fn has_succeeded(mut answer: &[u8]) -> bool {
+    while let Some((number, _, rest)) = next_field(answer) {
+        if number == 2 {
+            // (a field that is false isn't written)
+            return answer.get(1) == Some(&1);
+        }
+        answer = rest;
+    }
+    false
+}
+
 /// The value in the answer to a range: field 5 of its field 2.
 fn value_in(answer: &[u8]) -> Option<Vec<u8>> {
     Some(field(field(answer, 2)?, 5)?.to_vec())
@@ -226,6 +313,17 @@ mod tests {
         let answer = [0x0a, 3, 0x18, 0xac, 2, 0x12, 9, 0x0a, 1, b'k', 0x20, 2, 0x2a, 2, b'a', b'b', 0x20, 1];
         assert_eq!(value_in(&answer), Some(b"ab".to_vec()));
         assert_eq!(value_in(&answer[..5]), None);
+    }
+
+    #[test]
+    fn a_transaction_is_told() {
+        // header: {revision 300}, succeeded, a response to a put
+        assert!(has_succeeded(&[0x0a, 3, 0x18, 0xac, 2, 0x10, 1, 0x1a, 2, 0x12, 0]));
+        assert!(!has_succeeded(&[0x0a, 3, 0x18, 0xac, 2, 0x1a, 2, 0x12, 0]));
+        let key = "k".to_string();
+        let (compare, put) =
+            ([0x0a, 7, 0x10, 1, 0x1a, 1, b'k', 0x28, 0], [0x12, 8, 0x12, 6, 0x0a, 1, b'k', 0x12, 1, b'v']);
+        assert_eq!(txn_message(&[key], b"v"), [compare.as_slice(), &put].concat());
     }
 
     #[test]

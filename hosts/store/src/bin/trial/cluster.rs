@@ -1,10 +1,8 @@
 //! The stores of a round: starting, killing, stopping them.
 use crate::links::Link;
 use crate::options::{Options, Plant};
-use std::ffi::OsString;
 use std::fs::{self, File, OpenOptions};
 use std::io;
-use std::os::unix::fs::symlink;
 use std::os::unix::process::CommandExt;
 use std::path::{Path, PathBuf};
 use std::process::{Child, Command, ExitStatus, Stdio};
@@ -39,20 +37,11 @@ const ENDING: Duration = Duration::from_secs(60);
 /// And whatever else is waited for has come.
 const PATIENCE: Duration = Duration::from_secs(120);
 
-/// What is killed.
-#[derive(Clone, Copy, Debug)]
-pub enum Target {
-    Both,
-    Store,
-    Node,
-}
-
 /// What a replica takes at a moment, in bytes.
 #[derive(Clone, Copy, Default)]
 pub struct Sample {
     pub generation: u32,
     pub store: u64,
-    pub node: u64,
     pub disk: u64,
 }
 
@@ -161,30 +150,13 @@ impl Cluster {
         (0..count).map(|to| format!("127.0.0.1:{}", port(to))).collect::<Vec<_>>().join(",")
     }
 
-    /// The folders in which programs are looked for: first one that has `epaxos`.
-    fn path(&self) -> io::Result<OsString> {
-        let folder = self.directory.join("bin");
-        match fs::create_dir(&folder).and_then(|()| symlink(self.options.node.canonicalize()?, folder.join("epaxos"))) {
-            Err(error) if error.kind() != io::ErrorKind::AlreadyExists => return Err(error),
-            _ => {}
-        }
-        let others = std::env::var_os("PATH").unwrap_or_default();
-        std::env::join_paths([folder].into_iter().chain(std::env::split_paths(&others))).map_err(io::Error::other)
-    }
-
-    /// Starts a replica, in a group of processes of its own.
+    /// Starts a replica.
     pub fn launch(&self, replica: usize) -> io::Result<()> {
         let told = OpenOptions::new().append(true).create(true).open(self.told(replica))?;
         let mut command = Command::new(&self.options.store);
         command.args(["--replica", &replica.to_string(), "--peers", &self.peers(replica)]);
         command.args(["--listen", &self.client_ports[replica].to_string(), "--patience", "10"]);
         command.arg("--dir").arg(self.folder(replica));
-        if self.options.in_store {
-            // (listings run the program that is found)
-            command.env("PATH", self.path()?);
-        } else {
-            command.arg("--node").arg(&self.options.node);
-        }
         for (flag, number) in
             [("--seal-numbers", self.options.numbers), ("--seal-dependencies", self.options.dependencies)]
         {
@@ -214,6 +186,11 @@ impl Cluster {
             // A store that isn't told to wouldn't start over a log that lacks what clients were told.
             Some(Plant::Again) => _ = command.args(["--plant", "again"]),
             Some(Plant::Lacking) => _ = command.args(["--plant", "lacking"]),
+            Some(Plant::Fewer) => _ = command.args(["--plant", "fewer"]),
+            Some(Plant::Before) => _ = command.args(["--plant", "before"]),
+            Some(Plant::After) => _ = command.args(["--plant", "after"]),
+            Some(Plant::Partly) => _ = command.args(["--plant", "partly"]),
+            Some(Plant::Foreign) => _ = command.args(["--plant", "foreign"]),
             Some(Plant::Emptied | Plant::Unsynced | Plant::Unsealed | Plant::Older) => {
                 _ = command.args(["--plant", "forgetful"]);
             }
@@ -224,47 +201,26 @@ impl Cluster {
         Ok(())
     }
 
-    /// Kills what is said of a replica, as a crash would. A store whose node was killed has to end by itself, with
-    /// status 1; a node whose store was killed ends too, which the next start waits for.
-    pub fn kill(&self, replica: usize, target: Target) -> Result<(), String> {
+    /// Kills a replica, as a crash would.
+    pub fn kill(&self, replica: usize) -> Result<(), String> {
         let Some(mut child) = self.running[replica].lock().unwrap().take() else { return Ok(()) };
-        let group = format!("-{}", child.id());
-        let node = node_process(child.id());
-        if self.options.in_store && node.is_some() {
-            return Err(format!(
-                "the store of replica {replica} has a node's process: it was built without the library"
-            ));
-        }
-        match (target, node) {
-            (Target::Store, _) => signal("KILL", &child.id().to_string()),
-            (Target::Node, Some(node)) => signal("KILL", &node),
-            _ => signal("KILL", &group),
-        }
-        signal("CONT", &group);
-        let mut status = end_within(&mut child, ENDING);
-        if status.is_none() && node_process(child.id()).is_some() {
-            // (it was just between two generations, and has another node by now)
-            signal("KILL", &group);
-            status = end_within(&mut child, ENDING);
-        }
-        let Some(status) = status else {
-            signal("KILL", &group);
-            return Err(format!("the store of replica {replica} hasn't ended though its node was killed"));
-        };
-        match status.code() {
-            None | Some(1) => Ok(()),
-            Some(code) => Err(format!("the store of replica {replica} has ended with status {code}")),
+        let process = child.id().to_string();
+        signal("KILL", &process);
+        signal("CONT", &process);
+        match end_within(&mut child, ENDING).map(|status| status.code()) {
+            Some(None | Some(1)) => Ok(()),
+            Some(Some(code)) => Err(format!("the store of replica {replica} has ended with status {code}")),
+            None => Err(format!("the store of replica {replica} hasn't ended though it was killed")),
         }
     }
 
     /// Loses a machine for good, and has another one come in its place, with an empty folder.
     pub fn replace(&self, replica: usize) -> Result<(), String> {
         let told = |error: io::Error| format!("a machine can't be replaced: {error}");
-        self.kill(replica, Target::Both)?;
+        self.kill(replica)?;
         let folder = self.folder(replica);
         let lost = self.directory.join(format!("{replica}-lost-{}", self.lost.lock().unwrap().len()));
-        // (its node may still be ending)
-        wait_for(|| is_free(&folder).then_some(())).ok_or(format!("the node of replica {replica} doesn't end"))?;
+        wait_for(|| is_free(&folder).then_some(())).ok_or(format!("the store of replica {replica} doesn't end"))?;
         fs::rename(&folder, &lost).map_err(told)?;
         self.lost.lock().unwrap().push((replica, lost));
         self.joined[replica].store(true, Ordering::SeqCst);
@@ -301,7 +257,7 @@ impl Cluster {
     /// Keeps a copy of a replica's folder, where there is none; else has it come back.
     pub fn turn_back(&self, replica: usize) -> Result<(), String> {
         let (folder, older) = (self.folder(replica), self.directory.join(format!("{replica}-older")));
-        wait_for(|| is_free(&folder).then_some(())).ok_or(format!("the node of replica {replica} doesn't end"))?;
+        wait_for(|| is_free(&folder).then_some(())).ok_or(format!("the store of replica {replica} doesn't end"))?;
         let (from, to) = if older.exists() { (&older, &folder) } else { (&folder, &older) };
         let _ = fs::remove_dir_all(to);
         let copied = Command::new("cp").arg("-r").args([from, to]).status().map_err(|error| error.to_string())?;
@@ -423,24 +379,23 @@ impl Cluster {
         Ok(())
     }
 
-    /// What a replica takes now: its generation, the bytes of memory of its store and of its node, and those of its folder's last files.
+    /// What a replica takes now: its generation, the bytes of memory of its store, and those of its folder's last files.
     pub fn sample(&self, replica: usize) -> Sample {
         let folder = self.folder(replica);
         let store = self.running[replica].lock().unwrap().as_ref().map(Child::id);
-        let node = store.map_or(0, |store| processes::children(store).into_iter().map(processes::memory).sum());
         let generation = newest(&folder).unwrap_or(0);
         // (a store that doesn't keep all for the audit has these)
         let kept = (generation.saturating_sub(KEPT)..=generation)
             .flat_map(|it| [folder.join(format!("generations/{it}")), folder.join(format!("receipts/{it}"))]);
         let disk = [folder.clone()].into_iter().chain(kept).map(|path| bytes_of(&path)).sum();
-        Sample { generation, store: store.map_or(0, processes::memory), node, disk }
+        Sample { generation, store: store.map_or(0, processes::memory), disk }
     }
 
     /// How long a replica takes from its start to its first answer.
     pub fn time_to_start(&self, replica: usize) -> Result<Duration, String> {
-        self.kill(replica, Target::Both)?;
+        self.kill(replica)?;
         let folder = self.folder(replica);
-        wait_for(|| is_free(&folder).then_some(())).ok_or(format!("the node of replica {replica} doesn't end"))?;
+        wait_for(|| is_free(&folder).then_some(())).ok_or(format!("the store of replica {replica} doesn't end"))?;
         let start = Instant::now();
         self.launch(replica).map_err(|error| error.to_string())?;
         let port = self.client_ports[replica];
@@ -504,7 +459,7 @@ impl Cluster {
         signal("TERM", &child.id().to_string());
         let status = end_within(&mut child, ENDING);
         let folder = self.folder(replica);
-        wait_for(|| is_free(&folder).then_some(())).ok_or(format!("the node of replica {replica} doesn't end"))?;
+        wait_for(|| is_free(&folder).then_some(())).ok_or(format!("the store of replica {replica} doesn't end"))?;
         match status.ok_or(format!("replica {replica} doesn't end"))?.code() {
             Some(0) => Ok(()),
             code => Err(format!("replica {replica} ended with {code:?} where it was told to")),
@@ -516,14 +471,9 @@ impl Drop for Cluster {
     fn drop(&mut self) {
         for replica in self.machines() {
             self.pause(replica, false);
-            let _ = self.kill(replica, Target::Both);
+            let _ = self.kill(replica);
         }
     }
-}
-
-/// The node's process, which is the store's only child.
-fn node_process(store: u32) -> Option<String> {
-    processes::children(store).first().map(u32::to_string)
 }
 
 /// Where each record of a log begins.
@@ -559,7 +509,7 @@ fn newest_with_log(folder: &Path) -> Option<u32> {
     newest_with(folder, &["log"])
 }
 
-/// Whether neither a store nor its node has the folder.
+/// Whether no store has the folder.
 fn is_free(folder: &Path) -> bool {
     File::open(folder.join("node-errors")).is_ok_and(|file| file.try_lock().is_ok())
 }

@@ -1,6 +1,6 @@
 //! A play over distance: the links take as long as those between regions, clients ask the store of their own region, and it is judged how long they
 //! wait. Nobody sets the time by hand: what a command should take follows from the round trips and the fast quorums.
-use crate::cluster::{Cluster, Target};
+use crate::cluster::Cluster;
 use crate::options::Options;
 use std::fmt;
 use std::sync::atomic::{AtomicBool, Ordering};
@@ -66,37 +66,40 @@ impl fmt::Display for Trouble {
     }
 }
 
-/// The regions of a cluster, by the numbers of its replicas.
+/// The regions of a cluster, by the numbers of its replicas, and how many times as far apart they are as on earth.
 #[derive(Clone, Default, PartialEq, Eq, Debug)]
-pub struct Sites(Vec<usize>);
+pub struct Sites {
+    regions: Vec<usize>,
+    pub times: u64,
+}
 
 impl Sites {
     /// Those of these names, one after the other.
     pub fn read(word: &str) -> Result<Sites, String> {
         let place =
             |name: &str| NAMES.iter().position(|it| *it == name).ok_or(format!("--sites {name}: {}", NAMES.join(", ")));
-        word.split(',').map(place).collect::<Result<_, _>>().map(Sites)
+        Ok(Sites { regions: word.split(',').map(place).collect::<Result<_, _>>()?, times: 1 })
     }
 
     pub fn count(&self) -> usize {
-        self.0.len()
+        self.regions.len()
     }
 
     /// The replica at the site of this name.
     pub fn replica(&self, name: &str) -> Result<usize, String> {
-        self.0.iter().position(|site| NAMES[*site] == name).ok_or(format!("{name} is no site of the cluster"))
+        self.regions.iter().position(|site| NAMES[*site] == name).ok_or(format!("{name} is no site of the cluster"))
     }
 
     fn name(&self, replica: usize) -> &'static str {
-        NAMES[self.0[replica]]
+        NAMES[self.regions[replica]]
     }
 
     fn round_trip(&self, one: usize, other: usize) -> Duration {
-        Duration::from_millis(ROUND_TRIPS[self.0[one]][self.0[other]])
+        Duration::from_millis(ROUND_TRIPS[self.regions[one]][self.regions[other]] * self.times)
     }
 
-    /// What a command of a replica takes: the round trip to the farthest member of its fast quorum, which lacks the farthest replica of all, or the one that is lost.
-    fn expected(&self, replica: usize, trouble: Option<(Trouble, usize)>) -> Duration {
+    /// The round trips from a replica to the others, the shortest one first, where this goes wrong.
+    fn round_trips(&self, replica: usize, trouble: Option<(Trouble, usize)>) -> Vec<Duration> {
         let round_trip = |other: usize| match trouble {
             Some((Trouble::Far, far)) if replica == far || other == far => {
                 self.round_trip(replica, other) + 2 * FARTHER
@@ -106,8 +109,19 @@ impl Sites {
         };
         let mut all: Vec<Duration> = (0..self.count()).filter(|it| *it != replica).map(round_trip).collect();
         all.sort_unstable();
-        all.pop();
-        all.pop().unwrap_or_default()
+        all
+    }
+
+    /// What a command of a replica takes: the round trip to the farthest member of its fast quorum, which lacks the
+    /// farthest replica of all, or the one that is lost.
+    fn expected(&self, replica: usize, trouble: Option<(Trouble, usize)>) -> Duration {
+        self.round_trips(replica, trouble).iter().rev().nth(1).copied().unwrap_or_default()
+    }
+
+    /// What a read takes: the round trip to the farthest member of the closest majority.
+    fn expected_of_reads(&self, replica: usize) -> Duration {
+        let others = self.count() / 2;
+        self.round_trips(replica, None).get(others.saturating_sub(1)).copied().unwrap_or_default()
     }
 }
 
@@ -138,6 +152,7 @@ struct Told {
     at: Duration,
     wait: Option<Duration>,
     is_hot: bool,
+    is_read: bool,
 }
 
 /// What a replica tells that it has begun.
@@ -169,31 +184,43 @@ pub fn run(options: &Options, cluster: &Cluster) -> Result<Vec<String>, String> 
 fn measure(options: &Options, cluster: &Cluster, share: u64) -> Result<Vec<String>, String> {
     let sites = &options.sites;
     let before = begun(cluster)?;
-    let all = play(cluster, sites, share, options.time, || Ok(()))?;
+    let all = play(cluster, sites, (share, options.reads), options.time, || Ok(()))?;
     let after = begun(cluster)?;
     println!(
-        "| {sites}, {share} % on one key | expected | others p50 / p90 / p99 ms (commands) | the one key | second phases | recoveries |"
+        "| {sites}, {share} % on one key | expected | others p50 / p90 / p99 ms (commands) | the one key | \
+         reads, expected | others | the one key | second phases | recoveries |"
     );
-    println!("|---|---|---|---|---|---|");
+    println!("|---|---|---|---|---|---|---|---|---|");
     let mut faults = Vec::new();
     for (replica, told) in all.iter().enumerate() {
-        let of = |is_hot: bool| waits(told, WARM, options.time, |it| it.is_hot == is_hot);
-        let (expected, cold) = (sites.expected(replica, None), of(false));
+        let of = |is_hot: bool, is_read: bool| {
+            waits(told, WARM, options.time, |it| it.is_hot == is_hot && it.is_read == is_read)
+        };
+        let (expected, cold) = (sites.expected(replica, None), of(false, false));
+        let (expected_of_reads, reads) = (sites.expected_of_reads(replica), of(false, true));
         let slow = Begun {
             accepts: after[replica].accepts - before[replica].accepts,
             recoveries: after[replica].recoveries - before[replica].recoveries,
         };
         println!(
-            "| {} | {} | {} | {} | {} | {} |",
+            "| {} | {} | {} | {} | {} | {} | {} | {} | {} |",
             sites.name(replica),
             expected.as_millis(),
             figures(&cold),
-            figures(&of(true)),
+            figures(&of(true, false)),
+            expected_of_reads.as_millis(),
+            figures(&reads),
+            figures(&of(true, true)),
             slow.accepts,
             slow.recoveries
         );
         if share == 0 {
-            faults.extend(too_long(options, replica, &cold, expected, "without trouble"));
+            if options.reads < 100 {
+                faults.extend(too_long(options, replica, &cold, expected, "without trouble"));
+            }
+            if options.reads > 0 {
+                faults.extend(too_long(options, replica, &reads, expected_of_reads, "of reads"));
+            }
             faults.extend(refused(sites, replica, told));
             if slow != (Begun { accepts: 0, recoveries: 0 }) {
                 faults.push(format!("{}: not every command has taken the fast path", sites.name(replica)));
@@ -211,10 +238,10 @@ fn trouble_at(options: &Options, cluster: &Cluster, trouble: Trouble, at: usize)
     let sites = &options.sites;
     let (begin, end) = (WARM + SETTLING, WARM + SETTLING + TROUBLE);
     let time = end + 2 * SETTLING;
-    let all = play(cluster, sites, 0, time, || {
+    let all = play(cluster, sites, (0, 0), time, || {
         thread::sleep(begin);
         match trouble {
-            Trouble::Killed => cluster.kill(at, Target::Both)?,
+            Trouble::Killed => cluster.kill(at)?,
             Trouble::Paused => cluster.pause(at, true),
             Trouble::Far => cluster.set_distances(sites, Some(at)),
         }
@@ -262,8 +289,8 @@ fn trouble_at(options: &Options, cluster: &Cluster, trouble: Trouble, at: usize)
         let for_good = if trouble == Trouble::Killed { within } else { expected };
         faults.extend(too_long(options, replica, &then, within, &format!("while {} is {trouble}", sites.name(at))));
         faults.extend(too_long(options, replica, &last, for_good, "at the end"));
-        let most =
-            within * ROUND_TRIPS_OF_RECOVERY + if trouble == Trouble::Killed { MOST_AT_DEATH } else { MOST_AT_SILENCE };
+        let more = if trouble == Trouble::Killed { MOST_AT_DEATH } else { MOST_AT_SILENCE };
+        let most = within * ROUND_TRIPS_OF_RECOVERY + more * sites.times as u32;
         if longest > most {
             faults.push(format!("{}: a command took {} ms", sites.name(replica), longest.as_millis()));
         }
@@ -284,7 +311,7 @@ fn too_long(options: &Options, replica: usize, waits: &[Duration], expected: Dur
     let (median, expected) = (median.as_millis(), expected.as_millis());
     let is_late = median * 100 > expected * u128::from(options.most_parts);
     is_late.then(|| {
-        format!("{name}: half of the commands took more than {median} ms {when}, where a fast quorum takes {expected}")
+        format!("{name}: half of the commands took more than {median} ms {when}, where a round trip takes {expected}")
     })
 }
 
@@ -292,7 +319,7 @@ fn too_long(options: &Options, replica: usize, waits: &[Duration], expected: Dur
 fn play(
     cluster: &Cluster,
     sites: &Sites,
-    share: u64,
+    shares: (u64, u64),
     time: Duration,
     happens: impl FnOnce() -> Result<(), String>,
 ) -> Result<All, String> {
@@ -300,7 +327,7 @@ fn play(
     thread::scope(|scope| {
         let client = |place: usize| {
             let (replica, is_over) = (place % sites.count(), &is_over);
-            scope.spawn(move || ask(cluster.client_ports[replica], place as u64, share, start, is_over))
+            scope.spawn(move || ask(cluster.client_ports[replica], place as u64, shares, start, is_over))
         };
         let clients: Vec<_> = (0..CLIENTS * sites.count()).map(client).collect();
         let happened = happens();
@@ -314,11 +341,12 @@ fn play(
     })
 }
 
-/// A client: asks one command after the other until it is over.
-fn ask(port: u16, seed: u64, share: u64, start: Instant, is_over: &AtomicBool) -> Vec<Told> {
+/// A client: asks one command after the other until it is over. So many of 100 are of the one key, and so many only
+/// read.
+fn ask(port: u16, seed: u64, (share, reads): (u64, u64), start: Instant, is_over: &AtomicBool) -> Vec<Told> {
     let (mut random, mut connection, mut all) = (Random::from_seed(seed), None, Vec::new());
     while !is_over.load(Ordering::Relaxed) {
-        let is_hot = random.below(100) < share;
+        let (is_hot, is_read) = (random.below(100) < share, random.below(100) < reads);
         let key = if is_hot { "hot".into() } else { format!("{seed}-{}", random.below(1_000)) };
         let at = start.elapsed();
         let client = match &mut connection {
@@ -331,10 +359,14 @@ fn ask(port: u16, seed: u64, share: u64, start: Instant, is_over: &AtomicBool) -
                 }
             },
         };
-        match client.ask(&[b"SET", key.as_bytes(), b"a value of 20 bytes."]) {
-            Ok(Reply::Simple(_)) => all.push(Told { at, wait: Some(start.elapsed() - at), is_hot }),
+        let words: &[&[u8]] =
+            if is_read { &[b"GET", key.as_bytes()] } else { &[b"SET", key.as_bytes(), b"a value of 20 bytes."] };
+        match client.ask(words) {
+            Ok(Reply::Simple(_) | Reply::Bulk(_)) => {
+                all.push(Told { at, wait: Some(start.elapsed() - at), is_hot, is_read })
+            }
             _ => {
-                all.push(Told { at, wait: None, is_hot });
+                all.push(Told { at, wait: None, is_hot, is_read });
                 connection = None;
                 thread::sleep(Duration::from_millis(50));
             }
@@ -386,6 +418,16 @@ mod tests {
     fn expected(names: &str, trouble: Option<(Trouble, usize)>) -> Vec<u128> {
         let sites = Sites::read(names).unwrap();
         (0..sites.count()).map(|it| sites.expected(it, trouble).as_millis()).collect()
+    }
+
+    #[test]
+    fn what_reads_take() {
+        let expected = |names: &str| -> Vec<u128> {
+            let sites = Sites::read(names).unwrap();
+            (0..sites.count()).map(|it| sites.expected_of_reads(it).as_millis()).collect()
+        };
+        assert_eq!(expected("CA,VA,EU"), [72, 72, 88]);
+        assert_eq!(expected("CA,VA,EU,OR,JP"), [72, 88, 145, 93, 121]);
     }
 
     /// Worked out by hand from the round trips.

@@ -1,5 +1,6 @@
 //! The trial: clients of a cluster of stores note what they were told while replicas are killed, stopped and cut off;
 //! then it is checked.
+mod bank;
 mod cluster;
 mod distance;
 mod growing;
@@ -18,6 +19,7 @@ use std::process::ExitCode;
 use std::sync::atomic::{AtomicBool, AtomicU32, AtomicU64, Ordering};
 use std::thread;
 use std::time::Instant;
+use store::linearizable::Action;
 use troubles::Count;
 use workers::{Note, Notes, Work};
 
@@ -67,6 +69,11 @@ fn play(options: &Options, round: usize) -> Result<usize, String> {
     }
     if options.starved {
         return judged(options, &cluster, starved::run(&cluster)?);
+    }
+    if options.bank {
+        let seed = options.seed.wrapping_mul(1_000).wrapping_add(round as u64);
+        let faults = bank::run(options, &cluster, seed)?;
+        return judged(options, &cluster, faults);
     }
     if options.growing > 0 {
         return judged(options, &cluster, growing::run(&cluster, options)?);
@@ -163,18 +170,19 @@ fn work(options: &Options, round: usize, cluster: &Cluster) -> (Notes, Count) {
     (notes, count)
 }
 
-/// How long clients waited for what they were told.
+/// How long clients waited for what they were told: of commands, and of reads.
 fn waits(notes: &[Note]) -> String {
+    let is_read = |note: &&Note| matches!(note.operation.action, Action::Get(_));
+    let (reads, others): (Vec<&Note>, Vec<&Note>) = notes.iter().partition(is_read);
+    format!("waits of {}; of reads {}", waits_of(&others), waits_of(&reads))
+}
+
+fn waits_of(notes: &[&Note]) -> String {
     let operations = notes.iter().map(|note| note.operation);
     let mut waits: Vec<u64> = operations.filter_map(|operation| Some(operation.end? - operation.start)).collect();
     waits.sort_unstable();
     let Some(last) = waits.last() else { return "nothing was told".into() };
     let milliseconds = |nanoseconds: u64| nanoseconds as f64 / 1e6;
     let part = |share: usize| milliseconds(waits[(waits.len() - 1) * share / 100]);
-    format!(
-        "waits of {:.1} ms (median), {:.0} ms (99 of 100), {:.0} ms (longest)",
-        part(50),
-        part(99),
-        milliseconds(*last)
-    )
+    format!("{:.1} ms (median), {:.0} ms (99 of 100), {:.0} ms (longest)", part(50), part(99), milliseconds(*last))
 }

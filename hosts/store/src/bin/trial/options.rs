@@ -6,24 +6,28 @@ use std::time::Duration;
 pub const HELP: &str = "\
 trial: a cluster of stores on this machine, clients, kills and cuts; then what the clients were told is checked
 
-    trial --node PATH [--in-store] [--short | --long | --smoke | --starved | --growing N] [--replicas N] [--seconds S] [--kills K] [--rounds R] [--audit]
-          [--sites A,B,.. [--shares P,..] [--trouble kill|pause|far,..] [--at A] [--most P]]
-          [--plant early|emptied|unsynced|unsealed|older|lacking|again|changed] [--store PATH] [--dir DIR] [--seed S]
+    trial --node PATH [--short | --long | --bank | --smoke | --starved | --growing N] [--replicas N] [--seconds S] [--kills K] [--rounds R] [--audit]
+          [--sites A,B,.. [--shares P,..] [--reads P] [--trouble kill|pause|far,..] [--at A] [--most P] [--times N]]
+          [--plant early|emptied|unsynced|unsealed|older|lacking|again|changed|fewer|before|after|partly|foreign]
+          [--store PATH] [--dir DIR] [--seed S]
 
-    --node PATH      the program `epaxos`
-    --in-store       the stores are started without it, so that the core runs in each of them, by the library that they were built with
+    --node PATH      the program `epaxos`, which judges what is left
     --short          60 seconds, 6 kills, one machine replaced, two changes of generation or more: the default
     --long           10 rounds of 60 seconds with 10 kills each and two machines replaced, every round with fresh folders
     --life           20 minutes and 1,000,000 commands or more, 32 clients without pauses, 100 kills, two machines replaced, two more for a
                      third of the time; samples.csv has what the stores take, second by second
     --resize         two more machines take part for a third of the time
+    --bank           money goes between accounts, by transactions of all kinds, with kills and cuts as in a round; at each read of all accounts
+                     their sum has to be what it was, and each client's transfers that were told have to be done once
     --smoke          no kills: `redis-cli` and `redis-benchmark`, where they are, are told what they should be
     --sites A,B,..   a replica in each of these regions (CA, VA, EU, OR, JP), over links as long as between them, and clients who wait at each; judged
                      is how long they wait, against what the round trips to the fast quorums allow, and that each command takes the fast path
     --shares P,..    with --sites: one play each with so many of 100 commands on one key; default 0
+    --reads P        with --sites: so many of 100 commands only read
     --trouble T,..   with --sites: a replica is killed, or stopped for 10 s, or 200 ms farther from all for 10 s
     --most P         with --sites: half of a site's commands may take P parts of 100 of what the round trips allow; default 115
     --at A           with --sites: whose replica that is; default: the second
+    --times N        with --sites: the links take N times as long; what a busy machine adds counts for less then
     --starved        no kills: the stores have a processor for a fifth of the time and get long values; all have to be told, and logs to stay short
     --growing N      no kills: clients (32 unless --clients says otherwise) set N new keys of 100 bytes; told is how long they wait while a generation
                      changes, and otherwise. None may be told that its command may still be done, and all keys have to be there. The stores end
@@ -33,17 +37,22 @@ trial: a cluster of stores on this machine, clients, kills and cuts; then what t
     --replicas N     3, the default, or 5 or 7
     --seconds S, --kills K, --replaced M, --rounds R, --clients C, --commands N    other numbers
     --seal-numbers N, --seal-dependencies N    when stores end a generation; default 300 and 200
-    --checkpoint BYTES    with --in-store: how long logs get before stores write the whole map; default: as they do where nothing is said
+    --checkpoint BYTES    how long logs get before stores write the whole map; default: as they do where nothing is said
     --changes N      so many changes of generation there have to be; default 2. Where there are fewer in the end, the stores are asked for more
     --audit          also has `epaxos collect` and `epaxos audit` judge the logs and receipts of each round: its generations as one chain
     --plant early    the stores answer a SET before its receipt has come
     --plant emptied  a replica is started with an emptied log
-    --plant unsynced a replica that was killed has lost its last entries, as by a node that answers before its sync
+    --plant unsynced a replica that was killed has lost its last entries, as by a store that answers before its sync
     --plant unsealed all replicas have lost the newest seal, and what came behind it, as if it had been told before it was on the disk
     --plant lacking  an opening that a store takes from a peer lacks a key
     --plant older    a replica comes back with an older copy of its folder, and isn't kept from speaking
     --plant again    stores take some commands that were done for ones behind a seal, so that they are done twice
-    --plant changed  some receipts, and what clients are told by them, have another reply than the node's
+    --plant changed  some receipts, and what clients are told by them, have another reply than the core's
+    --plant fewer    reads ask one replica fewer than they have to
+    --plant before   reads tell what the key had before others were asked
+    --plant after    reads that were asked later are served by what was found for earlier ones
+    --plant partly   reads don't wait for the last instance that was found
+    --plant foreign  replicas tell what interferes in another generation, and reads go by it
                      (plants want stores built with the feature `plants`; the trial succeeds where one is caught)
     --store PATH     the program `store`; default: beside this one
     --dir DIR        a folder for logs; default: a new one under the system's folder for temporary files
@@ -62,13 +71,17 @@ pub enum Plant {
     Lacking,
     Again,
     Changed,
+    Fewer,
+    Before,
+    After,
+    Partly,
+    Foreign,
 }
 
 #[derive(Clone, Debug)]
 pub struct Options {
     pub node: PathBuf,
     /// Whether the core runs in the stores.
-    pub in_store: bool,
     pub store: PathBuf,
     pub directory: PathBuf,
     pub replicas: usize,
@@ -91,6 +104,7 @@ pub struct Options {
     pub life: bool,
     /// Whether two more machines take part for a while.
     pub resize: bool,
+    pub bank: bool,
     pub smoke: bool,
     pub starved: bool,
     /// So many keys are set by clients.
@@ -100,6 +114,7 @@ pub struct Options {
     /// Over distance: the regions, the shares of one key, what happens, and to which replica. None: on this machine.
     pub sites: Sites,
     pub shares: Vec<u64>,
+    pub reads: u64,
     pub troubles: Vec<Trouble>,
     pub troubled: usize,
     pub most_parts: u32,
@@ -117,7 +132,7 @@ impl Options {
 
 /// Reads the words after the program's name. None: help is asked for.
 pub fn read(words: impl IntoIterator<Item = String>) -> Result<Option<Options>, String> {
-    let (mut options, mut at) = (defaults()?, None);
+    let (mut options, mut at, mut times) = (defaults()?, None, 1);
     let mut words = words.into_iter();
     while let Some(word) = words.next() {
         let mut value = || words.next().ok_or(format!("{word} wants a value"));
@@ -134,7 +149,6 @@ pub fn read(words: impl IntoIterator<Item = String>) -> Result<Option<Options>, 
             "--commands" => options.commands = number(&value()?)?,
             "--long" => options.play(60, 10, 2, 10),
             "--node" => options.node = PathBuf::from(value()?),
-            "--in-store" => options.in_store = true,
             "--store" => options.store = PathBuf::from(value()?),
             "--dir" => options.directory = PathBuf::from(value()?),
             "--replicas" => options.replicas = number(&value()?)?,
@@ -147,6 +161,7 @@ pub fn read(words: impl IntoIterator<Item = String>) -> Result<Option<Options>, 
             "--kills" => options.kills = number(&value()?)?,
             "--rounds" => options.rounds = number(&value()?)?,
             "--seed" => options.seed = number(&value()?)? as u64,
+            "--bank" => options.bank = true,
             "--smoke" => options.smoke = true,
             "--starved" => options.starved = true,
             "--growing" => {
@@ -158,8 +173,10 @@ pub fn read(words: impl IntoIterator<Item = String>) -> Result<Option<Options>, 
             "--sites" => options.sites = Sites::read(&value()?)?,
             "--shares" => options.shares = list(&value()?, |it| number(it).map(|it| it as u64))?,
             "--trouble" => options.troubles = list(&value()?, Trouble::read)?,
+            "--reads" => options.reads = number(&value()?)? as u64,
             "--most" => options.most_parts = number(&value()?)? as u32,
             "--at" => at = Some(value()?),
+            "--times" => times = number(&value()?)? as u64,
             "--plant" => options.plant = Some(read_plant(&value()?)?),
             _ => return Err(format!("unknown word {word}; --help tells the words")),
         }
@@ -169,6 +186,7 @@ pub fn read(words: impl IntoIterator<Item = String>) -> Result<Option<Options>, 
         // (a seal interferes with all commands)
         (options.numbers, options.dependencies) = (8_900, 62_999);
         options.troubled = at.map_or(Ok(1), |name| options.sites.replica(&name))?;
+        options.sites.times = times;
     }
     if options.clients == 0 {
         options.clients = 2 * options.replicas;
@@ -195,7 +213,6 @@ fn defaults() -> Result<Options, String> {
     let seed = store::random::Random::new().below(1 << 32);
     Ok(Options {
         node: PathBuf::new(),
-        in_store: false,
         store: program.with_file_name("store"),
         directory,
         replicas: 3,
@@ -211,12 +228,14 @@ fn defaults() -> Result<Options, String> {
         commands: 0,
         life: false,
         resize: false,
+        bank: false,
         smoke: false,
         starved: false,
         growing: 0,
         delay: Duration::ZERO,
         sites: Sites::default(),
         shares: vec![0],
+        reads: 0,
         troubles: Vec::new(),
         troubled: 0,
         most_parts: 115,
@@ -244,6 +263,11 @@ fn read_plant(word: &str) -> Result<Plant, String> {
         "lacking" => Ok(Plant::Lacking),
         "again" => Ok(Plant::Again),
         "changed" => Ok(Plant::Changed),
-        _ => Err(format!("--plant {word}: early, emptied, unsynced, unsealed, older, lacking, again or changed")),
+        "fewer" => Ok(Plant::Fewer),
+        "before" => Ok(Plant::Before),
+        "after" => Ok(Plant::After),
+        "partly" => Ok(Plant::Partly),
+        "foreign" => Ok(Plant::Foreign),
+        _ => Err(format!("--plant {word}: there is none of this name (--help lists them)")),
     }
 }

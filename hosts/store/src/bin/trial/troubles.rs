@@ -1,5 +1,5 @@
 //! What goes wrong in a round: kills, and at the same time cuts and pauses.
-use crate::cluster::{Cluster, Target};
+use crate::cluster::Cluster;
 use crate::options::{Options, Plant};
 use std::thread;
 use std::time::{Duration, Instant};
@@ -89,7 +89,7 @@ impl Troubles<'_> {
         self.wait(1_000, 2_000);
         let told = |error: std::io::Error| format!("a seal can't be forgotten: {error}");
         let all = 0..self.cluster.replicas;
-        all.clone().try_for_each(|replica| self.cluster.kill(replica, Target::Both))?;
+        all.clone().try_for_each(|replica| self.cluster.kill(replica))?;
         self.cluster.forget_seal().map_err(told)?;
         all.into_iter().try_for_each(|replica| self.cluster.launch(replica)).map_err(told)
     }
@@ -98,11 +98,6 @@ impl Troubles<'_> {
         if self.plant == Some(Plant::Unsealed) {
             return self.unseal();
         }
-        let target = match self.random.below(5) {
-            0 if !empties => Target::Store,
-            1 if !empties => Target::Node,
-            _ => Target::Both,
-        };
         // Now and then all of them, as when the current fails.
         let count = if self.random.below(8) == 0 { self.cluster.replicas } else { 1 };
         let mut killed = self.some_replicas(count);
@@ -114,7 +109,15 @@ impl Troubles<'_> {
             self.cluster.seal(self.some_replicas(1)[0]);
             self.wait(0, 80);
         }
-        killed.iter().try_for_each(|replica| self.cluster.kill(*replica, target))?;
+        if self.plant == Some(Plant::Foreign) {
+            killed = self.some_replicas(1);
+        }
+        killed.iter().try_for_each(|replica| self.cluster.kill(*replica))?;
+        if self.plant == Some(Plant::Foreign) {
+            // (it comes back in an earlier generation than the others)
+            self.cluster.seal((killed[0] + 1) % self.cluster.replicas);
+            self.wait(1_000, 1_500);
+        }
         self.wait(20, 1_500);
         let told = |error: std::io::Error| format!("a replica can't be started: {error}");
         if self.plant == Some(Plant::Older) {
@@ -146,12 +149,13 @@ impl Troubles<'_> {
         (cuts, pauses)
     }
 
-    /// Stops a minority for a while.
+    /// Stops a minority for a while; now and then for seconds.
     fn pause(&mut self) {
         let count = 1 + self.random.below(self.cluster.replicas as u64 / 2) as usize;
         let paused = self.some_replicas(count);
         paused.iter().for_each(|replica| self.cluster.pause(*replica, true));
-        self.wait(100, 1_500);
+        let most = if self.random.below(4) == 0 { 5_000 } else { 1_500 };
+        self.wait(100, most);
         paused.iter().for_each(|replica| self.cluster.pause(*replica, false));
     }
 

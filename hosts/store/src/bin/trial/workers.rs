@@ -168,10 +168,10 @@ impl Work<'_> {
             };
         }
         match random.below(20) {
-            0..8 => Action::Get(None),
-            8..14 => Action::Set(value()),
-            14..16 => Action::Exchange(value(), None),
-            16..18 => Action::New(value(), None),
+            0..10 => Action::Get(None),
+            10..15 => Action::Set(value()),
+            15..17 => Action::Exchange(value(), None),
+            17 | 18 => Action::New(value(), None),
             _ => Action::Del(None),
         }
     }

@@ -1,14 +1,21 @@
-use Rattle.std.proofs.Common.{◌∙◌, sym, ap, subst, T}
-use Rattle.std.specs.FinMap.{find, get-from_sorted}
+use Rattle.std.proofs.Common.{◌∙◌, ap}
 use Rattle.ep_rules.specs.OneMap.{value_at}
-use Rattle.ep_exec.specs.Shared.{items_of}
-use Rattle.ep_exec.specs.Table.{key_cmp}
+use Rattle.ep_exec.specs.Layers.{said_or}
+use Rattle.ep_exec.proofs.Layered.{told_in}
 use Rattle.ep_exec.proofs.contents.Contents.get.Goals as goal
 
-pub returns : goal.returns
-returns c =
+pub returns-in-Some : goal.returns-in-Some
+returns-in-Some c =
+    let m = c.self.inside.ground in
     let k = c.args.key.now in
-    c.found.ensures
-    ∙ ap (find key_cmp k) c.listed.ensures
-    ∙ sym (get-from_sorted key_cmp (items_of c.self.inside.shared) k (subst T (sym c.self.invariant) tt))
-    ∙ ap (λ m. value_at m k) c.self.view_is
+    c.as_ref.ensures.value
+    ∙ ap (λ t. said_or t (value_at m k)) c.in-Some.ensures
+    ∙ told_in m c.args.self.now k c.deref.result.now c.self.inside.layers.items c.deref.ensures.value c.self.view_is
+
+pub returns-in-None : goal.returns-in-None
+returns-in-None c =
+    let m = c.self.inside.ground in
+    let k = c.args.key.now in
+    c.get.ensures
+    ∙ ap (λ t. said_or t (value_at m k)) c.in-None.ensures
+    ∙ told_in m c.args.self.now k c.deref.result.now c.self.inside.layers.items c.deref.ensures.value c.self.view_is

@@ -1,0 +1,110 @@
+"""What the built program takes for n and for twice n of a kind of work: instructions, counted by valgrind.
+
+  .ci/growth.py PROGRAM     prints a line for each kind of work; the status is 1 where one takes too many for twice n
+
+What takes time that grows by the square takes four times as many. Where there is no valgrind nothing is counted.
+"""
+
+import os
+import re
+import shutil
+import subprocess
+import sys
+
+# How many pieces of work n is, how many replicas do them in turn, and how many times as many instructions twice n may
+# take.
+MANY, REPLICAS, MOST = 600, 3, 2.2
+VALGRIND = ["valgrind", "--tool=callgrind", "--callgrind-out-file=/dev/null"]
+HEAD = f"replicas {REPLICAS}\ngeneration 1\n"
+
+
+def committed(many, command):
+    """The lines by which so many commands are committed, one after the other, each proposed by the next replica."""
+    for it in range(many):
+        yield f"propose {it % REPLICAS} 1 {command(it, many)}\n" + "flush\n" * 3
+
+
+def execution(many):
+    """The line that executes the last of so many instances at its leader."""
+    leader, before = (many - 1) % REPLICAS, (many - 1) // REPLICAS
+    return f"execute {leader} {leader}.{before + 1}\n"
+
+
+def swap(it, many):
+    """Each command depends on the one before it."""
+    return f"swap k{it} k{it + 1}"
+
+
+def get(it, many):
+    return "get x"
+
+
+def gets_and_put(it, many):
+    """The last command depends on all others, and they on none."""
+    return "get x" if it < many - 1 else "put x 1"
+
+
+def put(it, many):
+    return f"put {it:x} 1"
+
+
+def seal(many):
+    return "propose 0 1 seal next\n"
+
+
+def tx(many):
+    """A command over five sixths of the keys that were put, so that twice as many are no more than it may have."""
+    return f"propose 0 1 tx {' '.join(f'del {it:x}' for it in range(5 * many // 6))}\n" + "flush\n" * 3
+
+
+# kinds of work: what it is, the commands, the line that is counted (where there is none, the commands are), and the
+# program's command that does it (an audit, where a script's reader takes longer than the work)
+KINDS = (
+    ("one execution of a chain of commands", swap, execution, "replay"),
+    ("one execution of a command that waits for many", gets_and_put, execution, "replay"),
+    ("a seal", put, seal, "replay"),
+    ("a command over many keys", put, tx, "audit"),
+    ("reads of one key", get, None, "replay"),
+    ("keys apart", put, None, "replay"),
+)
+
+
+def instructions(program, word, script):
+    """How many instructions a replay of the script takes, or an audit of its bundle."""
+    given = script.encode()
+    if word == "audit":
+        words = [program, "replay", "--emit", "bundle"]
+        given = subprocess.run(words, input=given, stdout=subprocess.PIPE, check=True).stdout
+    words = [*VALGRIND, program, word]
+    ran = subprocess.run(words, input=given, stdout=subprocess.DEVNULL, stderr=subprocess.PIPE, check=True)
+    return int(re.search(rb"Collected : (\d+)", ran.stderr)[1])
+
+
+def taken(program, many, command, counted, word):
+    """How many instructions so many pieces of work take."""
+    count = lambda lines: instructions(program, word, HEAD + lines)
+    script = "".join(committed(many, command))
+    return count(script) - count("") if counted is None else count(script + counted(many)) - count(script)
+
+
+def tried(program):
+    """How many kinds of work grow as they may, and how many don't."""
+    if not os.path.isfile(program):
+        # (the rows count that)
+        return 0, 0
+    if not shutil.which("valgrind"):
+        print("nothing is counted: there is no valgrind", flush=True)
+        return 0, 0
+    well = []
+    for name, *work in KINDS:
+        few, many = (taken(program, it, *work) for it in (MANY, 2 * MANY))
+        well.append(many <= MOST * few)
+        told = f"{few:,} instructions for {MANY}, {many / few:.2f} times as many for {2 * MANY}"
+        print(f"{'' if well[-1] else 'FAILED: '}{name}: {told}", flush=True)
+    return well.count(True), well.count(False)
+
+
+if __name__ == "__main__":
+    counts = tried(sys.argv[1])
+    print("{} passed, {} failed".format(*counts))
+    sys.exit(1 if counts[1] else 0)

@@ -1,0 +1,54 @@
+"""Simulated clusters of hosts (`epaxos::sim` of bindings/rust/epaxos), where cargo and the library are: fresh seeds for
+60 seconds, beginning at another one each time; up to 20 seeds in as long, whose logs and receipts are audited; and all
+planted faults, each of which has to be found by one of the first 1,000 seeds. The seed of a run that fails is printed,
+with the run shrunk, and those that time has broken off. Runs alone too: python3 .ci/sim.py [NODE PROGRAM [FOLDER
+[SECONDS]]], of other builds, with the folder that libepaxos.a is in.
+"""
+
+import os
+import shutil
+import sys
+import tempfile
+import time
+
+sys.dont_write_bytecode = True
+
+from store import BUILT, TOP, is_well, joined, library_there
+
+CRATE = f"{TOP}/bindings/rust/epaxos"
+SECONDS = 60
+AUDITED = 20
+# (link-time optimisation takes longer than it saves here)
+QUICK = {"CARGO_INCREMENTAL": "0", "CARGO_PROFILE_RELEASE_LTO": "off", "CARGO_PROFILE_RELEASE_CODEGEN_UNITS": "16"}
+
+
+def tried(node=BUILT[0], program=BUILT[1], library=None, seconds=SECONDS):
+    """How many of these passed, and how many failed."""
+    library = library or library_there()
+    if not library or not shutil.which("cargo"):
+        print("no cluster is simulated: there is no library, or no cargo", flush=True)
+        return 0, 0
+    # (the time names the seeds: each run of the gate has others)
+    first = int(time.time()) % 1_000_000_000 * 1_000
+    with tempfile.TemporaryDirectory(prefix="epaxos-sim-") as scratch:
+        folders = {"CARGO_TARGET_DIR": f"{scratch}/target", "EPAXOS_LIBRARY": library}
+        environment = {**os.environ, **QUICK, **folders}
+        build = ["cargo", "build", "--release", "--offline", "--quiet", "--features", "plants", "--example", "sim"]
+        well = [is_well(build, cwd=CRATE, env=environment)]
+        sim = [f"{scratch}/target/release/examples/sim"]
+        if all(well):
+            threads = ["--threads", str(max(1, len(os.sched_getaffinity(0)) // 2))]
+            fresh = [*sim, "--first", str(first), *threads, "--seconds", str(seconds)]
+            well.append(is_well(fresh, env=environment))
+            if os.path.isfile(node) and os.path.isfile(program):
+                audit = ["--audit", joined(scratch, node, program)]
+                well.append(is_well([*fresh, "--seeds", str(AUDITED), *audit], env=environment))
+            well.append(is_well([*sim, *threads, "--seeds", "1000", "--plant", "all"], env=environment))
+    return well.count(True), well.count(False)
+
+
+if __name__ == "__main__":
+    words = sys.argv[1:]
+    counts = tried(*map(os.path.abspath, words[:3]), **({"seconds": int(words[3])} if words[3:] else {}))
+    print("{} passed, {} failed".format(*counts))
+    sys.exit(1 if counts[1] else 0)

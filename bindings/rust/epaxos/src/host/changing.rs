@@ -1,0 +1,220 @@
+//! From one generation to the next.
+use super::{Act, Change, Host, HostFault, Name, Next, Plant, applying, cluster_of, starting};
+use crate::host::acting::Acting;
+use crate::host::{Refusal, Told};
+use crate::parts::calls::Fate;
+use crate::parts::fetch::{Fetch, Form};
+use crate::parts::generation::{Generation, Stage};
+use crate::parts::opening::Opening;
+use crate::parts::under_way::Waiting;
+use crate::{State, Succession};
+use std::collections::BTreeSet;
+use std::time::{Duration, Instant};
+
+impl Host {
+    /// Goes on to a later generation, where that is due.
+    pub(super) fn go_on(&mut self, now: Instant) -> Result<(), HostFault> {
+        if self.progress.generation.is_sealed() {
+            return if self.progress.serves_on(now) { Ok(()) } else { self.change() };
+        }
+        self.catch_up(now)
+    }
+
+    fn put(generation: u32, name: Name, bytes: Vec<u8>) -> Act {
+        Act::Put { generation, name, bytes }
+    }
+
+    /// The next generation begins in memory, and on the disk by a reference to the log that is left.
+    fn change(&mut self) -> Result<(), HostFault> {
+        let Some(acting) = &self.acting else { return Ok(()) };
+        let (left, length, members) = (acting.generation, acting.length, acting.members.clone());
+        if let Some(members) = &members {
+            self.check_members(members, left + 1)?;
+        }
+        let cluster = members.as_ref().and_then(cluster_of).unwrap_or(self.cluster());
+        let Some(acting) = &mut self.acting else { return Ok(()) };
+        let reference = acting.reference(cluster)?;
+        let generation = reference.generation();
+        self.files.unwritten = None;
+        let mut checkpoint = acting.replica.succeed(&Succession::new(reference, self.progress.place.replica))?;
+        // (there is no other thread here that could do it)
+        checkpoint.let_go();
+        acting.begin(generation);
+        self.applying.as_mut().into_iter().for_each(|it| it.begin(generation));
+        let log = acting.lend()?.map(|(bytes, _)| Host::put(generation, Name::Log, bytes));
+        let named = Host::put(generation, Name::Reference, reference.bytes());
+        let mark = Host::put(left, Name::Left, generation.to_string().into());
+        let is_late = self.settings.has(Plant::LateReference);
+        self.acts.extend((!is_late).then(|| named.clone()));
+        self.acts.extend(log);
+        self.acts.push(mark);
+        self.files.unwritten = Some((reference, checkpoint));
+        self.counts.changes += 1;
+        let next = Next { replicas: cluster.replicas().into(), members };
+        self.write(Vec::new(), Vec::new(), (true, Some(Change::Sealed(length, next))));
+        self.acts.extend(is_late.then_some(named));
+        Ok(())
+    }
+
+    /// A generation has begun, and its log is on the disk.
+    pub(super) fn begin_generation(&mut self, change: Change, now: Instant) -> Result<(), HostFault> {
+        let Some(acting) = &self.acting else { return Ok(()) };
+        let (number, is_start) = (acting.generation, matches!(change, Change::Start));
+        let next = match change {
+            Change::Start => None,
+            Change::Sealed(length, next) => {
+                self.files.leave(number - 1, length);
+                // (what wasn't done before the seal never is: each is proposed again)
+                for Waiting { members, .. } in self.calls.waiting.take() {
+                    if !self.settings.has(Plant::ForgetsWaiting) {
+                        self.calls.held.extend(members);
+                    }
+                }
+                Some(next)
+            }
+            Change::Taken(bytes, next) => {
+                self.files.keep(number, bytes);
+                (self.files.unwritten, self.files.writing) = (None, None);
+                Some(next)
+            }
+        };
+        if let Some(Next { replicas, members }) = next {
+            self.meet(replicas, members, now)?;
+        }
+        if !is_start {
+            // (no call is under way, and each client goes on with its requests)
+            self.ids.free_all();
+            self.progress.others.begin();
+        }
+        let state = State { generation: number, ..State::default() };
+        self.progress.generation = Generation::new(state, Duration::ZERO, now);
+        self.progress.watch.begin(now);
+        if self.settings.has(Plant::FixedWaits) {
+            self.progress.peers().for_each(|peer| self.progress.watch.measure(peer, Duration::ZERO));
+            self.progress.watch.hurry();
+        }
+        self.reads.begin();
+        self.pending = Default::default();
+        // (what was asked of the generation before isn't answered; hellos at a start are)
+        self.asked.retain(|(_, message)| matches!(message, crate::parts::messages::Message::Hello { .. }));
+        self.wanting = BTreeSet::new();
+        (self.fetch, self.taken, self.joins) = (None, None, None);
+        self.lag.end();
+        self.next_execution = now;
+        self.recollect()?;
+        let Some(acting) = &mut self.acting else { return Ok(()) };
+        match self.progress.generation.entries {
+            0 => self.calls.room.begin(acting.map(), self.progress.place.replicas),
+            _ => self.calls.room.resume(acting.map(), self.progress.place.replicas),
+        }
+        if acting.replica.state()?.is_sealed {
+            self.progress.generation.stage = Stage::Sealed(now);
+            self.note_sealed();
+        }
+        for (token, granted) in self.wishes.fulfil(number, &self.named) {
+            let told = granted.map_or_else(|fault| Told::Refused(Refusal::Wish(fault)), |()| Told::Changed(number));
+            self.tell(token, told);
+        }
+        self.progress.generation.is_asked |= !self.wishes.is_empty();
+        self.greet_all();
+        if self.files.is_due(self.settings.checkpoint) {
+            self.write_opening();
+        }
+        Ok(())
+    }
+
+    /// Asks for an opening, where peers are in a later generation and this replica doesn't close its own.
+    pub(super) fn catch_up(&mut self, now: Instant) -> Result<(), HostFault> {
+        if let Some((generation, bytes)) = self.taken.take()
+            && generation > self.progress.generation.number
+        {
+            return self.take_opening(generation, bytes);
+        }
+        if let Some(fetch) = self.fetch.as_mut().filter(|fetch| !fetch.is_over(now)) {
+            let (from, again) = (fetch.from(), if fetch.due() <= now { fetch.again(now) } else { Vec::new() });
+            again.into_iter().for_each(|message| self.send(from, message.write()));
+            return Ok(());
+        }
+        let own = self.progress.generation.number;
+        let ahead = self.progress.ahead(|there| match self.settings.identity {
+            _ if self.settings.has(Plant::StaysBehind) => false,
+            Some(_) if self.acting.is_none() => there > self.looked,
+            None if self.acting.is_none() => self.least > 0 && there >= self.least,
+            _ => there > own,
+        });
+        if ahead.is_empty() {
+            self.fetch = None;
+        }
+        let Some(peer) = self.lag.whom(&ahead, &mut self.random, now) else { return Ok(()) };
+        let (fetch, want) = Fetch::begin(Vec::new(), Form::Opening, peer, now);
+        self.fetch = Some(fetch);
+        self.send(peer, want.write());
+        Ok(())
+    }
+
+    /// Begins the generation of an opening that a peer has handed.
+    fn take_opening(&mut self, generation: u32, bytes: Vec<u8>) -> Result<(), HostFault> {
+        self.fetch = None;
+        self.lag.end();
+        // (the state of the machine comes before the opening)
+        let front = match &self.applying {
+            None => 0,
+            Some(_) => match applying::split(&bytes) {
+                Some((.., rest)) => bytes.len() - rest.len(),
+                None => return Ok(()),
+            },
+        };
+        let (state, bytes) = (bytes[..front].to_vec(), bytes[front..].to_vec());
+        let fits = |it: &Opening| it.generation == generation && generation >= self.least;
+        let Some(opening) = Opening::of(&bytes).filter(fits) else { return Ok(()) };
+        let members = opening.members();
+        if self.acting.is_none() && self.settings.identity.is_some() {
+            let own = members.as_ref().and_then(|members| members.0.get(usize::from(self.progress.place.replica)));
+            if own.is_none_or(|own| own.identity != self.settings.identity) {
+                self.looked = generation;
+                return Ok(());
+            }
+        } else if let Some(members) = &members {
+            self.check_members(members, generation)?;
+        }
+        let Some(replica) = starting::taken(&self.settings, opening.replicas, &bytes) else { return Ok(()) };
+        if let Some(applying) = &mut self.applying
+            && !self.settings.has(Plant::StaleMachine)
+            && !applying.restore(generation, &state).map_err(HostFault::Restore)?
+        {
+            return Ok(());
+        }
+        let next = Next { replicas: opening.replicas.into(), members };
+        let before = self.progress.generation.number;
+        for (fate, Waiting { members, .. }) in self.calls.settle(&opening, before) {
+            let told = match fate {
+                _ if self.settings.has(Plant::TakenTwice) => None,
+                Fate::Undone => None,
+                Fate::Unseen => Some(Told::DoneUnseen),
+                Fate::Doubtful => Some(Told::Doubtful),
+            };
+            match told {
+                None => self.calls.held.extend(members),
+                Some(told) => members.iter().for_each(|held| self.tell(held.token, told.clone())),
+            }
+        }
+        let map = self.settings.most_map.map(|_| opening.map);
+        let tells_executed = self.settings.tells_executed || self.applying.is_some();
+        let mut acting = Acting::new(replica, generation, tells_executed).counting(map);
+        let log = acting.lend()?.map(|(bytes, _)| Host::put(generation, Name::Log, bytes));
+        let length = bytes.len() as u64;
+        // (the opening last: before it is there, the generation isn't)
+        self.acts.extend(log);
+        self.acts.extend(self.applying.is_some().then(|| Host::put(generation, Name::Machine, state)));
+        self.acts.push(Host::put(generation, Name::Opening, bytes));
+        if before > 0 {
+            self.acts.push(Host::put(before, Name::Left, generation.to_string().into()));
+        }
+        self.acting = Some(acting);
+        // (what it has beyond what was executed here isn't known by command)
+        self.tell_changes(Vec::new(), self.tells_changes);
+        self.counts.changes += 1;
+        self.write(Vec::new(), Vec::new(), (true, Some(Change::Taken(length, next))));
+        Ok(())
+    }
+}

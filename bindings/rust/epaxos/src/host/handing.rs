@@ -1,0 +1,155 @@
+//! Openings: written beside the log, handed to peers that lag, and taken from them.
+use super::{Act, Host, Name, Plant, Work};
+use crate::parts::fetch::{Fetch, Step};
+use crate::parts::messages::{LONGEST_PIECE, Message};
+use std::time::{Duration, Instant};
+
+/// Who gets an opening asks for its pieces, and has all of it once it hasn't asked for so long.
+const HANDING: Duration = Duration::from_secs(1);
+
+impl Host {
+    /// Whether an opening is being written, or handed to a peer: then the generation is to last.
+    pub(super) fn is_opening_used(&self, now: Instant) -> bool {
+        self.files.writing.is_some() || self.handed.is_some_and(|handed| now < handed + HANDING)
+    }
+
+    /// Has the opening of the present generation written, where it isn't and nothing else is being written.
+    pub(super) fn write_opening(&mut self) {
+        if self.files.writing.is_some() {
+            return;
+        }
+        let Some((reference, checkpoint)) = self.files.unwritten.take() else { return };
+        let generation = reference.generation();
+        self.files.writing = Some(reference);
+        if self.settings.has(Plant::DropsEarly) {
+            self.acts.push(Act::Drop { below: generation });
+        }
+        self.begin_late();
+        let lacks_it = self.settings.has(Plant::LacksMachine);
+        let machine = self.applying.as_ref().filter(|_| !lacks_it).map(|it| it.begun().to_vec());
+        self.out.work.push(Work::Write { generation, machine, checkpoint });
+    }
+
+    /// The opening of this generation is on the disk ([`Work::Write`]): its last 32 bytes, and how many it has.
+    ///
+    /// ```
+    /// use epaxos::host::{Host, Work};
+    /// use epaxos::service::Disk;
+    /// use std::time::Instant;
+    ///
+    /// fn write(host: &mut Host, disk: &mut impl Disk, work: Work) -> std::io::Result<()> {
+    ///     if let Work::Write { generation, checkpoint, .. } = work {
+    ///         let (digest, bytes) = disk.write_opening(generation, checkpoint)?;
+    ///         host.opening_written(generation, &digest, bytes, Instant::now());
+    ///     }
+    ///     Ok(())
+    /// }
+    /// ```
+    pub fn opening_written(&mut self, generation: u32, digest: &[u8; 32], bytes: u64, now: Instant) {
+        let Some(reference) = self.files.writing.take_if(|it| it.generation() == generation) else { return };
+        self.due = self.due.min(now);
+        self.acts.push(Act::Put { generation, name: Name::Whole, bytes: reference.binding(digest) });
+        self.files.keep(generation, bytes);
+        let below = generation.saturating_sub(self.settings.kept);
+        if below > 1 {
+            self.acts.push(Act::Drop { below });
+        }
+        if generation == self.progress.generation.number {
+            let wanting = std::mem::take(&mut self.wanting);
+            wanting.into_iter().for_each(|peer| self.hand_piece(peer, (0, 0), now));
+        }
+    }
+
+    /// A part of an opening was read ([`Work::Read`]), of which there are so many bytes in all.
+    ///
+    /// ```
+    /// use epaxos::host::{Host, Work};
+    /// use epaxos::service::Disk;
+    /// use std::time::Instant;
+    ///
+    /// fn read(host: &mut Host, disk: &mut impl Disk, work: Work) -> std::io::Result<()> {
+    ///     if let Work::Read { generation, offset, length } = work {
+    ///         let part = disk.read_opening(generation, offset, length)?;
+    ///         host.opening_read(generation, offset, part, Instant::now());
+    ///     }
+    ///     Ok(())
+    /// }
+    /// ```
+    pub fn opening_read(&mut self, generation: u32, offset: u64, part: (u64, Vec<u8>), now: Instant) {
+        let (mut total, mut bytes) = part;
+        let front = self.front().len() as u64;
+        let is_it = |one: &(u8, u32, u64)| (one.1, one.2.saturating_sub(front)) == (generation, offset);
+        let to: Vec<(u8, u64)> = self.reading.iter().filter(|one| is_it(one)).map(|one| (one.0, one.2)).collect();
+        self.reading.retain(|one| !is_it(one));
+        self.due = self.due.min(now);
+        if self.settings.has(Plant::WrongOpening)
+            && let Some(less) = crate::parts::opening::lacking(&bytes, |count| count - 1)
+        {
+            (total, bytes) = (less.len() as u64, less);
+        }
+        // (of an earlier generation nothing more is handed: it is asked for anew)
+        if generation == self.progress.generation.number {
+            to.into_iter().for_each(|(peer, offset)| self.send_piece(peer, offset, (front + total, &bytes)));
+        }
+    }
+
+    /// What of the present generation is handed before its opening: the state of the machine, where there is one.
+    fn front(&self) -> &[u8] {
+        self.applying.as_ref().map_or(&[], |it| it.begun())
+    }
+
+    /// Sends a peer the piece at this place, of so many bytes in all: what there is of the front, and then these.
+    fn send_piece(&mut self, to: u8, offset: u64, (total, bytes): (u64, &[u8])) {
+        let front = usize::try_from(offset).ok().and_then(|offset| self.front().get(offset..)).unwrap_or_default();
+        let front = &front[..front.len().min(LONGEST_PIECE as usize)];
+        let (generation, bytes) = (self.progress.generation.number, [front, bytes].concat());
+        self.send(to, Message::Piece { generation, total, offset, bytes }.write());
+    }
+
+    /// Hands a peer the piece of an opening that it wants: of the present generation's, from its beginning where
+    /// another one's was begun. It is written first, where it isn't there. What stands before it has its place before
+    /// it.
+    pub(super) fn hand_piece(&mut self, to: u8, (asked, offset): (u32, u64), now: Instant) {
+        let generation = self.progress.generation.number;
+        self.handed = Some(now);
+        if self.files.whole.0 != generation || self.acting.is_none() {
+            self.wanting.insert(to);
+            self.write_opening();
+            return;
+        }
+        self.begin_late();
+        let front = self.front().len() as u64;
+        let total = front + self.files.whole.1;
+        let offset = if asked == generation { offset.min(total) } else { 0 };
+        let of_front = front.saturating_sub(offset);
+        let one = (to, generation, offset);
+        if of_front >= LONGEST_PIECE {
+            self.send_piece(to, offset, (total, &[]));
+        } else if !self.reading.contains(&one) {
+            self.reading.push(one);
+            let (offset, length) = (offset.saturating_sub(front), LONGEST_PIECE - of_front);
+            self.out.work.push(Work::Read { generation, offset, length });
+        }
+    }
+
+    /// By a fault that is planted, the machine's state is that of now.
+    fn begin_late(&mut self) {
+        if let Some(applying) = self.applying.as_mut().filter(|_| self.settings.has(Plant::LateSnapshot)) {
+            applying.begin(self.progress.generation.number);
+        }
+    }
+
+    /// A piece has come of an opening that this replica has asked for.
+    pub(super) fn take_piece(&mut self, from: u8, piece: Message, now: Instant) {
+        let Some(fetch) = &mut self.fetch else { return };
+        match fetch.take(from, piece, now) {
+            Ok(Step::Ask(more)) => more.into_iter().for_each(|message| self.send(from, message.write())),
+            Ok(Step::Done(generation)) => {
+                let bytes = self.fetch.take().map(Fetch::into_sink);
+                self.taken = bytes.map(|bytes| (generation, bytes));
+            }
+            Ok(Step::Ignored) => {}
+            Err(_) => self.fetch = None,
+        }
+    }
+}

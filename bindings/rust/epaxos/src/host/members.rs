@@ -1,0 +1,244 @@
+//! Who takes part: machines that wait to be let in, what is wished, and what seals say.
+use super::{Host, HostFault, Plant};
+use crate::host::{Identity, Refusal, Told, Wish};
+use crate::parts::members::{Member, Members};
+use crate::parts::messages::Message;
+use crate::parts::place::Place;
+use crate::parts::wishes::{Machines, Wishes, present};
+use crate::{Cluster, OpenFault};
+use std::time::{Duration, Instant};
+
+/// A machine that waits to be let in and hasn't said so for so long isn't there any more.
+const WAITS: Duration = Duration::from_secs(5);
+
+impl Machines for Host {
+    fn place(&self) -> Place {
+        self.progress.place
+    }
+
+    fn named(&self) -> &Members {
+        &self.named
+    }
+
+    fn is_reached(&self, peer: u8) -> bool {
+        let is_here = usize::from(peer) < self.progress.place.replicas;
+        self.progress.is_reached(peer) || (is_here && self.settings.has(Plant::ResizesAlone))
+    }
+
+    fn known(&self, replica: u8) -> Option<Identity> {
+        let named = || self.named.0.get(usize::from(replica)).and_then(|member| member.identity);
+        let met = || self.met.get(usize::from(replica)).copied().flatten();
+        if replica == self.progress.place.replica { self.settings.identity } else { named().or_else(met) }
+    }
+
+    fn is_waiting(&self, replica: u8, identity: &Identity) -> bool {
+        let is_it = |(waits, _): &(Identity, Instant)| waits == identity;
+        self.outside.get(&replica).is_some_and(is_it) || self.settings.has(Plant::ResizesAlone)
+    }
+}
+
+/// The size of a cluster of these members.
+pub(super) fn cluster_of(members: &Members) -> Option<Cluster> {
+    u8::try_from(members.0.len()).ok().and_then(|count| Cluster::try_from(count).ok())
+}
+
+impl Host {
+    /// Somebody who runs the cluster wishes the next generation to be another one: a machine that waits takes the place
+    /// of one that is gone, or there are 3, 5 or 7 replicas from then on. It is told under this number, once:
+    /// [`Told::Changed`], when a generation has begun in which it is so, or [`Told::Refused`].
+    ///
+    /// It is granted only where majorities are reached of the present generation, and of the next one. Machines are
+    /// named by their identities ([`Settings::identity`](super::Settings::identity)), and wait to be let in by
+    /// [`Host::join`]. A machine that is replaced, or isn't among fewer replicas, ends with [`HostFault::Replaced`] or
+    /// [`HostFault::Left`], and must not come back.
+    ///
+    /// ```
+    /// use epaxos::host::{Host, Refusal, Settings, Told, Wish, WishFault};
+    /// # use epaxos::{Cluster, service::{Disk, MemoryDisk}};
+    /// # use std::time::Instant;
+    ///
+    /// # fn main() -> Result<(), Box<dyn std::error::Error>> {
+    /// # let now = Instant::now();
+    /// let settings = Settings { identity: Some([7; 16]), ..Settings::new(Cluster::Three, 0) };
+    /// let mut host = Host::begin(&settings, &MemoryDisk::default(), now)?;
+    /// host.wish(1, Wish::Seal, now);
+    /// // nobody else is there:
+    /// let refusal = Refusal::Wish(WishFault::Alone { reached: 1, replicas: 3 });
+    /// assert_eq!(host.turn(now)?.replies[0].told, Told::Refused(refusal));
+    /// # Ok(()) }
+    /// ```
+    pub fn wish(&mut self, token: u64, wish: Wish, now: Instant) {
+        self.due = self.due.min(now);
+        self.forget_gone(now);
+        if self.acting.is_none() {
+            return self.tell(token, Told::Refused(Refusal::Joining));
+        }
+        if self.has_left() || self.ends {
+            let why = if self.ends { Refusal::Ending } else { Refusal::Left };
+            return self.tell(token, Told::Refused(why));
+        }
+        if self.settings.identity.is_none() && wish != Wish::Seal {
+            return self.tell(token, Told::Refused(Refusal::Fault(crate::Fault::OutOfRange)));
+        }
+        match self.wishes.change(wish, self) {
+            Ok(Some(change)) => {
+                self.progress.generation.is_asked = true;
+                self.wishes.ask(self.progress.generation.number, change, token);
+            }
+            Ok(None) => self.tell(token, Told::Changed(self.progress.generation.number)),
+            Err(fault) => self.tell(token, Told::Refused(Refusal::Wish(fault))),
+        }
+    }
+
+    /// The machines that wait to be let in, each with the number that it is to have.
+    ///
+    /// ```
+    /// # use epaxos::{Cluster, host::{Host, Settings}, service::MemoryDisk};
+    /// # use std::time::Instant;
+    /// # fn main() -> Result<(), Box<dyn std::error::Error>> {
+    /// let host = Host::begin(&Settings::new(Cluster::Three, 0), &MemoryDisk::default(), Instant::now())?;
+    /// assert!(host.waiting_machines().is_empty());
+    /// # Ok(()) }
+    /// ```
+    pub fn waiting_machines(&self) -> Vec<(u8, Identity)> {
+        self.outside.iter().map(|(replica, (identity, _))| (*replica, *identity)).collect()
+    }
+
+    /// Who takes part in the present generation, as far as is known, by number.
+    ///
+    /// ```
+    /// # use epaxos::{Cluster, host::{Host, Settings}, service::MemoryDisk};
+    /// # use std::time::Instant;
+    /// # fn main() -> Result<(), Box<dyn std::error::Error>> {
+    /// let settings = Settings { identity: Some([7; 16]), ..Settings::new(Cluster::Three, 0) };
+    /// let host = Host::begin(&settings, &MemoryDisk::default(), Instant::now())?;
+    /// assert_eq!((host.members()[0].identity, host.members()[1].identity), (Some([7; 16]), None));
+    /// # Ok(()) }
+    /// ```
+    pub fn members(&self) -> Vec<Member> {
+        present(self).0
+    }
+
+    /// Lets go of machines that don't wait any more.
+    pub(super) fn forget_gone(&mut self, now: Instant) {
+        self.outside.retain(|_, (_, since)| now < *since + WAITS);
+    }
+
+    /// A peer tells which machine it is.
+    pub(super) fn hear_machine(&mut self, from: u8, (identity, waits): (Identity, bool), now: Instant) {
+        if waits {
+            // (what was heard before was another machine's)
+            self.progress.others.forget(from);
+            self.outside.insert(from, (identity, now));
+            // (two machines that wait have nothing to tell one another: they would answer without end)
+            if self.acting.is_some() {
+                self.say_hello(from);
+            }
+            return;
+        }
+        self.outside.remove(&from);
+        if self.known(from).is_none()
+            && let Some(met) = self.met.get_mut(usize::from(from))
+        {
+            *met = Some(identity);
+        }
+    }
+
+    /// What a seal that this replica proposes says. Who has wished what can't be granted any more is told so.
+    pub(super) fn seal_value(&mut self) -> Option<Vec<u8>> {
+        let mut wishes: Wishes<u64> = std::mem::take(&mut self.wishes);
+        let was_asked = !wishes.is_empty();
+        let dropped = wishes.drop_unfit(self);
+        self.wishes = wishes;
+        for (token, fault) in dropped {
+            self.tell(token, Told::Refused(Refusal::Wish(fault)));
+        }
+        if was_asked && self.wishes.is_empty() {
+            self.progress.generation.is_asked = false;
+            return None;
+        }
+        let names = self.settings.identity.is_some();
+        Some(if names { self.wishes.next(self).write().into_bytes() } else { Vec::new() })
+    }
+
+    /// Whether it is known by now that it does.
+    pub(super) fn has_left(&self) -> bool {
+        self.progress.generation.is_sealed() && self.progress.leaves()
+    }
+
+    /// The seal was executed: all know who goes on.
+    pub(super) fn note_sealed(&mut self) {
+        let members = self.acting.as_ref().and_then(|acting| acting.members.as_ref());
+        self.progress.note_sealed(members);
+        if !self.progress.leaves() {
+            return;
+        }
+        // (what wasn't done before the seal never is)
+        let waiting = self.calls.waiting.take().flat_map(|waiting| waiting.members);
+        let held = waiting.chain(std::mem::take(&mut self.calls.held)).map(|held| held.token);
+        let wishes: Vec<u64> = self.wishes.take().map(|(token, _)| token).collect();
+        let all: Vec<u64> = held.chain(self.reads.take()).chain(wishes).collect();
+        all.into_iter().for_each(|token| self.tell(token, Told::Refused(Refusal::Left)));
+    }
+
+    /// Whether this machine may act in a generation of these members.
+    pub(super) fn check_members(&self, members: &Members, generation: u32) -> Result<(), HostFault> {
+        let Some(member) = members.0.get(usize::from(self.progress.place.replica)) else {
+            return Err(HostFault::Left(generation));
+        };
+        match (member.identity, self.settings.identity) {
+            (Some(named), Some(own)) if named != own => Err(HostFault::Replaced(generation)),
+            _ => Ok(()),
+        }
+    }
+
+    /// A generation begins of so many replicas, that names these.
+    pub(super) fn meet(&mut self, replicas: usize, members: Option<Members>, now: Instant) -> Result<(), OpenFault> {
+        if replicas != self.progress.place.replicas {
+            self.resize(replicas, now)?;
+        }
+        let Some(members) = members else { return Ok(()) };
+        for (replica, member) in (0..).zip(&members.0) {
+            if member.identity.is_some() && member.identity != self.known(replica) {
+                // (what is known is of the machine before)
+                self.progress.others.forget(replica);
+                self.met.get_mut(usize::from(replica)).into_iter().for_each(|met| *met = None);
+            }
+        }
+        self.named = members;
+        Ok(())
+    }
+
+    /// From now on there are so many replicas.
+    fn resize(&mut self, replicas: usize, now: Instant) -> Result<(), OpenFault> {
+        self.progress.resize(replicas, self.settings.seed, now)?;
+        self.met.iter_mut().skip(replicas).for_each(|met| *met = None);
+        self.reads.resize(replicas);
+        Ok(())
+    }
+
+    /// How many replicas there are.
+    pub(super) fn cluster(&self) -> Cluster {
+        u8::try_from(self.progress.place.replicas)
+            .ok()
+            .and_then(|it| Cluster::try_from(it).ok())
+            .unwrap_or(self.settings.cluster)
+    }
+
+    /// Tells a peer how far this host is, or which machine it is that waits.
+    pub(super) fn say_hello(&mut self, peer: u8) {
+        match self.settings.identity.filter(|_| self.acting.is_none()) {
+            Some(identity) => self.send(peer, Message::Machine { identity, waits: true }.write()),
+            None => self.send(peer, self.progress.hello(peer)),
+        }
+    }
+
+    /// The same, and which machine this is, and what is committed here.
+    pub(super) fn greet(&mut self, peer: u8) {
+        if let Some(identity) = self.settings.identity.filter(|_| self.acting.is_some()) {
+            self.send(peer, Message::Machine { identity, waits: false }.write());
+        }
+        self.say_hello(peer);
+        self.tell_commits(peer);
+    }
+}

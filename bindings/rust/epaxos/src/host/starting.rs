@@ -1,0 +1,158 @@
+//! How a host starts, by what the disk has.
+use super::acting::{self, Acting};
+use super::applying::Applying;
+use super::files::Files;
+use crate::host::{Act, Done, FolderFault, Name, Plant, Settings, StartFault, Stored};
+use crate::parts::folder::{self, look};
+use crate::parts::follower::{Begun, Follower, cluster};
+use crate::parts::members::Members;
+use crate::parts::plan_fault::PlanFault;
+use crate::parts::planning::{LogStart, Wish, newest, plan};
+use crate::{Cluster, Executed, Reference, Replica, Setup, Sum};
+
+/// What a host goes on with.
+pub(super) struct Started {
+    pub(super) acting: Acting,
+    pub(super) files: Files,
+    /// What is to be on the disk before anything is told.
+    pub(super) acts: Vec<Act>,
+    /// The number of this start, from 1.
+    pub(super) start: u32,
+    /// What was executed before the present generation's log.
+    pub(super) executed: Vec<Done>,
+    /// How many replicas there are, and whom the seal before named, where it named some.
+    pub(super) cluster: Cluster,
+    pub(super) members: Option<Members>,
+}
+
+/// The number of the start that is made now, and what keeps it.
+pub(super) fn count(settings: &Settings, stored: &impl Stored) -> Result<(u32, Act), StartFault> {
+    let bytes = stored.read(0, Name::Starts)?;
+    let before = match bytes {
+        None => 0,
+        Some(bytes) => {
+            bytes.try_into().map(u32::from_be_bytes).map_err(|_| StartFault::Damaged(0, "count of starts"))?
+        }
+    };
+    let before = if settings.has(Plant::SameNumbers) { 0 } else { before };
+    let start = before.checked_add(1).ok_or(StartFault::OutOfRange)?;
+    Ok((start, Act::Put { generation: 0, name: Name::Starts, bytes: start.to_be_bytes().into() }))
+}
+
+/// Whether no generation is there: what a machine that joins has put there before its first one was whole is none.
+pub(super) fn check_none(stored: &impl Stored) -> Result<(), StartFault> {
+    match newest(&look(stored)?)? {
+        0 => Ok(()),
+        here => Err(PlanFault::Begun(here).into()),
+    }
+}
+
+/// Begins generation 1 of a new replica.
+pub(super) fn begin(
+    settings: &Settings,
+    stored: &impl Stored,
+    applying: Option<&mut Applying>,
+) -> Result<Started, StartFault> {
+    let (held, opening) = (look(stored)?, settings.cluster.first_opening());
+    let is_same = stored.read(1, Name::Opening)?.is_some_and(|bytes| bytes == opening);
+    plan(&held, Wish::New { is_same })?;
+    if stored.read(1, Name::Log)?.is_some_and(|bytes| !bytes.is_empty()) {
+        return Err(FolderFault::HasLog.into());
+    }
+    let (start, counted) = count(settings, stored)?;
+    let replica = Setup { told: Some(0), ..Setup::new(settings.cluster, settings.me) }.begin();
+    let replica = replica.map_err(|fault| FolderFault::of(fault, None))?;
+    let tells_executed = settings.tells_executed || applying.is_some();
+    let mut acting = Acting::new(replica, 1, tells_executed).counting(settings.most_map.map(|_| 0));
+    let put = |name, bytes| Act::Put { generation: 1, name, bytes };
+    let mut acts = vec![counted];
+    if let Some(applying) = applying {
+        applying.begin(1);
+        acts.push(put(Name::Machine, applying.begun().to_vec()));
+    }
+    acts.push(put(Name::Opening, opening.to_vec()));
+    acts.extend(acting.lend().map_err(FolderFault::Core)?.map(|(bytes, _)| put(Name::Log, bytes)));
+    let mut files = Files::default();
+    files.keep(1, opening.len() as u64);
+    let (executed, cluster, members) = (Vec::new(), settings.cluster, None);
+    Ok(Started { acting, files, acts, start, executed, cluster, members })
+}
+
+/// Goes on with what is there.
+pub(super) fn go_on(
+    settings: &Settings,
+    stored: &impl Stored,
+    mut applying: Option<&mut Applying>,
+) -> Result<Started, StartFault> {
+    let held = look(stored)?;
+    let plan = plan(&held, Wish::GoOn)?;
+    let found = folder::Started::read(stored, &held, plan.generation)?;
+    let whole = found.first.generation;
+    restore(stored, whole, applying.as_deref_mut())?;
+    let (start, counted) = count(settings, stored)?;
+    let log = stored.read(plan.generation, Name::Log)?.filter(|bytes| !bytes.is_empty());
+    if log.is_none() && plan.log == LogStart::Existing {
+        return Err(FolderFault::NoLog(plan.generation).into());
+    }
+    let mut acts = vec![counted];
+    let put = |generation, name, bytes| Act::Put { generation, name, bytes };
+    // (what was read may not be on the disk)
+    if let Some(reference) = &found.first.reference {
+        let digest = found.first.bytes.last_chunk().unwrap_or(&[0; 32]);
+        acts.push(put(whole, Name::Reference, reference.bytes()));
+        acts.push(put(whole, Name::Whole, reference.binding(digest)));
+    }
+    match found.references.last() {
+        _ if log.is_some() => {}
+        Some(reference) => acts.push(put(plan.generation, Name::Reference, reference.bytes())),
+        None if found.first.reference.is_none() => acts.push(put(whole, Name::Opening, found.first.bytes.clone())),
+        None => {}
+    }
+    let tells_executed = settings.tells_executed || applying.is_some();
+    let (mut executed, mut more) = (Vec::new(), Vec::new());
+    let each = |generation, done: Option<Executed>| match done {
+        Some(done) => more.extend(tells_executed.then(|| acting::done(generation, &done))),
+        None => {
+            if let Some(applying) = &mut applying {
+                applying.apply(&more, settings.me);
+                applying.begin(generation + 1);
+            }
+            executed.append(&mut more);
+        }
+    };
+    let log_of = |next: &Reference| folder::log_of(stored, next, Sum::of);
+    let follower = Follower { replica: settings.me };
+    let Begun { replica, opening, mut unwritten } = follower.begin(&found, log.as_deref(), log_of, each)?;
+    let mut files = Files::default();
+    // (there is no other thread here that could do it)
+    unwritten.iter_mut().for_each(|(_, checkpoint)| checkpoint.let_go());
+    files.unwritten = unwritten;
+    files.keep(whole, found.first.bytes.len() as u64);
+    found.references.iter().for_each(|next| files.leave(next.generation() - 1, next.length()));
+    let map = settings.most_map.map(|_| opening.map);
+    let mut acting = Acting::new(replica, plan.generation, tells_executed).counting(map);
+    acts.extend(acting.lend().map_err(FolderFault::Core)?.map(|(bytes, _)| put(plan.generation, Name::Log, bytes)));
+    let earlier = held.iter().filter(|one| one.number < plan.generation && one.left_for < plan.generation);
+    acts.extend(earlier.map(|one| put(one.number, Name::Left, plan.generation.to_string().into())));
+    let (cluster, members) = (cluster(opening.replicas)?, opening.members());
+    Ok(Started { acting, files, acts, start, executed, cluster, members })
+}
+
+/// The machine, where there is one, gets the state with which a whole generation begins.
+fn restore(stored: &impl Stored, generation: u32, applying: Option<&mut Applying>) -> Result<(), StartFault> {
+    match (stored.read(generation, Name::Machine)?, applying) {
+        (None, None) => Ok(()),
+        (Some(file), Some(applying)) => match applying.restore(generation, &file) {
+            Ok(true) => Ok(()),
+            Ok(false) => Err(StartFault::Damaged(generation, "state of the state machine")),
+            Err(error) => Err(StartFault::Restore(error)),
+        },
+        _ => Err(StartFault::Machine(generation)),
+    }
+}
+
+/// A replica that begins a generation by an opening that a peer has handed.
+pub(super) fn taken(settings: &Settings, replicas: u8, bytes: &[u8]) -> Option<Replica> {
+    let new = Setup::new(Cluster::try_from(replicas).ok()?, settings.me);
+    Setup { opening: Some(bytes), told: Some(0), ..new }.begin().ok()
+}

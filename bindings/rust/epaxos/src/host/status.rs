@@ -1,0 +1,185 @@
+//! How a host is.
+use crate::host::Host;
+
+/// How a host is, for whoever looks after it.
+///
+/// ```
+/// # use epaxos::host::Status;
+/// fn is_well(status: &Status) -> bool {
+///     !status.is_alone && status.behind == 0
+/// }
+/// ```
+#[derive(Clone, PartialEq, Eq, Debug)]
+pub struct Status {
+    /// The generation, or 0 of a host that joins.
+    pub generation: u32,
+    /// How many replicas there are.
+    pub replicas: usize,
+    /// How many entries its log has.
+    pub entries: u32,
+    /// The last number of its own that was used.
+    pub used: u16,
+    /// Whether so few peers are reached that nothing is done.
+    pub is_alone: bool,
+    /// The peers that are reached.
+    pub reached: Vec<u8>,
+    /// The one that proposals spare.
+    pub spared: u8,
+    /// How many calls and reads wait.
+    pub waiting: usize,
+    /// How many instances are known not to be committed.
+    pub open: usize,
+    /// The generations that the farthest peer is ahead.
+    pub behind: u32,
+    /// Changes of generation since the start.
+    pub changes: u64,
+    /// Second phases that were begun since the start.
+    pub accepts: u64,
+    /// Recoveries that were begun since the start.
+    pub recoveries: u64,
+    /// Commits that were sent again since the start.
+    pub sent_again: u64,
+    /// Batches that the disk was given since the start.
+    pub syncs: u64,
+    /// Calls that were proposed with others, in one command, since the start.
+    pub together: u64,
+    /// What came and was no frame, since the start.
+    pub refused: u64,
+}
+
+impl Host {
+    /// How it is.
+    ///
+    /// ```
+    /// # use epaxos::{Cluster, host::{Host, Settings}, service::MemoryDisk};
+    /// # use std::time::Instant;
+    /// # fn main() -> Result<(), Box<dyn std::error::Error>> {
+    /// let now = Instant::now();
+    /// let host = Host::begin(&Settings::new(Cluster::Three, 0), &MemoryDisk::default(), now)?;
+    /// assert!(host.status().is_alone);
+    /// # Ok(()) }
+    /// ```
+    pub fn status(&self) -> Status {
+        let ahead = self.progress.peers().map(|peer| self.progress.others.generation(peer)).max().unwrap_or(0);
+        Status {
+            generation: self.progress.generation.number,
+            replicas: self.progress.place.replicas,
+            entries: self.progress.generation.entries,
+            used: self.progress.generation.used,
+            is_alone: self.progress.is_alone(),
+            reached: self.progress.peers().filter(|peer| self.progress.is_reached(*peer)).collect(),
+            spared: self.progress.distances.spared(),
+            waiting: self.calls.count() + self.reads.count(),
+            open: self.progress.watch.count(),
+            behind: ahead.saturating_sub(self.progress.generation.number),
+            changes: self.counts.changes,
+            accepts: self.progress.counts.accepts,
+            recoveries: self.progress.counts.recoveries,
+            sent_again: self.progress.counts.sent_again,
+            syncs: self.counts.syncs,
+            together: self.calls.together,
+            refused: self.progress.counts.refused,
+        }
+    }
+
+    /// What a key has here, after all that was executed here: a look that may be old. None where it has nothing; also
+    /// while the disk is at work.
+    ///
+    /// # Errors
+    ///
+    /// [`Fault::Unsynced`](crate::Fault::Unsynced) while the disk is at work,
+    /// [`Fault::OutOfRange`](crate::Fault::OutOfRange) of a key that can't be.
+    ///
+    /// ```
+    /// # use epaxos::{Cluster, host::{Host, Settings}, service::MemoryDisk};
+    /// # use std::time::Instant;
+    /// # fn main() -> Result<(), Box<dyn std::error::Error>> {
+    /// let now = Instant::now();
+    /// let mut host = Host::begin(&Settings::new(Cluster::Three, 0), &MemoryDisk::default(), now)?;
+    /// let writes = host.turn(now)?.writes.ok_or("nothing to write")?;
+    /// assert_eq!(host.look_up(b"x"), Err(epaxos::Fault::Unsynced));
+    /// host.synced(writes.number, now)?;
+    /// assert_eq!(host.look_up(b"x"), Ok(None));
+    /// # Ok(()) }
+    /// ```
+    pub fn look_up(&mut self, key: &[u8]) -> Result<Option<Vec<u8>>, crate::Fault> {
+        match &mut self.acting {
+            Some(acting) if self.busy.is_none() => Ok(acting.replica.get(key)?.map(<[u8]>::to_vec)),
+            _ => Err(crate::Fault::Unsynced),
+        }
+    }
+
+    /// What all keys have here, likewise.
+    ///
+    /// # Errors
+    ///
+    /// [`Fault::Unsynced`](crate::Fault::Unsynced) while the disk is at work, [`Fault::Memory`](crate::Fault::Memory).
+    ///
+    /// ```
+    /// # use epaxos::{Cluster, host::{Host, Settings}, service::MemoryDisk};
+    /// # use std::time::Instant;
+    /// # fn main() -> Result<(), Box<dyn std::error::Error>> {
+    /// let now = Instant::now();
+    /// let mut host = Host::begin(&Settings::new(Cluster::Three, 0), &MemoryDisk::default(), now)?;
+    /// let writes = host.turn(now)?.writes.ok_or("nothing to write")?;
+    /// host.synced(writes.number, now)?;
+    /// assert_eq!(host.contents(), Ok(Vec::new()));
+    /// # Ok(()) }
+    /// ```
+    pub fn contents(&mut self) -> Result<Vec<(Vec<u8>, Vec<u8>)>, crate::Fault> {
+        match &mut self.acting {
+            Some(acting) if self.busy.is_none() => {
+                let all = acting.replica.contents()?;
+                Ok(all.map(|(key, value)| (key.to_vec(), value.to_vec())).collect())
+            }
+            _ => Err(crate::Fault::Unsynced),
+        }
+    }
+
+    /// Whether all that is known here is committed and executed, and nothing waits.
+    ///
+    /// ```
+    /// # use epaxos::{Cluster, host::{Host, Settings}, service::MemoryDisk};
+    /// # use std::time::Instant;
+    /// # fn main() -> Result<(), Box<dyn std::error::Error>> {
+    /// let now = Instant::now();
+    /// let host = Host::begin(&Settings::new(Cluster::Three, 0), &MemoryDisk::default(), now)?;
+    /// assert!(!host.is_quiet()); // its log begins
+    /// # Ok(()) }
+    /// ```
+    pub fn is_quiet(&self) -> bool {
+        let is_idle = self.busy.is_none() && !self.executions.is_due() && self.calls.is_empty();
+        let is_known = self.progress.watch.count() == 0 && !self.progress.watch.is_changed();
+        is_idle && is_known && self.reads.is_empty() && self.pending.batch.0.is_empty()
+    }
+
+    /// The generation that it is in.
+    pub(crate) fn status_generation(&self) -> u32 {
+        self.progress.generation.number
+    }
+
+    /// How many calls were proposed with others since the start.
+    pub(crate) fn status_together(&self) -> u64 {
+        self.calls.together
+    }
+
+    /// How many recoveries were begun since the start.
+    pub(crate) fn status_recoveries(&self) -> u64 {
+        self.progress.counts.recoveries
+    }
+
+    /// The greatest entry of a peer that was seen in the present generation.
+    ///
+    /// ```
+    /// # use epaxos::{Cluster, host::{Host, Settings}, service::MemoryDisk};
+    /// # use std::time::Instant;
+    /// # fn main() -> Result<(), Box<dyn std::error::Error>> {
+    /// let now = Instant::now();
+    /// let host = Host::begin(&Settings::new(Cluster::Three, 0), &MemoryDisk::default(), now)?;
+    /// assert_eq!(host.seen_of(1), 0);
+    /// # Ok(()) }
+    /// ```
+    pub fn seen_of(&self, peer: u8) -> u32 {
+        self.progress.others.seen(peer)
+    }
+}

@@ -1,0 +1,98 @@
+//! Files that are as they were before, or whole, after a crash at any moment.
+use std::fs::{self, File};
+use std::io::{self, Write};
+use std::path::Path;
+
+/// So much is written between two syncs: one of all of a long file would stop those of the log.
+const BETWEEN_SYNCS: usize = 4 << 20;
+
+/// A file that is synced now and then while it is written.
+pub struct Paced {
+    file: File,
+    unsynced: usize,
+}
+
+impl Write for Paced {
+    fn write(&mut self, bytes: &[u8]) -> io::Result<usize> {
+        let count = self.file.write(bytes)?;
+        self.unsynced += count;
+        if self.unsynced >= BETWEEN_SYNCS {
+            self.file.sync_data()?;
+            self.unsynced = 0;
+        }
+        Ok(count)
+    }
+
+    fn flush(&mut self) -> io::Result<()> {
+        self.file.flush()
+    }
+}
+
+/// Writes a file of this folder.
+pub fn write(folder: &Path, name: &str, bytes: &[u8]) -> io::Result<()> {
+    fill(folder, name, |file| file.write_all(bytes))
+}
+
+/// The same, by this function.
+pub fn fill<T>(folder: &Path, name: &str, fill: impl FnOnce(&mut Paced) -> io::Result<T>) -> io::Result<T> {
+    let filled = fill_beside(folder, name, fill)?;
+    move_in(folder, name)?;
+    Ok(filled)
+}
+
+/// Writes a file beside its place.
+pub fn write_beside(folder: &Path, name: &str, bytes: &[u8]) -> io::Result<()> {
+    fill_beside(folder, name, |file| file.write_all(bytes))
+}
+
+fn fill_beside<T>(folder: &Path, name: &str, fill: impl FnOnce(&mut Paced) -> io::Result<T>) -> io::Result<T> {
+    let mut file = Paced { file: File::create(folder.join(format!("{name}.new")))?, unsynced: 0 };
+    let filled = fill(&mut file)?;
+    file.file.sync_all()?;
+    Ok(filled)
+}
+
+/// Moves what was written so into its place.
+pub fn move_in(folder: &Path, name: &str) -> io::Result<()> {
+    fs::rename(folder.join(format!("{name}.new")), folder.join(name))?;
+    sync(folder)
+}
+
+/// What this folder has under which names is on the disk then.
+pub fn sync(folder: &Path) -> io::Result<()> {
+    File::open(folder)?.sync_all()
+}
+
+/// What the system says of a file, with its path.
+pub fn unusable(path: &Path) -> impl Fn(io::Error) -> io::Error {
+    move |error| io::Error::new(error.kind(), format!("{} can't be used: {error}", path.display()))
+}
+
+#[cfg(test)]
+mod tests {
+    use super::*;
+
+    #[test]
+    fn a_file_is_as_before_or_whole() {
+        let folder = std::env::temp_dir().join(format!("epaxos-files-{}", std::process::id()));
+        fs::create_dir_all(&folder).unwrap();
+        let read = || fs::read(folder.join("it")).unwrap();
+        write(&folder, "it", b"before").unwrap();
+        let broken = fill(&folder, "it", |file| {
+            file.write_all(b"part")?;
+            Err::<(), _>(io::ErrorKind::Other.into())
+        });
+        assert!(broken.is_err() && read() == b"before");
+        write_beside(&folder, "it", b"after").unwrap();
+        assert_eq!(read(), b"before");
+        move_in(&folder, "it").unwrap();
+        assert_eq!(read(), b"after");
+        let long = vec![7; BETWEEN_SYNCS + 9];
+        let count = fill(&folder, "it", |file| {
+            long.chunks(1 << 20).try_for_each(|part| file.write_all(part))?;
+            Ok(file.unsynced)
+        });
+        assert_eq!((count.unwrap(), read()), (9, long));
+        fs::remove_dir_all(&folder).unwrap();
+    }
+}

@@ -1,0 +1,325 @@
+//! Hosts: under the simulator, and in threads over TCP and folders.
+#![cfg(not(feature = "plants"))]
+
+#[path = "common/calls.rs"]
+mod calls;
+#[path = "common/ports.rs"]
+mod ports;
+
+use calls::{raise, told};
+use epaxos::host::{FolderFault, Host, Name, Refusal, Settings, StartFault, Stored, Told};
+use epaxos::service::{Disk, Folder, MemoryDisk, Service, Start, TcpLink};
+use epaxos::sim::{Plan, Trouble, What, leave, run};
+use epaxos::{Cluster, OwnedAnswer, OwnedCommand};
+use ports::Ports;
+use std::fs;
+use std::io;
+use std::path::PathBuf;
+use std::time::{Duration, Instant};
+
+#[test]
+fn seeds_are_right_and_repeat() {
+    for seed in [3, 5] {
+        let plan = Plan::of_seed(seed);
+        let (seen, failure) = run(&plan);
+        assert_eq!(failure, None, "seed {seed}");
+        assert_eq!(run(&plan), (seen, None), "seed {seed}");
+    }
+}
+
+/// Three machines, where nothing goes wrong.
+fn calm() -> Plan {
+    (1..).map(Plan::of_seed).find(|plan| plan.is_calm() && plan.cluster == Cluster::Three).unwrap()
+}
+
+/// What a run leaves is whole: a generation's logs at each replica, and a line for each question.
+#[test]
+fn a_run_is_left_in_a_folder() {
+    let folder = std::env::temp_dir().join(format!("epaxos-left-by-{}", std::process::id()));
+    let plan = Plan { asks: 200, numbers: 20, checkpoint: 1, ..calm() };
+    let (seen, failure) = run(&plan);
+    assert_eq!(failure, None);
+    let left = leave(&plan, None, &folder).unwrap();
+    // (the first ones are dropped by the disks, and kept for whoever looks)
+    assert_eq!(
+        left.iter().map(|it| u64::from(it.generation)).collect::<Vec<_>>(),
+        (1..=seen.generations).collect::<Vec<_>>()
+    );
+    for it in &left {
+        let generation = it.generation.to_string();
+        assert!((0..it.replicas).all(|me| folder.join(me.to_string()).join(&generation).join("log").is_file()));
+        assert!(folder.join(format!("receipts-{generation}")).is_file());
+    }
+    let asked = fs::read_to_string(folder.join("asked")).unwrap();
+    assert_eq!(asked.lines().count() as u64, seen.asks);
+    fs::remove_dir_all(&folder).unwrap();
+}
+
+/// Nothing is promised where a disk lies: what notices it is counted. Elsewhere nothing of that is.
+#[test]
+fn what_notices_a_disk_that_lies_is_counted() {
+    let lie = Trouble { at: 1_000_000, machine: 1, what: What::Lie, lasts: 1_000_000 };
+    let plan = Plan { clients: 3, think: 50_000, asks: 200, numbers: 8_000, troubles: vec![lie], ..calm() };
+    let (seen, failure) = run(&plan);
+    assert_eq!((failure, seen.lies, seen.lies_noticed, seen.replaced), (None, 1, 1, 1));
+    let (mut lies, mut all) = (0, 0);
+    for seed in 1..8 {
+        let (seen, failure) = run(&Plan::of_seed(seed).lying());
+        assert_eq!(failure, None, "seed {seed}");
+        assert!(seen.lies_found <= 1 && seen.lies_noticed + seen.lies_unseen <= seen.lies, "seed {seed}");
+        (lies, all) = (lies + seen.lies, all + 1);
+    }
+    assert!(lies > 2, "{lies} of {all}");
+}
+
+/// What is given up before it was proposed isn't done, and the rest is told what became of it.
+#[test]
+fn what_is_given_up_is_told_all_the_same() {
+    let (mut given_up, mut told) = (0, 0);
+    for seed in 1..5 {
+        let plan = Plan { given_up: 1_000, troubles: Vec::new(), lost: 0, ..Plan::of_seed(seed) };
+        let (seen, failure) = run(&plan);
+        assert_eq!(failure, None, "seed {seed}");
+        (given_up, told) = (given_up + seen.given_up, told + seen.told);
+    }
+    assert!(given_up > 20 && told > 200, "{given_up} given up, {told} told");
+}
+
+/// Who is told to end tells first what is under way, and takes nothing more.
+#[test]
+fn a_machine_ends_slowly() {
+    let end = |seconds: u64| Trouble { at: seconds * 1_000_000, machine: 1, what: What::End, lasts: 500_000 };
+    let plan = Plan { think: 50_000, asks: 400, troubles: vec![end(1), end(8)], ..calm() };
+    let (seen, failure) = run(&plan);
+    assert_eq!((failure, seen.ended, seen.crashes), (None, 2, 2));
+}
+
+/// A service that is stopped ends once it has told who waits, and one that reaches nobody within its patience.
+#[test]
+fn a_service_is_stopped() {
+    let mut three = Service::local(Cluster::Three).unwrap();
+    let put = OwnedCommand::Put { key: b"x".into(), value: b"1".into() };
+    three[2].call(put).unwrap();
+    let begun = Instant::now();
+    three.pop().unwrap().stop().unwrap();
+    assert!(begun.elapsed() < Duration::from_secs(5));
+    assert_eq!(three[0].read(b"x"), Ok(Some(b"1".into())));
+}
+
+#[test]
+fn a_cluster_grows_and_shrinks() {
+    let wish =
+        |seconds: u64, cluster| Trouble { at: seconds * 1_000_000, machine: 0, what: What::Resize(cluster), lasts: 0 };
+    let troubles = vec![wish(1, Cluster::Five), wish(3, Cluster::Seven), wish(5, Cluster::Three)];
+    let plan = Plan { cluster: Cluster::Three, is_named: true, lost: 0, troubles, ..Plan::of_seed(5) };
+    let (seen, failure) = run(&plan);
+    assert_eq!((failure, seen.resized), (None, 3));
+}
+
+/// Of seven machines three stay, of which two are down and one is cut off while the others seal: those that leave serve
+/// until a majority of the three has executed the seal.
+#[test]
+fn who_leaves_waits_for_those_that_stay() {
+    assert_eq!(run(&Plan::of_seed(50_002_000_089)).1, None);
+}
+
+/// A machine that stands still as it comes back with an older copy notices that once it goes on.
+#[test]
+fn an_older_copy_is_noticed_late() {
+    let ms = 1_000;
+    let trouble = |at, what, lasts| Trouble { at: at * ms, machine: 1, what, lasts: lasts * ms };
+    let plan = Plan {
+        cluster: Cluster::Three,
+        clients: 3,
+        asks: 300,
+        think: 500 * ms,
+        delays: vec![vec![500; 3]; 3],
+        lost: 0,
+        numbers: 8_000,
+        troubles: vec![trouble(6_000, What::Older, 0), trouble(11_000, What::Pause, 15_000)],
+        ..Plan::of_seed(3)
+    };
+    let (seen, failure) = run(&plan);
+    assert_eq!((seen.older, failure), (1, None));
+}
+
+/// A proposal's frame is lost soon after a recovery that ended what a machine had proposed before it was down for long,
+/// and soon after a machine stood still for long.
+#[test]
+fn what_is_lost_after_long_waits_is_waited_for_no_longer() {
+    for seed in [40_000_000_622, 44_000_000_372] {
+        assert_eq!(run(&Plan::of_seed(seed)).1, None, "seed {seed}");
+    }
+}
+
+/// Three hosts in memory, whose frames all come.
+struct Net {
+    hosts: Vec<Host>,
+    disks: Vec<MemoryDisk>,
+    now: Instant,
+    calls: u64,
+}
+
+impl Net {
+    fn begin(settings: &Settings) -> Net {
+        let (now, disks) = (Instant::now(), vec![MemoryDisk::default(), MemoryDisk::default(), MemoryDisk::default()]);
+        let of = |me: u8| Settings { me, seed: me.into(), ..settings.clone() };
+        let begin = |(me, disk): (u8, &MemoryDisk)| Host::begin(&of(me), disk, now).unwrap();
+        let mut hosts: Vec<Host> = (0..).zip(&disks).map(begin).collect();
+        for (me, host) in (0..).zip(&mut hosts) {
+            (0..3).filter(|peer| *peer != me).for_each(|peer| host.link_opened(peer, now));
+        }
+        Net { hosts, disks, now, calls: 0 }
+    }
+
+    /// What the first one's client is told of a command.
+    fn ask(&mut self, command: OwnedCommand) -> Told {
+        self.calls += 1;
+        self.hosts[0].call(self.calls, command, self.now);
+        for _ in 0..10_000 {
+            let (mut frames, mut replies) = (Vec::new(), Vec::new());
+            for ((me, host), disk) in (0..).zip(&mut self.hosts).zip(&mut self.disks) {
+                let turn = host.turn(self.now).unwrap();
+                frames.extend(turn.frames.into_iter().map(|(to, bytes)| (me, to, bytes)));
+                replies.extend(turn.replies);
+                if let Some(writes) = turn.writes {
+                    disk.carry_out(&writes.acts).unwrap();
+                    host.synced(writes.number, self.now).unwrap();
+                }
+            }
+            for (from, to, bytes) in frames {
+                self.hosts[usize::from(to)].receive(from, bytes, self.now).unwrap();
+            }
+            self.now += Duration::from_millis(1);
+            if let Some(reply) = replies.pop() {
+                assert!(replies.is_empty() && reply.token == self.calls);
+                return reply.told;
+            }
+        }
+        panic!("nothing is told");
+    }
+}
+
+/// Each generation shares out the room that is left, while that is worth it; then deletes and reads go on.
+#[test]
+fn a_map_that_is_bounded_is_filled_and_not_passed() {
+    let mut net = Net::begin(&Settings { most_map: Some(1_000), ..Settings::new(Cluster::Three, 0) });
+    // (with its key and five bytes more it takes 100)
+    let put = |key: u8| OwnedCommand::Put { key: vec![key], value: vec![1; 94] };
+    let told: Vec<Told> = (0..9).map(|key| net.ask(put(key))).collect();
+    assert!(told[..8].iter().all(|told| *told == Told::Done(OwnedAnswer::Absent)), "{told:?}");
+    assert_eq!(told[8], Told::Refused(Refusal::MapFull));
+    assert!(net.hosts[0].status().generation > 2);
+    assert!(matches!(net.ask(OwnedCommand::Del { key: vec![0] }), Told::Done(OwnedAnswer::Present(_))));
+    assert_eq!(net.ask(put(8)), Told::Done(OwnedAnswer::Absent));
+    // A host that comes back doesn't know what it has added since the generation began.
+    let settings = Settings { most_map: Some(1_000), ..Settings::new(Cluster::Three, 0) };
+    net.hosts[0] = Host::open(&settings, &net.disks[0], net.now).unwrap();
+    (1..3).for_each(|peer| net.hosts[0].link_opened(peer, net.now));
+    assert!(matches!(net.ask(OwnedCommand::Del { key: vec![1] }), Told::Done(OwnedAnswer::Present(_))));
+    assert_eq!(net.ask(put(9)), Told::Done(OwnedAnswer::Absent));
+}
+
+/// A disk on which nothing is.
+struct Empty;
+
+impl Stored for Empty {
+    fn generations(&self) -> io::Result<Vec<u32>> {
+        Ok(Vec::new())
+    }
+
+    fn read(&self, _: u32, _: Name) -> io::Result<Option<Vec<u8>>> {
+        Ok(None)
+    }
+}
+
+#[test]
+fn what_is_refused_is_told_at_once() {
+    let (settings, now) = (Settings::new(Cluster::Three, 0), Instant::now());
+    assert!(matches!(Host::open(&settings, &Empty, now), Err(StartFault::Folder(FolderFault::Plan(_)))));
+    assert!(matches!(Host::begin(&Settings { me: 3, ..settings.clone() }, &Empty, now), Err(StartFault::OutOfRange)));
+    let told = |host: &mut Host, at| {
+        host.turn(at).unwrap().replies.into_iter().map(|it| (it.token, it.told)).collect::<Vec<_>>()
+    };
+    let mut joins = Host::join(&settings, &Empty, now).unwrap();
+    joins.call(1, OwnedCommand::Get { key: b"x".into() }, now);
+    assert_eq!(told(&mut joins, now), [(1, Told::Refused(Refusal::Joining))]);
+    let mut host = Host::begin(&Settings { most: 1, ..settings }, &Empty, now).unwrap();
+    host.call(1, OwnedCommand::Seal { value: Vec::new() }, now);
+    host.read(2, Vec::new(), now);
+    host.call(3, OwnedCommand::Get { key: b"x".into() }, now);
+    host.call(4, OwnedCommand::Get { key: b"x".into() }, now);
+    let refused = |fault| Told::Refused(Refusal::Fault(fault));
+    let out_of_range = epaxos::Fault::OutOfRange;
+    assert_eq!(
+        told(&mut host, now),
+        [(1, refused(out_of_range.clone())), (2, refused(out_of_range)), (4, Told::Refused(Refusal::Full))]
+    );
+    // Nobody is there: what waits is told so after a while, and is never done.
+    host.synced(1, now).unwrap();
+    assert_eq!(told(&mut host, now), []);
+    let later = now + Duration::from_secs(4);
+    assert_eq!(told(&mut host, later), [(3, Told::Refused(Refusal::Alone))]);
+}
+
+/// Three services over TCP, each with a folder.
+struct Three {
+    folder: PathBuf,
+    _ports: Ports,
+    addresses: Vec<String>,
+    services: Vec<Option<Service>>,
+}
+
+impl Three {
+    fn begin(name: &str) -> Three {
+        let folder = std::env::temp_dir().join(format!("epaxos-hosts-{name}-{}", std::process::id()));
+        let ports = Ports::take().unwrap();
+        let addresses = (0..3).map(|place| ports.address(place)).collect();
+        let mut three = Three { folder, _ports: ports, addresses, services: vec![None, None, None] };
+        (0..3).for_each(|me| three.start(me, Start::New));
+        three
+    }
+
+    fn start(&mut self, me: usize, start: Start) {
+        // (so that generations change within the test)
+        let settings =
+            Settings { seed: me as u64, numbers: 20, checkpoint: 1, ..Settings::new(Cluster::Three, me as u8) };
+        let folder = Folder::open(self.folder.join(me.to_string())).unwrap();
+        let link = TcpLink::new(me as u8, &self.addresses).unwrap();
+        self.services[me] = Some(Service::start(&settings, start, folder, link).unwrap());
+    }
+
+    fn stop(&mut self, me: usize) {
+        self.services[me].take().unwrap().stop().unwrap();
+    }
+
+    fn at(&self, me: usize) -> &Service {
+        self.services[me].as_ref().unwrap()
+    }
+
+    fn get(&self, me: usize) -> Option<Vec<u8>> {
+        told(|| self.at(me).read(b"x")).unwrap()
+    }
+}
+
+#[test]
+fn three_services_over_tcp_outlive_one() {
+    let mut three = Three::begin("three");
+    for number in 1..=40 {
+        raise(three.at(number as usize % 3), "x", number);
+    }
+    assert_eq!(three.get(1), Some(b"40".into()));
+    // One ends, and comes back with its folder; then another machine takes its number.
+    three.stop(2);
+    raise(three.at(0), "x", 41);
+    three.start(2, Start::Again);
+    assert_eq!(three.get(2), Some(b"41".into()));
+    three.stop(2);
+    fs::remove_dir_all(three.folder.join("2")).unwrap();
+    three.start(2, Start::Join);
+    assert_eq!(three.get(2), Some(b"41".into()));
+    let status = three.at(2).status().unwrap();
+    assert!(status.generation >= 3, "{status:?}");
+    (0..3).for_each(|me| three.stop(me));
+    fs::remove_dir_all(&three.folder).unwrap();
+}

@@ -1,0 +1,96 @@
+-- How a replica starts, as C has it.
+use Rattle.std.specs.Prelude.{◌≡◌, ◌⊎◌, ℕ, cond, eqb, List, map, Option, Some, None, Result, Ok, Err}
+use Rattle.ep_folder.specs.Plans as plans
+use Rattle.ep_folder.specs.declared.generation_folder.GenerationFolder.{GenerationFolder}
+use Rattle.ep_folder.specs.declared.log_start.LogStart.{LogStart}
+use Rattle.ep_folder.specs.declared.log_start.LogStart.TheVariants as log
+use Rattle.ep_folder.specs.declared.plan.Plan.{Plan}
+use Rattle.ep_folder.specs.declared.start_fault.StartFault.{StartFault}
+use Rattle.ep_folder.specs.declared.start_fault.StartFault.TheVariants.{Empty, There, Left, Older, Other, Broken}
+use Rattle.ep_folder.specs.declared.wish.Wish.{Wish}
+use Rattle.ep_folder.specs.declared.wish.Wish.TheVariants as wish
+use Rattle.ep_library.specs.Arguments.{is_said}
+use Rattle.ep_library.specs.Statuses.{done, memory, none, out_of_range}
+use Rattle.ep_library.specs.Syncing.{flag}
+use Rattle.ep_library.specs.declared.held_generation.HeldGeneration.{HeldGeneration}
+use Rattle.ep_library.specs.declared.place.Place.{Place}
+use Rattle.ep_library.specs.declared.start_plan.StartPlan.{StartPlan}
+use Rattle.ep_library.specs.declared.start_wish.StartWish.{StartWish}
+
+abbrev pub folder_of : HeldGeneration → GenerationFolder
+folder_of h = record {
+  number = h.number;
+  has_opening = is_said h.has_opening;
+  has_reference = is_said h.has_reference;
+  is_bound = is_said h.is_bound;
+  left_for = h.left_for;
+}
+
+abbrev pub wish_in : StartWish → Option Wish
+wish_in w =
+    cond (eqb w.kind 1) (Some wish.GoOn)
+    (cond (eqb w.kind 2) (Some (wish.New (is_said w.is_same)))
+    (cond (eqb w.kind 3) (Some (wish.Take w.generation (is_said w.is_same))) None))
+
+abbrev pub log_number : LogStart → ℕ
+log_number log.New = 1
+log_number log.Either = 2
+log_number log.Existing = 3
+
+abbrev pub plan_out : Plan → StartPlan
+plan_out p = record { generation = p.generation; writes = flag p.writes; log = log_number p.log }
+
+-- why it isn't started
+abbrev pub fault_status : StartFault → ℕ
+fault_status Empty = 16
+fault_status (There g) = 17
+fault_status (Left g) = 18
+fault_status (Older g) = 19
+fault_status (Other g) = 20
+fault_status (Broken g) = 21
+
+-- the generation that is named; 0 where none is
+abbrev pub fault_number : StartFault → ℕ
+fault_number Empty = 0
+fault_number (There g) = g
+fault_number (Left g) = g
+fault_number (Older g) = g
+fault_number (Other g) = g
+fault_number (Broken g) = g
+
+-- this plan is told; or why there is none, with the generation that this names
+abbrev pub Starts : ℕ → Result Plan StartFault → StartPlan → Place → StartPlan → Place → Type 0
+Starts status (Ok p) old other told place = (status ≡ done) × (told ≡ plan_out p) × (place ≡ other)
+Starts status (Err fault) old other told place =
+    (status ≡ fault_status fault) × (told ≡ old) × (place ≡ record { at = fault_number fault; by = 0 })
+
+-- nothing is told, as the status says
+abbrev pub IsUnplanned : ℕ → ℕ → StartPlan → Place → StartPlan → Place → Type 0
+IsUnplanned why status old other told place = (status ≡ why) × (told ≡ old) × (place ≡ other)
+
+-- the plan for what the folder has and what is asked for, unless that is nothing or memory was refused
+abbrev pub Plans : ℕ → List HeldGeneration → StartWish → StartPlan → Place → StartPlan → Place → Type 0
+Plans status held w old other told place =
+    ((wish_in w ≡ None) × IsUnplanned out_of_range status old other told place)
+    ⊎ (IsUnplanned memory status old other told place
+    ⊎ ((asked : Wish) × (wish_in w ≡ Some asked)
+    × Starts status (plans.plan (map folder_of held) asked) old other told place))
+
+-- from where on logs are replayed is told; or why not, and by which generation
+abbrev pub StartsFrom : ℕ → Result ℕ StartFault → ℕ → Type 0
+StartsFrom status (Ok g) told = (status ≡ done) × (told ≡ g)
+StartsFrom status (Err fault) told = (status ≡ fault_status fault) × (told ≡ fault_number fault)
+
+abbrev pub TellsFirst : ℕ → List HeldGeneration → ℕ → ℕ → ℕ → Type 0
+TellsFirst status held generation old told =
+    ((status ≡ memory) × (told ≡ old)) ⊎ StartsFrom status (plans.first_of generation (map folder_of held)) told
+
+-- the greatest generation that is here is told, unless memory was refused
+abbrev pub TellsNewest : ℕ → List HeldGeneration → ℕ → ℕ → Type 0
+TellsNewest status held old told =
+    ((status ≡ memory) × (told ≡ old)) ⊎ ((status ≡ done) × (told ≡ plans.newest (map folder_of held)))
+
+-- the generation is told, if there is one
+abbrev pub Names : ℕ → Option ℕ → ℕ → ℕ → Type 0
+Names status None old told = (status ≡ none) × (told ≡ old)
+Names status (Some g) old told = (status ≡ done) × (told ≡ g)

@@ -1,6 +1,0 @@
-use Rattle.std.proofs.Common.{◌≡◌, ◌++◌, drop}
-use Rattle.ep_view.specs.Strings.{escaped}
-use Rattle.ep_view.proofs.strings.push_escaped.Given as goal
-
-abbrev pub invariant-loop-byte : goal.invariant-loop-byte
-invariant-loop-byte l = l.text.items ++ escaped (drop l.byte-index l.words) ≡ l.initial.text.items ++ escaped l.words

@@ -1,0 +1,28 @@
+use Rattle.std.proofs.Common.{[], Ok, refl, ◌∙◌}
+use Rattle.ep_bundle.specs.Reading.{many}
+use Rattle.ep_base.specs.Quorums.{size}
+use Rattle.ep_bundle.specs.Stages.{instance}
+use Rattle.ep_bundle.proofs.Readings.{fails, goes_on, gives}
+use Rattle.ep_bundle.proofs.Loops.{begins, steps, fails_in, finishes}
+use Rattle.ep_wire.proofs.reads.read_found.Goals as goal
+
+pub returns-in_err-count-clause-bytes : goal.returns-in_err-count-clause-bytes
+returns-in_err-count-clause-bytes g c = λ y0 e0. fails _ _ _ _ _ _ _ _ (c.in_err-count.ensures.bytes y0 e0) c.from_residual.ensures.1
+
+pub loop-init : goal.loop-init
+loop-init g c = record {
+  bytes = begins (instance c.args.dialect.now.version (size c.args.dialect.now.size)) c.in_ok-count.count c.new-items.result.items _ _ c.new-items.ensures.items;
+  told = refl;
+}
+
+pub returns-in_err-instance-clause-bytes : goal.returns-in_err-instance-clause-bytes
+returns-in_err-instance-clause-bytes g c = λ y0 e0. goes_on _ _ _ _ _ _ _ _ (c.in_ok-count.ensures.bytes y0 e0) (λ y1 e1. fails_in _ _ _ _ _ _ _ _ _ _ _ _ c.loop-test.true c.loop.invariant.bytes (λ ys k. c.in_err-instance.ensures.bytes ys k) c.from_residual-in_err-instance.ensures.1 y1 e1)
+
+pub loop-preserved : goal.loop-preserved
+loop-preserved g c = record {
+  bytes = steps (instance c.args.dialect.now.version (size c.args.dialect.now.size)) c.in_ok-count.count c.loop.counter c.loop.items.items c.push.new.self.items c.in_ok-instance.instance _ _ _ _ _ _ c.loop-test.true c.loop.invariant.bytes (λ ys k. c.in_ok-instance.ensures.bytes ys k) c.in_ok-push.ensures.items;
+  told = c.in_ok-instance.ensures.told ∙ c.loop.invariant.told;
+}
+
+pub returns-clause-bytes : goal.returns-clause-bytes
+returns-clause-bytes g c = λ y0 e0. goes_on _ (λ x l. many (instance c.args.dialect.now.version (size c.args.dialect.now.size)) x [] l) _ _ _ (Ok c.new.result) c.loop.place (g.S.Source.left c.loop.source) (c.in_ok-count.ensures.bytes y0 e0) (λ y1 e1. gives _ _ _ _ _ (finishes _ _ _ _ _ _ _ _ c.loop-test.false c.loop.invariant.bytes y1 e1) c.new.ensures)
