@@ -26,6 +26,7 @@ import bindings
 import clock
 import generations
 import growth
+import kept
 import lanes
 import launcher
 import library
@@ -284,6 +285,7 @@ PARTS = (
     Part("rt ci", test_command, is_of_built=False),
     Part("wrong bodies", wrong_bodies, is_of_built=False),
     Part("tests/", tests, is_of_built=False),
+    Part("kept proofs", kept.tried, is_of_built=False),
     Part("rows", both_programs),
     Part("growth", lambda: growth.tried(PROGRAM)),
     Part("launcher", launcher.tried),

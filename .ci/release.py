@@ -1,8 +1,8 @@
 """The release: made twice of what is built, with the same bytes, and then used as a stranger would (.ci/release.sh), in
 a root that has neither the Rattle kit, nor cargo, nor a network: scripts played, audited and drawn, three nodes, a
 store of three processes asked by redis-cli, a program in C and one in Python, and some of it as the Debian package has.
-Where cargo is, a package of its own takes the crate. Runs alone too: python3 .ci/release.py, over what
-`./epaxos --build --unproved` made.
+Where cargo is, a package of its own takes the crate. Runs alone too: python3 .ci/release.py [--proved], over what
+`./epaxos --build --unproved` made, or with --proved `./epaxos --build`.
 
 The root is a folder with copies of a shell, the core utilities, Python and redis-cli, as far as they are here, and of
 the libraries that these need. It is entered by `unshare`; where that isn't allowed, the release is only made.
@@ -152,8 +152,8 @@ def taken(archive, folder):
     return subprocess.run(["cargo", "run", "--quiet", "--offline"], **how).returncode == 0
 
 
-def tried(make=None, store=None):
-    """Makes the release of what was built, twice, and uses it; returns how many checks passed and how many failed."""
+def tried(make, store=None):
+    """Makes the release of what `make` gives, twice, and uses it; returns how many checks passed, how many failed."""
     release, checks = tool(), []
 
     def check(name, is_so):
@@ -162,7 +162,7 @@ def tried(make=None, store=None):
 
     with tempfile.TemporaryDirectory(prefix="epaxos-released-") as folder:
         try:
-            made = make(release) if make else release.found(False)
+            made = make(release)
             store = store or release.build_store(made, folder)
             first, second = (release.make(made, f"{folder}/{it}", store) for it in "12")
         except release.NotReleased as why:
@@ -204,6 +204,6 @@ def of_gate():
 
 if __name__ == "__main__":
     sys.dont_write_bytecode = True
-    passed, failed = tried()
+    passed, failed = tried(lambda release: release.found(sys.argv[1:] == ["--proved"]))
     print(f"{passed} passed, {failed} failed")
     sys.exit(failed > 0)

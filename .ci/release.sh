@@ -115,8 +115,9 @@ progress() {
 completions() {
     bash -c '. share/bash-completion/completions/epaxos
         words() { COMP_WORDS=("$@") COMP_CWORD=$(($# - 1)); _epaxos; echo "${COMPREPLY[*]}"; }
-        words epaxos repl; words epaxos replay --emit j; words epaxos audit --ch' > /tmp/output
-    printf 'replay\njson\n--chain\n' | cmp - /tmp/output
+        words epaxos repl; words epaxos replay --emit j; words epaxos audit --ch
+        words epaxos --q; words epaxos --quiet repl; words epaxos --quiet audit --ch' > /tmp/output
+    printf 'replay\njson\n--chain\n--quiet\nreplay\n--chain\n' | cmp - /tmp/output
 }
 manual() {
     gzip -dc share/man/man1/epaxos.1.gz | grep -q "^Usage: epaxos node"

@@ -35,6 +35,24 @@ def is_left(crate):
     return os.path.isfile(made) and all(os.path.getmtime(it) <= os.path.getmtime(made) for it in files)
 
 
+def note_of(crate):
+    """The file that says of which key the library in the crate's out/ is."""
+    return f"{crate.folder}/out/kept"
+
+
+def give(kept, crate, key):
+    """Gives the crate what `rt ci` kept of it under this key, and returns whether it kept that."""
+    if not kept.at or not os.path.isdir(kept.place(crate, False, key)):
+        return False
+    # (beside another build's files the kept ones would count as damaged)
+    shutil.rmtree(f"{crate.folder}/out/rlib", ignore_errors=True)
+    if not kept.give(crate, False, key):
+        return False
+    with open(note_of(crate), "w", encoding="utf-8") as to:
+        to.write(key)
+    return True
+
+
 def give_kept(crates):
     """Gives each of the crates the library that `rt ci` kept on this machine of the same files over the same libraries, and returns the names of those of
     which it kept none. The crates stand lowest first, with all that they stand on. Such a library has its statements alone, which a check by `rattle` takes
@@ -45,13 +63,12 @@ def give_kept(crates):
             lacking.append(it.name)
         if kept is None or it.name in lacking:
             continue
-        key, note = kept.key(it), f"{it.folder}/out/kept"
-        if not (os.path.isfile(f"{it.rlib}/format") and os.path.isfile(note) and KIT.rtlib.text_of(note) == key):
-            shutil.rmtree(os.path.dirname(it.rlib), ignore_errors=True)
-            if not kept.give(it, False, key):
-                lacking.append(it.name)
-                continue
-            with open(note, "w", encoding="utf-8") as to:
-                to.write(key)
+        key = kept.key(it)
+        # (a library with a stamp is one that `rt check` built meanwhile)
+        is_own = os.path.isfile(f"{os.path.dirname(it.rlib)}/stamp")
+        is_there = os.path.isfile(f"{it.rlib}/format") and not is_own and KIT.rtlib.text_of(note_of(it)) == key
+        if not is_there and not give(kept, it, key):
+            lacking.append(it.name)
+            continue
         kept.is_built(it)
     return lacking

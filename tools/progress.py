@@ -30,6 +30,11 @@ class Progress:
             self.at.remove(name)
             self.done += is_well
 
+    def add(self):
+        """Counts one that took no work."""
+        with self.writing:
+            self.done += 1
+
     def put(self, end):
         text = f"epaxos: {self.done} of {self.count} {self.what}, at {', '.join(self.at)} ({self.minutes()})"
         self.write("\r\033[K" * self.is_rewritten + text + end)

@@ -13,6 +13,13 @@ VALUES = {
     ("node", "sync"): ("each", "asked"),
 }
 
+# options that stand before a command, or alone
+FIRST = (
+    ("--quiet", "no line that nothing is proved, nor how far long work is"),
+    ("--help", "all commands"),
+    ("--version", "the version"),
+)
+
 
 class Told:
     """What the help of a command tells: what it does, and each option with what its value is called, the values that it
@@ -52,10 +59,14 @@ def man(version, date, overview, commands):
 def man_of_store(version, date, help_text):
     """The page of the store."""
     # (the program is called so in a release)
-    first, _, rest = re.sub(r"\bstore (?=--|recover)", "epaxos-store ", help_text.strip()).partition("\n")
-    head = f'.TH EPAXOS\\-STORE 1 "{date}" "epaxos {version}"\n.SH NAME\n'
-    name = "epaxos\\-store \\- a replica of a replicated store\n"
-    return f"{head}{name}.SH DESCRIPTION\n.nf\n{escaped(first)}\n{escaped(rest)}\n.fi\n.SH SEE ALSO\n.BR epaxos (1)\n"
+    told = re.sub(r"\bstore (?=--|recover)", "epaxos-store ", help_text.strip())
+    first, synopsis, rest = told.split("\n\n", 2)
+    name = f"epaxos\\-store \\- {escaped(first.partition(': ')[2])}"
+    parts = [f'.TH EPAXOS\\-STORE 1 "{date}" "epaxos {version}"\n.SH NAME\n{name}']
+    parts.append(f".SH SYNOPSIS\n.nf\n{escaped(synopsis)}\n.fi")
+    parts.append(f".SH DESCRIPTION\n.nf\n{escaped(rest)}\n.fi")
+    parts.append(".SH SEE ALSO\n.BR epaxos (1)")
+    return "\n".join(parts) + "\n"
 
 
 def bash(commands):
@@ -70,9 +81,11 @@ def bash(commands):
     every = " ".join([*(it.name for it in commands), "help"])
     return f"""# completes the words of epaxos, in bash
 _epaxos() {{
-    local word=${{COMP_WORDS[COMP_CWORD]}} before=${{COMP_WORDS[COMP_CWORD-1]}} command=${{COMP_WORDS[1]}} options=
-    if [[ $COMP_CWORD == 1 ]]; then
-        COMPREPLY=($(compgen -W '{every} --quiet --help --version' -- "$word"))
+    local word=${{COMP_WORDS[COMP_CWORD]}} before=${{COMP_WORDS[COMP_CWORD-1]}} at=1 command options=
+    [[ ${{COMP_WORDS[1]}} != --quiet || $COMP_CWORD == 1 ]] || at=2
+    command=${{COMP_WORDS[at]}}
+    if [[ $COMP_CWORD == "$at" ]]; then
+        COMPREPLY=($(compgen -W '{every} {' '.join(it for it, _ in FIRST)}' -- "$word"))
         return
     fi
     case "$command $before" in
@@ -105,6 +118,7 @@ def zsh(commands):
             said.append(f"'--{option}[{plain(means)}]{action}'")
         said += ["'*:file:_files'"] * it.takes_files
         rows.append(f"        {it.name}) _arguments {' '.join(said)} ;;")
+    first = " ".join(f"'{option}[{means}]'" for option, means in FIRST)
     return f"""#compdef epaxos
 # completes the words of epaxos, in zsh
 _epaxos() {{
@@ -113,8 +127,13 @@ _epaxos() {{
 {listed}
         'help:all of a command'
     )
+    if [[ $words[2] == --quiet ]] && (( CURRENT > 2 )); then
+        shift words
+        (( CURRENT-- ))
+    fi
     if (( CURRENT == 2 )); then
         _describe command commands
+        _values 'option' {first}
         return
     fi
     local command=$words[2]
@@ -141,6 +160,8 @@ def fish(commands):
             takes = f" -x -a '{' '.join(known)}'" if known else other
             lines.append(f"{own} -l {option}{takes} -d '{plain(means)}'")
         lines += [f"{own} -F"] * it.takes_files
+    lines += [f"complete -c epaxos -n __fish_use_subcommand -l {it[2:]} -d '{means}'" for it, means in FIRST]
+    lines.append("complete -c epaxos -n __fish_use_subcommand -a help -d 'all of a command'")
     every = " ".join(it.name for it in commands)
     lines.append(f"complete -c epaxos -n '__fish_seen_subcommand_from help' -a '{every}'")
     return "\n".join(lines) + "\n"

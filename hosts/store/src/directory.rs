@@ -46,6 +46,7 @@ impl Directory {
 
     /// The folder of a store that has ended, of which nothing is changed. No store starts over it meanwhile.
     pub fn look(path: &Path) -> Result<Directory, DirectoryFault> {
+        fs::metadata(path).map_err(unusable(path))?;
         let locked = File::open(path.join(LOCKED)).map_err(unusable(&path.join(LOCKED)))?;
         lock(&locked, path)?;
         Ok(Directory { path: path.to_path_buf(), _locked: locked })
