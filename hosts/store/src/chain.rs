@@ -1,9 +1,9 @@
 //! What the machines of a cluster leave, judged as one chain: by `epaxos collect` of each generation, and `epaxos audit
 //! --chain` of all.
-use crate::hosted::Hosting;
+use crate::generations::sum_of;
 use crate::opening::Opening;
-use crate::peers::Place;
 use epaxos::parts::folder::reference;
+use epaxos::parts::follower::Follower;
 use epaxos::parts::read_folder::ReadFolder;
 use std::ffi::OsStr;
 use std::fs::{self, File};
@@ -126,10 +126,10 @@ impl Chain<'_> {
             if reference(&ReadFolder(folder.clone()), generation)
                 .is_ok_and(|reference| reference.cluster().replicas() == count)
             {
-                let place = Place { replicas: count.into(), replica: replica as u8 };
-                let hosting = Hosting { place, folder, checkpoint: u64::MAX };
+                let follower = Follower { replica: replica as u8 };
                 let path = self.scratch.join(format!("{generation}.opening"));
-                let bytes = hosting.opening(generation).map_err(|fault| fault.to_string())?.bytes;
+                let opened = follower.opening_in(&ReadFolder(folder), generation, sum_of);
+                let bytes = opened.map_err(|fault| fault.to_string())?.bytes;
                 return fs::write(&path, bytes).map(|()| path).map_err(|error| error.to_string());
             }
         }

@@ -33,7 +33,7 @@ pub struct Directory {
 impl Directory {
     /// Opens or creates the folder.
     pub fn open(path: &Path) -> Result<Directory, DirectoryFault> {
-        create(path).map_err(unusable(path))?;
+        files::create(path).map_err(unusable(path))?;
         let locked = OpenOptions::new().write(true).create(true).truncate(false).open(path.join(LOCKED));
         let locked = locked.map_err(unusable(path))?;
         lock(&locked, path)?;
@@ -180,7 +180,7 @@ impl Directory {
     /// The folders for generations and receipts are there, and on the disk; and nothing that a peer hadn't handed whole.
     pub fn prepare(&self) -> Result<(), DirectoryFault> {
         for folder in [self.generations(), self.path.join("receipts")] {
-            create(&folder).map_err(unusable(&folder))?;
+            files::create(&folder).map_err(unusable(&folder))?;
         }
         // (of what a peer was handing before this start nothing more comes)
         [self.taken(), self.leading()].iter().for_each(|path| _ = fs::remove_file(path));
@@ -264,17 +264,6 @@ fn drop_one(folder: &Path, receipts: &Path) {
     if dropped.is_ok() {
         let _ = fs::remove_file(receipts);
     }
-}
-
-/// Creates the folder, and those above it; each is on the disk before anything lies in it.
-fn create(path: &Path) -> io::Result<()> {
-    if path.is_dir() {
-        return Ok(());
-    }
-    let above = path.parent().filter(|above| !above.as_os_str().is_empty()).unwrap_or(Path::new("."));
-    create(above)?;
-    fs::create_dir(path)?;
-    files::sync(above)
 }
 
 fn lock(file: &File, path: &Path) -> Result<(), DirectoryFault> {

@@ -3,13 +3,14 @@ use super::*;
 use crate::generation::Stage;
 use crate::identities::Identities;
 use crate::link::Link;
+use crate::numbers::is_of;
 use crate::peers::Place;
 use crate::plain::{Plain, World};
 use crate::receipts;
 use crate::room::FULL_PAUSE;
 use crate::sealed::Key;
 use epaxos::Instance;
-use epaxos::parts::wishes::Change;
+use epaxos::parts::wishes::{Change, ChangeFault};
 use std::fs;
 use std::sync::atomic::{AtomicBool, Ordering};
 use std::sync::mpsc::{SyncSender, channel, sync_channel};
@@ -39,7 +40,7 @@ pub(crate) fn driver_over(name: &str, place: Place, peers: Peers) -> (Driver<Pla
         node,
         peers,
         membership,
-        receipts: receipts::Receipts::open(&directory.receipts(1)).unwrap(),
+        receipts: receipts::Receipts::open(&directory.receipts(1), is_of).unwrap(),
         directory,
         watch: Watch::new(place, Instant::now(), 1).unwrap(),
         events,
@@ -342,7 +343,7 @@ fn another_number_of_replicas_is_for_a_new_beginning() {
     {
         manage(Manage::Resize { size, new });
         driver.turn().unwrap();
-        assert!(matches!(answers.try_recv(), Ok(Told::Managed(Err(ManageFault::NotASize)))));
+        assert!(matches!(answers.try_recv(), Ok(Told::Managed(Err(ManageFault::Change(ChangeFault::NotASize))))));
     }
     [1, 2].into_iter().for_each(|it| driver.membership.waiting.note(it, [it; 16]));
     manage(Manage::Resize { size: 3, new: new(&[1, 2]) });
@@ -433,7 +434,8 @@ fn who_leaves_tells_all_who_wait() {
             for (request, answer) in all {
                 match (request, answer) {
                     (3, Told::Managed(Ok(text))) => assert_eq!(text, "generation 2, of 3 replicas"),
-                    (4, Told::Managed(Err(ManageFault::Overruled))) | (1 | 2 | 5 | 6, Told::Ending) => {}
+                    (4, Told::Managed(Err(ManageFault::Change(ChangeFault::Overruled))))
+                    | (1 | 2 | 5 | 6, Told::Ending) => {}
                     (request, _) => panic!("{request} is told something else"),
                 }
             }

@@ -83,11 +83,6 @@ impl Generations {
         Ok(Started { first: opening, references: Vec::new(), is_new })
     }
 
-    /// What is read to open this generation, whose log is there.
-    pub fn started(&self, generation: u32) -> Result<Started, FolderFault> {
-        Started::read(&self.files, &look(&self.files)?, generation)
-    }
-
     /// Puts on the disk what was read and may not be there.
     fn put_again(&self, started: Started) -> Result<Started, FolderFault> {
         let Started { first, references, is_new } = &started;

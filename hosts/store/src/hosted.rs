@@ -216,18 +216,6 @@ impl Hosting {
         Ok(Begun(begun, file))
     }
 
-    /// What a generation of this folder opens with, of which nothing is changed: as its file has it, or as logs lead to it.
-    pub fn opening(&self, generation: u32) -> Result<Opened, NodeFault> {
-        let generations = Generations::look(&self.folder);
-        let started = generations.started(generation)?;
-        let Some(reference) = started.references.last().copied() else { return Ok(started.first) };
-        let mut bytes = Vec::new();
-        for piece in self.follower().opening_of(&started, reference, |next| generations.log_of(next))? {
-            bytes.extend(piece.map_err(NodeFault::Core)?);
-        }
-        Ok(Opened { generation, replicas: reference.cluster().replicas(), bytes, reference: Some(reference) })
-    }
-
     /// The next generation of a replica that has executed a seal: with the map as it is, which only a reference names at first. `ahead`: whether the folder
     /// is there.
     fn next(

@@ -3,15 +3,16 @@ use crate::core::Begin;
 use crate::directory::Directory;
 use crate::driver::{Ask, Event, Told, What};
 use crate::following::{Came, Following};
+use crate::generations::sum_of;
 use crate::identities::{Identity, digits};
 use crate::manage_fault::ManageFault;
 use crate::messages::Message;
-use crate::node_fault::NodeFault;
 use crate::notify;
 use crate::opening::Opening;
 use crate::peers::{Membership, Peers};
 use crate::say::{say, warn};
 use crate::stop_fault::StopFault;
+use epaxos::host::FolderFault;
 use std::path::Path;
 use std::sync::mpsc::{Receiver, RecvTimeoutError};
 use std::time::{Duration, Instant};
@@ -76,7 +77,7 @@ impl Joining<'_> {
                 Some(Message::Hello { generation, .. })
                     if generation > looked && following.as_ref().is_none_or(|it| it.is_over(now)) =>
                 {
-                    let (begun, want) = Following::begin(&path, from, now).map_err(failed)?;
+                    let (begun, want) = Following::begin(&path, sum_of, from, now).map_err(failed)?;
                     following = Some(begun);
                     self.peers.send(from, want.write());
                 }
@@ -96,7 +97,7 @@ impl Joining<'_> {
     fn come(
         &self,
         from: u8,
-        came: Result<Came, NodeFault>,
+        came: Result<Came, FolderFault>,
         (following, looked): (&mut Option<Following>, &mut u32),
     ) -> Option<Begin> {
         match came {

@@ -5,8 +5,9 @@ extern crate self as store;
 
 /// What hosts that are embedded have too.
 pub use epaxos::parts::{
-    coarse, commits, distances, frames, generation, linearizable, map, members, messages, opening, planning, presence,
-    progress, queries, random, room, round_trips, tally, watch,
+    coarse, commits, connect_fault, distances, following, frames, generation, lead, linearizable, link, link_fault,
+    map, members, messages, opening, planning, presence, progress, queries, random, receipts, receipts_fault, room,
+    round_trips, tally, timed, watch, way,
 };
 
 pub mod actions;
@@ -18,14 +19,12 @@ pub mod client;
 pub mod clients;
 pub mod command_fault;
 pub mod commands;
-pub mod connect_fault;
 pub mod connections;
 pub mod core;
 pub mod directory;
 pub mod directory_fault;
 pub mod door;
 pub mod driver;
-pub mod following;
 pub mod generations;
 pub mod glob;
 pub mod hosted;
@@ -33,10 +32,7 @@ pub mod identities;
 pub mod identities_fault;
 pub mod joining;
 pub mod keys;
-pub mod lead;
 pub mod life;
-pub mod link;
-pub mod link_fault;
 pub mod listing;
 pub mod malformed_fault;
 pub mod manage_fault;
@@ -62,8 +58,6 @@ pub mod ports;
 mod ports_tests;
 pub mod processes;
 pub mod reading;
-pub mod receipts;
-pub mod receipts_fault;
 pub mod recovery;
 pub mod recovery_fault;
 pub mod replies;
@@ -79,12 +73,10 @@ pub mod summed_log;
 pub mod sweep;
 pub mod table;
 pub mod teller;
-pub mod timed;
 pub mod transacting;
 pub mod transaction;
 pub mod txn;
 pub mod view;
 pub mod waiting;
 pub mod watching;
-pub mod way;
 pub mod wishes;

@@ -3,12 +3,14 @@ use crate::core::{Begin, Core};
 use crate::driver::{Driver, Told, tell_all};
 use crate::following::{Came, Following};
 use crate::generation::{Generation, Stage};
+use crate::generations::sum_of;
 use crate::identities::{Identity, digits};
 use crate::lead::Lead;
 use crate::manage_fault::ManageFault;
 use crate::members::Members;
 use crate::messages::Message;
 use crate::node_fault::NodeFault;
+use crate::numbers::is_of;
 use crate::opening::Opening;
 use crate::peers::Place;
 use crate::plants::{Plant, lacking};
@@ -21,7 +23,7 @@ use crate::wishes::{Machines, Manage};
 use epaxos::parts::calls::Fate;
 use epaxos::parts::hearing::{self, Heard};
 use epaxos::parts::under_way::Waiting;
-use epaxos::parts::wishes::{Asked, present};
+use epaxos::parts::wishes::{Asked, ChangeFault, present};
 use epaxos::{OwnedAnswer, State};
 use std::fmt::Write;
 use std::thread::JoinHandle;
@@ -214,7 +216,7 @@ impl<C: Core> Driver<C> {
 
     fn take_part(&mut self, from: u8, part: Message) -> Result<(), StopFault> {
         let Some(following) = &mut self.following else { return Ok(()) };
-        let came = following.take(from, part, Instant::now()).map_err(StopFault::Node)?;
+        let came = following.take(from, part, Instant::now()).map_err(NodeFault::from).map_err(StopFault::Node)?;
         self.come(from, came)
     }
 
@@ -348,7 +350,7 @@ impl<C: Core> Driver<C> {
         }
         let Some(peer) = self.lag.whom(&ahead, &mut Random::new(), now) else { return Ok(()) };
         let path = self.directory.taken();
-        let begun = Following::begin(&path, peer, now);
+        let begun = Following::begin(&path, sum_of, peer, now);
         let (following, want) = begun.map_err(|error| StopFault::File(path, error))?;
         self.following = Some(following);
         self.peers.send(peer, want.write());
@@ -410,7 +412,8 @@ impl<C: Core> Driver<C> {
         if opening.wanted() != opening.replicas {
             return Err(self.resize(&opening));
         }
-        self.receipts = Receipts::open(&self.directory.receipts(state.generation)).map_err(StopFault::Receipts)?;
+        self.receipts =
+            Receipts::open(&self.directory.receipts(state.generation), is_of).map_err(StopFault::Receipts)?;
         let now = Instant::now();
         self.progress.watch.begin(now);
         self.changes = (self.changes.0 + 1, now - start);
@@ -455,7 +458,7 @@ impl<C: Core> Driver<C> {
     fn tell_wishes(&mut self, generation: u32, size: u8) {
         for (reply, wanted) in self.wishes.take() {
             let is_so = wanted.is_none_or(|wanted| wanted == size);
-            let told = if is_so { Ok(so_from(generation, Some(size))) } else { Err(ManageFault::Overruled) };
+            let told = if is_so { Ok(so_from(generation, Some(size))) } else { Err(ChangeFault::Overruled.into()) };
             reply.send(Told::Managed(told));
         }
     }
@@ -520,7 +523,7 @@ impl<C: Core> Driver<C> {
                 self.wishes.ask(self.progress.generation.number, change, reply);
                 self.tell_left();
             }
-            judged => reply.send(Told::Managed(Err(judged.err().or(fault).unwrap_or(ManageFault::Overruled)))),
+            judged => reply.send(Told::Managed(Err(judged.err().or(fault).unwrap_or(ChangeFault::Overruled.into())))),
         }
     }
 

@@ -56,7 +56,7 @@ impl Trial {
     }
 
     /// What is told at once, or that a seal is under way by which these take part.
-    fn ask(&mut self, manage: Manage) -> Result<String, ManageFault> {
+    fn ask(&mut self, manage: Manage) -> Result<String, ChangeFault> {
         let (sender, told) = channel();
         let reply = Teller::new(move |it| _ = sender.send(it));
         assert!(self.sender.send(Event::Ask(Ask { what: What::Manage(manage, None), reply })).is_ok());
@@ -65,7 +65,8 @@ impl Trial {
         let Event::Ask(Ask { what: What::Manage(manage, fault), reply }) = event else { unreachable!() };
         self.driver.manage(manage, fault, reply);
         match told.try_recv() {
-            Ok(Told::Managed(told)) => told,
+            Ok(Told::Managed(Ok(told))) => Ok(told),
+            Ok(Told::Managed(Err(ManageFault::Change(fault)))) => Err(fault),
             Ok(_) => unreachable!(),
             Err(_) => Ok(self.driver.next_members().write()),
         }
@@ -90,7 +91,7 @@ fn resize(size: u8, new: &[u8]) -> Manage {
 fn made_up_machines_are_refused() {
     let mut trial = Trial::new("made-up");
     trial.reach([1, 1]);
-    let not_waiting = |replica: u8, identity: u8| Err(ManageFault::NotWaiting(replica, [identity; 16]));
+    let not_waiting = |replica: u8, identity: u8| Err(ChangeFault::NotWaiting(replica, [identity; 16]));
     assert_eq!(trial.ask(resize(7, &[3, 4, 5, 6])), not_waiting(3, 3));
     trial.driver.membership.waiting.note(3, [3; 16]);
     assert_eq!(trial.ask(resize(5, &[3, 4])), not_waiting(4, 4));
@@ -113,7 +114,7 @@ fn who_is_reached_is_replaced_by_force_alone() {
     let mut trial = Trial::new("forced");
     trial.reach([1, 1]);
     trial.driver.membership.waiting.note(2, [9; 16]);
-    assert_eq!(trial.ask(replace(2, 9, false)), Err(ManageFault::Reached(2)));
+    assert_eq!(trial.ask(replace(2, 9, false)), Err(ChangeFault::Reached(2)));
     assert!(trial.driver.wishes.is_empty());
     let members = trial.ask(replace(2, 9, true)).unwrap();
     assert!(members.contains(&format!("2 {} -\n", "09".repeat(16))), "{members}");
@@ -125,7 +126,7 @@ fn who_is_reached_is_replaced_by_force_alone() {
 #[test]
 fn a_generation_without_a_majority_is_not_begun() {
     let mut trial = Trial::new("majority");
-    let alone = Err(ManageFault::Alone { reached: 1, replicas: 3 });
+    let alone = Err(ChangeFault::Alone { reached: 1, replicas: 3 });
     trial.reach([0, 0]);
     assert_eq!(trial.ask(Manage::Seal), alone);
     trial.reach([1, 0]);
@@ -156,7 +157,7 @@ fn a_generation_without_a_majority_is_not_begun() {
     [3, 4].into_iter().for_each(|peer: usize| trial.ways[peer].0.store(true, Ordering::Relaxed));
     assert!(trial.ask(Manage::Seal).is_ok());
     trial.driver.wishes.clear();
-    assert_eq!(trial.ask(resize(3, &[])), Err(ManageFault::NoMajority { reached: 1, replicas: 3 }));
+    assert_eq!(trial.ask(resize(3, &[])), Err(ChangeFault::NoMajority { reached: 1, replicas: 3 }));
     trial.ways[2].0.store(true, Ordering::Relaxed);
     assert!(trial.ask(resize(3, &[])).is_ok());
 }
@@ -169,7 +170,7 @@ fn what_is_so_is_told_again() {
     assert_eq!(trial.ask(resize(3, &[2])), Ok("generation 1, of 3 replicas".into()));
     assert_eq!(
         trial.ask(Manage::Resize { size: 3, new: vec![(2, [7; 16], "a:2".into())] }),
-        Err(ManageFault::NotASize)
+        Err(ChangeFault::NotASize)
     );
     trial.driver.members.0[2] = Member { identity: Some([2; 16]), address: Some("a:2".into()) };
     assert_eq!(trial.ask(replace(2, 2, false)), Ok("generation 1".into()));

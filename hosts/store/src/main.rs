@@ -31,13 +31,13 @@ use store::memory::Memory;
 use store::metrics::{self, Metrics};
 use store::node_fault::NodeFault;
 use store::notify;
-use store::numbers::Numbers;
+use store::numbers::{Numbers, is_of};
 use store::numbers_fault::NumbersFault;
 use store::opening::Opening;
 use store::options::{self, Options, Words, help, read};
 use store::options_fault::OptionsFault;
 use store::password::Password;
-use store::peers::{self, MOST_REPLICAS, Membership, Peers, Place, Receiving};
+use store::peers::{MOST_REPLICAS, Membership, Near, Peers, Place, TcpReceiver};
 use store::plants::Plant;
 use store::random::Random;
 use store::receipts::Receipts;
@@ -236,9 +236,10 @@ fn start(options: Options, due: Arc<Due>) -> Result<Driver<Hosted>, StoreFault> 
         let identities = Identities::open(&options.directory, MOST_REPLICAS, place.replica);
         let identities = identities.map_err(StoreFault::Identities)?;
         let membership = Arc::new(Membership { place, identities, key, waiting: Waiting::new(joins) });
-        let peers = Peers::start(&membership, addresses, &sender).map_err(StoreFault::Thread)?;
-        let receiving = Arc::new(Receiving::new(membership.clone(), sender.clone()));
-        spawn("peers", move || peers::listen(for_peers, &receiving)).map_err(StoreFault::Thread)?;
+        let near = Arc::new(Near { membership: membership.clone(), events: sender.clone() });
+        let peers = Peers::start(&near, addresses).map_err(StoreFault::Thread)?;
+        let receiver = Arc::new(TcpReceiver::new(near));
+        spawn("peers", move || receiver.listen(&for_peers)).map_err(StoreFault::Thread)?;
         Ok((membership, peers))
     };
     let password_of_operators = password(options.admin_auth.as_deref())?;
@@ -317,7 +318,7 @@ fn start(options: Options, due: Arc<Due>) -> Result<Driver<Hosted>, StoreFault> 
 }
 
 fn open_receipts(directory: &Directory, generation: u32) -> Result<Receipts, StoreFault> {
-    Receipts::open(&directory.receipts(generation)).map_err(StoreFault::Receipts)
+    Receipts::open(&directory.receipts(generation), is_of).map_err(StoreFault::Receipts)
 }
 
 fn password(file: Option<&Path>) -> Result<Option<Password>, StoreFault> {

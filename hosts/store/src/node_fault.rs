@@ -20,8 +20,6 @@ pub enum NodeFault {
     Log(PathBuf, io::Error),
     /// It can do no more.
     Core(Fault),
-    /// What a peer has handed leads to no generation: why.
-    BadWay(&'static str),
     /// There is no thread.
     Thread(io::Error),
 }
@@ -48,7 +46,6 @@ impl fmt::Display for NodeFault {
             NodeFault::Folder(fault) => fault.fmt(f),
             NodeFault::Log(path, error) => write!(f, "log failed: {}: {error}", path.display()),
             NodeFault::Core(fault) => fault.fmt(f),
-            NodeFault::BadWay(why) => write!(f, "what leads to the generation is damaged: {why}"),
             NodeFault::Thread(error) => write!(f, "a thread can't be started: {error}"),
             NodeFault::NotFurther(generation) => write!(f, "the core doesn't go on from generation {generation}"),
         }

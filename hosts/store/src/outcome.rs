@@ -1,5 +1,5 @@
 //! What a core is asked at once, and what comes of it.
-use epaxos::{Event, Fault, Fields, Proposed, Receipt};
+use epaxos::{Event, Fault, Proposed};
 
 /// What a core is asked at once.
 #[derive(Default)]
@@ -34,10 +34,4 @@ pub struct Outcome {
     pub frames: Vec<(u8, Vec<u8>)>,
     /// The bytes of receipts, one behind the other.
     pub receipts: Vec<u8>,
-}
-
-/// The receipts of these bytes.
-pub fn receipts(bytes: &[u8]) -> impl Iterator<Item = Receipt<'_>> {
-    let mut fields = Fields::new(bytes);
-    std::iter::from_fn(move || Receipt::read(&mut fields))
 }

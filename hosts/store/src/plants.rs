@@ -1,6 +1,6 @@
 //! Misbehaviours of a store, so that the trial can be seen to catch them. Never for use.
-use crate::outcome::receipts;
 use crate::random::Random;
+use crate::receipts::receipts;
 use epaxos::Answer;
 use epaxos::parts::reading;
 

@@ -2,15 +2,13 @@
 //!
 //! An opening tells all that the generations before it have done, whoever has it. So the next generation may begin by the newest one that is here,
 //! if nothing was done since: in a generation of which no majority ever acted nothing was.
-use crate::core::{Begin, Core as _, Pairs};
 use crate::directory::{self, Directory};
-use crate::hosted::{Hosted, Hosting};
+use crate::generations::sum_of;
 use crate::identities::{Identities, Identity, by_chance, digits};
 use crate::members::{Member, Members};
 use crate::node_fault::NodeFault;
 use crate::opening::Opening;
-use crate::outcome::Asked;
-use crate::peers::{MOST_REPLICAS, Place};
+use crate::peers::MOST_REPLICAS;
 use crate::planning::{first, newest};
 use crate::random::Random;
 use crate::recovery_fault::RecoveryFault;
@@ -18,10 +16,10 @@ use crate::say::error;
 use epaxos::host::{FolderFault, Name};
 use epaxos::parts::files;
 use epaxos::parts::folder::{look, reference, whole};
-use epaxos::parts::opening::map_of;
+use epaxos::parts::follower::Follower;
+use epaxos::parts::opening::{self, map_of};
 use epaxos::parts::plan_fault::PlanFault;
-use epaxos::{Cluster, Reference, Setup};
-use sha2::{Digest, Sha256};
+use epaxos::{Cluster, Fault, Reference, Replica, Setup};
 use std::cell::RefCell;
 use std::collections::BTreeMap;
 use std::fmt::Write as _;
@@ -174,9 +172,8 @@ impl Left {
         if let Some(bytes) = self.replayed.borrow().get(&generation) {
             return Ok(bytes.clone());
         }
-        let place = Place { replicas: MOST_REPLICAS, replica: self.replica };
-        let hosting = Hosting { place, folder: self.directory.generations(), checkpoint: u64::MAX };
-        let bytes = hosting.opening(generation).map_err(RecoveryFault::Node)?.bytes;
+        let opened = Follower { replica: self.replica }.opening_in(&self.directory.folder(), generation, sum_of);
+        let bytes = opened.map_err(|fault| RecoveryFault::Node(fault.into()))?.bytes;
         self.replayed.borrow_mut().insert(generation, bytes.clone());
         Ok(bytes)
     }
@@ -189,8 +186,15 @@ impl Left {
         read.map_err(|fault| RecoveryFault::Node(fault.into()))
     }
 
-    /// How many commands are committed in the newest generation as far as its log tells, and the last stamp.
-    fn look_into(&self) -> Result<(usize, u64), RecoveryFault> {
+    /// What befell its core.
+    fn core(&self) -> impl Fn(Fault) -> RecoveryFault {
+        let path = self.directory.log(self.newest());
+        move |fault| RecoveryFault::Core(path.clone(), fault)
+    }
+
+    /// The replica in its newest generation, as its log tells, where that has begun. Nothing is told to anybody, and
+    /// nothing is written.
+    fn acting(&self) -> Result<Option<Replica>, RecoveryFault> {
         let (bytes, opening) = self.opening(self.newest())?;
         let path = self.directory.log(self.newest());
         let log = match fs::read(&path) {
@@ -198,19 +202,33 @@ impl Left {
             log => log.map_err(|error| RecoveryFault::File(path.clone(), error))?,
         };
         if log.is_empty() {
-            return Ok((0, opening.since));
+            return Ok(None);
         }
         let cluster = Cluster::try_from(opening.replicas);
         let cluster = cluster.map_err(|_| RecoveryFault::BadOpening(path.clone(), "no such size".into()))?;
         let reference = self.reference(self.newest())?;
-        let new = Setup::new(cluster, self.replica);
-        let setup = Setup { opening: Some(&bytes), reference, ..new };
-        let mut replica = setup.open(&log).map_err(|fault| RecoveryFault::BadLog(path.clone(), fault))?;
-        let core = |fault| RecoveryFault::Core(path.clone(), fault);
-        // (nothing is told to anybody)
-        replica.ready().and_then(|ready| ready.assume_synced().map(drop)).map_err(core)?;
-        let committed = replica.report(0, 0).map_err(core)?.committed().count();
-        Ok((committed, replica.state().map_err(core)?.stamp))
+        let setup = Setup { opening: Some(&bytes), reference, ..Setup::new(cluster, self.replica) };
+        let mut replica = setup.open(&log).map_err(|fault| RecoveryFault::BadLog(path, fault))?;
+        replica.ready().and_then(|ready| ready.assume_synced().map(drop)).map_err(self.core())?;
+        Ok(Some(replica))
+    }
+
+    /// How many commands are committed in the newest generation as far as its log tells, and the last stamp.
+    fn look_into(&self) -> Result<(usize, u64), RecoveryFault> {
+        let Some(mut replica) = self.acting()? else { return Ok((0, self.opening(self.newest())?.1.since)) };
+        let committed = replica.report(0, 0).map_err(self.core())?.committed().count();
+        Ok((committed, replica.state().map_err(self.core())?.stamp))
+    }
+
+    /// The bytes of the map that it has once it has executed all that it knows to be committed.
+    fn map(&self) -> Result<Vec<u8>, RecoveryFault> {
+        let Some(mut replica) = self.acting()? else {
+            return Ok(map_of(&self.opening(self.newest())?.0).unwrap_or_default().to_vec());
+        };
+        replica.execute_all().map_err(self.core())?;
+        replica.ready().and_then(|ready| ready.assume_synced().map(drop)).map_err(self.core())?;
+        let contents: Vec<_> = replica.contents().map_err(self.core())?.collect();
+        Ok(opening::write_map(contents.into_iter()))
     }
 
     /// Whether it is one of those that take part in the generation of this opening.
@@ -284,8 +302,8 @@ fn recover(words: &Words, chance: u32) -> Result<String, RecoveryFault> {
     tell_gone(&mut text, newest, &opening, &all);
     let generation = newest.checked_add(LEAP + 1 + chance).ok_or(RecoveryFault::LastGeneration)?;
     let members = members_of(&all, size)?;
-    let map = if committed > 0 { furthest_map(furthest)? } else { map_of(&bytes).unwrap_or_default().to_vec() };
-    let made = write_opening(size, (generation, since), &members, &map);
+    let map = if committed > 0 { furthest.map()? } else { map_of(&bytes).unwrap_or_default().to_vec() };
+    let made = opening::write(size, (generation, since), &members, &map);
     let numbers = all.iter().map(|left| left.replica.to_string()).collect::<Vec<_>>().join(", ");
     let keys = u32::from_be_bytes(map.first_chunk().copied().unwrap_or_default());
     let _ =
@@ -390,58 +408,6 @@ fn members_of(all: &[Left], size: u8) -> Result<Members, RecoveryFault> {
     Ok(members)
 }
 
-/// The bytes of the map that a replica has once it has executed all that it knows to be committed: by a copy, since its folder isn't changed.
-fn furthest_map(left: &Left) -> Result<Vec<u8>, RecoveryFault> {
-    let scratch = std::env::temp_dir().join(format!("store-recover-{}", std::process::id()));
-    let contents = execute_all(left, &scratch);
-    let _ = fs::remove_dir_all(&scratch);
-    let contents = contents?;
-    let mut map = (contents.len() as u32).to_be_bytes().to_vec();
-    for (key, value) in contents {
-        map.push(key.len() as u8);
-        map.extend((value.len() as u32).to_be_bytes());
-        map.extend(key);
-        map.extend(value);
-    }
-    Ok(map)
-}
-
-/// What keys have once a copy of a replica's newest generation, in this folder, has executed all that it knows to be committed.
-fn execute_all(left: &Left, scratch: &Path) -> Result<Pairs, RecoveryFault> {
-    let (generation, folder) = (left.newest(), scratch.join(left.newest().to_string()));
-    let ((bytes, opening), reference) = (left.opening(generation)?, left.reference(generation)?);
-    let copied = fs::create_dir_all(&folder)
-        .and_then(|()| fs::write(folder.join("opening"), &bytes))
-        .and_then(|()| fs::copy(left.directory.log(generation), folder.join("log")));
-    let bound = reference.map_or(Ok(()), |reference| {
-        let digest = bytes.last_chunk().unwrap_or(&[0; 32]);
-        fs::write(folder.join("reference"), reference.bytes())
-            .and_then(|()| fs::write(folder.join("whole"), reference.binding(digest)))
-    });
-    copied.and(bound).map_err(|error| RecoveryFault::File(folder, error))?;
-    let place = Place { replicas: opening.replicas.into(), replica: left.replica };
-    let hosting = Hosting { place, folder: scratch.to_path_buf(), checkpoint: u64::MAX };
-    let mut hosted = Hosted::start(hosting, &Begin::Again).map_err(RecoveryFault::Node)?;
-    hosted.carry_out(&Asked { executes_all: true, ..Asked::default() }).map_err(RecoveryFault::Node)?;
-    hosted.contents().map_err(RecoveryFault::Node)
-}
-
-/// An opening (docs/FORMATS.md, section 12): of this generation, with these members and this map, and nothing that was executed before it.
-fn write_opening(replicas: u8, (generation, since): (u32, u64), members: &Members, map: &[u8]) -> Vec<u8> {
-    let seal = members.write().into_bytes();
-    let mut bytes = b"EPOP\x03".to_vec();
-    bytes.push(replicas);
-    bytes.extend(generation.to_be_bytes());
-    bytes.extend(since.to_be_bytes());
-    bytes.push(1);
-    bytes.extend((seal.len() as u32).to_be_bytes());
-    bytes.extend(seal);
-    bytes.extend(map);
-    bytes.extend(0_u32.to_be_bytes());
-    bytes.extend(Sha256::digest(&bytes));
-    bytes
-}
-
 #[cfg(test)]
 mod tests {
     use super::*;
@@ -458,35 +424,5 @@ mod tests {
         for line in ["", "--write", "--writ a", "a --node e"] {
             assert!(matches!(read(line), Err(RecoveryFault::Words(_))), "{line}");
         }
-    }
-
-    /// By the second opening of tests/vectors/openings.txt.
-    #[test]
-    fn an_opening_keeps_the_map_and_has_other_members() {
-        let digits = |text: &str| -> Vec<u8> {
-            let digits: Vec<u8> = text.bytes().filter(|byte| !byte.is_ascii_whitespace()).collect();
-            let pair = |pair: &[u8]| u8::from_str_radix(std::str::from_utf8(pair).unwrap(), 16).unwrap();
-            digits.chunks(2).map(pair).collect()
-        };
-        let page = digits(
-            "45504f50 03 03 00000002 0000000000000005 01 00000001 78 00000001 01 00000001 61 31
-             00000002  00 0001  02 0007 ba4a4d800fb593e6b4257ad4a8286b173b475a92cf8b8c816f8b2f08e944b31a",
-        );
-        let map = map_of(&page).unwrap();
-        assert_eq!(map, digits("00000001 01 00000001 61 31"));
-        assert_eq!((0..page.len() - 40).find_map(|cut| map_of(&page[..cut])), None);
-        let one = Member { identity: Some([1; 16]), address: Some("a:7".into()) };
-        let members = Members(vec![one, Member::default(), Member::default()]);
-        let made = write_opening(3, (258, 7), &members, map);
-        let (body, digest) = made.split_at(made.len() - 32);
-        let seal = format!("members 1\n0 {} a:7\n1 - -\n2 - -\n", "01".repeat(16));
-        let told = [
-            &digits("45504f50 03 03 00000102 0000000000000007 01")[..],
-            &(seal.len() as u32).to_be_bytes(),
-            seal.as_bytes(),
-            &digits("00000001 01 00000001 61 31 00000000"),
-        ];
-        assert_eq!(body, told.concat());
-        assert_eq!(Sha256::digest(body)[..], *digest);
     }
 }

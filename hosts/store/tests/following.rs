@@ -1,12 +1,14 @@
 //! How a replica comes to a later generation by what a peer hands it: the last whole opening there, and the logs since.
 mod common;
 use common::three::{NEVER, Three, contents, hosting};
+use epaxos::parts::read_folder::ReadFolder;
 use std::fs;
 use std::path::{Path, PathBuf};
 use std::thread;
 use std::time::{Duration, Instant};
 use store::core::{Begin, Core};
 use store::following::{Came, Following};
+use store::generations::sum_of;
 use store::hosted::Hosted;
 use store::lead::Lead;
 use store::messages::Message;
@@ -57,6 +59,13 @@ impl Peer {
     }
 }
 
+/// So many bytes of a way from a place on, by what this folder has.
+fn read(way: &Way, folder: &Path, (offset, most): (u64, u64)) -> Vec<u8> {
+    let (front, spans) = way.piece(offset, most);
+    let rest = spans.iter().flat_map(|span| ReadFolder(folder.into()).span(span).unwrap());
+    front.into_iter().chain(rest).collect()
+}
+
 /// Waits until all of it was gone through: the generation that it leads to, or why it doesn't.
 fn gone_through(mut following: Following) -> Result<u32, String> {
     loop {
@@ -70,7 +79,7 @@ fn gone_through(mut following: Following) -> Result<u32, String> {
 
 /// Goes through these bytes in the place of what was handed.
 fn go_through(peer: &Peer, bytes: &[u8]) -> Result<u32, String> {
-    let (mut following, _) = Following::begin(&peer.taken(), 1, Instant::now()).unwrap();
+    let (mut following, _) = Following::begin(&peer.taken(), sum_of, 1, Instant::now()).unwrap();
     let total = bytes.len() as u64;
     let mut asked = vec![0];
     while let Some(offset) = asked.pop() {
@@ -115,13 +124,13 @@ fn nothing_is_handed_twice() {
     let way = Way::to(&folder, 6).unwrap();
     let head = 5 + 4 + 4 + 8 + 1 + 3 * 82;
     assert_eq!((way.ends(), way.total()), ((4, 6), head + length("4/opening") + length("4/log") + length("5/log")));
-    let all = way.read(0, way.total() + 9).unwrap();
+    let all = read(&way, &folder, (0, way.total() + 9));
     assert_eq!(all.len() as u64, way.total());
     for offset in 0..=way.total() {
-        let piece = way.read(offset, 7).unwrap();
+        let piece = read(&way, &folder, (offset, 7));
         assert!(all[offset as usize..].starts_with(&piece) && (piece.len() == 7 || offset + 7 > way.total()));
     }
-    assert!(way.read(way.total() + 1, 7).unwrap().is_empty());
+    assert!(read(&way, &folder, (way.total() + 1, 7)).is_empty());
     let first = Way::to(&folder, 3).unwrap();
     assert_eq!(first.ends(), (1, 3));
     // (the log that is written now is nobody's to have)
@@ -134,7 +143,7 @@ fn nothing_is_handed_twice() {
 fn what_was_changed_leads_nowhere() {
     let peer = Peer::new("changed", 4, &[2]);
     let way = Way::to(&peer.three.of(1), 4).unwrap();
-    let all = way.read(0, way.total()).unwrap();
+    let all = read(&way, &peer.three.of(1), (0, way.total()));
     assert_eq!(go_through(&peer, &all), Ok(4));
     for at in 0..all.len() {
         if at > 400 && at % 41 > 0 {
@@ -155,7 +164,7 @@ fn what_was_changed_leads_nowhere() {
     *turned.last_mut().unwrap() ^= 1;
     assert_eq!(why(&turned), "folder refused: the log of generation 3 isn't the one that generation 4 opens with");
     // Of another replica the same logs lead nowhere.
-    let (mut following, _) = Following::begin(&peer.taken(), 2, Instant::now()).unwrap();
+    let (mut following, _) = Following::begin(&peer.taken(), sum_of, 2, Instant::now()).unwrap();
     let part = Message::Part { first: 2, generation: 4, total: way.total(), offset: 0, bytes: all };
     assert!(matches!(following.take(2, part, Instant::now()), Ok(Came::Ask(_))));
     assert_eq!(gone_through(following), Err("the log of another replica, cluster or generation".into()));
@@ -163,7 +172,7 @@ fn what_was_changed_leads_nowhere() {
 
 /// Begins to have it, and takes so many pieces; then what is asked for next.
 fn begin(peer: &mut Peer, pieces: usize) -> (Following, Vec<Message>) {
-    let (mut following, first) = Following::begin(&peer.taken(), 1, Instant::now()).unwrap();
+    let (mut following, first) = Following::begin(&peer.taken(), sum_of, 1, Instant::now()).unwrap();
     let mut asked = vec![first];
     for _ in 0..pieces {
         let part = peer.answer(&asked.remove(0));
@@ -240,7 +249,7 @@ fn it_ends_where_it_is_not_wanted() {
     let (following, _) = begin(&mut peer, 3);
     assert!(following.end().is_none());
     let way = Way::to(&peer.three.of(1), 4).unwrap();
-    let all = way.read(0, way.total()).unwrap();
+    let all = read(&way, &peer.three.of(1), (0, way.total()));
     fs::write(peer.way(), &all).unwrap();
     let (mut following, mut asked) = begin(&mut peer, 0);
     while !asked.is_empty() {

@@ -17,6 +17,7 @@ use store::chain::Chain;
 use store::core::{Begin, Core};
 use store::following::{Came, Following};
 use store::frames::Head;
+use store::generations::sum_of;
 use store::hosted::Hosted;
 use store::lead::Lead;
 use store::messages::Message;
@@ -286,7 +287,7 @@ impl Life {
     /// killed in the middle.
     fn hand(&mut self, from: usize, to: usize, path: &Path) -> bool {
         let (mut now, step) = (Instant::now(), Duration::from_millis(700));
-        let (mut following, first) = Following::begin(path, from as u8, now).unwrap();
+        let (mut following, first) = Following::begin(path, sum_of, from as u8, now).unwrap();
         let mut asked = vec![first];
         loop {
             if self.random.below(30) == 0 {

@@ -84,6 +84,7 @@ mod files;
 mod handing;
 mod hearing;
 mod held;
+mod here;
 mod ids;
 mod key_change;
 mod machine;
@@ -92,10 +93,12 @@ mod plant;
 mod reading;
 mod reply;
 mod settings;
+mod span;
 mod start;
 mod starting;
 mod status;
 mod stored;
+mod trail;
 mod turn;
 mod work;
 
@@ -110,9 +113,11 @@ pub use machine::{Machine, Ordered};
 pub use plant::Plant;
 pub use reply::{Refusal, Reply, Told};
 pub use settings::Settings;
+pub use span::Span;
 pub use start::Start;
 pub use status::Status;
 pub use stored::Stored;
+pub use trail::Trail;
 pub use turn::{Done, Turn};
 pub use work::Work;
 
@@ -121,6 +126,7 @@ use crate::parts::calls::Calls;
 use crate::parts::executions::Executions;
 use crate::parts::fetch::Fetch;
 use crate::parts::generation::Stage;
+use crate::parts::lead::{Lead, Piece};
 use crate::parts::leaving::Lag;
 use crate::parts::members::Members;
 use crate::parts::messages::Message;
@@ -129,11 +135,13 @@ use crate::parts::progress::Progress;
 use crate::parts::random::Random;
 use crate::parts::reading::Reading;
 use crate::parts::wishes::Wishes;
-use crate::{Cluster, State};
+use crate::{Cluster, Reference, State};
 use acting::Acting;
 use applying::Applying;
 use files::Files;
+use handing::Going;
 use held::{Held, Request};
+use here::Here;
 use ids::Ids;
 use members::cluster_of;
 use starting::Started;
@@ -161,8 +169,8 @@ struct Busy {
 enum Change {
     /// The host's first turn.
     Start,
-    /// The present generation was sealed, and its log has so many bytes.
-    Sealed(u64, Next),
+    /// The present generation was sealed, and left for the one that this stands for.
+    Sealed(Reference, Next),
     /// An opening of so many bytes was taken.
     Taken(u64, Next),
 }
@@ -197,6 +205,7 @@ pub struct Host {
     /// The machine, where there is one.
     applying: Option<Applying>,
     reads: Reading<u64>,
+    here: Vec<Here>,
     /// The machines whom the last seal named; of the others whom this host has met first; and those that wait to be let
     /// in, with when they told so.
     named: Members,
@@ -224,8 +233,16 @@ pub struct Host {
     wanting: BTreeSet<u8>,
     reading: Vec<(u8, u32, u64)>,
     handed: Option<Instant>,
-    /// An opening that is on its way, or has come.
+    /// What leads peers that lag to the present generation, the pieces that are being read, and what may be dropped
+    /// once nobody is handed anything.
+    lead: Lead,
+    gathering: BTreeMap<u64, (u8, Piece)>,
+    gathered: u64,
+    drops_below: Option<u32>,
+    /// An opening that is on its way, or what leads to one; what has come and is being gone through; and an opening
+    /// that has come.
     fetch: Option<Fetch<Vec<u8>>>,
+    going: Option<Going>,
     taken: Option<(u32, Vec<u8>)>,
     lag: Lag,
     /// Of a host that joins: the generations that peers have told, and the least one that it may begin with.
@@ -248,6 +265,7 @@ pub struct Host {
 struct Counts {
     changes: u64,
     syncs: u64,
+    proposals: u64,
 }
 
 impl Host {
@@ -446,6 +464,7 @@ impl Host {
             acting: None,
             applying: None,
             reads,
+            here: Vec::new(),
             named: Members(Vec::new()),
             met: vec![None; MOST_REPLICAS.into()],
             outside: BTreeMap::new(),
@@ -466,7 +485,12 @@ impl Host {
             wanting: BTreeSet::new(),
             reading: Vec::new(),
             handed: None,
+            lead: Lead::default(),
+            gathering: BTreeMap::new(),
+            gathered: 0,
+            drops_below: None,
             fetch: None,
+            going: None,
             taken: None,
             lag: Lag::default(),
             joins: None,
@@ -608,6 +632,7 @@ impl Host {
             },
             Some(_) => {}
         }
+        self.drop_left(now);
         if self.busy.is_none() && !self.acts.is_empty() {
             self.write(Vec::new(), Vec::new(), (false, None));
         }
@@ -647,6 +672,7 @@ impl Host {
 
     /// What the core can be asked, now that the disk has done all that it was given.
     fn work(&mut self, now: Instant) -> Result<(), HostFault> {
+        self.answer_here()?;
         self.go_on(now)?;
         if self.busy.is_some() {
             return Ok(());
@@ -666,6 +692,7 @@ impl Host {
         self.carry_out(batch, now)?;
         if self.busy.is_none() {
             self.look_again()?;
+            self.answer_here()?;
             self.go_on(now)?;
         }
         Ok(())
@@ -674,10 +701,11 @@ impl Host {
     fn next_due(&self, now: Instant) -> Instant {
         let ping = self.progress.distances.due(now);
         let working = if self.acting.is_some() && self.busy.is_none() { self.next_work(now) } else { None };
-        let behind = match &self.fetch {
+        let behind = match (&self.going, &self.fetch) {
             _ if self.progress.generation.is_sealed() => None,
-            Some(fetch) => Some(fetch.due()),
-            None => self.lag.due(),
+            (Some(going), _) => Some(going.due()),
+            (None, Some(fetch)) => Some(fetch.due()),
+            (None, None) => self.lag.due(),
         };
         [ping, working, behind].into_iter().flatten().fold(self.next_tick, Instant::min)
     }

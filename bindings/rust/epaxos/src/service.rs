@@ -64,12 +64,13 @@ pub use watched::Watched;
 /// let key = Key::of(b"32 bytes by chance, which nobody else has");
 /// # let _ = key;
 /// ```
-pub type Key = crate::parts::sealed::Key<crate::parts::mac::Hmac>;
+pub type Key = crate::parts::sealed::Key<crate::parts::mac::Guard>;
 
 use crate::host::{
     Act, Host, HostFault, Identity, Machine, Member, Name, Refusal, Reply, Settings, StartFault, Status, Told, Turn,
     Wish, Work,
 };
+use crate::parts::place::MOST_REPLICAS;
 use crate::{Cluster, OwnedAnswer, OwnedCommand};
 use inbox::Came;
 use promise::{Awaited, Promise, promise};
@@ -319,6 +320,45 @@ impl Service {
         value(self.ask(|reply| Came::Read(key.to_vec(), reply)).wait())
     }
 
+    /// What a key has at this replica, after all that it knows to be committed: without the others, so it may be old.
+    ///
+    /// # Errors
+    ///
+    /// [`CallFault::Refused`], [`CallFault::Ended`].
+    ///
+    /// ```
+    /// # use epaxos::{Cluster, service::Service};
+    /// # fn main() -> Result<(), Box<dyn std::error::Error>> {
+    /// let three = Service::local(Cluster::Three)?;
+    /// assert_eq!(three[2].read_here(b"x")?, None);
+    /// # Ok(()) }
+    /// ```
+    pub fn read_here(&self, key: &[u8]) -> Result<Option<Vec<u8>>, CallFault> {
+        value(self.ask(|reply| Came::ReadHere(Some(key.to_vec()), reply)).wait())
+    }
+
+    /// The same of all keys, in their order.
+    ///
+    /// # Errors
+    ///
+    /// [`CallFault::Refused`], [`CallFault::Ended`].
+    ///
+    /// ```
+    /// # use epaxos::{Cluster, OwnedCommand, service::Service};
+    /// # fn main() -> Result<(), Box<dyn std::error::Error>> {
+    /// let three = Service::local(Cluster::Three)?;
+    /// three[0].call(OwnedCommand::Put { key: b"x".into(), value: b"1".into() })?;
+    /// assert_eq!(three[0].read_all_here()?, [(b"x".to_vec(), b"1".to_vec())]);
+    /// # Ok(()) }
+    /// ```
+    pub fn read_all_here(&self) -> Result<Vec<(Vec<u8>, Vec<u8>)>, CallFault> {
+        match self.ask(|reply| Came::ReadHere(None, reply)).wait().ok_or(CallFault::Ended)? {
+            Told::All(all) => Ok(all),
+            Told::Refused(refusal) => Err(CallFault::Refused(refusal)),
+            _ => Err(CallFault::Doubtful),
+        }
+    }
+
     /// Watches a key, or the keys of a prefix: what they have, and from then on each write that this replica executes,
     /// whoever asked for it. At most `most` changes wait to be taken, of up to 65,790 bytes each: who lets more come is
     /// told that the watch has [ended](WatchEnd::Lagged), and watches again.
@@ -483,7 +523,7 @@ fn answer(told: Option<Told>) -> Result<OwnedAnswer, CallFault> {
         Told::Replied(_) => Ok(OwnedAnswer::Ordered),
         Told::DoneUnseen => Err(CallFault::DoneUnseen),
         Told::Refused(refusal) => Err(CallFault::Refused(refusal)),
-        Told::Doubtful | Told::Value(_) | Told::Changed(_) => Err(CallFault::Doubtful),
+        Told::Doubtful | Told::Value(_) | Told::All(_) | Told::Changed(_) => Err(CallFault::Doubtful),
     }
 }
 
@@ -493,7 +533,7 @@ fn replied(told: Option<Told>) -> Result<Vec<u8>, CallFault> {
         Told::Replied(reply) => Ok(reply),
         Told::Done(_) | Told::DoneUnseen => Err(CallFault::DoneUnseen),
         Told::Refused(refusal) => Err(CallFault::Refused(refusal)),
-        Told::Doubtful | Told::Value(_) | Told::Changed(_) => Err(CallFault::Doubtful),
+        Told::Doubtful | Told::Value(_) | Told::All(_) | Told::Changed(_) => Err(CallFault::Doubtful),
     }
 }
 
@@ -614,6 +654,13 @@ impl<D: Disk, L: Link, C: Clock> Driver<D, L, C> {
                 let token = self.wait(reply);
                 self.host.read(token, key, now);
             }
+            Came::ReadHere(key, reply) => {
+                let token = self.wait(reply);
+                match key {
+                    Some(key) => self.host.read_here(token, key, now),
+                    None => self.host.read_all_here(token, now),
+                }
+            }
             Came::Status(reply) => reply.tell(self.host.status()),
             Came::Watch(wish) => self.watch(wish, now),
             Came::Wish(wish, reply) => {
@@ -623,6 +670,9 @@ impl<D: Disk, L: Link, C: Clock> Driver<D, L, C> {
             Came::Members(reply) => reply.tell((self.host.members(), self.host.waiting_machines())),
             Came::Written(generation, digest, bytes) => self.host.opening_written(generation, &digest, bytes, now),
             Came::Part(generation, offset, part) => self.host.opening_read(generation, offset, part, now),
+            Came::LetGo(generation, checkpoint) => self.host.let_go(generation, checkpoint, now),
+            Came::Gathered(number, bytes) => self.host.gathered(number, bytes, now),
+            Came::Followed(generation, opening) => self.host.followed(generation, opening, now),
             Came::Stop => {
                 self.host.end(now);
                 self.ends_at = Some(now + ENDING);
@@ -660,7 +710,14 @@ impl<D: Disk, L: Link, C: Clock> Driver<D, L, C> {
                 self.watches.all.drain(..).for_each(|watcher| watcher.skip());
             }
             self.host.set_tells_changes(!self.watches.is_empty());
-            frames.into_iter().for_each(|(to, bytes)| self.link.send(to, bytes));
+            let mut for_each: [Vec<Vec<u8>>; MOST_REPLICAS as usize] = Default::default();
+            for (to, bytes) in frames {
+                if let Some(all) = for_each.get_mut(usize::from(to)) {
+                    all.push(bytes);
+                }
+            }
+            let sent = (0..).zip(for_each).filter(|(_, all)| !all.is_empty());
+            sent.for_each(|(to, all)| self.link.send_several(to, all));
             work.into_iter().for_each(|work| self.begin(work));
             let Some(writes) = writes else { return Ok(()) };
             // (whatever happens then, nothing more is told: nobody knows what the disk has)
@@ -744,6 +801,17 @@ impl<D: Disk, L: Link, C: Clock> Driver<D, L, C> {
                 if let Ok(part) = disk.read_opening(generation, offset, length) {
                     let _ = own.send(Came::Part(generation, offset, part));
                 }
+            }
+            Work::LetGo { generation, mut checkpoint } => {
+                checkpoint.let_go();
+                let _ = own.send(Came::LetGo(generation, checkpoint));
+            }
+            Work::Gather { number, spans } => {
+                let read = spans.iter().map(|span| disk.read_span(span)).collect::<Result<Vec<_>, _>>();
+                let _ = own.send(Came::Gathered(number, read.ok().map(|all| all.concat())));
+            }
+            Work::Follow { generation, trail } => {
+                let _ = own.send(Came::Followed(generation, trail.opening().ok()));
             }
         };
         self.workers.retain(|worker| !worker.is_finished());

@@ -7,7 +7,7 @@ mod calls;
 mod ports;
 
 use calls::{raise, told};
-use epaxos::host::{FolderFault, Host, Name, Refusal, Settings, StartFault, Stored, Told};
+use epaxos::host::{FolderFault, Host, Name, Refusal, Reply, Settings, StartFault, Stored, Told, Work};
 use epaxos::service::{Disk, Folder, MemoryDisk, Service, Start, TcpLink};
 use epaxos::sim::{Plan, Trouble, What, leave, run};
 use epaxos::{Cluster, OwnedAnswer, OwnedCommand};
@@ -152,12 +152,16 @@ fn what_is_lost_after_long_waits_is_waited_for_no_longer() {
     }
 }
 
-/// Three hosts in memory, whose frames all come.
+/// Three hosts in memory, whose frames all come, but for those of one that is away.
 struct Net {
     hosts: Vec<Host>,
     disks: Vec<MemoryDisk>,
     now: Instant,
     calls: u64,
+    away: Option<u8>,
+    /// How many times one of them has had an opening written, and has gone through a peer's logs.
+    written: usize,
+    followed: usize,
 }
 
 impl Net {
@@ -169,28 +173,55 @@ impl Net {
         for (me, host) in (0..).zip(&mut hosts) {
             (0..3).filter(|peer| *peer != me).for_each(|peer| host.link_opened(peer, now));
         }
-        Net { hosts, disks, now, calls: 0 }
+        Net { hosts, disks, now, calls: 0, away: None, written: 0, followed: 0 }
+    }
+
+    /// A turn of each: who is told what.
+    fn turn(&mut self) -> Vec<Reply> {
+        let (mut frames, mut replies) = (Vec::new(), Vec::new());
+        for ((me, host), disk) in (0..).zip(&mut self.hosts).zip(&mut self.disks) {
+            let turn = host.turn(self.now).unwrap();
+            frames.extend(turn.frames.into_iter().map(|(to, bytes)| (me, to, bytes)));
+            replies.extend(turn.replies);
+            if let Some(writes) = turn.writes {
+                disk.carry_out(&writes.acts).unwrap();
+                host.synced(writes.number, self.now).unwrap();
+            }
+            for work in turn.work {
+                match work {
+                    Work::Gather { number, spans } => {
+                        let bytes = spans.iter().flat_map(|span| disk.read_span(span).unwrap()).collect();
+                        host.gathered(number, Some(bytes), self.now);
+                    }
+                    Work::Follow { generation, trail } => {
+                        self.followed += 1;
+                        host.followed(generation, Some(trail.opening().unwrap()), self.now);
+                    }
+                    Work::LetGo { generation, checkpoint } => host.let_go(generation, checkpoint, self.now),
+                    Work::Write { .. } | Work::Read { .. } => self.written += 1,
+                }
+            }
+        }
+        for (from, to, bytes) in frames {
+            if ![from, to].map(Some).contains(&self.away) {
+                self.hosts[usize::from(to)].receive(from, bytes, self.now).unwrap();
+            }
+        }
+        self.now += Duration::from_millis(1);
+        replies
     }
 
     /// What the first one's client is told of a command.
     fn ask(&mut self, command: OwnedCommand) -> Told {
+        self.hosts[0].call(self.calls + 1, command, self.now);
+        self.told()
+    }
+
+    /// What is told of the next call, which was asked.
+    fn told(&mut self) -> Told {
         self.calls += 1;
-        self.hosts[0].call(self.calls, command, self.now);
         for _ in 0..10_000 {
-            let (mut frames, mut replies) = (Vec::new(), Vec::new());
-            for ((me, host), disk) in (0..).zip(&mut self.hosts).zip(&mut self.disks) {
-                let turn = host.turn(self.now).unwrap();
-                frames.extend(turn.frames.into_iter().map(|(to, bytes)| (me, to, bytes)));
-                replies.extend(turn.replies);
-                if let Some(writes) = turn.writes {
-                    disk.carry_out(&writes.acts).unwrap();
-                    host.synced(writes.number, self.now).unwrap();
-                }
-            }
-            for (from, to, bytes) in frames {
-                self.hosts[usize::from(to)].receive(from, bytes, self.now).unwrap();
-            }
-            self.now += Duration::from_millis(1);
+            let mut replies = self.turn();
             if let Some(reply) = replies.pop() {
                 assert!(replies.is_empty() && reply.token == self.calls);
                 return reply.told;
@@ -198,6 +229,39 @@ impl Net {
         }
         panic!("nothing is told");
     }
+}
+
+/// Who lags goes through the logs that a peer hands it, from the last whole opening there: nothing is written for it.
+#[test]
+fn who_lags_goes_through_the_logs_of_a_peer() {
+    let settings = Settings { numbers: 20, checkpoint: u64::MAX, ..Settings::new(Cluster::Three, 0) };
+    let mut net = Net::begin(&settings);
+    let put = |key: u8| OwnedCommand::Put { key: vec![key], value: vec![key; 3_000] };
+    let done = |net: &mut Net, keys: std::ops::Range<u8>| {
+        keys.for_each(|key| assert_eq!(net.ask(put(key)), Told::Done(OwnedAnswer::Absent)));
+    };
+    done(&mut net, 0..10);
+    net.away = Some(2);
+    done(&mut net, 10..120);
+    let newest = net.hosts[0].status().generation;
+    assert!(newest >= 4 && net.hosts[2].status().generation == 1, "{newest}");
+    net.away = None;
+    for _ in 0..10_000 {
+        net.turn();
+        if net.hosts[2].status().generation >= newest && net.hosts[2].look_up(&[119]) == Ok(Some(vec![119; 3_000])) {
+            break;
+        }
+    }
+    assert!((0..120).all(|key| net.hosts[2].look_up(&[key]) == Ok(Some(vec![key; 3_000]))));
+    assert_eq!((net.written, net.followed), (0, 1));
+    // What was handed is what it starts with.
+    let disk = &net.disks[2];
+    let mut again = Host::open(&Settings { me: 2, ..settings }, disk, net.now).unwrap();
+    assert_eq!(again.status().generation, net.hosts[2].status().generation);
+    let writes = again.turn(net.now).unwrap().writes.unwrap();
+    again.synced(writes.number, net.now).unwrap();
+    assert_eq!(again.look_up(&[60]), Ok(Some(vec![60; 3_000])));
+    done(&mut net, 120..121);
 }
 
 /// Each generation shares out the room that is left, while that is worth it; then deletes and reads go on.
@@ -218,6 +282,30 @@ fn a_map_that_is_bounded_is_filled_and_not_passed() {
     (1..3).for_each(|peer| net.hosts[0].link_opened(peer, net.now));
     assert!(matches!(net.ask(OwnedCommand::Del { key: vec![1] }), Told::Done(OwnedAnswer::Present(_))));
     assert_eq!(net.ask(put(9)), Told::Done(OwnedAnswer::Absent));
+}
+
+/// What is here is told after all that is known to be committed, without the others.
+#[test]
+fn what_is_here_is_told_without_the_others() {
+    let mut net = Net::begin(&Settings::new(Cluster::Three, 0));
+    let put = |key: u8| OwnedCommand::Put { key: vec![key], value: vec![key] };
+    (0..3).for_each(|key| assert_eq!(net.ask(put(key)), Told::Done(OwnedAnswer::Absent)));
+    // (the second one is told of commits with what comes next)
+    (0..20).for_each(|_| assert!(net.turn().is_empty()));
+    net.away = Some(1);
+    net.hosts[1].read_here(4, vec![2], net.now);
+    assert_eq!(net.told(), Told::Value(Some(vec![2])));
+    net.hosts[1].read_all_here(5, net.now);
+    assert_eq!(net.told(), Told::All((0..3).map(|key| (vec![key], vec![key])).collect()));
+    // It isn't told what it can't know.
+    assert_eq!(net.ask(OwnedCommand::Del { key: vec![0] }), Told::Done(OwnedAnswer::Present(vec![0])));
+    net.hosts[1].read_here(7, vec![0], net.now);
+    assert_eq!(net.told(), Told::Value(Some(vec![0])));
+    net.hosts[1].read_here(8, Vec::new(), net.now);
+    assert_eq!(net.told(), Told::Refused(Refusal::Fault(epaxos::Fault::OutOfRange)));
+    net.hosts[1].read_here(9, vec![0], net.now);
+    net.hosts[1].give_up(9, net.now);
+    assert_eq!(net.told(), Told::Refused(Refusal::GivenUp));
 }
 
 /// A disk on which nothing is.

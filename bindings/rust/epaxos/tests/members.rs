@@ -74,6 +74,8 @@ fn who_is_left_out_ends() {
     };
     let mut all: Vec<Service> = (0..5).map(start).collect();
     put(&all[4], "x");
+    // (a seal names whom it has met)
+    wait_for(|| identities(&all[1]).iter().all(Option::is_some));
     let three = wish(&all[1], &Wish::Resize { size: 3, new: Vec::new() });
     assert_eq!(identities(&all[1]), [0, 1, 2].map(|it| Some([it; 16])));
     for left in all.drain(3..) {

@@ -11,6 +11,7 @@ use store::generation::Limits;
 use store::identities::Identities;
 use store::link::Link;
 use store::metrics::Metrics;
+use store::numbers::is_of;
 use store::options::TOGETHER;
 use store::peers::{MOST_REPLICAS, Membership, Peers, Place};
 use store::plants::Plant;
@@ -61,7 +62,7 @@ pub fn join<C: Core>(
             node,
             state,
             peers: Peers::over(all.clone().map(to).collect()),
-            receipts: Receipts::open(&directory.receipts(state.generation)).unwrap(),
+            receipts: Receipts::open(&directory.receipts(state.generation), is_of).unwrap(),
             directory,
             membership: Arc::new(Membership { place, identities, key: Key::none(), waiting: Waiting::default() }),
             watch: Watch::new(place, Instant::now(), u64::from(replica) + 77).unwrap(),

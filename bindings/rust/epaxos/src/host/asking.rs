@@ -19,7 +19,8 @@ impl Host {
         let is_wanted = self.reads_want(&batch);
         let is_closing = self.progress.generation.stage == Stage::Committed;
         let is_due = self.executions.is_due() && (now >= self.next_execution || is_closing);
-        let executes_all = is_wanted || is_due;
+        let executes_all = is_wanted || is_due || !self.here.is_empty();
+        self.here.iter_mut().for_each(|here| here.is_due = true);
         let Some(acting) = self.acting.as_mut().filter(|_| executes_all || !batch.0.is_empty()) else { return Ok(()) };
         let events: Vec<Event> = batch.0.iter().map(Request::event).collect();
         let done = acting.replica.take_all(&events);
@@ -86,8 +87,12 @@ impl Host {
     ) -> Result<(), HostFault> {
         match self.calls.accept(&mut self.progress, asked, proposed, now).ok_or(HostFault::NotAsked)? {
             Accepted::Nothing => {}
-            Accepted::UnderWay(call) if self.settings.has(Plant::EarlyAnswer) => self.answer_early(call),
-            Accepted::UnderWay(_) => {}
+            Accepted::UnderWay(call) => {
+                self.counts.proposals += 1;
+                if self.settings.has(Plant::EarlyAnswer) {
+                    self.answer_early(call);
+                }
+            }
             Accepted::Held(call) => self.ids.give_back(call.client),
             Accepted::Refused(call, members, fault) => {
                 self.ids.give_back(call.client);
@@ -117,7 +122,10 @@ impl Host {
             self.progress.generation.entries = entries;
             self.progress.watch.change();
         }
-        self.out.receipts.extend(bytes);
+        if !bytes.is_empty() {
+            self.out.receipts.extend(bytes);
+            self.out.receipts_of = self.progress.generation.number;
+        }
         let mut replied = self.note_executed(executed);
         self.tell_changes(changes, lacks_changes);
         for (to, frame) in frames {

@@ -73,7 +73,8 @@ impl Host {
         });
         let held = self.calls.held.iter().position(|held| held.token == token);
         let was_held = held.and_then(|place| self.calls.held.remove(place)).is_some();
-        if was_held || was_reading.get() {
+        let here = self.here.iter().position(|here| here.token == token).map(|place| self.here.remove(place));
+        if was_held || was_reading.get() || here.is_some() {
             return self.tell(token, Told::Refused(Refusal::GivenUp));
         }
         // (what the core has taken and isn't on the disk is proposed too)

@@ -1,5 +1,5 @@
 //! From one generation to the next.
-use super::{Act, Change, Host, HostFault, Name, Next, Plant, applying, cluster_of, starting};
+use super::{Act, Change, Host, HostFault, Name, Next, Plant, Work, applying, cluster_of, starting};
 use crate::host::acting::Acting;
 use crate::host::{Refusal, Told};
 use crate::parts::calls::Fate;
@@ -27,7 +27,7 @@ impl Host {
     /// The next generation begins in memory, and on the disk by a reference to the log that is left.
     fn change(&mut self) -> Result<(), HostFault> {
         let Some(acting) = &self.acting else { return Ok(()) };
-        let (left, length, members) = (acting.generation, acting.length, acting.members.clone());
+        let (left, members) = (acting.generation, acting.members.clone());
         if let Some(members) = &members {
             self.check_members(members, left + 1)?;
         }
@@ -36,9 +36,7 @@ impl Host {
         let reference = acting.reference(cluster)?;
         let generation = reference.generation();
         self.files.unwritten = None;
-        let mut checkpoint = acting.replica.succeed(&Succession::new(reference, self.progress.place.replica))?;
-        // (there is no other thread here that could do it)
-        checkpoint.let_go();
+        let checkpoint = acting.replica.succeed(&Succession::new(reference, self.progress.place.replica))?;
         acting.begin(generation);
         self.applying.as_mut().into_iter().for_each(|it| it.begin(generation));
         let log = acting.lend()?.map(|(bytes, _)| Host::put(generation, Name::Log, bytes));
@@ -48,10 +46,11 @@ impl Host {
         self.acts.extend((!is_late).then(|| named.clone()));
         self.acts.extend(log);
         self.acts.push(mark);
-        self.files.unwritten = Some((reference, checkpoint));
+        self.files.letting = Some(reference);
+        self.out.work.push(Work::LetGo { generation, checkpoint });
         self.counts.changes += 1;
         let next = Next { replicas: cluster.replicas().into(), members };
-        self.write(Vec::new(), Vec::new(), (true, Some(Change::Sealed(length, next))));
+        self.write(Vec::new(), Vec::new(), (true, Some(Change::Sealed(reference, next))));
         self.acts.extend(is_late.then_some(named));
         Ok(())
     }
@@ -62,8 +61,8 @@ impl Host {
         let (number, is_start) = (acting.generation, matches!(change, Change::Start));
         let next = match change {
             Change::Start => None,
-            Change::Sealed(length, next) => {
-                self.files.leave(number - 1, length);
+            Change::Sealed(reference, next) => {
+                self.files.leave(reference);
                 // (what wasn't done before the seal never is: each is proposed again)
                 for Waiting { members, .. } in self.calls.waiting.take() {
                     if !self.settings.has(Plant::ForgetsWaiting) {
@@ -73,8 +72,8 @@ impl Host {
                 Some(next)
             }
             Change::Taken(bytes, next) => {
-                self.files.keep(number, bytes);
-                (self.files.unwritten, self.files.writing) = (None, None);
+                self.files.keep(number, bytes, None);
+                (self.files.unwritten, self.files.letting, self.files.writing) = (None, None, None);
                 Some(next)
             }
         };
@@ -98,7 +97,7 @@ impl Host {
         // (what was asked of the generation before isn't answered; hellos at a start are)
         self.asked.retain(|(_, message)| matches!(message, crate::parts::messages::Message::Hello { .. }));
         self.wanting = BTreeSet::new();
-        (self.fetch, self.taken, self.joins) = (None, None, None);
+        (self.fetch, self.going, self.taken, self.joins) = (None, None, None, None);
         self.lag.end();
         self.next_execution = now;
         self.recollect()?;
@@ -130,6 +129,10 @@ impl Host {
         {
             return self.take_opening(generation, bytes);
         }
+        if self.going.is_some() {
+            self.say_going(now);
+            return Ok(());
+        }
         if let Some(fetch) = self.fetch.as_mut().filter(|fetch| !fetch.is_over(now)) {
             let (from, again) = (fetch.from(), if fetch.due() <= now { fetch.again(now) } else { Vec::new() });
             again.into_iter().for_each(|message| self.send(from, message.write()));
@@ -146,7 +149,9 @@ impl Host {
             self.fetch = None;
         }
         let Some(peer) = self.lag.whom(&ahead, &mut self.random, now) else { return Ok(()) };
-        let (fetch, want) = Fetch::begin(Vec::new(), Form::Opening, peer, now);
+        // (with an opening comes the machine's state; what logs have done it hasn't)
+        let form = if self.applying.is_some() { Form::Opening } else { Form::Way };
+        let (fetch, want) = Fetch::begin(Vec::new(), form, peer, now);
         self.fetch = Some(fetch);
         self.send(peer, want.write());
         Ok(())

@@ -49,7 +49,8 @@ impl Host {
     /// ```
     pub fn is_ended(&self) -> bool {
         let proposes = self.busy.iter().flat_map(|busy| &busy.requests).any(|it| it.is_proposal());
-        let is_idle = self.calls.is_empty() && self.reads.is_empty() && self.out.replies.is_empty() && !proposes;
+        let reads = !self.reads.is_empty() || !self.here.is_empty();
+        let is_idle = self.calls.is_empty() && !reads && self.out.replies.is_empty() && !proposes;
         self.ends && (is_idle || self.settings.has(Plant::EndsEarly))
     }
 

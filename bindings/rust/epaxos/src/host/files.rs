@@ -1,4 +1,5 @@
 //! What of the generations is on the disk.
+use crate::parts::way::Way;
 use crate::{Checkpoint, Reference};
 use std::collections::BTreeMap;
 
@@ -7,24 +8,36 @@ use std::collections::BTreeMap;
 pub(super) struct Files {
     /// The last generation whose opening is there, whole, and how many bytes it has; 0 of none.
     pub(super) whole: (u32, u64),
+    /// What stood for it, where its generation was begun so, and what stands for those behind it.
+    own: Option<Reference>,
+    references: BTreeMap<u32, Reference>,
     /// How many bytes the logs have of the generations that were left since.
     logs: BTreeMap<u32, u64>,
     /// The opening of the present generation, with what stands for it, where no file has it.
     pub(super) unwritten: Option<(Reference, Checkpoint)>,
+    /// What stands for it, while what is left of the generation before is let go.
+    pub(super) letting: Option<Reference>,
     /// What stands for the opening that is being written.
     pub(super) writing: Option<Reference>,
 }
 
 impl Files {
-    /// The opening of this generation is there, of so many bytes.
-    pub(super) fn keep(&mut self, generation: u32, bytes: u64) {
-        self.whole = (generation, bytes);
+    /// The opening of this generation is there, of so many bytes, for which this stood, where something did.
+    pub(super) fn keep(&mut self, generation: u32, bytes: u64, own: Option<Reference>) {
+        (self.whole, self.own) = ((generation, bytes), own);
         self.logs = self.logs.split_off(&generation);
+        self.references = self.references.split_off(&(generation + 1));
     }
 
-    /// A generation was left, whose log has so many bytes.
-    pub(super) fn leave(&mut self, generation: u32, bytes: u64) {
-        self.logs.insert(generation, bytes);
+    /// A generation was left for the one that this reference stands for.
+    pub(super) fn leave(&mut self, next: Reference) {
+        self.logs.insert(next.generation() - 1, next.length());
+        self.references.insert(next.generation(), next);
+    }
+
+    /// What leads to the present generation: the last whole opening, and the logs since.
+    pub(super) fn way(&self) -> Way {
+        Way::of(self.whole, self.own, self.references.values().copied().collect())
     }
 
     /// Whether an opening is to be written: where the logs since the last one have so many bytes, and as many as that

@@ -1,16 +1,50 @@
 //! Openings: written beside the log, handed to peers that lag, and taken from them.
-use super::{Act, Host, Name, Plant, Work};
-use crate::parts::fetch::{Fetch, Step};
+use super::{Act, Host, Name, Plant, Trail, Work};
+use crate::Checkpoint;
+use crate::parts::fetch::Step;
 use crate::parts::messages::{LONGEST_PIECE, Message};
 use std::time::{Duration, Instant};
 
 /// Who gets an opening asks for its pieces, and has all of it once it hasn't asked for so long.
 const HANDING: Duration = Duration::from_secs(1);
 
+/// A peer is told that what it handed is still needed, so often.
+const BETWEEN_WORDS: Duration = Duration::from_millis(250);
+
+/// What a peer has handed, and is being gone through.
+pub(super) struct Going {
+    from: u8,
+    generation: u32,
+    /// What tells the peer that it is still needed, and when it was told last.
+    word: Vec<u8>,
+    told: Instant,
+}
+
+impl Going {
+    /// When the peer is to be told again.
+    pub(super) fn due(&self) -> Instant {
+        self.told + BETWEEN_WORDS
+    }
+}
+
 impl Host {
     /// Whether an opening is being written, or handed to a peer: then the generation is to last.
     pub(super) fn is_opening_used(&self, now: Instant) -> bool {
-        self.files.writing.is_some() || self.handed.is_some_and(|handed| now < handed + HANDING)
+        self.files.writing.is_some() || self.is_handing(now)
+    }
+
+    fn is_handing(&self, now: Instant) -> bool {
+        self.handed.is_some_and(|handed| now < handed + HANDING)
+    }
+
+    /// Has what isn't needed any more dropped, once no peer is handed any of it.
+    pub(super) fn drop_left(&mut self, now: Instant) {
+        if !self.is_handing(now)
+            && let Some(below) = self.drops_below.take()
+        {
+            self.lead.end();
+            self.acts.push(Act::Drop { below });
+        }
     }
 
     /// Has the opening of the present generation written, where it isn't and nothing else is being written.
@@ -28,6 +62,30 @@ impl Host {
         let lacks_it = self.settings.has(Plant::LacksMachine);
         let machine = self.applying.as_ref().filter(|_| !lacks_it).map(|it| it.begun().to_vec());
         self.out.work.push(Work::Write { generation, machine, checkpoint });
+    }
+
+    /// What was left of the generation before this one is let go ([`Work::LetGo`]).
+    ///
+    /// ```
+    /// use epaxos::host::{Host, Work};
+    /// use std::time::Instant;
+    ///
+    /// fn let_go(host: &mut Host, work: Work) {
+    ///     if let Work::LetGo { generation, mut checkpoint } = work {
+    ///         checkpoint.let_go();
+    ///         host.let_go(generation, checkpoint, Instant::now());
+    ///     }
+    /// }
+    /// ```
+    pub fn let_go(&mut self, generation: u32, checkpoint: Checkpoint, now: Instant) {
+        let Some(reference) = self.files.letting.take_if(|it| it.generation() == generation) else { return };
+        self.files.unwritten = Some((reference, checkpoint));
+        self.due = self.due.min(now);
+        // (before that generation is on the disk nothing of it is written)
+        let has_begun = generation == self.progress.generation.number;
+        if has_begun && (self.files.is_due(self.settings.checkpoint) || !self.wanting.is_empty()) {
+            self.write_opening();
+        }
     }
 
     /// The opening of this generation is on the disk ([`Work::Write`]): its last 32 bytes, and how many it has.
@@ -49,10 +107,10 @@ impl Host {
         let Some(reference) = self.files.writing.take_if(|it| it.generation() == generation) else { return };
         self.due = self.due.min(now);
         self.acts.push(Act::Put { generation, name: Name::Whole, bytes: reference.binding(digest) });
-        self.files.keep(generation, bytes);
+        self.files.keep(generation, bytes, Some(reference));
         let below = generation.saturating_sub(self.settings.kept);
         if below > 1 {
-            self.acts.push(Act::Drop { below });
+            self.drops_below = Some(below);
         }
         if generation == self.progress.generation.number {
             let wanting = std::mem::take(&mut self.wanting);
@@ -139,14 +197,84 @@ impl Host {
         }
     }
 
-    /// A piece has come of an opening that this replica has asked for.
+    /// Hands a peer the piece that it wants of what leads to the present generation: of what was begun for it, as long
+    /// as that is there. Nothing is written for it.
+    pub(super) fn hand_part(&mut self, to: u8, (ends, offset): ((u32, u32), u64), now: Instant) {
+        if self.acting.is_none() {
+            return;
+        }
+        self.handed = Some(now);
+        let begun = self.lead.begun(to, ends, offset);
+        let piece = begun.unwrap_or_else(|| self.lead.begin(to, self.files.way(), (ends, offset)));
+        self.gathered += 1;
+        let (number, spans) = (self.gathered, piece.spans.clone());
+        self.gathering.insert(number, (to, piece));
+        self.out.work.push(Work::Gather { number, spans });
+    }
+
+    /// The bytes of this number were read ([`Work::Gather`]), all of them, or they can't be.
+    ///
+    /// ```
+    /// use epaxos::host::{Host, Work};
+    /// use epaxos::service::Disk;
+    /// use std::time::Instant;
+    ///
+    /// fn gather(host: &mut Host, disk: &impl Disk, work: Work) {
+    ///     if let Work::Gather { number, spans } = work {
+    ///         let bytes: std::io::Result<Vec<_>> = spans.iter().map(|span| disk.read_span(span)).collect();
+    ///         host.gathered(number, bytes.ok().map(|all| all.concat()), Instant::now());
+    ///     }
+    /// }
+    /// ```
+    pub fn gathered(&mut self, number: u64, bytes: Option<Vec<u8>>, now: Instant) {
+        let Some((to, piece)) = self.gathering.remove(&number) else { return };
+        self.due = self.due.min(now);
+        match bytes {
+            Some(bytes) => self.send(to, piece.with(&bytes).write()),
+            // (it asks again, and gets another one)
+            None => self.lead.lose(to),
+        }
+    }
+
+    /// What a peer has handed was gone through ([`Work::Follow`]): it leads to this opening of the generation, or to
+    /// none. [`Trail`] shows how.
+    pub fn followed(&mut self, generation: u32, opening: Option<Vec<u8>>, now: Instant) {
+        if self.going.take_if(|going| going.generation == generation).is_none() {
+            return;
+        }
+        self.due = self.due.min(now);
+        let wrong = self.settings.has(Plant::WrongOpening);
+        let less = |bytes: &Vec<u8>| crate::parts::opening::lacking(bytes, |count| count - 1).filter(|_| wrong);
+        match opening {
+            Some(bytes) => self.taken = Some((generation, less(&bytes).unwrap_or(bytes))),
+            None => self.lag.end(),
+        }
+    }
+
+    /// Tells the peer now and then that what it has handed is still needed.
+    pub(super) fn say_going(&mut self, now: Instant) {
+        let Some(going) = self.going.as_mut().filter(|going| now >= going.due()) else { return };
+        going.told = now;
+        let (from, word) = (going.from, going.word.clone());
+        self.send(from, word);
+    }
+
+    /// A piece has come of an opening that this replica has asked for, or of what leads to one.
     pub(super) fn take_piece(&mut self, from: u8, piece: Message, now: Instant) {
         let Some(fetch) = &mut self.fetch else { return };
         match fetch.take(from, piece, now) {
             Ok(Step::Ask(more)) => more.into_iter().for_each(|message| self.send(from, message.write())),
             Ok(Step::Done(generation)) => {
-                let bytes = self.fetch.take().map(Fetch::into_sink);
-                self.taken = bytes.map(|bytes| (generation, bytes));
+                let Some(fetch) = self.fetch.take() else { return };
+                if self.applying.is_some() {
+                    self.taken = Some((generation, fetch.into_sink()));
+                    return;
+                }
+                let word = fetch.word().write();
+                self.send(from, word.clone());
+                self.going = Some(Going { from, generation, word, told: now });
+                let trail = Trail::of(from, fetch.into_sink());
+                self.out.work.push(Work::Follow { generation, trail });
             }
             Ok(Step::Ignored) => {}
             Err(_) => self.fetch = None,

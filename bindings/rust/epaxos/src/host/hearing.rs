@@ -50,12 +50,12 @@ impl Host {
                 self.hear_hello(from, (generation, is_sealed, seen), now)?;
             }
             Message::Want { generation, offset } => self.hand_piece(from, (generation, offset), now),
-            Message::Piece { .. } => self.take_piece(from, message, now),
+            Message::Follow { first, generation, offset } => self.hand_part(from, ((first, generation), offset), now),
+            Message::Piece { .. } | Message::Part { .. } => self.take_piece(from, message, now),
             Message::Machine { identity, waits } => self.hear_machine(from, (identity, waits), now),
             Message::Hello { .. } | Message::Ask { .. } | Message::Committed { .. } => {
                 self.asked.push_back((from, message));
             }
-            // (ways along logs are hosts' whose folders have them)
             _ => {}
         }
         Ok(())

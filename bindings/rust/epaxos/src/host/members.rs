@@ -177,7 +177,8 @@ impl Host {
         let waiting = self.calls.waiting.take().flat_map(|waiting| waiting.members);
         let held = waiting.chain(std::mem::take(&mut self.calls.held)).map(|held| held.token);
         let wishes: Vec<u64> = self.wishes.take().map(|(token, _)| token).collect();
-        let all: Vec<u64> = held.chain(self.reads.take()).chain(wishes).collect();
+        let here = std::mem::take(&mut self.here).into_iter().map(|here| here.token);
+        let all: Vec<u64> = held.chain(self.reads.take()).chain(here).chain(wishes).collect();
         all.into_iter().for_each(|token| self.tell(token, Told::Refused(Refusal::Left)));
     }
 

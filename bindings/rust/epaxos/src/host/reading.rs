@@ -1,5 +1,6 @@
 //! Reads that write nothing.
 use super::held::Batch;
+use super::here::Here;
 use super::{Host, HostFault};
 use crate::LONGEST_KEY;
 use crate::host::{Refusal, Told};
@@ -35,6 +36,80 @@ impl Host {
             _ => Refusal::Fault(crate::Fault::OutOfRange),
         };
         self.tell(token, Told::Refused(refusal));
+    }
+
+    /// A client asks what a key has here, after all that this replica knows to be committed: that may be old, and is
+    /// told at once, without the others. It is told under this number, once: [`Told::Value`].
+    ///
+    /// ```
+    /// # use epaxos::{Cluster, host::{Host, Settings}, service::MemoryDisk};
+    /// # use std::time::Instant;
+    /// use epaxos::host::{Reply, Told};
+    ///
+    /// # fn main() -> Result<(), Box<dyn std::error::Error>> {
+    /// let now = Instant::now();
+    /// let mut host = Host::begin(&Settings::new(Cluster::Three, 0), &MemoryDisk::default(), now)?;
+    /// let writes = host.turn(now)?.writes.ok_or("nothing to write")?;
+    /// host.synced(writes.number, now)?;
+    /// host.read_here(7, b"x".into(), now);
+    /// assert_eq!(host.turn(now)?.replies, [Reply { token: 7, told: Told::Value(None) }]);
+    /// # Ok(()) }
+    /// ```
+    pub fn read_here(&mut self, token: u64, key: Vec<u8>, now: Instant) {
+        match key.len() {
+            1..=LONGEST_KEY => self.ask_here(token, Some(key), now),
+            _ => self.tell(token, Told::Refused(Refusal::Fault(crate::Fault::OutOfRange))),
+        }
+    }
+
+    /// The same of all keys, in their order: [`Told::All`].
+    ///
+    /// ```
+    /// # use epaxos::{Cluster, host::{Host, Settings}, service::MemoryDisk};
+    /// # use std::time::Instant;
+    /// use epaxos::host::{Refusal, Told};
+    ///
+    /// # fn main() -> Result<(), Box<dyn std::error::Error>> {
+    /// let now = Instant::now();
+    /// let mut host = Host::join(&Settings::new(Cluster::Three, 0), &MemoryDisk::default(), now)?;
+    /// host.read_all_here(7, now);
+    /// assert_eq!(host.turn(now)?.replies[0].told, Told::Refused(Refusal::Joining));
+    /// # Ok(()) }
+    /// ```
+    pub fn read_all_here(&mut self, token: u64, now: Instant) {
+        self.ask_here(token, None, now);
+    }
+
+    fn ask_here(&mut self, token: u64, key: Option<Vec<u8>>, now: Instant) {
+        self.due = self.due.min(now);
+        let refusal = match () {
+            () if self.acting.is_none() => Refusal::Joining,
+            () if self.has_left() => Refusal::Left,
+            () if self.ends => Refusal::Ending,
+            () if self.here.len() >= self.settings.most => Refusal::Full,
+            () => return self.here.push(Here { token, key, is_due: false }),
+        };
+        self.tell(token, Told::Refused(refusal));
+    }
+
+    /// Tells who asked of what is here, where all was executed that was known to be committed then.
+    pub(super) fn answer_here(&mut self) -> Result<(), HostFault> {
+        let Some(acting) = self.acting.as_mut().filter(|_| !self.here.is_empty()) else { return Ok(()) };
+        let (due, rest) = std::mem::take(&mut self.here).into_iter().partition(|here| here.is_due);
+        self.here = rest;
+        let mut told = Vec::new();
+        for Here { token, key, .. } in Vec::<Here>::from(due) {
+            let it = match key {
+                Some(key) => Told::Value(acting.replica.get(&key)?.map(<[u8]>::to_vec)),
+                None => {
+                    let all = acting.replica.contents()?;
+                    Told::All(all.map(|(key, value)| (key.to_vec(), value.to_vec())).collect())
+                }
+            };
+            told.push((token, it));
+        }
+        told.into_iter().for_each(|(token, it)| self.tell(token, it));
+        Ok(())
     }
 
     /// Tells a peer what interferes with reads of these keys.

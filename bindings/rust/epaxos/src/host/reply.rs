@@ -29,7 +29,8 @@ pub struct Reply {
 /// /// Whether it was done, if that is known.
 /// fn is_done(told: &Told) -> Option<bool> {
 ///     match told {
-///         Told::Done(_) | Told::Replied(_) | Told::DoneUnseen | Told::Value(_) | Told::Changed(_) => Some(true),
+///         Told::Done(_) | Told::Replied(_) | Told::DoneUnseen => Some(true),
+///         Told::Value(_) | Told::All(_) | Told::Changed(_) => Some(true),
 ///         Told::Refused(_) => Some(false),
 ///         Told::Doubtful => None,
 ///     }
@@ -49,6 +50,8 @@ pub enum Told {
     Doubtful,
     /// What the key of a read has.
     Value(Option<Vec<u8>>),
+    /// What all keys have here, in their order.
+    All(Vec<(Vec<u8>, Vec<u8>)>),
     /// What was wished is so, from the generation of this number on.
     Changed(u32),
     /// It wasn't done, and won't be.

@@ -73,7 +73,7 @@ pub(super) fn begin(
     acts.push(put(Name::Opening, opening.to_vec()));
     acts.extend(acting.lend().map_err(FolderFault::Core)?.map(|(bytes, _)| put(Name::Log, bytes)));
     let mut files = Files::default();
-    files.keep(1, opening.len() as u64);
+    files.keep(1, opening.len() as u64, None);
     let (executed, cluster, members) = (Vec::new(), settings.cluster, None);
     Ok(Started { acting, files, acts, start, executed, cluster, members })
 }
@@ -127,8 +127,8 @@ pub(super) fn go_on(
     // (there is no other thread here that could do it)
     unwritten.iter_mut().for_each(|(_, checkpoint)| checkpoint.let_go());
     files.unwritten = unwritten;
-    files.keep(whole, found.first.bytes.len() as u64);
-    found.references.iter().for_each(|next| files.leave(next.generation() - 1, next.length()));
+    files.keep(whole, found.first.bytes.len() as u64, found.first.reference);
+    found.references.iter().for_each(|next| files.leave(*next));
     let map = settings.most_map.map(|_| opening.map);
     let mut acting = Acting::new(replica, plan.generation, tells_executed).counting(map);
     acts.extend(acting.lend().map_err(FolderFault::Core)?.map(|(bytes, _)| put(plan.generation, Name::Log, bytes)));

@@ -1,5 +1,6 @@
 //! How a host is.
 use crate::host::Host;
+use std::time::Duration;
 
 /// How a host is, for whoever looks after it.
 ///
@@ -15,8 +16,16 @@ pub struct Status {
     pub generation: u32,
     /// How many replicas there are.
     pub replicas: usize,
+    /// Whether its seal was executed here.
+    pub is_sealed: bool,
     /// How many entries its log has.
     pub entries: u32,
+    /// How many bytes its log had within the last second.
+    pub log: u64,
+    /// The most dependencies that a command of this replica has in it.
+    pub dependencies: u16,
+    /// How many bytes the map had when it began, where the map is bounded; else 0.
+    pub map: u64,
     /// The last number of its own that was used.
     pub used: u16,
     /// Whether so few peers are reached that nothing is done.
@@ -29,6 +38,10 @@ pub struct Status {
     pub waiting: usize,
     /// How many instances are known not to be committed.
     pub open: usize,
+    /// The round trip to the farthest member of the fast quorum, the shortest of the last ones, where it is known,
+    pub quorum: Option<Duration>,
+    /// and to each peer.
+    pub far: Vec<(u8, Option<Duration>)>,
     /// The generations that the farthest peer is ahead.
     pub behind: u32,
     /// Changes of generation since the start.
@@ -41,6 +54,12 @@ pub struct Status {
     pub sent_again: u64,
     /// Batches that the disk was given since the start.
     pub syncs: u64,
+    /// Commands that were proposed, since the start.
+    pub proposals: u64,
+    /// Questions of reads that were sent, since the start,
+    pub questions: u64,
+    /// and those that were sent again.
+    pub questions_again: u64,
     /// Calls that were proposed with others, in one command, since the start.
     pub together: u64,
     /// What came and was no frame, since the start.
@@ -64,19 +83,28 @@ impl Host {
         Status {
             generation: self.progress.generation.number,
             replicas: self.progress.place.replicas,
+            is_sealed: self.progress.generation.is_sealed(),
             entries: self.progress.generation.entries,
+            log: self.progress.generation.log,
+            dependencies: self.progress.generation.dependencies,
+            map: self.calls.room.map,
             used: self.progress.generation.used,
             is_alone: self.progress.is_alone(),
             reached: self.progress.peers().filter(|peer| self.progress.is_reached(*peer)).collect(),
             spared: self.progress.distances.spared(),
-            waiting: self.calls.count() + self.reads.count(),
+            waiting: self.calls.count() + self.reads.count() + self.here.len(),
             open: self.progress.watch.count(),
+            quorum: self.progress.distances.quorum(),
+            far: self.progress.peers().map(|peer| (peer, self.progress.distances.shortest(peer))).collect(),
             behind: ahead.saturating_sub(self.progress.generation.number),
             changes: self.counts.changes,
             accepts: self.progress.counts.accepts,
             recoveries: self.progress.counts.recoveries,
             sent_again: self.progress.counts.sent_again,
             syncs: self.counts.syncs,
+            proposals: self.counts.proposals,
+            questions: self.reads.questions,
+            questions_again: self.reads.questions_again,
             together: self.calls.together,
             refused: self.progress.counts.refused,
         }
@@ -150,7 +178,7 @@ impl Host {
     pub fn is_quiet(&self) -> bool {
         let is_idle = self.busy.is_none() && !self.executions.is_due() && self.calls.is_empty();
         let is_known = self.progress.watch.count() == 0 && !self.progress.watch.is_changed();
-        is_idle && is_known && self.reads.is_empty() && self.pending.batch.0.is_empty()
+        is_idle && is_known && self.reads.is_empty() && self.here.is_empty() && self.pending.batch.0.is_empty()
     }
 
     /// The generation that it is in.

@@ -25,6 +25,8 @@ pub struct Turn {
     /// The receipts among them, as an audit takes them: appended to a file before the replies go out, if what was told
     /// is to be judged.
     pub receipts: Vec<u8>,
+    /// Their generation, where there are some.
+    pub receipts_of: u32,
     /// What is to be done in the background.
     pub work: Vec<Work>,
     /// What was executed, in its order, where [`Settings::tells_executed`](super::Settings::tells_executed) says so.

@@ -1,5 +1,6 @@
 //! What is to be done beside the log.
 use crate::Checkpoint;
+use crate::host::{Span, Trail};
 
 /// What is to be done in the background: whoever runs the host may take its time, and goes on with
 /// [`Turn::writes`](super::Turn::writes) meanwhile.
@@ -34,5 +35,27 @@ pub enum Work {
         offset: u64,
         /// How many bytes it has at most.
         length: u64,
+    },
+    /// What is left of the generation before is [let go](Checkpoint::let_go), which takes the longer the more that did,
+    /// and [`Host::let_go`](super::Host::let_go) is given the checkpoint back.
+    LetGo {
+        /// The generation that began.
+        generation: u32,
+        /// The checkpoint.
+        checkpoint: Checkpoint,
+    },
+    /// These bytes are read, one behind the other, and [`Host::gathered`](super::Host::gathered) is told.
+    Gather {
+        /// The number under which it is told.
+        number: u64,
+        /// Where they are.
+        spans: Vec<Span>,
+    },
+    /// What a peer has handed is [gone through](Trail::opening), and [`Host::followed`](super::Host::followed) is told.
+    Follow {
+        /// The generation that it leads to.
+        generation: u32,
+        /// What was handed.
+        trail: Trail,
     },
 }

@@ -1,6 +1,6 @@
 //! Files that are as they were before, or whole, after a crash at any moment.
 use std::fs::{self, File};
-use std::io::{self, Write};
+use std::io::{self, ErrorKind, Write};
 use std::path::Path;
 
 /// So much is written between two syncs: one of all of a long file would stop those of the log.
@@ -58,6 +58,21 @@ pub fn move_in(folder: &Path, name: &str) -> io::Result<()> {
     sync(folder)
 }
 
+/// Makes a folder, where it isn't there, and those above it; each is on the disk before anything lies in it.
+pub fn create(path: &Path) -> io::Result<()> {
+    let above = path.parent().filter(|above| !above.as_os_str().is_empty()).unwrap_or(Path::new("."));
+    let made = match fs::create_dir(path) {
+        Err(error) if error.kind() == ErrorKind::NotFound && above != path => {
+            create(above).and_then(|()| fs::create_dir(path))
+        }
+        made => made,
+    };
+    match made {
+        Err(error) if error.kind() == ErrorKind::AlreadyExists && path.is_dir() => Ok(()),
+        made => made.and_then(|()| sync(above)),
+    }
+}
+
 /// What this folder has under which names is on the disk then.
 pub fn sync(folder: &Path) -> io::Result<()> {
     File::open(folder)?.sync_all()
@@ -71,6 +86,21 @@ pub fn unusable(path: &Path) -> impl Fn(io::Error) -> io::Error {
 #[cfg(test)]
 mod tests {
     use super::*;
+
+    #[test]
+    fn folders_are_made_where_they_are_not() {
+        let top = std::env::temp_dir().join(format!("epaxos-made-{}", std::process::id()));
+        let path = top.join("in/another");
+        (0..2).for_each(|_| create(&path).unwrap());
+        assert!(path.is_dir());
+        fs::write(path.join("file"), "").unwrap();
+        for (path, kind) in
+            [(path.join("file"), ErrorKind::AlreadyExists), (path.join("file/it"), ErrorKind::NotADirectory)]
+        {
+            assert_eq!(create(&path).unwrap_err().kind(), kind);
+        }
+        fs::remove_dir_all(top).unwrap();
+    }
 
     #[test]
     fn a_file_is_as_before_or_whole() {

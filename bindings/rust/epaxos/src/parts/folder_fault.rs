@@ -40,6 +40,8 @@ pub enum FolderFault {
     ShortLog(u32),
     /// The log of this generation isn't the one that the next one opens with.
     OtherLog(u32),
+    /// What a peer has handed leads to no generation: why.
+    BadWay(&'static str),
     /// What is to be taken is for so many replicas, and there are others.
     OtherCluster(u8),
     /// This generation is for so many replicas, and isn't closed.
@@ -64,7 +66,7 @@ impl FolderFault {
     pub fn is_lasting(&self) -> bool {
         match self {
             FolderFault::Disk(_) | FolderFault::Plan(PlanFault::Memory) => false,
-            FolderFault::Succeed(_) | FolderFault::Core(_) => false,
+            FolderFault::Succeed(_) | FolderFault::Core(_) | FolderFault::BadWay(_) => false,
             FolderFault::Open(fault) => {
                 !matches!(fault, OpenFault::Memory | OpenFault::OtherLibrary | OpenFault::Ended(_))
             }
@@ -113,6 +115,7 @@ impl fmt::Display for FolderFault {
                 write!(f, "folder refused: the opening of generation {generation}: {why}")
             }
             FolderFault::BadOpening(None, why) => write!(f, "opening refused: {why}"),
+            FolderFault::BadWay(why) => write!(f, "what leads to the generation is damaged: {why}"),
             FolderFault::OfAnother(generation, other) => {
                 write!(f, "folder refused: the opening of generation {generation} is that of generation {other}")
             }

@@ -1,6 +1,7 @@
 //! How logs are gone through, from a whole opening on: a start goes so through its own, and a replica that lags through
 //! those of a peer.
-use crate::parts::folder::{Opened, Started};
+use crate::host::Stored;
+use crate::parts::folder::{Opened, Started, SumOf, log_of, look};
 use crate::parts::folder_fault::FolderFault;
 use crate::parts::opening::Opening;
 use crate::parts::tally::Tally;
@@ -77,6 +78,17 @@ impl Follower {
             replay(&mut replica, &log, reference.generation(), &mut tally, &mut each)?;
         }
         Ok((replica, tally))
+    }
+
+    /// What a generation opens with, as its file has it, or as logs lead to it. Nothing is changed.
+    pub fn opening_in(&self, stored: &impl Stored, generation: u32, sum: SumOf) -> Result<Opened, FolderFault> {
+        let started = Started::read(stored, &look(stored)?, generation)?;
+        let Some(reference) = started.references.last().copied() else { return Ok(started.first) };
+        let mut bytes = Vec::new();
+        for piece in self.opening_of(&started, reference, |next| log_of(stored, next, sum))? {
+            bytes.extend(piece?);
+        }
+        Ok(Opened { generation, replicas: reference.cluster().replicas(), bytes, reference: Some(reference) })
     }
 
     /// The opening of a generation that logs lead to, by the last reference.

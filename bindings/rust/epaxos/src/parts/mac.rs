@@ -45,6 +45,24 @@ impl Mac for Hmac {
     }
 }
 
+/// The same where there is a key. By a key without a byte that isn't 0 nothing is proved, and nothing is reckoned.
+#[derive(Clone, Debug)]
+pub struct Guard(Option<Hmac>);
+
+impl Mac for Guard {
+    fn keyed(key: &[u8]) -> Guard {
+        Guard(key.iter().any(|byte| *byte > 0).then(|| Hmac::keyed(key)))
+    }
+
+    fn add(&mut self, bytes: &[u8]) {
+        self.0.iter_mut().for_each(|mac| mac.add(bytes));
+    }
+
+    fn digest(self) -> [u8; 32] {
+        self.0.map_or([0; 32], Hmac::digest)
+    }
+}
+
 /// Whether these are the same. How long that takes tells nothing of where they differ.
 pub fn is_same(one: &[u8], other: &[u8]) -> bool {
     let differ = one.iter().zip(other).fold(0, |differ, (one, other)| black_box(differ | (one ^ other)));

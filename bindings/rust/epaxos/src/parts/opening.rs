@@ -117,6 +117,35 @@ pub fn map_of(opening: &[u8]) -> Option<&[u8]> {
     from.get(..from.len() - fields.rest().len())
 }
 
+/// The bytes of an opening: of so many replicas, of this generation, whose clocks go on from a stamp, with these
+/// members and the bytes of a map. Nothing was executed before it.
+pub fn write(replicas: u8, (generation, since): (u32, u64), members: &Members, map: &[u8]) -> Vec<u8> {
+    let seal = members.write().into_bytes();
+    let mut bytes = MAGIC.to_vec();
+    bytes.push(replicas);
+    bytes.extend(generation.to_be_bytes());
+    bytes.extend(since.to_be_bytes());
+    bytes.push(1);
+    bytes.extend((seal.len() as u32).to_be_bytes());
+    bytes.extend(seal);
+    bytes.extend(map);
+    bytes.extend(0_u32.to_be_bytes());
+    bytes.extend(Sum::of(&bytes));
+    bytes
+}
+
+/// The bytes of a map that has these keys with their values, in their order.
+pub fn write_map<'a>(pairs: impl ExactSizeIterator<Item = (&'a [u8], &'a [u8])>) -> Vec<u8> {
+    let mut map = (pairs.len() as u32).to_be_bytes().to_vec();
+    for (key, value) in pairs {
+        map.push(key.len() as u8);
+        map.extend((value.len() as u32).to_be_bytes());
+        map.extend(key);
+        map.extend(value);
+    }
+    map
+}
+
 /// The bytes of an opening without one of its keys, of which `which` says by how many there are: a fault that is
 /// planted. None where it has none.
 pub fn lacking(opening: &[u8], which: impl Fn(u32) -> u32) -> Option<Vec<u8>> {
@@ -159,6 +188,7 @@ fn run(input: &mut impl Read, length: u32) -> io::Result<Vec<u8>> {
 #[cfg(test)]
 mod tests {
     use super::*;
+    use crate::parts::members::Member;
 
     /// The examples of docs/FORMATS.md, section 12.2.
     #[test]
@@ -184,5 +214,43 @@ mod tests {
         for cut in 0..second.len() {
             assert!(Opening::from(&second[..cut]).is_err());
         }
+    }
+
+    /// By the second opening of tests/vectors/openings.txt.
+    #[test]
+    fn an_opening_keeps_the_map_and_has_other_members() {
+        let digits = |text: &str| -> Vec<u8> {
+            let digits: Vec<u8> = text.bytes().filter(|byte| !byte.is_ascii_whitespace()).collect();
+            let pair = |pair: &[u8]| u8::from_str_radix(std::str::from_utf8(pair).unwrap(), 16).unwrap();
+            digits.chunks(2).map(pair).collect()
+        };
+        let page = digits(
+            "45504f50 03 03 00000002 0000000000000005 01 00000001 78 00000001 01 00000001 61 31
+             00000002  00 0001  02 0007 ba4a4d800fb593e6b4257ad4a8286b173b475a92cf8b8c816f8b2f08e944b31a",
+        );
+        let map = map_of(&page).unwrap();
+        assert_eq!(map, digits("00000001 01 00000001 61 31"));
+        assert_eq!((0..page.len() - 40).find_map(|cut| map_of(&page[..cut])), None);
+        let one = Member { identity: Some([1; 16]), address: Some("a:7".into()) };
+        let members = Members(vec![one, Member::default(), Member::default()]);
+        let made = write(3, (258, 7), &members, map);
+        let (body, digest) = made.split_at(made.len() - 32);
+        let seal = format!("members 1\n0 {} a:7\n1 - -\n2 - -\n", "01".repeat(16));
+        let told = [
+            &digits("45504f50 03 03 00000102 0000000000000007 01")[..],
+            &(seal.len() as u32).to_be_bytes(),
+            seal.as_bytes(),
+            &digits("00000001 01 00000001 61 31 00000000"),
+        ];
+        assert_eq!(body, told.concat());
+        assert_eq!(Sum::of(body), *digest);
+    }
+
+    #[test]
+    fn a_map_is_written_as_it_is_read() {
+        assert_eq!(write_map([].into_iter()), [0; 4]);
+        let map = write_map([(&b"a"[..], &b"1"[..]), (b"bc", b"")].into_iter());
+        assert_eq!(map, b"\0\0\0\x02\x01\0\0\0\x01a1\x02\0\0\0\0bc");
+        assert_eq!(map_of(&write(3, (2, 5), &Members(Vec::new()), &map)), Some(&map[..]));
     }
 }

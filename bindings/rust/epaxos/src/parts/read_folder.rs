@@ -1,5 +1,5 @@
 //! A folder of generations on a disk, as it is read.
-use crate::host::{Name, Stored};
+use crate::host::{Name, Span, Stored};
 use crate::parts::files::unusable;
 use crate::parts::planning::generation_in;
 use std::fs::{self, File};
@@ -23,10 +23,24 @@ impl ReadFolder {
         self.folder_of(generation).join(name.letters())
     }
 
+    /// These bytes of a file. Where it has fewer, that is an error.
+    pub fn span(&self, span: &Span) -> io::Result<Vec<u8>> {
+        let bytes = part(&self.file(span.generation, span.name), span.offset, span.length)?;
+        if bytes.len() as u64 == span.length { Ok(bytes) } else { Err(ErrorKind::UnexpectedEof.into()) }
+    }
+
     /// How many bytes a file has; 0 where there is none.
     pub fn length(&self, generation: u32, name: Name) -> u64 {
         fs::metadata(self.file(generation, name)).map_or(0, |found| found.len())
     }
+}
+
+/// So many bytes of a file from a place on, or as many as there are.
+pub fn part(path: &Path, at: u64, length: u64) -> io::Result<Vec<u8>> {
+    let (mut file, mut bytes) = (File::open(path)?, Vec::new());
+    file.seek(SeekFrom::Start(at))?;
+    file.take(length).read_to_end(&mut bytes)?;
+    Ok(bytes)
 }
 
 /// What isn't there is none. (What isn't a folder has nothing in it.)

@@ -1,6 +1,6 @@
 //! A disk.
 use crate::Checkpoint;
-use crate::host::{Act, Stored};
+use crate::host::{Act, Span, Stored};
 use std::io;
 
 /// A disk for a host. A copy of it is the same disk, for another thread.
@@ -40,6 +40,16 @@ pub trait Disk: Stored + Clone + Send + 'static {
     ///
     /// What the disk says.
     fn read_opening(&mut self, generation: u32, offset: u64, length: u64) -> io::Result<(u64, Vec<u8>)>;
+
+    /// These bytes.
+    ///
+    /// # Errors
+    ///
+    /// What the disk says; `UnexpectedEof` where there are fewer.
+    fn read_span(&self, span: &Span) -> io::Result<Vec<u8>> {
+        let file = self.read(span.generation, span.name)?.unwrap_or_default();
+        Ok(span.of(&file).ok_or(io::ErrorKind::UnexpectedEof)?.to_vec())
+    }
 
     /// Keeps receipts for an audit, if it is wanted.
     ///

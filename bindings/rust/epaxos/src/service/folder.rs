@@ -1,16 +1,17 @@
 //! A disk in a folder.
 use crate::Checkpoint;
-use crate::host::{Act, Identity, Name, Stored};
+use crate::host::{Act, Identity, Name, Span, Stored};
 use crate::lock::Lock;
 use crate::log_file::named;
-use crate::parts::files::{fill, sync, unusable, write};
+use crate::parts::files::{create, fill, sync, unusable, write};
 use crate::parts::identity::{by_chance, digits, identity};
-use crate::parts::read_folder::ReadFolder;
+use crate::parts::read_folder::{ReadFolder, part};
+use crate::parts::receipts::Receipts;
 use crate::service::Disk;
 use std::fs::{self, File, OpenOptions, TryLockError};
-use std::io::{self, ErrorKind, Read, Seek, SeekFrom, Write};
+use std::io::{self, ErrorKind, Write};
 use std::path::{Path, PathBuf};
-use std::sync::Arc;
+use std::sync::{Arc, Mutex, PoisonError};
 
 /// The names of a generation's files, in the order in which they are dropped: the mark last, as without it the replica
 /// might act there again.
@@ -39,7 +40,7 @@ pub struct Folder {
     _lock: Arc<Lock>,
     /// The log that bytes were appended to last.
     log: Option<(u32, Arc<File>)>,
-    receipts: Option<Arc<File>>,
+    receipts: Option<Arc<Mutex<Receipts>>>,
 }
 
 impl Folder {
@@ -63,7 +64,7 @@ impl Folder {
     /// ```
     pub fn open(path: impl AsRef<Path>) -> io::Result<Folder> {
         let path = path.as_ref().to_path_buf();
-        fs::create_dir_all(&path).map_err(|error| named(&path, &error))?;
+        create(&path).map_err(|error| named(&path, &error))?;
         let place = path.join("host.lock");
         let lock = Lock::take(&place).map_err(|refusal| match refusal {
             TryLockError::WouldBlock => io::Error::new(ErrorKind::WouldBlock, format!("{} is in use", path.display())),
@@ -72,12 +73,13 @@ impl Folder {
         Ok(Folder { files: ReadFolder(path), _lock: Arc::new(lock), log: None, receipts: None })
     }
 
-    /// The same, with the file `receipts`, to which what clients are told is appended: for an audit. A host that is
-    /// audited also keeps all its generations ([`Settings::kept`](crate::host::Settings::kept)).
+    /// The same, with the file `receipts`, to which what clients are told is appended: for an audit. One that a crash
+    /// has cut off is dropped. A host that is audited also keeps all its generations
+    /// ([`Settings::kept`](crate::host::Settings::kept)).
     ///
     /// # Errors
     ///
-    /// The system's.
+    /// The system's; `InvalidData` where the file has other bytes.
     ///
     /// ```
     /// # let path = std::env::temp_dir().join(format!("epaxos-receipts-{}", std::process::id()));
@@ -90,8 +92,8 @@ impl Folder {
     /// # Ok::<(), std::io::Error>(())
     /// ```
     pub fn with_receipts(self) -> io::Result<Folder> {
-        let file = open_to_append(&self.files.path().join("receipts"), true)?;
-        Ok(Folder { receipts: Some(Arc::new(file)), ..self })
+        let opened = Receipts::open(&self.files.path().join("receipts"), |_, _| true)?;
+        Ok(Folder { receipts: Some(Arc::new(Mutex::new(opened))), ..self })
     }
 
     /// The identity of the machine whose folder this is ([`Settings::identity`](crate::host::Settings::identity)), in
@@ -140,7 +142,7 @@ impl Folder {
         let path = self.files.folder_of(generation).join(Name::Log.letters());
         let file = match &self.log {
             Some((of, file)) if *of == generation => file.clone(),
-            _ => Arc::new(open_to_append(&path, false)?),
+            _ => Arc::new(open_to_append(&path)?),
         };
         (&*file).write_all(bytes).and_then(|()| file.sync_data()).map_err(|error| named(&path, &error))?;
         self.log = Some((generation, file));
@@ -201,19 +203,21 @@ impl Disk for Folder {
     }
 
     fn read_opening(&mut self, generation: u32, offset: u64, length: u64) -> io::Result<(u64, Vec<u8>)> {
-        let mut file = File::open(self.files.folder_of(generation).join(Name::Opening.letters()))?;
-        let (total, mut bytes) = (file.metadata()?.len(), Vec::new());
-        file.seek(SeekFrom::Start(offset))?;
-        file.take(length).read_to_end(&mut bytes)?;
-        Ok((total, bytes))
+        let path = self.files.file(generation, Name::Opening);
+        Ok((fs::metadata(&path)?.len(), part(&path, offset, length)?))
+    }
+
+    fn read_span(&self, span: &Span) -> io::Result<Vec<u8>> {
+        self.files.span(span)
     }
 
     fn keep_receipts(&mut self, receipts: &[u8]) -> io::Result<()> {
-        self.receipts.as_ref().map_or(Ok(()), |file| (&**file).write_all(receipts))
+        let Some(file) = &self.receipts else { return Ok(()) };
+        Ok(file.lock().unwrap_or_else(PoisonError::into_inner).append(receipts)?)
     }
 }
 
-/// Opens a file to append to it, and makes it where it isn't there, if that is asked for.
-fn open_to_append(path: &Path, is_made: bool) -> io::Result<File> {
-    OpenOptions::new().append(true).create(is_made).open(path).map_err(|error| named(path, &error))
+/// Opens a file to append to it.
+fn open_to_append(path: &Path) -> io::Result<File> {
+    OpenOptions::new().append(true).open(path).map_err(|error| named(path, &error))
 }

@@ -1,8 +1,8 @@
 //! Where what comes goes.
 use super::promise::Promise;
 use super::watcher::Wish as WatchWish;
-use crate::OwnedCommand;
 use crate::host::{Identity, Member, Status, Told, Wish};
+use crate::{Checkpoint, OwnedCommand};
 use std::sync::mpsc::Sender;
 
 /// Who takes part, and who waits to be let in.
@@ -15,12 +15,16 @@ pub(super) enum Came {
     From(u8, Vec<u8>),
     Call(OwnedCommand, Promise<Told>),
     Read(Vec<u8>, Promise<Told>),
+    ReadHere(Option<Vec<u8>>, Promise<Told>),
     Status(Promise<Status>),
     Watch(WatchWish),
     Wish(Wish, Promise<Told>),
     Members(Promise<Taking>),
     Written(u32, [u8; 32], u64),
     Part(u32, u64, (u64, Vec<u8>)),
+    LetGo(u32, Checkpoint),
+    Gathered(u64, Option<Vec<u8>>),
+    Followed(u32, Option<Vec<u8>>),
     /// It is to end once what is under way is done,
     Stop,
     /// or at once.

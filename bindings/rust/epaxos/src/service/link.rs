@@ -35,6 +35,11 @@ pub trait Link: Send + 'static {
     /// Sends bytes to a peer, without waiting. Where there is no room, they are lost.
     fn send(&mut self, to: u8, bytes: Vec<u8>);
 
+    /// The same of several, in their order.
+    fn send_several(&mut self, to: u8, all: Vec<Vec<u8>>) {
+        all.into_iter().for_each(|bytes| self.send(to, bytes));
+    }
+
     /// From now on a peer is at this address, which a [wish](super::Service::wish) has named.
     fn set_address(&mut self, _peer: u8, _address: String) {}
 }

@@ -1,33 +1,24 @@
 //! Links over TCP.
-use crate::parts::mac::Hmac;
-use crate::parts::sealed::{self, Direction, Hello, Magic};
+use crate::parts::connect_fault::ConnectFault;
+use crate::parts::ends::Ends;
+use crate::parts::happened::Happened;
+use crate::parts::link::Link as _;
+use crate::parts::mac::Guard;
+use crate::parts::place::{MOST_REPLICAS, Place};
+use crate::parts::sealed::Magic;
+use crate::parts::tcp_receiver::TcpReceiver;
+use crate::parts::tcp_sender::TcpSender;
+use crate::service::inbox::Came;
 use crate::service::{Inbox, Key, Link};
 use std::collections::BTreeMap;
-use std::io::{self, BufReader, BufWriter, ErrorKind, Read, Write};
+use std::io::{self, ErrorKind};
 use std::net::{SocketAddr, TcpListener, TcpStream, ToSocketAddrs};
-use std::sync::atomic::{AtomicBool, Ordering};
-use std::sync::mpsc::{Receiver, RecvTimeoutError, SyncSender, TryRecvError, sync_channel};
-use std::sync::{Arc, Mutex, PoisonError};
+use std::sync::{Arc, Mutex, MutexGuard, PoisonError};
 use std::thread::{self, JoinHandle};
-use std::time::{Duration, Instant};
+use std::time::Duration;
 
-/// There are no greater numbers.
-const REPLICAS: u8 = 7;
-/// What a connection begins with, before the number of who connects; and one whose ends share a key.
-const MAGIC: &[u8; 5] = b"EPTL\x01";
-const SEALED: Magic = *b"EPTK\x01";
-/// The kind of a sealed message that is for the host, and of one that only proves who has connected.
-const FRAME: u8 = 1;
-const PROOF: u8 = 0;
-/// What is longer isn't taken.
-const LONGEST: usize = 16 << 20;
-/// So much waits for a peer; what comes then is lost.
-const MOST: usize = 10_000;
-/// Between two tries to connect, and how long one takes at most.
-const PAUSE: Duration = Duration::from_millis(200);
+/// How long a link that is dropped takes at most to free its address.
 const PATIENCE: Duration = Duration::from_secs(2);
-/// How long a connection may take nothing before it is lost, and who connects may say nothing.
-const STUCK: Duration = Duration::from_secs(10);
 
 /// Links over TCP: a connection to each peer, and one from each. Without a [key](TcpLink::seal) whoever reaches the
 /// address is taken for the peer that it says it is. Nothing is hidden: for that take a tunnel. Where a
@@ -40,23 +31,92 @@ const STUCK: Duration = Duration::from_secs(10);
 /// # drop(link);
 /// # Ok::<(), std::io::Error>(())
 /// ```
-#[derive(Debug)]
 pub struct TcpLink {
     me: u8,
-    key: Option<Key>,
+    key: Key,
     listener: TcpListener,
     addresses: Vec<SocketAddr>,
-    peers: BTreeMap<u8, Peer>,
-    inbox: Option<Inbox>,
-    is_over: Arc<AtomicBool>,
-    accepting: Option<JoinHandle<()>>,
+    begun: Option<Begun>,
 }
 
-/// The way to a peer: where it is, and what is for it.
-#[derive(Debug)]
-struct Peer {
-    address: Arc<Mutex<String>>,
-    frames: SyncSender<Vec<u8>>,
+/// What a link has once it has begun.
+struct Begun {
+    near: Arc<Near>,
+    receiver: Arc<TcpReceiver<Near>>,
+    accepting: JoinHandle<()>,
+}
+
+/// The ends here.
+struct Near {
+    me: u8,
+    key: Key,
+    inbox: Inbox,
+    peers: Mutex<BTreeMap<u8, Arc<TcpSender<Near>>>>,
+}
+
+impl Near {
+    fn peers(&self) -> MutexGuard<'_, BTreeMap<u8, Arc<TcpSender<Near>>>> {
+        self.peers.lock().unwrap_or_else(PoisonError::into_inner)
+    }
+
+    /// Begins to send a peer what is for it.
+    fn begin(self: &Arc<Self>, peer: u8, address: String) -> io::Result<()> {
+        let sender = TcpSender::start(peer, address, self.clone())?;
+        self.peers().insert(peer, sender);
+        Ok(())
+    }
+}
+
+/// Whoever has the key is the peer that it says it is.
+impl Ends for Near {
+    type Mac = Guard;
+    type Who = ();
+    const MAGIC: Magic = *b"EPTK\x02";
+    const OF_KEYS: &'static str = "";
+
+    fn place(&self) -> Place {
+        Place { replicas: MOST_REPLICAS.into(), replica: self.me }
+    }
+
+    fn key(&self) -> &Key {
+        &self.key
+    }
+
+    fn greeting(&self) -> Vec<u8> {
+        Vec::new()
+    }
+
+    fn judge(&self, _: u8, _: &[u8]) -> Result<(), ConnectFault> {
+        Ok(())
+    }
+
+    fn answer(&self, _: u8, _: &[u8]) -> io::Result<Option<(Vec<u8>, Option<()>)>> {
+        Ok(Some((Vec::new(), Some(()))))
+    }
+
+    fn takes(&self, _: u8, (): ()) -> bool {
+        true
+    }
+
+    fn happen(&self, what: Happened) -> bool {
+        let came = match what {
+            Happened::Reached(peer) => Came::Opened(peer),
+            Happened::Lost(peer) => Came::Lost(peer),
+            Happened::Called(peer) => {
+                let sender = self.peers().get(&peer).cloned();
+                sender.into_iter().filter(|it| !it.is_reached()).for_each(|it| it.hurry());
+                return true;
+            }
+            Happened::Came(from, bytes) => Came::From(from, bytes),
+        };
+        self.inbox.0.send(came).is_ok()
+    }
+}
+
+impl std::fmt::Debug for TcpLink {
+    fn fmt(&self, f: &mut std::fmt::Formatter) -> std::fmt::Result {
+        f.debug_struct("TcpLink").field("me", &self.me).field("listener", &self.listener).finish_non_exhaustive()
+    }
 }
 
 impl TcpLink {
@@ -86,9 +146,7 @@ impl TcpLink {
         let own = *all.get(usize::from(me)).ok_or_else(|| io::Error::new(ErrorKind::InvalidInput, none()))?;
         let listener = TcpListener::bind(own)
             .map_err(|error| io::Error::new(error.kind(), format!("can't listen at {own}: {error}")))?;
-        let is_over = Arc::default();
-        let (peers, inbox, accepting) = (BTreeMap::new(), None, None);
-        Ok(TcpLink { me, key: None, listener, addresses: all, peers, inbox, is_over, accepting })
+        Ok(TcpLink { me, key: Key::none(), listener, addresses: all, begun: None })
     }
 
     /// The same links of replicas that share a key: each end proves that it has it, and each message that it is the
@@ -108,56 +166,41 @@ impl TcpLink {
     /// # Ok::<(), Box<dyn std::error::Error>>(())
     /// ```
     pub fn seal(&mut self, key: Key) {
-        self.key = Some(key);
-    }
-
-    /// Begins to send a peer what is for it.
-    fn begin(&mut self, peer: u8, address: String) -> io::Result<()> {
-        let Some(inbox) = self.inbox.clone() else { return Ok(()) };
-        let (sender, frames) = sync_channel(MOST);
-        let (caller, address) = (Caller { me: self.me, peer, key: self.key.clone() }, Arc::new(Mutex::new(address)));
-        self.peers.insert(peer, Peer { address: address.clone(), frames: sender });
-        let run = move || caller.send_all(&address, &frames, &inbox);
-        thread::Builder::new().name(format!("to-{peer}")).spawn(run)?;
-        Ok(())
+        self.key = key;
     }
 }
 
 impl Link for TcpLink {
     fn start(&mut self, inbox: Inbox) -> io::Result<()> {
-        self.inbox = Some(inbox.clone());
-        let (me, addresses) = (self.me, std::mem::take(&mut self.addresses));
-        for (peer, address) in (0..).zip(addresses).filter(|(peer, _)| *peer != me) {
-            self.begin(peer, address.to_string())?;
+        let (me, key) = (self.me, self.key.clone());
+        let near = Arc::new(Near { me, key, inbox, peers: Mutex::default() });
+        for (peer, address) in (0..).zip(std::mem::take(&mut self.addresses)).filter(|(peer, _)| *peer != me) {
+            near.begin(peer, address.to_string())?;
         }
-        let listener = self.listener.try_clone()?;
-        let (is_over, key) = (self.is_over.clone(), self.key.clone());
-        let accept = move || {
-            for stream in listener.incoming().flatten() {
-                if is_over.load(Ordering::Acquire) {
-                    return;
-                }
-                let (inbox, key) = (inbox.clone(), key.clone());
-                let run = move || _ = receive_all(&stream, (me, key.as_ref()), &inbox);
-                let _ = thread::Builder::new().name("from".into()).spawn(run);
-            }
-        };
-        self.accepting = Some(thread::Builder::new().name("accept".into()).spawn(accept)?);
+        let (listener, receiver) = (self.listener.try_clone()?, Arc::new(TcpReceiver::new(near.clone())));
+        let served = receiver.clone();
+        let accepting = thread::Builder::new().name("accept".into()).spawn(move || served.listen(&listener))?;
+        self.begun = Some(Begun { near, receiver, accepting });
         Ok(())
     }
 
     fn send(&mut self, to: u8, bytes: Vec<u8>) {
-        if let Some(peer) = self.peers.get(&to) {
-            let _ = peer.frames.try_send(bytes);
+        self.send_several(to, vec![bytes]);
+    }
+
+    fn send_several(&mut self, to: u8, all: Vec<Vec<u8>>) {
+        if let Some(peer) = self.begun.as_ref().and_then(|it| it.near.peers().get(&to).cloned()) {
+            peer.send_several(all);
         }
     }
 
     fn set_address(&mut self, peer: u8, address: String) {
-        match self.peers.get(&peer) {
-            _ if peer == self.me => {}
-            Some(there) => *there.address.lock().unwrap_or_else(PoisonError::into_inner) = address,
+        let Some(Begun { near, .. }) = self.begun.as_ref().filter(|_| peer != self.me) else { return };
+        let there = near.peers().get(&peer).cloned();
+        match there {
+            Some(there) => there.set_address(&address),
             // (without a thread nothing is sent there, as to a machine that is down)
-            None => _ = self.begin(peer, address),
+            None => _ = near.begin(peer, address),
         }
     }
 }
@@ -165,158 +208,12 @@ impl Link for TcpLink {
 impl Drop for TcpLink {
     /// The address is free then: a connection to itself ends the wait for others.
     fn drop(&mut self) {
-        self.is_over.store(true, Ordering::Release);
+        let Some(Begun { near, receiver, accepting }) = self.begun.take() else { return };
+        std::mem::take(&mut *near.peers()).into_values().for_each(|peer| peer.end());
+        receiver.end();
         let woken = self.listener.local_addr().and_then(|own| TcpStream::connect_timeout(&own, PATIENCE));
-        if let (Some(accepting), Ok(_)) = (self.accepting.take(), woken) {
+        if woken.is_ok() {
             let _ = accepting.join();
         }
-    }
-}
-
-/// Who connects to a peer.
-struct Caller {
-    me: u8,
-    peer: u8,
-    key: Option<Key>,
-}
-
-impl Caller {
-    /// Sends the peer what is for it, over one connection after the other, until the link is dropped.
-    fn send_all(&self, address: &Mutex<String>, frames: &Receiver<Vec<u8>>, inbox: &Inbox) {
-        let present = || address.lock().unwrap_or_else(PoisonError::into_inner).clone();
-        loop {
-            let there = present();
-            if let Ok(stream) = connect(&there)
-                && let Ok(sealing) = self.greet(&stream)
-            {
-                // (what waited for a connection that is gone isn't for this one)
-                while frames.try_recv().is_ok() {}
-                inbox.opened(self.peer);
-                let is_over = send_over(&stream, sealing, frames, || present() == there);
-                inbox.lost(self.peer);
-                if is_over {
-                    return;
-                }
-            }
-            thread::sleep(PAUSE);
-            if frames.try_recv() == Err(TryRecvError::Disconnected) {
-                return;
-            }
-        }
-    }
-
-    /// Says who connects, and proves it where there is a key.
-    fn greet(&self, mut stream: &TcpStream) -> io::Result<Option<Direction<Hmac>>> {
-        stream.set_nodelay(true)?;
-        stream.set_write_timeout(Some(STUCK))?;
-        let Some(key) = &self.key else {
-            stream.write_all(&[&MAGIC[..], &[self.me]].concat())?;
-            return Ok(None);
-        };
-        stream.set_read_timeout(Some(STUCK))?;
-        let hello = Hello::new(SEALED, [REPLICAS, self.me, self.peer])?;
-        let mut sending = sealed::call(&mut stream, key, &hello)?.sending;
-        sending.write(&mut stream, PROOF, &[])?;
-        Ok(Some(sending))
-    }
-}
-
-fn connect(address: &str) -> io::Result<TcpStream> {
-    let first = address.to_socket_addrs()?.next().ok_or(ErrorKind::NotFound)?;
-    TcpStream::connect_timeout(&first, PATIENCE)
-}
-
-/// Sends over one connection until it is lost, or the peer is elsewhere, for which it is looked now and then. Whether
-/// the link was dropped.
-fn send_over(
-    stream: &TcpStream,
-    mut sealing: Option<Direction<Hmac>>,
-    frames: &Receiver<Vec<u8>>,
-    is_there: impl Fn() -> bool,
-) -> bool {
-    let mut out = BufWriter::with_capacity(1 << 16, stream);
-    let mut write = |out: &mut BufWriter<_>, frame: &[u8]| match &mut sealing {
-        None => out.write_all(&(frame.len() as u32).to_be_bytes()).and_then(|()| out.write_all(frame)),
-        Some(sending) => sending.write(out, FRAME, frame),
-    };
-    let mut looked = Instant::now();
-    loop {
-        let first = match frames.recv_timeout(PAUSE) {
-            Ok(first) => Some(first),
-            Err(RecvTimeoutError::Timeout) => None,
-            Err(RecvTimeoutError::Disconnected) => return true,
-        };
-        let mut next = first;
-        while let Some(frame) = next {
-            if write(&mut out, &frame).is_err() {
-                return false;
-            }
-            next = frames.try_recv().ok();
-        }
-        let is_due = looked.elapsed() >= PAUSE;
-        if out.flush().is_err() || (is_due && (is_closed(stream) || !is_there())) {
-            return false;
-        }
-        looked = if is_due { Instant::now() } else { looked };
-    }
-}
-
-/// Whether the other end has closed it: nothing else ever comes this way.
-fn is_closed(stream: &TcpStream) -> bool {
-    let is_well = stream.set_nonblocking(true).is_ok();
-    let closed = match stream.peek(&mut [0]) {
-        Err(error) => error.kind() != ErrorKind::WouldBlock,
-        Ok(_) => true,
-    };
-    !is_well || stream.set_nonblocking(false).is_err() || closed
-}
-
-/// Hands in what comes over a connection until it is lost, or what comes is none of this.
-fn receive_all(stream: &TcpStream, (me, key): (u8, Option<&Key>), inbox: &Inbox) -> io::Result<()> {
-    stream.set_read_timeout(Some(STUCK))?;
-    let mut input = BufReader::with_capacity(1 << 16, stream);
-    let mut sealing = None;
-    let from = match key {
-        None => {
-            let mut head = [0; 6];
-            input.read_exact(&mut head)?;
-            head.strip_prefix(MAGIC).and_then(|rest| rest.first().copied())
-        }
-        Some(key) => {
-            let hello = sealed::heard(&mut input)?;
-            let ends = hello.ends(&SEALED).filter(|[_, _, to]| *to == me);
-            stream.set_write_timeout(Some(STUCK))?;
-            let mut receiving = sealed::answer(&mut &*stream, key, &hello)?.receiving;
-            // (who has no key gets no further)
-            let (PROOF, _) = receiving.read(&mut input, 0)? else { return Ok(()) };
-            sealing = Some(receiving);
-            ends.map(|[_, from, _]| from)
-        }
-    };
-    let Some(from) = from.filter(|from| *from < REPLICAS) else { return Ok(()) };
-    stream.set_read_timeout(None)?;
-    loop {
-        let bytes = match &mut sealing {
-            None => read(&mut input)?,
-            Some(receiving) => receiving.read(&mut input, LONGEST)?.1,
-        };
-        if !inbox.came(from, bytes) {
-            return Ok(());
-        }
-    }
-}
-
-/// Reads a length and so many bytes.
-fn read(input: &mut impl Read) -> io::Result<Vec<u8>> {
-    let mut length = [0; 4];
-    input.read_exact(&mut length)?;
-    let length = u32::from_be_bytes(length) as usize;
-    if length > LONGEST {
-        return Err(ErrorKind::InvalidData.into());
-    }
-    let mut bytes = Vec::with_capacity(length.min(1 << 16));
-    match input.take(length as u64).read_to_end(&mut bytes)? {
-        count if count == length => Ok(bytes),
-        _ => Err(ErrorKind::UnexpectedEof.into()),
     }
 }

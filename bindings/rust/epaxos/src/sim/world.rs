@@ -13,11 +13,11 @@ use super::queue::Queue;
 use super::registers::Registers;
 use super::seen::Seen;
 use crate::host::{
-    FolderFault, Host, HostFault, Name, Plant, Refusal, Reply, Settings, Start, StartFault, Told, Turn, Work,
+    FolderFault, Host, HostFault, Name, Plant, Refusal, Reply, Settings, Span, Start, StartFault, Told, Turn, Work,
 };
 use crate::parts::plan_fault::PlanFault;
 use crate::parts::random::Random;
-use crate::{Cluster, OwnedAnswer, OwnedCommand};
+use crate::{Checkpoint, Cluster, OwnedAnswer, OwnedCommand};
 use std::collections::BTreeMap;
 use std::ops::Range;
 use std::path::Path;
@@ -56,6 +56,9 @@ pub(super) enum Event {
     Kept { machine: u8, start: u32, generation: u32, bytes: Vec<u8> },
     Written { machine: u8, start: u32, generation: u32, bytes: Vec<u8> },
     Read { machine: u8, start: u32, generation: u32, offset: u64, length: u64 },
+    LetGo { machine: u8, start: u32, generation: u32, checkpoint: Checkpoint },
+    Gather { machine: u8, start: u32, number: u64, spans: Vec<Span> },
+    Followed { machine: u8, start: u32, generation: u32, opening: Option<Vec<u8>> },
     Lost(u8, u8),
     Ask(u32),
     Waited(u32, u64),
@@ -418,7 +421,8 @@ impl<'a> World<'a> {
         let of = match &event {
             Event::Turn(machine) | Event::Frame { to: machine, .. } | Event::Synced(machine, _) => Some(*machine),
             Event::Written { machine, .. } | Event::Read { machine, .. } | Event::Lost(machine, _) => Some(*machine),
-            Event::Kept { machine, .. } => Some(*machine),
+            Event::Kept { machine, .. } | Event::Gather { machine, .. } => Some(*machine),
+            Event::Followed { machine, .. } | Event::LetGo { machine, .. } => Some(*machine),
             _ => None,
         };
         if let Some(paused) = of.map(|machine| self.machine(machine).paused).filter(|paused| *paused > self.now) {
@@ -482,6 +486,32 @@ impl<'a> World<'a> {
                     host.opening_read(generation, offset, (all.len() as u64, part), now);
                     self.turn_soon(machine);
                 }
+                Ok(())
+            }
+            Event::LetGo { machine, start, generation, checkpoint } => {
+                let now = self.clock(machine, self.now);
+                let it = self.machine(machine);
+                let Some(host) = it.host.as_mut().filter(|_| it.start == start) else { return Ok(()) };
+                host.let_go(generation, checkpoint, now);
+                self.turn_soon(machine);
+                Ok(())
+            }
+            Event::Gather { machine, start, number, spans } => {
+                let now = self.clock(machine, self.now);
+                let it = self.machine(machine);
+                let Some(host) = it.host.as_mut().filter(|_| it.start == start) else { return Ok(()) };
+                let file = |span: &Span| it.disk.content().get(&(span.generation, span.name));
+                let read = spans.iter().map(|span| span.of(file(span)?)).collect::<Option<Vec<_>>>();
+                host.gathered(number, read.map(|all| all.concat()), now);
+                self.turn_soon(machine);
+                Ok(())
+            }
+            Event::Followed { machine, start, generation, opening } => {
+                let now = self.clock(machine, self.now);
+                let it = self.machine(machine);
+                let Some(host) = it.host.as_mut().filter(|_| it.start == start) else { return Ok(()) };
+                host.followed(generation, opening, now);
+                self.turn_soon(machine);
                 Ok(())
             }
             Event::Lost(machine, peer) => {
@@ -736,8 +766,14 @@ impl<'a> World<'a> {
             return self.part(machine);
         }
         for work in work {
+            if let Work::LetGo { generation, mut checkpoint } = work {
+                checkpoint.let_go();
+                self.after(self.plan.sync, Event::LetGo { machine, start, generation, checkpoint });
+                continue;
+            }
             let wait = 1 + self.random.below(self.plan.sync * 20);
             match work {
+                Work::LetGo { .. } => {}
                 Work::Write { generation, machine: state, checkpoint } => {
                     if let Some(bytes) = state {
                         self.after(wait / 2, Event::Kept { machine, start, generation, bytes });
@@ -748,6 +784,13 @@ impl<'a> World<'a> {
                 }
                 Work::Read { generation, offset, length } => {
                     self.after(wait / 20, Event::Read { machine, start, generation, offset, length });
+                }
+                Work::Gather { number, spans } => {
+                    self.after(wait / 20, Event::Gather { machine, start, number, spans });
+                }
+                Work::Follow { generation, trail } => {
+                    let opening = trail.opening().ok();
+                    self.after(wait, Event::Followed { machine, start, generation, opening });
                 }
             }
         }
@@ -939,7 +982,7 @@ impl<'a> World<'a> {
             // (one that requires something may have been executed and not done)
             Told::DoneUnseen if second.as_ref().is_some_and(|it| it.kind == Kind::Get) => {}
             Told::DoneUnseen => asked.end = Some(now),
-            Told::Doubtful | Told::Changed(_) => {}
+            Told::Doubtful | Told::Changed(_) | Told::All(_) => {}
             Told::Refused(why) => {
                 self.seen.given_up += u64::from(why == Refusal::GivenUp);
                 asked.is_refused = true;

@@ -5,7 +5,7 @@ use crate::workers::Note;
 use std::collections::BTreeMap;
 use std::path::Path;
 use store::linearizable::{self, Action, Operation, Verdict};
-use store::outcome;
+use store::receipts::receipts;
 
 /// The faults of a round.
 pub fn judge(options: &Options, cluster: &Cluster, notes: &[Note]) -> Vec<String> {
@@ -57,7 +57,7 @@ fn count_receipts(cluster: &Cluster, replica: usize) -> Result<(usize, usize), S
     for path in cluster.chain(Path::new("")).receipts(replica, 1..=cluster.newest()) {
         let bytes = std::fs::read(&path).map_err(|error| format!("no receipts: {error}"))?;
         let mut whole = 0;
-        for receipt in outcome::receipts(&bytes) {
+        for receipt in receipts(&bytes) {
             whole += receipt.bytes.len();
             *if receipt.answer.is_done() { &mut done } else { &mut not } += 1;
         }

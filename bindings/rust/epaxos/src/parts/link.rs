@@ -1,5 +1,5 @@
 //! A way to one peer.
-use crate::link_fault::LinkFault;
+use crate::parts::link_fault::LinkFault;
 
 /// A way to one peer, by which frames of the protocol and messages of hosts go. Any of them may be lost.
 pub trait Link: Send + Sync {

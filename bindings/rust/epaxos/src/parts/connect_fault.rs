@@ -37,7 +37,7 @@ impl fmt::Display for ConnectFault {
     fn fmt(&self, f: &mut fmt::Formatter) -> fmt::Result {
         f.write_str(match self {
             ConnectFault::Failed => "isn't reached",
-            ConnectFault::OtherKey => "has another key than this one (--peer-key)",
+            ConnectFault::OtherKey => "has another key than this one",
             ConnectFault::NotKnown => "knows another replica under this one's number: this one must not come back",
             ConnectFault::NotLetIn => "hasn't let this machine in yet",
             ConnectFault::OtherPeer => "isn't the replica that is known under its number: it must not come back",

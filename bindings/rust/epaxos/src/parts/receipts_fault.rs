@@ -12,6 +12,16 @@ pub enum ReceiptsFault {
     NotReceipts(PathBuf, usize),
 }
 
+impl From<ReceiptsFault> for io::Error {
+    fn from(fault: ReceiptsFault) -> io::Error {
+        let kind = match &fault {
+            ReceiptsFault::Unusable(_, error) => error.kind(),
+            ReceiptsFault::NotReceipts(..) => io::ErrorKind::InvalidData,
+        };
+        io::Error::new(kind, fault)
+    }
+}
+
 impl fmt::Display for ReceiptsFault {
     fn fmt(&self, f: &mut fmt::Formatter) -> fmt::Result {
         match self {

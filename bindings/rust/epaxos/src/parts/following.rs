@@ -1,13 +1,11 @@
 //! How a replica that lags, or a new one, comes to a later generation: by the last whole opening that a peer has and
 //! the logs since, which a thread goes through.
-use crate::messages::Message;
-use crate::node_fault::NodeFault;
-use crate::way::Handed;
-use epaxos::Reference;
-use epaxos::host::FolderFault;
-use epaxos::parts::fetch::{Fetch, Form, Sink, Step};
-use epaxos::parts::files::unusable;
-use epaxos::parts::follower::Follower;
+use crate::parts::fetch::{Fetch, Form, Sink, Step};
+use crate::parts::files::unusable;
+use crate::parts::folder::SumOf;
+use crate::parts::folder_fault::FolderFault;
+use crate::parts::messages::Message;
+use crate::parts::way::{Handed, Source};
 use std::fs::File;
 use std::io::{self, BufWriter, Seek, SeekFrom, Write};
 use std::panic::resume_unwind;
@@ -39,6 +37,7 @@ impl Sink for Fetched {
 /// An opening that is on its way to this replica.
 pub struct Following {
     fetch: Fetch<Fetched>,
+    sum: SumOf,
     /// Where the opening comes together.
     path: PathBuf,
     going: Option<Going>,
@@ -47,7 +46,7 @@ pub struct Following {
 /// What is being gone through.
 struct Going {
     /// None once its end was waited for.
-    thread: Option<JoinHandle<Result<u32, NodeFault>>>,
+    thread: Option<JoinHandle<Result<u32, FolderFault>>>,
     is_wanted: Arc<AtomicBool>,
     /// When the peer was told last.
     told: Instant,
@@ -59,7 +58,7 @@ impl Going {
     }
 
     /// Waits for its end.
-    fn wait(&mut self) -> Option<Result<u32, NodeFault>> {
+    fn wait(&mut self) -> Option<Result<u32, FolderFault>> {
         self.thread.take().map(|thread| thread.join().unwrap_or_else(|panic| resume_unwind(panic)))
     }
 }
@@ -83,10 +82,11 @@ pub enum Came {
 }
 
 impl Following {
-    /// Begins, with what is to be asked of a replica. The opening is to come together in the file of this path.
-    pub fn begin(path: &Path, from: u8, now: Instant) -> io::Result<(Following, Message)> {
+    /// Begins, with what is to be asked of a replica. The opening is to come together in the file of this path; `sum`
+    /// is what judges logs.
+    pub fn begin(path: &Path, sum: SumOf, from: u8, now: Instant) -> io::Result<(Following, Message)> {
         let (fetch, first) = Fetch::begin(Fetched(File::create(fetched(path))?), Form::Way, from, now);
-        Ok((Following { fetch, path: path.to_path_buf(), going: None }, first))
+        Ok((Following { fetch, sum, path: path.to_path_buf(), going: None }, first))
     }
 
     /// Whom it is asked of.
@@ -116,20 +116,21 @@ impl Following {
     }
 
     /// Takes a piece.
-    pub fn take(&mut self, from: u8, piece: Message, now: Instant) -> Result<Came, NodeFault> {
+    pub fn take(&mut self, from: u8, piece: Message, now: Instant) -> Result<Came, FolderFault> {
         if self.going.is_some() {
             return Ok(Came::Nothing);
         }
         let path = fetched(&self.path);
-        let step = self.fetch.take(from, piece, now).map_err(unusable(&path)).map_err(FolderFault::Disk)?;
+        let step = self.fetch.take(from, piece, now).map_err(unusable(&path))?;
         match step {
             Step::Ask(more) => Ok(Came::Ask(more)),
             Step::Ignored => Ok(Came::Nothing),
             Step::Done(_) => {
                 let is_wanted = Arc::new(AtomicBool::new(true));
-                let (follower, to, wanted) = (Follower { replica: from }, self.path.clone(), is_wanted.clone());
-                let go = move || go_through(&follower, &path, &to, &wanted);
-                let thread = thread::Builder::new().name("following".into()).spawn(go).map_err(NodeFault::Thread)?;
+                let gone = Gone { replica: from, sum: self.sum, from: path, to: self.path.clone() };
+                let wanted = is_wanted.clone();
+                let go = move || gone.through(&wanted);
+                let thread = thread::Builder::new().name("following".into()).spawn(go).map_err(no_thread)?;
                 self.going = Some(Going { thread: Some(thread), is_wanted, told: now });
                 Ok(Came::Ask(vec![self.fetch.word()]))
             }
@@ -137,7 +138,7 @@ impl Following {
     }
 
     /// Looks whether it is here, and what is to be asked again. Where what has come leads to no opening, why.
-    pub fn look(&mut self, now: Instant) -> Result<Came, NodeFault> {
+    pub fn look(&mut self, now: Instant) -> Result<Came, FolderFault> {
         let Some(going) = &mut self.going else {
             return Ok(if self.fetch.due() <= now { Came::Ask(self.fetch.again(now)) } else { Came::Nothing });
         };
@@ -159,32 +160,30 @@ fn fetched(path: &Path) -> PathBuf {
     path.with_extension("logs")
 }
 
-/// Goes through what a peer has handed, and writes the opening that it leads to: its generation.
-fn go_through(follower: &Follower, from: &Path, to: &Path, is_wanted: &AtomicBool) -> Result<u32, NodeFault> {
-    let handed = Handed::open(from)?;
-    let started = handed.started()?;
-    let write = |pieces: &mut dyn Iterator<Item = Result<Vec<u8>, NodeFault>>| -> Result<(), NodeFault> {
-        let mut out = BufWriter::new(File::create(to).map_err(unusable(to)).map_err(FolderFault::Disk)?);
-        for piece in pieces {
-            out.write_all(&piece?).map_err(unusable(to)).map_err(FolderFault::Disk)?;
+fn no_thread(error: io::Error) -> io::Error {
+    io::Error::new(error.kind(), format!("a thread can't be started: {error}"))
+}
+
+/// What is gone through: what this replica has handed, in the file of the first path. The opening that it leads to goes
+/// to the second one.
+struct Gone {
+    replica: u8,
+    sum: SumOf,
+    from: PathBuf,
+    to: PathBuf,
+}
+
+impl Gone {
+    /// Writes the opening: its generation.
+    fn through(&self, is_wanted: &AtomicBool) -> Result<u32, FolderFault> {
+        let handed = Handed::open(Source::File(self.from.clone()))?;
+        let mut out = BufWriter::new(File::create(&self.to).map_err(unusable(&self.to))?);
+        for piece in handed.through(self.replica, self.sum, || is_wanted.load(Ordering::Relaxed))? {
+            out.write_all(&piece?).map_err(unusable(&self.to))?;
         }
-        Ok(out.flush().map_err(unusable(to)).map_err(FolderFault::Disk)?)
-    };
-    let log_of = |next: &Reference| {
-        if is_wanted.load(Ordering::Relaxed) {
-            handed.log_of(next)
-        } else {
-            Err(unusable(from)(io::ErrorKind::Interrupted.into()).into())
-        }
-    };
-    match started.references.last() {
-        None => write(&mut std::iter::once(Ok(started.first.bytes.clone())))?,
-        Some(last) => {
-            let opening = follower.opening_of(&started, *last, log_of)?;
-            write(&mut opening.map(|piece| piece.map_err(NodeFault::Core)))?;
-        }
+        out.flush().map_err(unusable(&self.to))?;
+        // (all of it is in the opening; a crash leaves what the next one overwrites)
+        let _ = std::fs::remove_file(&self.from);
+        Ok(handed.generation())
     }
-    // (all of it is in the opening; a crash leaves what the next one overwrites)
-    let _ = std::fs::remove_file(from);
-    Ok(started.generation())
 }

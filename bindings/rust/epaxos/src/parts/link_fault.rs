@@ -20,6 +20,8 @@ pub enum LinkFault {
     OtherAddress,
     /// Another machine has the peer's number.
     Replaced,
+    /// This end has ended.
+    Ended,
 }
 
 impl LinkFault {
@@ -45,6 +47,7 @@ impl fmt::Display for LinkFault {
             LinkFault::NoHandles => f.write_str("no more handles"),
             LinkFault::OtherAddress => f.write_str("its address has changed"),
             LinkFault::Replaced => f.write_str("another machine has its number"),
+            LinkFault::Ended => f.write_str("this end has ended"),
         }
     }
 }

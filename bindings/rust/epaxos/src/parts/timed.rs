@@ -26,7 +26,8 @@ impl Read for Timed<'_> {
     }
 }
 
-/// Reads what is there. A process that was stopped by a signal and goes on finds a read that has a timeout interrupted: then it reads again.
+/// Reads what is there. A process that was stopped by a signal and goes on finds a read that has a timeout interrupted:
+/// then it reads again.
 pub fn read_some(stream: &mut (impl Read + ?Sized), bytes: &mut [u8]) -> io::Result<usize> {
     loop {
         match stream.read(bytes) {
