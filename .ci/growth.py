@@ -1,6 +1,7 @@
 """What the built program takes for n and for twice n of a kind of work: instructions, counted by valgrind.
 
-  .ci/growth.py PROGRAM     prints a line for each kind of work; the status is 1 where one takes too many for twice n
+  .ci/growth.py PROGRAM           a line for each kind of work; the status is 1 where one takes too many for twice n
+  .ci/growth.py --change CHANGE   the same of changes of generation, by the example `change` of hosts/store
 
 What takes time that grows by the square takes four times as many. Where there is no valgrind nothing is counted.
 """
@@ -68,6 +69,20 @@ KINDS = (
     ("keys apart", put, None, "replay"),
 )
 
+# of changes of generation: two functions of the library, each with words for the example `change` (keys, commands and
+# changes), and how many times the instructions of the first the second may take
+CHANGES = (
+    ("a change, where the map is twice as long", ("ep_succeed", "3000 300 2"), ("ep_succeed", "6000 300 2"), 1.2),
+    ("what is left, once all was let go", ("ep_checkpoint_rest", "9 300 2"), ("ep_checkpoint_free", "9 300 2"), 0.1),
+)
+
+
+def counted(words, more=(), given=None):
+    """How many instructions these words take, or with more words of valgrind's a part of them."""
+    words = [*VALGRIND, *more, *words]
+    ran = subprocess.run(words, input=given, stdout=subprocess.DEVNULL, stderr=subprocess.PIPE, check=True)
+    return int(re.search(rb"Collected : (\d+)", ran.stderr)[1])
+
 
 def instructions(program, word, script):
     """How many instructions a replay of the script takes, or an audit of its bundle."""
@@ -75,9 +90,7 @@ def instructions(program, word, script):
     if word == "audit":
         words = [program, "replay", "--emit", "bundle"]
         given = subprocess.run(words, input=given, stdout=subprocess.PIPE, check=True).stdout
-    words = [*VALGRIND, program, word]
-    ran = subprocess.run(words, input=given, stdout=subprocess.DEVNULL, stderr=subprocess.PIPE, check=True)
-    return int(re.search(rb"Collected : (\d+)", ran.stderr)[1])
+    return counted([program, word], given=given)
 
 
 def taken(program, many, command, counted, word):
@@ -87,24 +100,40 @@ def taken(program, many, command, counted, word):
     return count(script) - count("") if counted is None else count(script + counted(many)) - count(script)
 
 
-def tried(program):
-    """How many kinds of work grow as they may, and how many don't."""
-    if not os.path.isfile(program):
-        # (the rows count that)
-        return 0, 0
+def is_counted(program):
+    """Whether something is counted. (Where there is no program the rows count that.)"""
     if not shutil.which("valgrind"):
         print("nothing is counted: there is no valgrind", flush=True)
-        return 0, 0
+    return bool(os.path.isfile(program) and shutil.which("valgrind"))
+
+
+def judged(name, sizes, took, most):
+    """Whether the second number of instructions is so many times the first at most."""
+    (small, large), (few, many) = sizes, took
+    is_well = many <= most * few
+    told = f"{few:,} instructions for {small}, {many / max(few, 1):.2f} times as many for {large}"
+    print(f"{'' if is_well else 'FAILED: '}{name}: {told}", flush=True)
+    return is_well
+
+
+def tried(program):
+    """How many kinds of work grow as they may, and how many don't."""
+    sizes, well = (MANY, 2 * MANY), []
+    for name, *work in KINDS if is_counted(program) else ():
+        well.append(judged(name, sizes, [taken(program, it, *work) for it in sizes], MOST))
+    return well.count(True), well.count(False)
+
+
+def tried_changes(change):
+    """The same of changes of generation."""
     well = []
-    for name, *work in KINDS:
-        few, many = (taken(program, it, *work) for it in (MANY, 2 * MANY))
-        well.append(many <= MOST * few)
-        told = f"{few:,} instructions for {MANY}, {many / few:.2f} times as many for {2 * MANY}"
-        print(f"{'' if well[-1] else 'FAILED: '}{name}: {told}", flush=True)
+    for name, *both, most in CHANGES if is_counted(change) else ():
+        took = [counted([change, *run.split()], [f"--toggle-collect={function}"]) for function, run in both]
+        well.append(judged(name, [" ".join(it) for it in both], took, most))
     return well.count(True), well.count(False)
 
 
 if __name__ == "__main__":
-    counts = tried(sys.argv[1])
+    counts = tried_changes(sys.argv[2]) if sys.argv[1] == "--change" else tried(sys.argv[1])
     print("{} passed, {} failed".format(*counts))
     sys.exit(1 if counts[1] else 0)

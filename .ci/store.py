@@ -124,6 +124,9 @@ def tried(node=BUILT[0], program=BUILT[1], library=None):
         well = [is_well(["cargo", "test", *packages, "--quiet"], cwd=STORE, env=environment)]
         if epaxos and all(well):
             well.append(is_well([sys.executable, f"{TOP}/.ci/folders.py", node, f"{scratch}/target/debug/folder"], env=environment))
+        if all(well):
+            change = f"{scratch}/target/debug/examples/change"
+            well.append(is_well([sys.executable, f"{TOP}/.ci/growth.py", "--change", change]))
         if not shutil.which("go"):
             print("clients/go is not tried: there is no go", flush=True)
         elif epaxos and all(well):

@@ -3,7 +3,8 @@
 //!
 //! Three replicas in this process, whose map has so many keys of 16 bytes with values of 100, do so many commands, each
 //! of one key: all of them new, or spread over twice the keys. Others' commands are executed now and then, as a store
-//! does it. Then one proposes a seal, and each goes on in the next generation; and all that once more. Told is the
+//! does it. Then one proposes a seal, and each goes on in the next generation; and all that once more. (.ci/growth.py
+//! counts what the library does meanwhile.) Told is the
 //! processor time of each step that takes some; and in the end, by the clock, how long `succeed` took, and a command
 //! with all that comes of it.
 
@@ -12,7 +13,7 @@ use sha2::{Digest, Sha256};
 use std::collections::VecDeque;
 use std::error::Error;
 use std::fs;
-use std::thread;
+use std::thread::{self, JoinHandle};
 use std::time::{Duration, Instant};
 
 type Res<T> = Result<T, Box<dyn Error>>;
@@ -109,7 +110,7 @@ fn main() -> Res<()> {
     };
     let mut replicas = (0..3).map(begin).collect::<Res<Vec<_>>>()?;
     let (mut number, mut request) = (0, 0);
-    let (mut stops, mut rates) = (Vec::new(), Vec::new());
+    let (mut stops, mut rates, mut letting_go) = (Vec::new(), Vec::new(), Vec::new());
     for generation in 3..3 + repeats {
         let (begun, spent) = (Instant::now(), processor());
         for round in 1..=commands.div_ceil(3 * OPEN) {
@@ -148,8 +149,9 @@ fn main() -> Res<()> {
             left.push(checkpoint);
             drop(replica.ready()?.assume_synced()?);
         }
-        thread::spawn(move || left.iter_mut().for_each(Checkpoint::let_go));
+        letting_go.push(thread::spawn(move || left.iter_mut().for_each(Checkpoint::let_go)));
     }
+    letting_go.into_iter().try_for_each(JoinHandle::join).map_err(|_| "a thread has failed")?;
     let ms = |took: Duration| took.as_secs_f64() * 1e3;
     let told = |mut took: Vec<f64>| {
         took.sort_by(f64::total_cmp);

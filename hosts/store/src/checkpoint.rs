@@ -2,6 +2,7 @@
 use crate::generations::{Generations, bind};
 use crate::node_fault::NodeFault;
 use epaxos::parts::files::{fill, unusable};
+use epaxos::parts::{give_way, leave_real_time};
 use epaxos::{Checkpoint, Reference};
 use std::io;
 use std::panic::resume_unwind;
@@ -18,6 +19,8 @@ impl Unwritten {
     /// That of a generation which has just begun.
     pub fn of(mut checkpoint: Checkpoint) -> Result<Unwritten, NodeFault> {
         let let_go = move || {
+            // (it holds the allocator's locks, for which who serves may wait: so it is no nicer)
+            leave_real_time();
             checkpoint.let_go();
             checkpoint
         };
@@ -37,7 +40,10 @@ impl Writing {
     pub fn begin(generations: Arc<Generations>, reference: Reference, it: Unwritten) -> Result<Writing, NodeFault> {
         let folder = generations.folder_of(reference.generation());
         // (the folder is this process's until all is written)
-        let write = move || write(&folder, &reference, it).map(|()| drop(generations)).map_err(unusable(&folder));
+        let write = move || {
+            give_way();
+            write(&folder, &reference, it).map(|()| drop(generations)).map_err(unusable(&folder))
+        };
         let thread = thread::Builder::new().name("checkpoint".into()).spawn(write).map_err(NodeFault::Thread)?;
         Ok(Writing { generation: reference.generation(), thread })
     }

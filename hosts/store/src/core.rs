@@ -3,6 +3,7 @@ use crate::node_fault::NodeFault;
 use crate::opening::Opening;
 use crate::outcome::{Asked, Outcome};
 use crate::queries::Queries;
+use crate::stored::deadline_in;
 use epaxos::State;
 use std::path::PathBuf;
 
@@ -22,6 +23,12 @@ pub trait Core: Queries<Fault = NodeFault> {
 
     /// What all keys have, in their order, after all that was executed.
     fn contents(&mut self) -> Result<Pairs, NodeFault>;
+
+    /// The keys that are past their deadlines at this moment of the wall clock, after all that was executed.
+    fn over(&mut self, now: u64) -> Result<Vec<Vec<u8>>, NodeFault> {
+        let is_over = |(_, value): &(Vec<u8>, Vec<u8>)| deadline_in(value).is_some_and(|deadline| deadline <= now);
+        Ok(self.contents()?.into_iter().filter(is_over).map(|(key, _)| key).collect())
+    }
 
     /// Where a seal is under way: has what it goes on with made ready, beside what it is asked meanwhile.
     fn prepare(&mut self) -> Result<(), NodeFault> {

@@ -7,6 +7,7 @@ use crate::planning::{first, newest};
 use epaxos::host::Stored;
 use epaxos::parts::files::{self, unusable};
 use epaxos::parts::folder::{look, reference};
+use epaxos::parts::give_way;
 use epaxos::parts::read_folder::ReadFolder;
 use std::fs::{self, File, OpenOptions, TryLockError};
 use std::io;
@@ -249,7 +250,10 @@ impl Directory {
         }
         let of = |generation: &u32| (self.generations().join(generation.to_string()), self.receipts(*generation));
         let left: Vec<_> = left.iter().map(of).collect();
-        let drop_all = move || left.iter().for_each(|(folder, receipts)| drop_one(folder, receipts));
+        let drop_all = move || {
+            give_way();
+            left.iter().for_each(|(folder, receipts)| drop_one(folder, receipts));
+        };
         // (what can't be dropped now is dropped later)
         thread::Builder::new().name("drop".into()).spawn(drop_all).ok()
     }

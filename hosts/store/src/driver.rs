@@ -41,6 +41,10 @@ use std::time::{Duration, Instant};
 const BETWEEN_INFOS: Duration = Duration::from_millis(50);
 /// INFO counts at most so many.
 const MOST_TOLD: u8 = 255;
+/// What others have proposed is executed so often, where something was taken.
+const BETWEEN_EXECUTIONS: Duration = Duration::from_millis(200);
+/// And so often with what is synced anyway: a seal is executed after all of it, and clients wait for that.
+const BETWEEN_EXECUTIONS_ASIDE: Duration = Duration::from_millis(20);
 
 /// What comes to the driver.
 pub enum Event {
@@ -84,6 +88,8 @@ pub enum What {
     Read(Vec<u8>),
     /// What all keys have here, after all that is known to be committed.
     Contents,
+    /// The keys that are past their deadlines here, at this moment of the wall clock.
+    Over(u64),
     Info,
     /// What somebody who runs the store asks for, and what is wrong with the addresses in it, where something is.
     Manage(Manage, Option<ManageFault>),
@@ -113,6 +119,7 @@ pub enum Told {
     Ending,
     Value(Option<Vec<u8>>),
     Contents(Pairs),
+    Over(Vec<Vec<u8>>),
     Info(String),
     Managed(Result<String, ManageFault>),
     /// The driver has ended: what was proposed may still be done.
@@ -251,8 +258,9 @@ pub struct Driver<C> {
     /// Whether others' commands may be committed here and not executed.
     pub(crate) is_unexecuted: bool,
     pub(crate) next_tick: Instant,
-    /// When what others have proposed may be executed.
+    /// When what others have proposed may be executed, and when with what is synced anyway.
     pub(crate) next_execution: Instant,
+    next_aside: Instant,
     pub(crate) metrics: Arc<Metrics>,
     /// Changes of generation since the start, and how long the last one took.
     pub(crate) changes: (u64, Duration),
@@ -268,8 +276,8 @@ pub struct Driver<C> {
 
 /// The driver has ended, and what is asked isn't done.
 fn refuse(event: Event) {
-    if let Event::Ask(Ask { what: What::Propose { .. } | What::Get(_) | What::Read(_) | What::Contents, reply }) = event
-    {
+    let Event::Ask(Ask { what, reply }) = event else { return };
+    if let What::Propose { .. } | What::Get(_) | What::Read(_) | What::Contents | What::Over(_) = what {
         reply.send(Told::Ending);
     }
 }
@@ -314,6 +322,7 @@ impl<C: Core> Driver<C> {
             is_unexecuted: true,
             next_tick: now,
             next_execution: now,
+            next_aside: now,
             metrics: parts.metrics,
             changes: (0, Duration::ZERO),
             ends_at: None,
@@ -472,6 +481,7 @@ impl<C: Core> Driver<C> {
                 What::Get(key) => self.reads.ask(key, reply),
                 What::Read(key) => self.local.reads.push((key, reply)),
                 What::Contents => self.local.lists.push(reply),
+                What::Over(now) => reply.send(Told::Over(self.node.over(now).map_err(StopFault::Node)?)),
                 What::Info => self.infos.push(reply),
                 What::Manage(manage, fault) => self.manage(manage, fault, reply),
                 What::Propose { .. } if self.is_closing() => reply.send(Told::Ending),
@@ -572,9 +582,13 @@ impl<C: Core> Driver<C> {
         if batch.0.is_empty() && local.is_empty() && !is_wanted {
             return Ok(());
         }
+        // (what others have proposed goes with what is synced anyway)
+        let is_due = self.is_unexecuted && Instant::now() >= self.next_aside;
         // A local read tells of all that is known to be committed.
-        let executes_all = is_wanted || !local.is_empty() && self.is_unexecuted;
-        self.is_unexecuted &= !executes_all;
+        let executes_all = is_wanted || is_due || !local.is_empty() && self.is_unexecuted;
+        if executes_all {
+            self.note_execution();
+        }
         let asked = outcome::Asked {
             events: batch.0.iter().map(Request::event).collect(),
             executes_all,
@@ -604,9 +618,16 @@ impl<C: Core> Driver<C> {
         self.node.carry_out(asked).map_err(StopFault::Node)
     }
 
+    /// All that is known to be committed is executed now.
+    fn note_execution(&mut self) {
+        let now = Instant::now();
+        self.is_unexecuted = false;
+        (self.next_aside, self.next_execution) = (now + BETWEEN_EXECUTIONS_ASIDE, now + BETWEEN_EXECUTIONS);
+    }
+
     /// Executes all that is known to be committed, and learns what the core then is.
     pub(crate) fn execute_all(&mut self) -> Result<(), StopFault> {
-        self.is_unexecuted = false;
+        self.note_execution();
         let outcome = self.ask(&outcome::Asked { executes_all: true, ..Default::default() })?;
         let state = self.node.state().map_err(StopFault::Node)?;
         self.hand_out(outcome)?;

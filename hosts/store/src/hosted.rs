@@ -1,6 +1,7 @@
 //! The core, by the library. Its logs are the store's to keep, in the folder that a node would have.
 use crate::checkpoint::{Unwritten, Writing};
 use crate::core::{self, Begin, Pairs};
+use crate::deadlines::Deadlines;
 use crate::generations::Generations;
 use crate::node_fault::NodeFault;
 use crate::opening::Opening;
@@ -14,7 +15,10 @@ use epaxos::parts::files::unusable;
 use epaxos::parts::folder::{Opened, Started, opened};
 use epaxos::parts::follower::{self, Follower, cluster, opening_of};
 use epaxos::parts::leaving;
-use epaxos::{CommitFault, Fault, Instance, LogFile, OwnedReading, Reference, Replica, Setup, State, SucceedFault};
+use epaxos::parts::opening::tell_map_of;
+use epaxos::{
+    CommitFault, Executed, Fault, Instance, LogFile, OwnedReading, Reference, Replica, Setup, State, SucceedFault,
+};
 use std::fs;
 use std::panic::resume_unwind;
 use std::path::{Path, PathBuf};
@@ -45,9 +49,17 @@ pub struct Hosted {
     writing: Option<Writing>,
     /// The folder of the next generation, while it is made.
     ahead: Option<JoinHandle<Result<(), FolderFault>>>,
+    /// What marks the generation before as left, and weighs the opening and the logs since; nothing is told of this one
+    /// before.
+    leaving: Option<JoinHandle<Result<Weight, FolderFault>>>,
+    /// Why that has failed, where nobody could be told.
+    fault: Option<NodeFault>,
     /// What there is to tell people.
     lines: Vec<String>,
 }
+
+/// How many bytes the last opening has that was written, and the logs since.
+type Weight = (u64, u64);
 
 /// The replica of a generation, with its log.
 struct Acting {
@@ -58,19 +70,32 @@ struct Acting {
     /// How far it was when it was last looked at.
     state: State,
     tally: Tally,
+    deadlines: Deadlines,
 }
 
-/// A replica in its generation, whose log comes first, and the log's file.
-struct Begun(follower::Begun, SummedLog);
+/// A replica in its generation, whose log comes first, the log's file, and the deadlines in the map that it begins
+/// with.
+struct Begun(follower::Begun, SummedLog, Deadlines);
 
 impl Hosted {
     /// Starts it.
     pub fn start(hosting: Hosting, begin: &Begin) -> Result<Hosted, NodeFault> {
         let generations = Arc::new(Generations::open(&hosting.folder)?);
-        let (acting, opening, unwritten, writing, ahead, lines) = (None, None, None, None, None, Vec::new());
-        let mut hosted = Hosted { hosting, generations, acting, opening, unwritten, writing, ahead, lines };
+        let mut hosted = Hosted {
+            hosting,
+            generations,
+            acting: None,
+            opening: None,
+            unwritten: None,
+            writing: None,
+            ahead: None,
+            leaving: None,
+            fault: None,
+            lines: Vec::new(),
+        };
         let begun = hosted.hosting.start(&hosted.generations, begin)?;
         hosted.act(begun)?;
+        hosted.end_leaving()?;
         Ok(hosted)
     }
 
@@ -81,15 +106,15 @@ impl Hosted {
     /// Goes on with this generation, and with the next ones while one has executed a seal by which this replica stays.
     fn act(&mut self, mut begun: Begun) -> Result<(), NodeFault> {
         loop {
-            let Begun(follower::Begun { replica, opening, unwritten }, file) = begun;
+            let Begun(follower::Begun { replica, opening, unwritten }, file, deadlines) = begun;
             let (generation, replicas, tally) = (opening.generation, opening.replicas, Tally::of(opening.map));
             let unwritten = unwritten.map(|(reference, it)| Unwritten::of(it).map(|it| (reference, it)));
             (self.opening, self.unwritten) = (Some(opening), unwritten.transpose()?);
             let (path, state) = (self.generations.log(generation), State::default());
-            let mut acting = Acting { replica, file, path, state, tally };
+            let mut acting = Acting { replica, file, path, state, tally, deadlines };
             // (what was handed out before this start may be lost: it is sent again as anything that is lost is)
             acting.sync(&mut Outcome::default())?;
-            self.generations.leave_before(generation)?;
+            self.leave_before(generation)?;
             self.lines.extend(acting.replica.said().lines().map(str::to_string));
             if acting.replica.cut() > 0 {
                 let cut = acting.replica.cut();
@@ -102,14 +127,34 @@ impl Hosted {
             if !acting.state.is_sealed || is_left_out {
                 self.hosting.check_size(generation, replicas)?;
                 self.acting = Some(acting);
-                return self.write_if_due();
+                return Ok(());
             }
             begun = self.next(acting)?;
         }
     }
 
+    /// The header of this generation's log is on the disk: has the one before marked as left, beside what is asked
+    /// meanwhile.
+    fn leave_before(&mut self, generation: u32) -> Result<(), NodeFault> {
+        let generations = self.generations.clone();
+        let leave = move || generations.leave_before(generation).and_then(|()| generations.weight(generation));
+        self.leaving = Some(thread::Builder::new().name("leave".into()).spawn(leave).map_err(NodeFault::Thread)?);
+        Ok(())
+    }
+
+    /// Waits until that is done, and has the opening written, where the logs since the last one are long.
+    fn end_leaving(&mut self) -> Result<(), NodeFault> {
+        if let Some(fault) = self.fault.take() {
+            return Err(fault);
+        }
+        let Some(leaving) = self.leaving.take() else { return Ok(()) };
+        let (opening, logs) = leaving.join().unwrap_or_else(|panic| resume_unwind(panic))?;
+        if logs >= opening.max(self.hosting.checkpoint) { self.write().map(|_| ()) } else { Ok(()) }
+    }
+
     /// Leaves the generation of a replica that has executed a seal: what it goes on with.
     fn next(&mut self, acting: Acting) -> Result<Begun, NodeFault> {
+        self.end_leaving()?;
         // (while somebody has what the generation opened with, the map is copied)
         self.unwritten = None;
         self.note_written();
@@ -129,13 +174,6 @@ impl Hosted {
         if let Err(fault) = writing.wait() {
             self.lines.push(format!("the opening of generation {generation} can't be written: {fault}"));
         }
-    }
-
-    /// Has the opening written, where the logs since the last one are long.
-    fn write_if_due(&mut self) -> Result<(), NodeFault> {
-        let Some((reference, _)) = &self.unwritten else { return Ok(()) };
-        let (opening, logs) = self.generations.weight(reference.generation())?;
-        if logs >= opening.max(self.hosting.checkpoint) { self.write().map(|_| ()) } else { Ok(()) }
     }
 
     /// Has the opening of this generation written, where nothing is being written: whether it is there.
@@ -161,7 +199,10 @@ impl Acting {
     fn sync(&mut self, outcome: &mut Outcome) -> Result<(), NodeFault> {
         let ready = self.replica.ready().map_err(NodeFault::Core)?;
         let output = ready.commit(&mut self.file).map_err(|fault| commit_fault(fault, &self.path))?;
-        output.executed().for_each(|executed| self.tally.add(&executed));
+        for executed in output.executed() {
+            self.tally.add(&executed);
+            self.deadlines.note(&executed);
+        }
         outcome.entries = Some(output.entries()).filter(|entries| *entries > self.state.entries);
         self.state.entries = output.entries();
         outcome.proposed.extend(output.proposed());
@@ -212,8 +253,12 @@ impl Hosting {
     fn begin(&self, generations: &Generations, started: &Started) -> Result<Begun, NodeFault> {
         // (nothing of the log's file is changed before the core has judged what it is to begin with)
         let (file, log) = log_of(&generations.log(started.generation()), started.is_new)?;
-        let begun = self.follower().begin(started, log.as_deref(), |next| generations.log_of(next), |_, _| {})?;
-        Ok(Begun(begun, file))
+        let mut deadlines = Deadlines::default();
+        // (what is no opening the core refuses)
+        let _ = tell_map_of(&started.first.bytes, |key, value| deadlines.set(key, Some(value)));
+        let note = |_, executed: Option<Executed>| executed.iter().for_each(|it| deadlines.note(it));
+        let begun = self.follower().begin(started, log.as_deref(), |next| generations.log_of(next), note)?;
+        Ok(Begun(begun, file, deadlines))
     }
 
     /// The next generation of a replica that has executed a seal: with the map as it is, which only a reference names at first. `ahead`: whether the folder
@@ -224,7 +269,7 @@ impl Hosting {
         acting: Acting,
         ahead: Option<Result<(), FolderFault>>,
     ) -> Result<Begun, NodeFault> {
-        let Acting { mut replica, file, tally, .. } = acting;
+        let Acting { mut replica, file, tally, deadlines, .. } = acting;
         let (cluster, follower) = (cluster(self.place.replicas as u8)?, self.follower());
         let (_, sum) = file.named();
         let last = |_| FolderFault::Succeed(SucceedFault::LastGeneration);
@@ -244,7 +289,7 @@ impl Hosting {
         let checkpoint = checkpoint.map_err(FolderFault::Succeed)?;
         // (where a start was broken off before there was an entry, the log is begun again)
         let (file, _) = log_of(&generations.log(reference.generation()), true)?;
-        Ok(Begun(follower::Begun { replica, opening, unwritten: Some((reference, checkpoint)) }, file))
+        Ok(Begun(follower::Begun { replica, opening, unwritten: Some((reference, checkpoint)) }, file, deadlines))
     }
 }
 
@@ -301,7 +346,9 @@ impl core::Core for Hosted {
                 Err(fault) => return Err(NodeFault::Core(fault)),
             }
             acting.sync(&mut outcome)?;
+            self.end_leaving()?;
         }
+        let acting = self.acting()?;
         for key in &asked.reads {
             let value = acting.replica.get(key).map_err(NodeFault::Core)?;
             outcome.values.push(value.map(<[u8]>::to_vec));
@@ -312,6 +359,10 @@ impl core::Core for Hosted {
     fn contents(&mut self) -> Result<Pairs, NodeFault> {
         let contents = self.acting()?.replica.contents().map_err(NodeFault::Core)?;
         Ok(contents.map(|(key, value)| (key.to_vec(), value.to_vec())).collect())
+    }
+
+    fn over(&mut self, now: u64) -> Result<Vec<Vec<u8>>, NodeFault> {
+        Ok(self.acting()?.deadlines.over(now).map(<[u8]>::to_vec).collect())
     }
 
     fn state(&mut self) -> Result<State, NodeFault> {
@@ -341,15 +392,18 @@ impl core::Core for Hosted {
     }
 
     fn put_opening(&mut self) -> Result<bool, NodeFault> {
+        self.end_leaving()?;
         self.write()
     }
 
     fn is_writing(&mut self) -> bool {
+        self.fault = self.end_leaving().err();
         self.note_written();
         self.writing.is_some()
     }
 
     fn start_again(&mut self, begin: &Begin) -> Result<State, NodeFault> {
+        self.end_leaving()?;
         let mut acting = self.acting.take();
         let has_sealed = |it: &mut Acting| it.replica.state().is_ok_and(|state| state.is_sealed);
         let is_sealed = acting.as_mut().is_some_and(has_sealed);
@@ -371,6 +425,7 @@ impl core::Core for Hosted {
     fn end(&mut self) {
         (self.acting, self.unwritten) = (None, None);
         self.ahead.take().map(JoinHandle::join);
+        self.leaving.take().map(JoinHandle::join);
         if let Some(writing) = self.writing.take() {
             self.end_writing(writing);
         }

@@ -139,7 +139,7 @@ fn refuse(ask: Ask, own: Identity) {
     let told = match ask.what {
         What::Info => Told::Info(format!("state:joining\r\nidentity:{}\r\n", digits(&own))),
         What::Manage(..) => Told::Managed(Err(ManageFault::Joining(own))),
-        What::Propose { .. } | What::Get(_) | What::Read(_) | What::Contents => Told::Alone,
+        What::Propose { .. } | What::Get(_) | What::Read(_) | What::Contents | What::Over(_) => Told::Alone,
     };
     ask.reply.send(told);
 }

@@ -21,6 +21,7 @@ pub mod command_fault;
 pub mod commands;
 pub mod connections;
 pub mod core;
+pub mod deadlines;
 pub mod directory;
 pub mod directory_fault;
 pub mod door;

@@ -31,9 +31,6 @@ use std::time::{Duration, Instant};
 
 /// Between two words to peers, and two looks at the log's length.
 const TICK: Duration = Duration::from_secs(1);
-/// What others have proposed is executed so often, where something was taken: a seal is executed after all of it, and
-/// clients wait for that.
-const BETWEEN_EXECUTIONS: Duration = Duration::from_millis(200);
 /// Whether the next generation is ready is looked at that often, where it is waited for.
 const LOOK: Duration = Duration::from_millis(1);
 /// Whether an opening that a peer wants is written is looked at that often.
@@ -56,7 +53,6 @@ impl<C: Core> Driver<C> {
     pub(crate) fn tick(&mut self) -> Result<(), StopFault> {
         let now = Instant::now();
         if self.is_unexecuted && now >= self.next_execution {
-            self.next_execution = now + BETWEEN_EXECUTIONS;
             self.execute_all()?;
         }
         if now < self.next_tick {
@@ -428,8 +424,8 @@ impl<C: Core> Driver<C> {
         self.meet(&opening)?;
         self.greet_all();
         self.fulfil();
-        self.is_writing = self.node.is_writing();
-        self.drop_left();
+        // (it is looked at later what may go: clients wait)
+        (self.is_writing, self.is_drop_due) = (true, true);
         self.is_fresh = true;
         Ok(())
     }

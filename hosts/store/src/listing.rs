@@ -56,23 +56,27 @@ impl Listing {
         Ok((answer(list, &listed), hidden(list, &listed)))
     }
 
-    /// The keys that are past their deadlines now, in the order of their places.
+    /// The keys that are past their deadlines now.
     pub fn over(&self) -> Result<Vec<Vec<u8>>, CommandFault> {
-        let now = now();
-        let over = |listed: &Listed| listed.stored.is_over(now);
-        Ok(self.list()?.into_iter().filter(over).map(|listed| listed.key).collect())
+        match self.ask(What::Over(now()))? {
+            Told::Over(keys) => Ok(keys),
+            told => Err(CommandFault::of(told)),
+        }
     }
 
     fn list(&self) -> Result<Vec<Listed>, CommandFault> {
+        match self.ask(What::Contents)? {
+            Told::Contents(pairs) => Ok(by_places(pairs)),
+            told => Err(CommandFault::of(told)),
+        }
+    }
+
+    fn ask(&self, what: What) -> Result<Told, CommandFault> {
         let (sender, told) = channel();
         let reply = Teller::new(move |told| _ = sender.send(told));
         // (where the driver has ended, the teller tells it)
-        let _ = self.events.send(Event::Ask(Ask { what: What::Contents, reply }));
-        match told.recv_timeout(self.patience) {
-            Ok(Told::Contents(pairs)) => Ok(by_places(pairs)),
-            Ok(told) => Err(CommandFault::of(told)),
-            Err(_) => Err(CommandFault::NotInTime),
-        }
+        let _ = self.events.send(Event::Ask(Ask { what, reply }));
+        told.recv_timeout(self.patience).map_err(|_| CommandFault::NotInTime)
     }
 }
 

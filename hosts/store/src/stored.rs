@@ -87,6 +87,12 @@ impl Stored {
     }
 }
 
+/// The deadline of the value that these bytes are, where it has one; a lock stays.
+pub fn deadline_in(bytes: &[u8]) -> Option<u64> {
+    let rest = bytes.strip_prefix(&[MARK, EXPIRING])?;
+    rest.first_chunk().map(|deadline| u64::from_be_bytes(*deadline))
+}
+
 fn read_marked(bytes: &[u8]) -> Option<Stored> {
     let mut fields = Fields::new(bytes);
     if fields.u8()? != MARK {

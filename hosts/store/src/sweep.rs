@@ -9,7 +9,7 @@ use std::time::{Duration, Instant};
 
 /// So many keys are removed in each second, as Redis has it.
 const A_SECOND: usize = 20;
-/// Between two looks at all keys; and a look takes at most one in so many parts of the time.
+/// Between two looks; and a look takes at most one in so many parts of the time.
 const PAUSE: Duration = Duration::from_secs(10);
 const SHARE: u32 = 50;
 

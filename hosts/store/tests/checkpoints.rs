@@ -2,12 +2,14 @@
 //! a start makes of it.
 mod common;
 use common::three::{NEVER, Three, contents, hosting};
-use epaxos::Reference;
+use epaxos::{Call, Command, Event, Reference};
 use std::fs;
 use std::path::{Path, PathBuf};
 use store::core::{Begin, Core};
 use store::hosted::Hosted;
 use store::opening::Opening;
+use store::outcome::Asked;
+use store::stored::Stored;
 
 /// What a generation opened with is what its file then has.
 #[test]
@@ -62,6 +64,58 @@ fn a_start_replays_what_was_not_written() {
     three.generation(5);
     three.go_on();
     assert_eq!(three.start(|_| ()), Ok(6));
+}
+
+/// The mark of the generation that was left is made beside what is done in the next one, of which nothing is told
+/// before.
+#[test]
+fn nothing_is_told_before_the_mark() {
+    let mut three = Three::begin("marked", NEVER);
+    three.generation(1);
+    three.go_on();
+    three.put("behind", "the seal");
+    assert!(three.of(0).join("1/left").is_file());
+    // (a crash before it)
+    assert_eq!(three.start(|folder| fs::remove_file(folder.join("1/left")).unwrap()), Ok(2));
+    three.generation(2);
+    // (it can't be made there)
+    fs::create_dir_all(three.of(0).join("2/left/in-its-way")).unwrap();
+    assert_eq!(three.cores[0].start_again(&Begin::Again).unwrap().generation, 3);
+    let put = Command::Put { key: b"x", value: b"1" };
+    let asked = Asked { events: vec![Event::Propose { call: Call::new(9, 1), command: put }], ..Asked::default() };
+    assert!(three.cores[0].carry_out(&asked).is_err());
+}
+
+/// Whatever a start goes by, it knows which keys are past their deadlines.
+#[test]
+fn deadlines_are_known_after_each_start() {
+    let mut three = Three::begin("deadlines", NEVER);
+    let until = |deadline| Stored::Value { content: b"v".to_vec(), deadline: Some(deadline) }.into_bytes();
+    let told = |core: &mut Hosted| {
+        let mut all = core.over(7).unwrap();
+        all.sort();
+        all.into_iter().map(|key| String::from_utf8(key).unwrap()).collect::<Vec<_>>()
+    };
+    for (key, deadline) in [("a", 5), ("b", 8), ("c", 7), ("d", 1)] {
+        three.put(key, until(deadline));
+    }
+    three.put("d", "stays");
+    three.generation(1);
+    three.go_on();
+    three.put("c", until(9));
+    three.put("e", until(0));
+    // (by the logs, then by an opening and a log)
+    for written in [false, true] {
+        if written {
+            three.cores[0].put_opening().unwrap();
+            three.wait();
+        }
+        assert_eq!(told(&mut three.cores[0]), ["a", "e"]);
+        drop(three.cores.remove(0));
+        three.cores.insert(0, Hosted::start(hosting(&three.of(0), 0, NEVER), &Begin::Again).unwrap());
+        three.cores[0].carry_out(&Asked { executes_all: true, ..Asked::default() }).unwrap();
+        assert_eq!(told(&mut three.cores[0]), ["a", "e"]);
+    }
 }
 
 /// What a crash leaves at each moment of a change.

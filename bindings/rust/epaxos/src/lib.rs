@@ -127,6 +127,7 @@
 #![deny(unsafe_code)]
 
 mod answer;
+mod background;
 mod bytes;
 mod call;
 mod checkpoint;

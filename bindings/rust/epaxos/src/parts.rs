@@ -2,6 +2,8 @@
 //! is.
 #![forbid(unsafe_code)]
 
+pub use crate::background::{give_way, leave_real_time};
+
 pub mod batch;
 pub mod calls;
 pub mod coarse;

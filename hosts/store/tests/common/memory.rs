@@ -15,6 +15,7 @@ use store::map::{Map, execute};
 use store::memory::Memory as Bytes;
 use store::metrics::Metrics;
 use store::numbers::Numbers;
+use store::stored::deadline_in;
 
 const PATIENCE: Duration = Duration::from_secs(60);
 
@@ -97,6 +98,10 @@ fn drive(asked: &Receiver<Event>, takes: Duration) {
                     let mut pairs: Vec<_> = map.iter().map(|(key, value)| (key.clone(), value.clone())).collect();
                     pairs.sort();
                     Told::Contents(pairs)
+                }
+                What::Over(now) => {
+                    let is_over = |it: &(&Vec<u8>, &Vec<u8>)| deadline_in(it.1).is_some_and(|deadline| deadline <= now);
+                    Told::Over(map.iter().filter(is_over).map(|(key, _)| key.clone()).collect())
                 }
                 _ => Told::Info(format!("replica:0\r\nkeys_kept:{}\r\n", map.len())),
             });

@@ -55,9 +55,9 @@ impl Three {
         }
     }
 
-    pub fn put(&mut self, key: &str, value: &str) {
-        let replica = self.requests as usize % 3;
-        self.propose(replica, Command::Put { key: key.as_bytes(), value: value.as_bytes() });
+    pub fn put(&mut self, key: &str, value: impl AsRef<[u8]>) {
+        let (replica, value) = (self.requests as usize % 3, value.as_ref());
+        self.propose(replica, Command::Put { key: key.as_bytes(), value });
         self.map.insert(key.into(), value.into());
     }
 

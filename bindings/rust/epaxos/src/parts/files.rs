@@ -4,7 +4,7 @@ use std::io::{self, ErrorKind, Write};
 use std::path::Path;
 
 /// So much is written between two syncs: one of all of a long file would stop those of the log.
-const BETWEEN_SYNCS: usize = 4 << 20;
+const BETWEEN_SYNCS: usize = 1 << 20;
 
 /// A file that is synced now and then while it is written.
 pub struct Paced {
@@ -119,7 +119,7 @@ mod tests {
         assert_eq!(read(), b"after");
         let long = vec![7; BETWEEN_SYNCS + 9];
         let count = fill(&folder, "it", |file| {
-            long.chunks(1 << 20).try_for_each(|part| file.write_all(part))?;
+            long.chunks(1 << 18).try_for_each(|part| file.write_all(part))?;
             Ok(file.unsynced)
         });
         assert_eq!((count.unwrap(), read()), (9, long));

@@ -146,6 +146,16 @@ pub fn write_map<'a>(pairs: impl ExactSizeIterator<Item = (&'a [u8], &'a [u8])>)
     map
 }
 
+/// Tells each key of an opening's map, with its value. None where it is cut short.
+pub fn tell_map_of(opening: &[u8], mut each: impl FnMut(&[u8], &[u8])) -> Option<()> {
+    let mut fields = from_map(opening)?;
+    for _ in 0..fields.u32()? {
+        let (key, value) = pair(&mut fields)?;
+        each(key, value);
+    }
+    Some(())
+}
+
 /// The bytes of an opening without one of its keys, of which `which` says by how many there are: a fault that is
 /// planted. None where it has none.
 pub fn lacking(opening: &[u8], which: impl Fn(u32) -> u32) -> Option<Vec<u8>> {
