@@ -22,7 +22,7 @@ BUILT = (f"{TOP}/crates/ep_server/out/ep_server", f"{TOP}/crates/ep_main/out/ep_
 # where builds put the library: first the proved one
 LIBRARIES = (f"{TOP}/out", f"{TOP}/out/unproved")
 # the crates that it takes, as Debian's packages bring them; elsewhere they are crates.io's
-PACKAGES = ("librust-hmac-dev", "librust-sha2-dev", "librust-signal-hook-dev", "librust-subtle-dev")
+PACKAGES = ("librust-hmac-dev", "librust-mio-dev", "librust-sha2-dev", "librust-signal-hook-dev", "librust-subtle-dev")
 REGISTRY = "/usr/share/cargo/registry"
 # clients that others have written, and Redis to compare with
 CLIENTS = ("redis-server", "redis-tools", "python3-redis", "stunnel4")

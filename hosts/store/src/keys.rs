@@ -24,6 +24,7 @@ use crate::say::warn;
 use crate::stored::{self, Stored};
 use crate::teller::Teller;
 use crate::transacting::Transacting;
+use crate::transaction::Transaction;
 use epaxos::{OwnedAnswer, OwnedCommand};
 use std::collections::{HashMap, HashSet, VecDeque};
 use std::io;
@@ -142,6 +143,12 @@ impl Key {
     fn is_idle(&self) -> bool {
         self.flights.is_empty() && self.waiting.is_empty() && self.held_by.is_none() && !self.rests
     }
+}
+
+/// What a connection wants done, under a number, and where its reply goes.
+pub enum Wanted {
+    Action(u64, Vec<u8>, Action, ReplyTo),
+    Transaction(u64, Transaction, ReplyTo),
 }
 
 /// What waits for a key.
@@ -273,15 +280,24 @@ impl Keys {
     /// Has the action done.
     pub fn ask(self: &Arc<Keys>, id: u64, key: Vec<u8>, action: Action, to: ReplyTo) {
         let mut state = self.state();
-        let found = state.keys.entry(key.clone()).or_default();
-        let asked = Asked { id, action, to, is_over: false };
-        let launch = if asked.action.only_reads() && !found.has_of(asked.to.connection) {
-            Some(state.begin_reading(key, asked))
-        } else {
-            found.waiting.push_back(Queued::One(asked));
-            state.begin(key)
-        };
+        let launch = state.ask(id, key, action, to);
         self.hand_on(state, launch);
+    }
+
+    /// Has all of this done.
+    pub fn ask_all(self: &Arc<Keys>, wanted: &mut Vec<Wanted>) {
+        let mut state = self.state();
+        for it in wanted.drain(..) {
+            match it {
+                Wanted::Action(id, key, action, to) => {
+                    let launch = state.ask(id, key, action, to);
+                    state.launches.extend(launch);
+                }
+                Wanted::Transaction(number, asked, to) => state.enqueue(number, asked, to),
+            }
+            state.settle();
+        }
+        self.hand_on(state, None);
     }
 
     /// Its client waits no longer: what it is to be told. None where it was answered already.
@@ -347,7 +363,12 @@ impl Keys {
         };
         let keys = self.clone();
         let reply = Teller::of(begun, move |told| keys.take(of, client, told));
-        match self.events.try_send(Event::Ask(Ask { what, reply })) {
+        self.send(Ask { what, reply });
+    }
+
+    /// Asks the driver, without waiting for it.
+    pub fn send(&self, ask: Ask) {
+        match self.events.try_send(Event::Ask(ask)) {
             Err(TrySendError::Full(event)) => _ = self.overflow.send(event),
             // (where the driver has ended it isn't proposed any more)
             Err(TrySendError::Disconnected(Event::Ask(ask))) => ask.reply.send(Told::Ending),
@@ -383,6 +404,17 @@ fn wake_all(keys: &Weak<Keys>, rests: &Receiver<(Instant, Vec<u8>)>) {
 }
 
 impl State {
+    /// Has the action begun, where it may begin.
+    fn ask(&mut self, id: u64, key: Vec<u8>, action: Action, to: ReplyTo) -> Option<Launch> {
+        let found = self.keys.entry(key.clone()).or_default();
+        let asked = Asked { id, action, to, is_over: false };
+        if asked.action.only_reads() && !found.has_of(asked.to.connection) {
+            return Some(self.begin_reading(key, asked));
+        }
+        found.waiting.push_back(Queued::One(asked));
+        self.begin(key)
+    }
+
     /// The round trip to the fast quorum, where that is far.
     fn far(&self) -> Option<Duration> {
         Some(Duration::from_micros(self.metrics.quorum_round_trip.get())).filter(|it| *it >= FAR)
@@ -703,8 +735,8 @@ pub(crate) mod tests {
     use super::*;
     use crate::actions::{Keep, Only, Set, Tells};
     use crate::map::{Map, execute};
+    use crate::outbox::{Message, Messages, Outbox};
     use crate::random::Random;
-    use crate::replies::Message;
     use epaxos::Fault;
     use std::collections::BTreeSet;
     use std::path::PathBuf;
@@ -717,8 +749,7 @@ pub(crate) mod tests {
         metrics: Arc<Metrics>,
         events: Mutex<Receiver<Event>>,
         folder: PathBuf,
-        pub(crate) messages: Sender<Message>,
-        told: Mutex<Receiver<Message>>,
+        pub(crate) outbox: Arc<Outbox>,
     }
 
     impl Store {
@@ -730,8 +761,7 @@ pub(crate) mod tests {
             let (sender, events) = sync_channel(64);
             let metrics = Arc::<Metrics>::default();
             let keys = Keys::start(sender, Arc::new(Mutex::new(Numbers::new(&folder, 0))), metrics.clone()).unwrap();
-            let (messages, told) = channel();
-            Store { keys, metrics, events: Mutex::new(events), folder, messages, told: Mutex::new(told) }
+            Store { keys, metrics, events: Mutex::new(events), folder, outbox: Arc::default() }
         }
 
         /// Asks; its reply is told under this number.
@@ -742,8 +772,7 @@ pub(crate) mod tests {
         /// The same, on this connection.
         fn ask_by(&self, connection: u64, command: u64, key: &str, action: Action) -> u64 {
             let id = self.keys.id();
-            let messages = self.messages.clone();
-            self.keys.ask(id, key.into(), action, ReplyTo { messages, connection, command, part: 0 });
+            self.keys.ask(id, key.into(), action, ReplyTo::part(self.outbox.clone(), connection, command, 0));
             id
         }
 
@@ -779,12 +808,20 @@ pub(crate) mod tests {
 
         /// What was told, by the numbers.
         pub(crate) fn told(&self) -> Vec<(u64, Reply)> {
-            self.told.lock().unwrap().try_iter().map(part).collect()
+            let mut messages = Messages::new();
+            self.outbox.take(&mut messages);
+            messages.into_iter().map(|(_, message)| part(message)).collect()
         }
 
-        /// What is told next.
-        fn await_told(&self) -> (u64, Reply) {
-            part(self.told.lock().unwrap().recv_timeout(Duration::from_secs(60)).unwrap())
+        /// So many that are told.
+        fn await_told(&self, count: usize) -> Vec<(u64, Reply)> {
+            let (mut told, start) = (Vec::new(), Instant::now());
+            while told.len() < count {
+                assert!(start.elapsed() < Duration::from_secs(60));
+                told.extend(self.told());
+                thread::sleep(Duration::from_millis(1));
+            }
+            told
         }
     }
 
@@ -1192,7 +1229,7 @@ pub(crate) mod tests {
                         store.ask(2_000 + number, "lock", Action::Unlock { owner });
                         thread::sleep(Duration::from_micros(100));
                     }
-                    let told: Vec<_> = (0..add + 2 * most).map(|_| store.await_told()).collect();
+                    let told = store.await_told((add + 2 * most) as usize);
                     ends.store(true, Ordering::Relaxed);
                     told
                 })

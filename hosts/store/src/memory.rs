@@ -21,8 +21,13 @@ impl Memory {
 
     /// A share of so many bytes, where there is room.
     pub fn share(self: &Arc<Memory>, bytes: usize) -> Option<Share> {
-        let mut share = Share { memory: self.clone(), bytes: 0 };
+        let mut share = self.empty_share();
         share.resize(bytes).then_some(share)
+    }
+
+    /// A share of nothing.
+    pub fn empty_share(self: &Arc<Memory>) -> Share {
+        Share { memory: self.clone(), bytes: 0 }
     }
 
     pub fn used(&self) -> usize {

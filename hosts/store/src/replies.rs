@@ -3,19 +3,23 @@ use crate::command_fault::CommandFault;
 use crate::keys::Keys;
 use crate::memory::Share;
 use crate::metrics::Metrics;
+use crate::outbox::{Message, Outbox};
 use crate::resp::{Reply, Version};
 use std::collections::VecDeque;
-use std::io::{self, Write};
+use std::io::{self, ErrorKind, Write};
+use std::sync::Arc;
 use std::sync::atomic::{AtomicBool, AtomicUsize, Ordering};
-use std::sync::mpsc::{Receiver, RecvTimeoutError, Sender, TryRecvError};
-use std::sync::{Arc, Condvar, Mutex, MutexGuard, PoisonError};
 use std::thread;
 use std::time::{Duration, Instant};
 
 /// So much of a connection may be under way.
 const MOST_UNDER_WAY: usize = 1_024;
-/// The thread that writes replies looks by itself what has begun, where nothing has come for so long; then it sleeps until it is told.
-const LINGER: Duration = Duration::from_millis(100);
+/// Replies wait where their client hasn't taken so many bytes of those before.
+const MOST_UNSENT: usize = 64 << 10;
+/// A client that takes nothing for so long is gone.
+const WRITE_PATIENCE: Duration = Duration::from_secs(30);
+/// After so long it is looked again for a reply that is on its way as its time is over.
+const SOON: Duration = Duration::from_millis(1);
 
 /// The replies that clients of all connections are due, so that a store ends once they have them.
 #[derive(Default)]
@@ -55,29 +59,50 @@ impl Drop for OneDue {
     }
 }
 
-/// What the thread that writes replies is told.
-pub enum Message {
-    /// A command has begun.
-    Begun,
-    /// A part of a command's reply has come.
-    Part(u64, usize, Reply),
-    /// No more commands come.
-    Over,
-}
-
-/// Where a part of a reply goes: of the connection's command of this number, from 0.
+/// Where a reply goes.
 pub struct ReplyTo {
-    pub messages: Sender<Message>,
+    /// None: nobody is told.
+    outbox: Option<Arc<Outbox>>,
     /// The connection's number.
     pub connection: u64,
-    pub command: u64,
-    pub part: usize,
+    place: Place,
+}
+
+/// What the reply is, to its connection.
+#[derive(Clone, Copy)]
+enum Place {
+    /// A part of the reply to its command of this number, from 0.
+    Part(u64, usize),
+    /// What was past its deadline was removed, for its look of this number.
+    Look(u64),
 }
 
 impl ReplyTo {
+    /// As this part of the reply to a connection's command.
+    pub fn part(outbox: Arc<Outbox>, connection: u64, command: u64, part: usize) -> ReplyTo {
+        ReplyTo { outbox: Some(outbox), connection, place: Place::Part(command, part) }
+    }
+
+    /// For a connection's look.
+    pub fn look(outbox: Arc<Outbox>, connection: u64, look: u64) -> ReplyTo {
+        ReplyTo { outbox: Some(outbox), connection, place: Place::Look(look) }
+    }
+
+    /// Nobody waits for it.
+    pub fn nobody() -> ReplyTo {
+        ReplyTo { outbox: None, connection: 0, place: Place::Look(0) }
+    }
+
     pub fn tell(self, reply: Reply) {
-        // (where nobody listens the connection has ended)
-        let _ = self.messages.send(Message::Part(self.command, self.part, reply));
+        let Some(outbox) = self.outbox else { return };
+        // (where the connection has ended nobody takes it)
+        outbox.put(
+            self.connection,
+            match self.place {
+                Place::Part(command, part) => Message::Part(command, part, reply),
+                Place::Look(look) => Message::Removed(look, reply),
+            },
+        );
     }
 }
 
@@ -148,214 +173,149 @@ impl Slot {
     }
 }
 
-/// How much of a connection is under way, which is bounded, and what has begun. The thread that writes replies takes that when it looks: it isn't woken
-/// for each command, whose reply wakes it anyway.
-#[derive(Default)]
-pub struct Window {
-    used: Mutex<Used>,
-    change: Condvar,
-}
-
-#[derive(Default)]
-struct Used {
-    count: usize,
-    is_over: bool,
-    /// Whether the thread that reads commands waits for a change.
-    is_awaited: bool,
-    begun: VecDeque<Slot>,
-    /// Whether the thread that writes replies sleeps until it is told that a command has begun.
-    is_asleep: bool,
-}
-
-/// The connection's replies can't be written any more.
-pub struct Over;
-
-impl Window {
-    fn used(&self) -> MutexGuard<'_, Used> {
-        self.used.lock().unwrap_or_else(PoisonError::into_inner)
-    }
-
-    /// Waits while it is so. (Who changes something tells nobody where nobody waits.)
-    fn wait_while(&self, is_so: impl Fn(&Used) -> bool) -> Result<MutexGuard<'_, Used>, Over> {
-        let mut used = self.used();
-        while !used.is_over && is_so(&used) {
-            used.is_awaited = true;
-            used = self.change.wait(used).unwrap_or_else(PoisonError::into_inner);
-        }
-        used.is_awaited = false;
-        if used.is_over { Err(Over) } else { Ok(used) }
-    }
-
-    /// Waits until there is room for so much, or all that there is.
-    pub fn enter(&self, weight: usize) -> Result<(), Over> {
-        self.wait_while(|used| used.count > 0 && used.count + weight > MOST_UNDER_WAY)?.count += weight;
-        Ok(())
-    }
-
-    /// Waits until nothing is under way.
-    pub fn settle(&self) -> Result<(), Over> {
-        self.wait_while(|used| used.count > 0).map(|_| ())
-    }
-
-    /// A command has begun. Whether the thread that writes replies is to be told.
-    pub fn begin(&self, slot: Slot) -> bool {
-        // (for what has come already nothing else wakes it)
-        let is_ready = slot.is_ready();
-        let mut used = self.used();
-        used.begun.push_back(slot);
-        std::mem::take(&mut used.is_asleep) || is_ready
-    }
-
-    /// What has begun since the last look. Where that is nothing the thread may sleep.
-    fn look(&self, slots: &mut VecDeque<Slot>, may_sleep: bool) {
-        let mut used = self.used();
-        used.is_asleep = may_sleep && used.begun.is_empty();
-        slots.append(&mut used.begun);
-    }
-
-    fn change(&self, change: impl FnOnce(&mut Used)) {
-        let mut used = self.used();
-        change(&mut used);
-        let is_awaited = used.is_awaited;
-        // (told while this is locked, who waits would wait for it)
-        drop(used);
-        if is_awaited {
-            self.change.notify_all();
-        }
-    }
-
-    fn leave(&self, weight: usize) {
-        self.change(|used| used.count -= weight);
-    }
-
-    pub fn end(&self) {
-        self.change(|used| used.is_over = true);
-    }
-}
-
-/// Writes the replies of one connection.
-pub struct Replies<W> {
-    writer: W,
-    messages: Receiver<Message>,
+/// The replies of one connection that aren't sent yet.
+pub struct Replies {
     keys: Arc<Keys>,
     metrics: Arc<Metrics>,
-    window: Arc<Window>,
     slots: VecDeque<Slot>,
     /// The number of the first of these commands.
     first: u64,
-    /// Those that were written, and may be on their way to the connection.
-    written: Vec<OneDue>,
-    /// Whether no more commands come.
-    is_over: bool,
+    /// How much is under way, which is bounded.
+    under_way: usize,
+    out: Vec<u8>,
+    /// How many of these bytes are sent.
+    sent: usize,
+    /// How many bytes were written in all, and what is let go of once so many are sent.
+    written: u64,
+    held: VecDeque<(u64, OneDue, Option<Share>)>,
+    /// Since when the client takes nothing, if it doesn't.
+    stuck: Option<Instant>,
 }
 
-impl<W: Write> Replies<W> {
-    pub fn new(
-        writer: W,
-        messages: Receiver<Message>,
-        keys: Arc<Keys>,
-        metrics: Arc<Metrics>,
-        window: Arc<Window>,
-    ) -> Replies<W> {
+impl Replies {
+    pub fn new(keys: Arc<Keys>, metrics: Arc<Metrics>) -> Replies {
         Replies {
-            writer,
-            messages,
             keys,
             metrics,
-            window,
             slots: VecDeque::new(),
             first: 0,
-            written: Vec::new(),
-            is_over: false,
+            under_way: 0,
+            out: Vec::new(),
+            sent: 0,
+            written: 0,
+            held: VecDeque::new(),
+            stuck: None,
         }
     }
 
-    /// Writes until all commands have come and are answered.
-    pub fn write_all(&mut self) -> io::Result<()> {
+    /// Whether there is room for so much more, or nothing is under way.
+    pub fn has_room(&self, weight: usize) -> bool {
+        self.under_way == 0 || self.under_way + weight <= MOST_UNDER_WAY
+    }
+
+    /// Whether nothing is under way.
+    pub fn is_settled(&self) -> bool {
+        self.under_way == 0
+    }
+
+    /// Whether all that has begun is sent.
+    pub fn is_over(&self) -> bool {
+        self.slots.is_empty() && self.out.is_empty()
+    }
+
+    /// A command has begun: its number.
+    pub fn begin(&mut self, slot: Slot) -> u64 {
+        self.under_way += slot.parts.len();
+        self.slots.push_back(slot);
+        self.first + self.slots.len() as u64 - 1
+    }
+
+    /// A part of a command's reply has come.
+    pub fn take(&mut self, command: u64, part: usize, reply: Reply) {
+        // (what comes too late is of no use)
+        let place = command.checked_sub(self.first).map(|place| place as usize);
+        let Some(slot) = place.and_then(|place| self.slots.get_mut(place)) else { return };
+        if let Some(share) = &mut slot.share {
+            share.count(reply.size());
+        }
+        if let Some(part) = slot.parts.get_mut(part) {
+            *part = Part::Come(reply);
+        }
+    }
+
+    /// Sends what may be sent, as far as the client takes it.
+    pub fn send(&mut self, mut stream: impl Write) -> io::Result<()> {
         loop {
-            self.write_ready()?;
-            match self.messages.try_recv() {
-                Ok(message) => self.take(message),
-                Err(TryRecvError::Empty) => {
-                    self.writer.flush()?;
-                    self.written.clear();
-                    if self.is_over && self.slots.is_empty() {
-                        return Ok(());
-                    }
-                    self.wait();
-                }
-                Err(TryRecvError::Disconnected) => return self.writer.flush(),
+            self.write_ready();
+            if self.out.is_empty() || self.stuck.is_some() {
+                return Ok(());
+            }
+            match stream.write(&self.out[self.sent..]) {
+                Ok(0) => return Err(ErrorKind::WriteZero.into()),
+                Ok(length) => self.note_sent(length),
+                Err(error) if error.kind() == ErrorKind::WouldBlock => self.stuck = Some(Instant::now()),
+                Err(error) if error.kind() == ErrorKind::Interrupted => {}
+                Err(error) => return Err(error),
             }
         }
     }
 
-    fn write_ready(&mut self) -> io::Result<()> {
-        while let Some(slot) = self.slots.pop_front_if(|slot| slot.is_ready()) {
+    /// The client may take more by now.
+    pub fn unstick(&mut self) {
+        self.stuck = None;
+    }
+
+    /// So many more bytes are sent.
+    fn note_sent(&mut self, length: usize) {
+        self.sent += length;
+        if self.sent == self.out.len() {
+            self.out.clear();
+            self.out.shrink_to(MOST_UNSENT);
+            self.sent = 0;
+        } else if self.sent >= MOST_UNSENT && 2 * self.sent >= self.out.len() {
+            self.out.drain(..self.sent);
+            self.sent = 0;
+        }
+        let sent = self.written - (self.out.len() - self.sent) as u64;
+        while self.held.pop_front_if(|(end, ..)| *end <= sent).is_some() {}
+    }
+
+    /// Writes what is ready, to the bytes that are to be sent.
+    fn write_ready(&mut self) {
+        while self.out.len() - self.sent < MOST_UNSENT
+            && let Some(slot) = self.slots.pop_front_if(|slot| slot.is_ready())
+        {
             self.first += 1;
-            let (weight, version, begun, is_counted) = (slot.parts.len(), slot.version, slot.begun, slot.is_counted);
-            let (reply, _share, due) = slot.reply();
-            self.written.push(due);
+            self.under_way -= slot.parts.len();
+            let (version, begun, is_counted) = (slot.version, slot.begun, slot.is_counted);
+            let (reply, share, due) = slot.reply();
             if is_counted {
                 self.metrics.waits.note(begun.elapsed());
                 let is_fault = matches!(reply, Reply::Error(_));
                 if is_fault { &self.metrics.refused } else { &self.metrics.answered }.add(1);
             }
-            reply.write(&mut self.writer, version)?;
-            self.window.leave(weight);
-        }
-        Ok(())
-    }
-
-    /// Waits for a message, or for the time of the first command to be over.
-    fn wait(&mut self) {
-        if self.slots.is_empty() {
-            self.look(false);
-        }
-        let left = self.slots.front().map(|slot| slot.deadline.saturating_duration_since(Instant::now()));
-        match self.messages.recv_timeout(left.unwrap_or(LINGER)) {
-            Ok(message) => self.take(message),
-            Err(RecvTimeoutError::Timeout) if left.is_some() => self.withdraw(),
-            Err(RecvTimeoutError::Timeout) => {
-                self.look(true);
-                if self.slots.is_empty() {
-                    self.messages.recv().into_iter().for_each(|message| self.take(message));
-                }
-            }
-            Err(RecvTimeoutError::Disconnected) => {}
+            let before = self.out.len();
+            // (memory takes all of it)
+            let _ = reply.write(&mut self.out, version);
+            self.written += (self.out.len() - before) as u64;
+            self.held.push_back((self.written, due, share));
         }
     }
 
-    fn look(&mut self, may_sleep: bool) {
-        self.window.look(&mut self.slots, may_sleep);
+    /// When something is to be done though nothing comes.
+    pub fn due(&self) -> Option<Instant> {
+        let stuck = self.stuck.map(|since| since + WRITE_PATIENCE);
+        self.slots.front().map(|slot| slot.deadline).into_iter().chain(stuck).min()
     }
 
-    fn take(&mut self, message: Message) {
-        match message {
-            Message::Begun => self.look(false),
-            Message::Over => {
-                self.look(false);
-                self.is_over = true;
-            }
-            Message::Part(command, part, reply) => {
-                let place = command.checked_sub(self.first).map(|place| place as usize);
-                if place.is_some_and(|place| place >= self.slots.len()) {
-                    self.look(false);
-                }
-                // (what comes too late is of no use)
-                let Some(slot) = place.and_then(|place| self.slots.get_mut(place)) else { return };
-                if let Some(share) = &mut slot.share {
-                    share.count(reply.size());
-                }
-                if let Some(part) = slot.parts.get_mut(part) {
-                    *part = Part::Come(reply);
-                }
-            }
-        }
+    /// Whether the client takes nothing any more.
+    pub fn is_lost(&self, now: Instant) -> bool {
+        self.stuck.is_some_and(|since| now >= since + WRITE_PATIENCE)
     }
 
-    /// The first command's client waits no longer.
-    fn withdraw(&mut self) {
-        let Some(slot) = self.slots.front_mut() else { return };
+    /// The client of the first command waits no longer, where its time is over.
+    pub fn withdraw(&mut self, now: Instant) {
+        let Some(slot) = self.slots.front_mut().filter(|slot| slot.deadline <= now) else { return };
         for part in &mut slot.parts {
             let reply = match part {
                 Part::Come(_) => None,
@@ -368,5 +328,72 @@ impl<W: Write> Replies<W> {
                 *part = Part::Come(reply);
             }
         }
+        slot.deadline = now + SOON;
+    }
+}
+
+#[cfg(test)]
+mod tests {
+    use super::*;
+    use crate::keys::tests::Store;
+    use crate::memory::Memory;
+
+    /// A client that takes so many bytes more.
+    struct Taking(Vec<u8>, usize);
+
+    impl Write for Taking {
+        fn write(&mut self, bytes: &[u8]) -> io::Result<usize> {
+            let length = bytes.len().min(self.1);
+            self.0.extend(&bytes[..length]);
+            self.1 -= length;
+            if length == 0 { Err(ErrorKind::WouldBlock.into()) } else { Ok(length) }
+        }
+
+        fn flush(&mut self) -> io::Result<()> {
+            Ok(())
+        }
+    }
+
+    fn slot(parts: usize, share: Option<Share>, due: &Arc<Due>) -> Slot {
+        let (begun, version) = (Instant::now(), Version::Two);
+        let (parts, combine) = ((0..parts).map(|_| Part::Wanted(None)).collect(), Combine::List);
+        Slot { combine, parts, version, begun, deadline: begun, share, is_counted: true, due: due.begin() }
+    }
+
+    #[test]
+    fn they_are_sent_in_order_as_far_as_they_are_taken() {
+        let (store, memory, due) = (Store::new(), Memory::new(1 << 30), Arc::<Due>::default());
+        let mut replies = Replies::new(store.keys.clone(), Arc::default());
+        let mut client = Taking(Vec::new(), 100);
+        let numbers = [2, 1].map(|parts| replies.begin(slot(parts, memory.share(10), &due)));
+        assert!(numbers == [0, 1] && replies.has_room(MOST_UNDER_WAY - 3) && !replies.has_room(MOST_UNDER_WAY - 2));
+        replies.take(1, 0, Reply::Integer(3));
+        replies.take(0, 1, Reply::Integer(2));
+        replies.send(&mut client).unwrap();
+        assert!(client.0.is_empty() && !replies.is_settled());
+        replies.take(0, 0, Reply::Integer(1));
+        replies.send(&mut client).unwrap();
+        assert_eq!(client.0, b"*2\r\n:1\r\n:2\r\n*1\r\n:3\r\n");
+        assert!(replies.is_over() && memory.used() == 0 && due.count.load(Ordering::Relaxed) == 0);
+        // What isn't taken is bounded: the rest stays as it came, and all of it counts until it is sent.
+        client.1 = 10;
+        let long = vec![b'v'; MOST_UNSENT / 2];
+        for number in 2..8 {
+            replies.begin(slot(1, memory.share(10), &due));
+            replies.take(number, 0, Reply::Bulk(long.clone()));
+        }
+        replies.send(&mut client).unwrap();
+        assert!(replies.slots.len() == 4 && replies.out.len() < 2 * MOST_UNSENT && replies.due().is_some());
+        assert!(memory.used() > 6 * long.len() && due.count.load(Ordering::Relaxed) == 6);
+        assert!(!replies.is_lost(Instant::now()) && replies.is_lost(Instant::now() + WRITE_PATIENCE));
+        client.1 = 2 * long.len();
+        replies.send(&mut client).unwrap();
+        assert_eq!((client.1, replies.slots.len()), (2 * long.len(), 4));
+        replies.unstick();
+        replies.send(&mut client).unwrap();
+        assert!(replies.slots.len() < 3 && due.count.load(Ordering::Relaxed) == 5);
+        (replies.unstick(), client.1 = usize::MAX);
+        replies.send(&mut client).unwrap();
+        assert!(replies.is_over() && memory.used() == 0 && due.count.load(Ordering::Relaxed) == 0);
     }
 }

@@ -46,30 +46,8 @@ enum Stage {
 impl Keys {
     /// Has a transaction done, under this number.
     pub fn transact(self: &Arc<Keys>, number: u64, asked: Transaction, to: ReplyTo) {
-        let keys = asked.keys();
-        if keys.len() > MOST_KEYS {
-            return to.tell(Reply::Error(CommandFault::ManyKeys(MOST_KEYS)));
-        }
         let mut state = self.state();
-        let turn = Turn { transaction: number, connection: to.connection };
-        for key in &keys {
-            state.keys.entry(key.clone()).or_default().waiting.push_back(Queued::Turn(turn));
-        }
-        state.left.extend(keys.iter().cloned());
-        let transacting = Transacting {
-            lacking: keys.len(),
-            keys,
-            asked,
-            to,
-            stage: Stage::Waits,
-            attempt: 0,
-            values: Values::new(),
-            reply: None,
-            lost: 0,
-            tries: 0,
-            begun: Arc::default(),
-        };
-        state.transactions.insert(number, transacting);
+        state.enqueue(number, asked, to);
         self.hand_on(state, None);
     }
 
@@ -93,6 +71,33 @@ impl Keys {
 }
 
 impl State {
+    /// Has a transaction wait for its keys.
+    pub(crate) fn enqueue(&mut self, number: u64, asked: Transaction, to: ReplyTo) {
+        let keys = asked.keys();
+        if keys.len() > MOST_KEYS {
+            return to.tell(Reply::Error(CommandFault::ManyKeys(MOST_KEYS)));
+        }
+        let turn = Turn { transaction: number, connection: to.connection };
+        for key in &keys {
+            self.keys.entry(key.clone()).or_default().waiting.push_back(Queued::Turn(turn));
+        }
+        self.left.extend(keys.iter().cloned());
+        let transacting = Transacting {
+            lacking: keys.len(),
+            keys,
+            asked,
+            to,
+            stage: Stage::Waits,
+            attempt: 0,
+            values: Values::new(),
+            reply: None,
+            lost: 0,
+            tries: 0,
+            begun: Arc::default(),
+        };
+        self.transactions.insert(number, transacting);
+    }
+
     /// A transaction has one more of its keys.
     pub(crate) fn lend(&mut self, turn: Turn) {
         let Some(transacting) = self.transactions.get_mut(&turn.transaction) else { return };
@@ -304,7 +309,7 @@ mod tests {
     /// Asks on this connection; the reply is told under this number.
     fn transact(store: &Store, command: u64, it: Transaction) -> u64 {
         let number = store.keys.id();
-        let to = ReplyTo { messages: store.messages.clone(), connection: 1, command, part: 0 };
+        let to = ReplyTo::part(store.outbox.clone(), 1, command, 0);
         store.keys.transact(number, it, to);
         number
     }

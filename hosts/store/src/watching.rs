@@ -2,76 +2,108 @@
 use crate::actions::Action;
 use crate::begun::Begun;
 use crate::command_fault::CommandFault;
-use crate::driver::{Ask, Event, Told, What};
+use crate::driver::{Ask, Told, What};
 use crate::keys::Keys;
-use crate::replies::{Message, ReplyTo};
+use crate::outbox::{Message, Outbox};
+use crate::replies::ReplyTo;
 use crate::resp::Reply;
 use crate::stored::{self, Stored};
 use crate::teller::Teller;
 use crate::view::Values;
 use std::collections::BTreeSet;
 use std::sync::Arc;
-use std::sync::mpsc::{SyncSender, channel};
 use std::time::Instant;
 
-/// What these keys have, in the bytes that replicas agree on. What is past its deadline is removed first.
-pub fn look(
-    keys: &Arc<Keys>,
-    events: &SyncSender<Event>,
-    mut wanted: BTreeSet<Vec<u8>>,
-    deadline: Instant,
-) -> Result<Values, CommandFault> {
-    let mut values = Values::new();
-    while !wanted.is_empty() {
-        values.extend(read(events, &wanted, deadline)?);
-        let now = stored::now();
+/// What is to be known, or why it can't be.
+pub type Looked = Result<Values, CommandFault>;
+
+/// A look at what keys have, in the bytes that replicas agree on. What is past its deadline is removed first.
+pub struct Look {
+    keys: Arc<Keys>,
+    outbox: Arc<Outbox>,
+    connection: u64,
+    /// Its number, of its connection.
+    number: u64,
+    /// Until when it may take.
+    pub deadline: Instant,
+    begun: Arc<Begun>,
+    /// What is read now, or removed.
+    wanted: BTreeSet<Vec<u8>>,
+    left: usize,
+    values: Values,
+}
+
+impl Look {
+    /// One of a connection, of this number, which is told in its messages what comes of it.
+    pub fn new(
+        keys: &Arc<Keys>,
+        outbox: &Arc<Outbox>,
+        (connection, number): (u64, u64),
+        wanted: BTreeSet<Vec<u8>>,
+        deadline: Instant,
+    ) -> Look {
+        let (keys, outbox, begun) = (keys.clone(), outbox.clone(), Arc::default());
+        Look { keys, outbox, connection, number, deadline, begun, wanted, left: 0, values: Values::new() }
+    }
+
+    /// Whether a message is of this look.
+    pub fn is(&self, number: u64) -> bool {
+        self.number == number
+    }
+
+    /// Reads what is wanted, each key by a read of its own; or has all.
+    pub fn read(&mut self) -> Option<Looked> {
+        self.left = self.wanted.len();
+        if self.left == 0 {
+            return Some(Ok(std::mem::take(&mut self.values)));
+        }
+        for key in &self.wanted {
+            let (outbox, connection, number, of) = (self.outbox.clone(), self.connection, self.number, key.clone());
+            let tell = move |told| outbox.put(connection, Message::Looked(number, of, told));
+            let reply = Teller::of(self.begun.clone(), tell);
+            self.keys.send(Ask { what: What::Get(key.clone()), reply });
+        }
+        None
+    }
+
+    /// A key has this.
+    pub fn take(&mut self, key: Vec<u8>, told: Told) -> Option<Looked> {
+        let Told::Value(value) = told else { return Some(Err(CommandFault::of(told))) };
+        self.values.insert(key, value);
+        self.left -= 1;
+        if self.left > 0 {
+            return None;
+        }
+        let (now, values) = (stored::now(), &self.values);
         let is_over = |key: &Vec<u8>| {
             let value = values.get(key).cloned().flatten();
             value.map(Stored::read).is_some_and(|stored| stored.is_over(now))
         };
-        wanted.retain(is_over);
-        remove(keys, &wanted, deadline)?;
+        self.wanted.retain(is_over);
+        self.remove()
     }
-    Ok(values)
-}
 
-/// What each of these keys has, by a read of its own.
-fn read(events: &SyncSender<Event>, keys: &BTreeSet<Vec<u8>>, deadline: Instant) -> Result<Values, CommandFault> {
-    let (sender, told) = channel();
-    let begun = Arc::<Begun>::default();
-    for key in keys {
-        let (sender, of) = (sender.clone(), key.clone());
-        // (who waits no longer has gone)
-        let reply = Teller::of(begun.clone(), move |told| _ = sender.send((of, told)));
-        let _ = events.send(Event::Ask(Ask { what: What::Get(key.clone()), reply }));
-    }
-    let mut values = Values::new();
-    for _ in keys {
-        match told.recv_timeout(deadline.saturating_duration_since(Instant::now())) {
-            Ok((key, Told::Value(value))) => _ = values.insert(key, value),
-            Ok((_, told)) => return Err(CommandFault::of(told)),
-            Err(_) => {
-                begun.give_up();
-                return Err(CommandFault::NotInTime);
-            }
+    /// Has what is past its deadline removed; or has all.
+    fn remove(&mut self) -> Option<Looked> {
+        self.left = self.wanted.len();
+        for key in &self.wanted {
+            let to = ReplyTo::look(self.outbox.clone(), self.connection, self.number);
+            self.keys.ask(self.keys.id(), key.clone(), Action::Tidy, to);
         }
+        (self.left == 0).then(|| Ok(std::mem::take(&mut self.values)))
     }
-    Ok(values)
-}
 
-/// Has what is past its deadline removed from these keys.
-fn remove(keys: &Arc<Keys>, expired: &BTreeSet<Vec<u8>>, deadline: Instant) -> Result<(), CommandFault> {
-    let (messages, told) = channel();
-    for key in expired {
-        let to = ReplyTo { messages: messages.clone(), connection: 0, command: 0, part: 0 };
-        keys.ask(keys.id(), key.clone(), Action::Tidy, to);
-    }
-    for _ in expired {
-        match told.recv_timeout(deadline.saturating_duration_since(Instant::now())) {
-            Ok(Message::Part(.., Reply::Error(fault))) => return Err(fault),
-            Ok(_) => {}
-            Err(_) => return Err(CommandFault::NotInTime),
+    /// A key's value that was past its deadline was removed. Once all are, they are read again.
+    pub fn take_removed(&mut self, reply: Reply) -> Option<Looked> {
+        if let Reply::Error(fault) = reply {
+            return Some(Err(fault));
         }
+        self.left -= 1;
+        if self.left == 0 { self.read() } else { None }
     }
-    Ok(())
+
+    /// Nobody waits for it any more.
+    pub fn give_up(&self) {
+        self.begun.give_up();
+    }
 }

@@ -1,5 +1,5 @@
 //! The calls of the library, as bindings/c/epaxos.h has them. All unsafe code of the crate is here, but for
-//! background.rs.
+//! system.rs.
 #![allow(unsafe_code)]
 
 #[rustfmt::skip]

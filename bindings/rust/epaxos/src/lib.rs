@@ -127,7 +127,6 @@
 #![deny(unsafe_code)]
 
 mod answer;
-mod background;
 mod bytes;
 mod call;
 mod checkpoint;
@@ -177,6 +176,7 @@ mod status;
 mod succeed_fault;
 mod succession;
 mod sum;
+mod system;
 mod tx;
 mod tx_builder;
 mod tx_fault;

@@ -2,7 +2,7 @@
 //! is.
 #![forbid(unsafe_code)]
 
-pub use crate::background::{give_way, leave_real_time};
+pub use crate::system::{give_way, leave_real_time};
 
 pub mod batch;
 pub mod calls;

@@ -7,7 +7,7 @@
 //! number in this direction and all of it. So a message that was turned, left out, repeated, put in another order
 //! or sent back is refused, and the connection ends. The first message of whoever connects is its proof. A stranger
 //! is told bytes by chance and a proof that serves nobody else: no identity, and nothing that a second connection
-//! could use.
+//! could use. A cluster without a key has zeros in the place of a message's HMAC, as anybody could make that.
 //!
 //! What is sent isn't encrypted.
 use crate::parts::identity::by_chance;
@@ -38,7 +38,11 @@ const HEAD: usize = 5;
 /// # let _ = key;
 /// ```
 #[derive(Clone)]
-pub struct Key<M>(M);
+pub struct Key<M> {
+    mac: M,
+    /// Whether it is what stands in the place of one.
+    is_none: bool,
+}
 
 impl<M> fmt::Debug for Key<M> {
     fn fmt(&self, f: &mut fmt::Formatter) -> fmt::Result {
@@ -49,7 +53,7 @@ impl<M> fmt::Debug for Key<M> {
 impl<M: Mac> Key<M> {
     /// What a cluster without a key has in its place. It keeps nobody out: anybody can know it.
     pub fn none() -> Key<M> {
-        Key::of(b"")
+        Key { is_none: true, ..Key::of(b"") }
     }
 
     /// Reads a file: all its bytes are the key, but for blanks and line ends at its end.
@@ -63,12 +67,12 @@ impl<M: Mac> Key<M> {
 
     /// That of these bytes, which are made by chance.
     pub fn of(bytes: &[u8]) -> Key<M> {
-        Key(M::keyed(bytes))
+        Key { mac: M::keyed(bytes), is_none: false }
     }
 
     /// The HMAC over a label and what both ends have told.
     fn hmac(&self, label: &[u8], hello: &Hello, nonce: &[u8; NONCE]) -> [u8; PROOF] {
-        let mut mac = self.0.clone();
+        let mut mac = self.mac.clone();
         for part in [label, &hello.0, nonce] {
             mac.add(part);
         }
@@ -133,13 +137,15 @@ pub fn answer<M: Mac>(stream: &mut impl Write, key: &Key<M>, hello: &Hello) -> i
 }
 
 fn directions<M: Mac>(key: &Key<M>, hello: &Hello, nonce: &[u8; NONCE]) -> (Direction<M>, Direction<M>) {
-    let of = |label: &[u8]| Direction { mac: M::keyed(&key.hmac(label, hello, nonce)), number: 0 };
+    let mac = |label: &[u8]| (!key.is_none).then(|| M::keyed(&key.hmac(label, hello, nonce)));
+    let of = |label: &[u8]| Direction { mac: mac(label), number: 0 };
     (of(b"epaxos store: messages of who connects"), of(b"epaxos store: messages of who listens"))
 }
 
 /// The messages of one end: its key of this connection, and how many there were.
 pub struct Direction<M> {
-    mac: M,
+    /// None in a cluster without a key.
+    mac: Option<M>,
     number: u64,
 }
 
@@ -177,7 +183,7 @@ impl<M: Mac> Direction<M> {
     }
 
     fn next_tag(&mut self, head: &[u8; HEAD], bytes: &[u8]) -> [u8; TAG] {
-        let mut mac = self.mac.clone();
+        let Some(mut mac) = self.mac.clone() else { return [0; TAG] };
         mac.add(&self.number.to_be_bytes());
         mac.add(head);
         mac.add(bytes);
@@ -246,8 +252,25 @@ mod tests {
         let mut listener = answer(&mut far, &key(), &hello).unwrap();
         let mut told = [0; NONCE + PROOF];
         near.read_exact(&mut told).unwrap();
-        let (mut forged, _) = directions(&Key::none(), &hello, told.first_chunk().unwrap());
-        assert_eq!(refused(&mut listener.receiving, &written(&mut forged, b"frame")), io::ErrorKind::InvalidData);
+        for other in [Key::of(b""), Key::none()] {
+            let (mut forged, _) = directions(&other, &hello, told.first_chunk().unwrap());
+            assert_eq!(refused(&mut listener.receiving, &written(&mut forged, b"frame")), io::ErrorKind::InvalidData);
+        }
+    }
+
+    #[test]
+    fn without_a_key_there_are_no_codes() {
+        let (near, mut far) = ends(Key::none(), Key::none());
+        let mut near = near.unwrap();
+        for message in [&b"x"[..], &[7; LONGEST]] {
+            let bytes = written(&mut near.sending, message);
+            assert_eq!(bytes[5 + message.len()..], [0; TAG]);
+            assert_eq!(far.receiving.read(&mut &bytes[..], LONGEST).unwrap(), (3, message.to_vec()));
+        }
+        // Both ends have to have none.
+        assert_eq!(ends(Key::none(), key()).0.err().unwrap().kind(), io::ErrorKind::PermissionDenied);
+        let bytes = written(&mut ends(key(), key()).0.unwrap().sending, b"x");
+        assert_eq!(refused(&mut far.receiving, &bytes), io::ErrorKind::InvalidData);
     }
 
     #[test]

@@ -12,8 +12,9 @@ use crate::parts::link_fault::LinkFault;
 use crate::parts::mac::Mac;
 use crate::parts::sealed::{self, Channel, Direction, Hello, Key};
 use crate::parts::timed::Timed;
+use crate::system::send_at_once;
 use std::collections::VecDeque;
-use std::io::{self, BufReader, BufWriter, Read, Write};
+use std::io::{self, BufReader, ErrorKind, Read, Write};
 use std::net::{Shutdown, TcpStream, ToSocketAddrs};
 use std::sync::atomic::{AtomicBool, AtomicU64, Ordering};
 use std::sync::{Arc, Condvar, Mutex, MutexGuard, PoisonError};
@@ -22,6 +23,10 @@ use std::time::Duration;
 
 /// What waits for one peer is at most so many bytes; then the oldest frames are lost.
 const MOST_WAITING: usize = 8 << 20;
+/// So many bytes are sent by whoever has them, where the thread that sends waits: that takes less than to wake it.
+const MOST_AT_ONCE: usize = 1 << 10;
+/// And the thread sends so many at once.
+const MOST_TOGETHER: usize = 1 << 16;
 /// What messages are: a greeting or its answer, a frame of the protocol or a message of a host, and that this end is
 /// there.
 pub(super) const GREETING: u8 = 0;
@@ -37,8 +42,7 @@ pub(super) const LEAST_PAUSE: Duration = Duration::from_millis(20);
 const GREATEST_PAUSE: Duration = Duration::from_millis(500);
 
 /// The frames that wait for one peer.
-#[derive(Default)]
-struct Queue {
+struct Queue<M> {
     frames: VecDeque<Vec<u8>>,
     bytes: usize,
     /// Whether the thread that sends waits for them.
@@ -49,14 +53,81 @@ struct Queue {
     has_come: bool,
     /// Whether nothing more comes.
     is_ended: bool,
+    /// The connection, while that thread waits.
+    way: Option<Way<M>>,
+}
+
+impl<M> Default for Queue<M> {
+    fn default() -> Queue<M> {
+        let frames = VecDeque::new();
+        Queue { frames, bytes: 0, is_awaited: false, over: None, has_come: false, is_ended: false, way: None }
+    }
+}
+
+impl<M: Mac> Queue<M> {
+    /// Whether there is nothing to do for the thread that sends.
+    fn is_idle(&self) -> bool {
+        self.frames.is_empty() && self.over.is_none() && self.way.as_ref().is_none_or(|way| way.out.is_empty())
+    }
+
+    /// Sends frames without that thread, where they are short and it waits: whether they are on their way.
+    fn send_at_once(&mut self, all: &[Vec<u8>]) -> bool {
+        let is_short = all.iter().map(Vec::len).sum::<usize>() <= MOST_AT_ONCE;
+        if !is_short || self.is_ended || !self.is_idle() {
+            return false;
+        }
+        let Some(way) = &mut self.way else { return false };
+        let sent = all.iter().try_for_each(|frame| way.add(frame)).and_then(|()| way.send());
+        self.over = sent.err().map(|error| LinkFault::Unsent(error.kind()));
+        true
+    }
+}
+
+/// What sends on a connection.
+struct Way<M> {
+    stream: Arc<TcpStream>,
+    sending: Direction<M>,
+    /// What is to be sent, and isn't yet.
+    out: Vec<u8>,
+}
+
+impl<M: Mac> Way<M> {
+    fn add(&mut self, frame: &[u8]) -> io::Result<()> {
+        self.sending.write(&mut self.out, FRAME, frame)
+    }
+
+    /// Sends as much as is taken without waiting.
+    fn send(&mut self) -> io::Result<()> {
+        match send_at_once(&self.stream, &self.out) {
+            Ok(length) => _ = self.out.drain(..length),
+            Err(error) if matches!(error.kind(), ErrorKind::WouldBlock | ErrorKind::Interrupted) => {}
+            Err(error) => return Err(error),
+        }
+        Ok(())
+    }
+
+    /// Sends all of it, and these frames behind it.
+    fn send_all(&mut self, frames: &VecDeque<Vec<u8>>) -> io::Result<()> {
+        for frame in frames {
+            self.add(frame)?;
+            if self.out.len() >= MOST_TOGETHER {
+                (&*self.stream).write_all(&self.out)?;
+                self.out.clear();
+            }
+        }
+        (&*self.stream).write_all(&self.out)?;
+        self.out.clear();
+        self.out.shrink_to(MOST_TOGETHER);
+        Ok(())
+    }
 }
 
 /// The connection to a peer.
-pub struct TcpSender<E> {
+pub struct TcpSender<E: Ends> {
     to: u8,
     address: Mutex<String>,
     ends: Arc<E>,
-    queue: Mutex<Queue>,
+    queue: Mutex<Queue<E::Mac>>,
     changed: Condvar,
     came: Condvar,
     is_reached: AtomicBool,
@@ -70,6 +141,12 @@ impl<E: Ends> Link for TcpSender<E> {
 
     fn send_several(&self, all: Vec<Vec<u8>>) {
         let mut queue = self.queue();
+        if queue.send_at_once(&all) {
+            if !queue.is_idle() {
+                self.wake(queue);
+            }
+            return;
+        }
         queue.bytes += all.iter().map(Vec::len).sum::<usize>();
         queue.frames.extend(all);
         while queue.bytes > MOST_WAITING {
@@ -95,7 +172,7 @@ impl<E: Ends> Link for TcpSender<E> {
 
     fn is_idle(&self) -> bool {
         let queue = self.queue();
-        !self.is_reached() || (queue.frames.is_empty() && queue.is_awaited)
+        !self.is_reached() || (queue.is_idle() && queue.is_awaited)
     }
 
     fn lost(&self) -> u64 {
@@ -149,13 +226,13 @@ impl<E: Ends> TcpSender<E> {
         self.came.notify_one();
     }
 
-    fn queue(&self) -> MutexGuard<'_, Queue> {
+    fn queue(&self) -> MutexGuard<'_, Queue<E::Mac>> {
         self.queue.lock().unwrap_or_else(PoisonError::into_inner)
     }
 
     /// Tells the thread that sends, where it waits: each word takes a call of the system. (Told while the queue is
     /// locked, the thread would wait for that.)
-    fn wake(&self, mut queue: MutexGuard<'_, Queue>) {
+    fn wake(&self, mut queue: MutexGuard<'_, Queue<E::Mac>>) {
         let is_awaited = std::mem::take(&mut queue.is_awaited);
         drop(queue);
         if is_awaited {
@@ -210,7 +287,7 @@ impl<E: Ends> TcpSender<E> {
 
     /// Waits until the next try to connect, or until the peer was seen to be there. Whether there is no next one.
     fn rest(&self, pause: Duration) -> bool {
-        let waits = |queue: &mut Queue| !queue.has_come && !queue.is_ended;
+        let waits = |queue: &mut Queue<E::Mac>| !queue.has_come && !queue.is_ended;
         let waited = self.came.wait_timeout_while(self.queue(), pause, waits);
         let (mut queue, _) = waited.unwrap_or_else(PoisonError::into_inner);
         queue.has_come = false;
@@ -233,41 +310,41 @@ impl<E: Ends> TcpSender<E> {
         let Ok(reading) = stream.try_clone() else {
             return LinkFault::NoHandles;
         };
+        let stream = Arc::new(stream);
+        let way = Way { stream: stream.clone(), sending, out: Vec::new() };
         thread::scope(|scope| {
             scope.spawn(|| {
                 let over = heard_out(reading, receiving);
                 self.part(over);
             });
-            let cause = self.send_while_open(&stream, sending);
+            let cause = self.send_while_open(way);
             let _ = stream.shutdown(Shutdown::Both);
             cause
         })
     }
 
-    fn send_while_open(&self, stream: &TcpStream, mut sending: Direction<E::Mac>) -> LinkFault {
-        let mut writer = BufWriter::with_capacity(1 << 16, stream);
+    fn send_while_open(&self, mut way: Way<E::Mac>) -> LinkFault {
         loop {
             let mut queue = self.queue();
-            while queue.frames.is_empty() && queue.over.is_none() && !queue.is_ended {
+            queue.way = Some(way);
+            while queue.is_idle() && !queue.is_ended {
                 queue.is_awaited = true;
                 queue = self.changed.wait(queue).unwrap_or_else(PoisonError::into_inner);
             }
             queue.is_awaited = false;
+            let Some(taken) = queue.way.take() else { return LinkFault::Broken };
+            way = taken;
             if let Some(over) = queue.over {
                 return over;
             }
             // (what was sent before it was ended goes out)
-            if queue.frames.is_empty() {
+            if queue.frames.is_empty() && way.out.is_empty() {
                 return LinkFault::Ended;
             }
             let frames = std::mem::take(&mut queue.frames);
             queue.bytes = 0;
             drop(queue);
-            let sent = frames.iter().try_for_each(|frame| sending.write(&mut writer, FRAME, frame));
-            let sent = sent.and_then(|()| writer.flush());
-            if let Err(error) = sent {
-                // What is left in the writer mustn't wait for the connection again.
-                let _ = stream.shutdown(Shutdown::Both);
+            if let Err(error) = way.send_all(&frames) {
                 return LinkFault::Unsent(error.kind());
             }
         }

@@ -96,6 +96,35 @@ fn frames_go_to_a_peer() {
 }
 
 #[test]
+fn what_goes_at_once_and_what_waits_keep_their_order() {
+    let (_receiver, happened, address) = listening(b"");
+    let sender = sender(address, b"");
+    let (stream, channel) = connect(&sender).ok().unwrap();
+    let frame = |number: u32| [&number.to_be_bytes()[..], &[7; MOST_AT_ONCE - 4]].concat();
+    thread::scope(|scope| {
+        scope.spawn(|| sender.send_all(stream.try_clone().unwrap(), channel));
+        while !sender.queue().is_awaited {
+            thread::sleep(Duration::from_millis(1));
+        }
+        // (the thread isn't woken for it)
+        sender.send(frame(0));
+        assert!(sender.queue().is_awaited);
+        // Nobody takes them, so they wait in the end.
+        let mut sent = 1;
+        while sender.queue().frames.len() < 100 {
+            sender.send(frame(sent));
+            sent += 1;
+        }
+        let mut taken = happened.iter().filter_map(|it| match it {
+            Happened::Came(_, bytes) => Some(bytes),
+            _ => None,
+        });
+        assert!((0..sent).all(|number| taken.next() == Some(frame(number))));
+        let _ = stream.shutdown(Shutdown::Both);
+    });
+}
+
+#[test]
 fn another_key_is_refused() {
     let secret = b"a key of twenty bytes";
     let (_receiver, _happened, address) = listening(secret);

@@ -17,7 +17,7 @@ use store::processes::{processor_time, threads_time, written};
 /// How many members each cluster has.
 const MEMBERS: usize = 3;
 /// The threads of a store that serve its clients, and of the bench that ask.
-const OF_CLIENTS: [&str; 4] = ["client", "clients", "door", "replies"];
+const OF_CLIENTS: [&str; 3] = ["client", "clients", "lists"];
 /// How long a connection waits for an answer.
 const PATIENCE: Duration = Duration::from_secs(15);
 
