@@ -72,7 +72,7 @@ KINDS = (
 # of changes of generation: two functions of the library, each with words for the example `change` (keys, commands and
 # changes), and how many times the instructions of the first the second may take
 CHANGES = (
-    ("a change, where the map is twice as long", ("ep_succeed", "3000 300 2"), ("ep_succeed", "6000 300 2"), 1.2),
+    ("a change, where the map is twice as long", ("ep_succeed", "8000 300 2"), ("ep_succeed", "16000 300 2"), 1.2),
     ("what is left, once all was let go", ("ep_checkpoint_rest", "9 300 2"), ("ep_checkpoint_free", "9 300 2"), 0.1),
 )
 
