@@ -1,6 +1,6 @@
 """Words, numbers, lines and sections, each in a script that is refused at a line or that has its report here; and what such a script leaves, shown.
 
-What is wanted is written out from docs/FORMATS.md and the worked examples there."""
+What is wanted is written out from docs/FORMATS.md and docs/CLI.md."""
 
 import drawing
 

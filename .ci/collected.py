@@ -1,6 +1,6 @@
 """Rows of `epaxos collect --generation` and `epaxos contents`: folders of nodes in the generations of .ci/generations.py, as dictionaries of a row's parts.
 
-Opening files and logs are written out from docs/FORMATS.md, sections 12 and 9, and what is wanted of them from sections 6.1 and 6.3."""
+Opening files and logs are written out from docs/FORMATS.md, sections 12 and 9, and what is wanted of them from docs/CLI.md, sections 6.1 and 6.3."""
 
 import hashlib
 

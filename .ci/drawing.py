@@ -1,4 +1,4 @@
-"""What `draw --mermaid` and `draw --dot` write, worked out of the lines that `show` prints, by docs/FORMATS.md, 11.2."""
+"""What `draw --mermaid` and `draw --dot` write, worked out of the lines that `show` prints, by docs/CLI.md, 11.2."""
 
 import re
 

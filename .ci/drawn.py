@@ -4,7 +4,7 @@ one before left.
   .ci/drawn.py PROGRAM SEED..     those of these seeds alone
 
 Replicas give up and recover at any time, messages are given in any order, and seals are proposed among all other commands. The report of each is read
-by docs/FORMATS.md, section 5: every reply, the seal and the contents have to be those of a plain map, and of two committed commands that interfere one
+by docs/CLI.md, section 5: every reply, the seal and the contents have to be those of a plain map, and of two committed commands that interfere one
 depends on the other. An audit of the bundle has to say the same, an upgrade to hand it on as it is, `show`, `explain` and `draw` to take it, and an audit
 of the chain to accept all generations, and to refuse them the other way round. A script for a run is drawn from the same opening, for both hosts.
 """

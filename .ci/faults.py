@@ -1,6 +1,6 @@
 """Scripts that `epaxos explain` tells the faults of, and text that it is given for a bundle: as dictionaries of a row's parts.
 
-What is wanted is written out from docs/FORMATS.md: lines, words, numbers and ranges by section 4, and how a fault is told by section 5.2."""
+What is wanted is written out from docs/CLI.md: lines, words, numbers and ranges by section 4, and how a fault is told by section 5.2."""
 
 S = b"replicas 3\n"
 # what is told of text that is no bundle, before what it is
@@ -11,7 +11,7 @@ BOTH = "replay"
 def told(line, rest, size="line 1", taken=BOTH):
     """What is told of a line that is refused, behind its number."""
     cluster = f"  {size}: there are 3 replicas, 0 to 2\n" if size else ""
-    return f"script refused at line {line}\n  line {line}{rest}\n{cluster}  read as a script for {taken}; docs/FORMATS.md, section 4, has all lines\n"
+    return f"script refused at line {line}\n  line {line}{rest}\n{cluster}  read as a script for {taken}; docs/CLI.md, section 4, has all lines\n"
 
 
 def replay(line):

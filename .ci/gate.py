@@ -66,7 +66,7 @@ PUT = b"replicas 3\npropose 0 1 put x 1\n"
 LONG = b"replicas 3\n" + b"propose 0 1 put x 1\nflush\nflush\n" * 40
 # what looks whether something that is written is up to date
 LOOKS = (
-    ["tools/generate", "--check", "rows", "page", "header", "bindings", "pictures"],
+    ["tools/generate", "--check", "rows", "page", "header", "bindings", "refusals", "pictures"],
     ["tools/tidy"],
     ["tools/wrong-bodies", "--look"],
 )
@@ -117,8 +117,9 @@ def counted(*words):
 
 
 def tests():
-    """The tests that `rt ci` doesn't prove."""
-    return counted("tools/tests")
+    """The tests that `rt ci` doesn't prove; of two of them the instructions are counted."""
+    both = counted("tools/tests"), growth.tried_lives(f"{TOP}/out/tests/ep_all_tests")
+    return sum(passed for passed, _ in both), sum(failed for _, failed in both)
 
 
 def wrong_bodies():

@@ -1,6 +1,6 @@
 """Scripts, bundles, upgrades and chains of version 3, and what is wanted of them: as dictionaries of a row's parts.
 
-What is wanted is written out from docs/FORMATS.md: frames and bundles by sections 1 and 2, scripts and reports by sections 4 and 5, chains by section 6.2.
+What is wanted is written out from docs/FORMATS.md (frames and bundles, sections 1 and 2) and docs/CLI.md (scripts and reports, 4 and 5, chains, 6.2).
 Digests are hashlib's, of bytes that are spelled here."""
 
 import copy

@@ -2,6 +2,7 @@
 
   .ci/growth.py PROGRAM           a line for each kind of work; the status is 1 where one takes too many for twice n
   .ci/growth.py --change CHANGE   the same of changes of generation, by the example `change` of hosts/store
+  .ci/growth.py --tests PROGRAM   the same of a map through generations, by the tests that tools/tests has built
 
 What takes time that grows by the square takes four times as many. Where there is no valgrind nothing is counted.
 """
@@ -76,6 +77,9 @@ CHANGES = (
     ("what is left, once all was let go", ("ep_checkpoint_rest", "9 300 2"), ("ep_checkpoint_free", "9 300 2"), 0.1),
 )
 
+# of a test of ep_exec: two of its functions, and how many times the instructions of the first the second may take
+LIVES = ("layers beside the listing", "eight_generations", ("listing::Listing::get", "layers::told"), 0.5)
+
 
 def counted(words, more=(), given=None):
     """How many instructions these words take, or with more words of valgrind's a part of them."""
@@ -133,7 +137,20 @@ def tried_changes(change):
     return well.count(True), well.count(False)
 
 
+def tried_lives(tests):
+    """The same of a map through generations."""
+    name, test, both, most = LIVES
+    if not is_counted(tests):
+        return 0, 0
+    words = [tests, f"ep_exec_tests::growing::{test}"]
+    took = [counted(words, [f"--toggle-collect=*ep_exec::{function}"]) for function in both]
+    # (nothing is counted of a function that has become a part of another one)
+    is_well = judged(name, both, took, most) and all(took)
+    return int(is_well), int(not is_well)
+
+
 if __name__ == "__main__":
-    counts = tried_changes(sys.argv[2]) if sys.argv[1] == "--change" else tried(sys.argv[1])
+    kinds = {"--change": tried_changes, "--tests": tried_lives}
+    counts = kinds.get(sys.argv[1], tried)(sys.argv[-1])
     print("{} passed, {} failed".format(*counts))
     sys.exit(1 if counts[1] else 0)

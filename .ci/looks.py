@@ -1,6 +1,6 @@
 """Bundles of version 3, as `show`, `explain`, `draw` and `trace-events` tell them: as dictionaries of a row's parts.
 
-What is wanted is written out from docs/FORMATS.md: the bytes of bundles by section 2, by .ci/generations.py, and entries by section 11."""
+What is wanted is written out from docs/FORMATS.md, section 2 (the bytes of bundles, by .ci/generations.py), and docs/CLI.md, section 11 (entries)."""
 
 import drawing
 from generations import LAST_GENERATION, LONGEST, Generation, number, told

@@ -1,6 +1,6 @@
 """Rows of `epaxos move-logs`: the logs of clusters of version 2 that have stopped, as dictionaries of a row's parts.
 
-Logs are written out from docs/FORMATS.md, sections 1, 2 and 9, and the openings that are wanted of them from sections 6.4 and 12."""
+Logs are written out from docs/FORMATS.md, sections 1, 2 and 9, and the openings that are wanted of them from its section 12 and docs/CLI.md, section 6.4."""
 
 from collected import NAMES, log, sealed
 from generations import HELP, REFUSED, Command, Generation, map_bytes, number

@@ -1,6 +1,6 @@
 """Keys and values of odd bytes, as `show`, `explain`, `draw` and `trace` tell them: as dictionaries of a row's parts.
 
-What is wanted is written out from docs/FORMATS.md: the bytes of bundles by section 2, words of bytes by section 3, entries and traces by section 11."""
+What is wanted is written out from docs/FORMATS.md, section 2 (the bytes of bundles), and docs/CLI.md, sections 3 (words of bytes) and 11 (entries and traces)."""
 
 import drawing
 

@@ -182,7 +182,7 @@ def frames():
 
 
 def paths_of(entries):
-    """The path of each instance that is committed, by docs/FORMATS.md, 11.3."""
+    """The path of each instance that is committed, by docs/CLI.md, 11.3."""
     sent, paths = {}, {}
     for it in entries:
         for _, _, message in it.sent:

@@ -1,8 +1,9 @@
 """Simulated clusters of hosts (`epaxos::sim` of bindings/rust/epaxos), where cargo and the library are: fresh seeds for
-60 seconds, beginning at another one each time; up to 20 seeds in as long, whose logs and receipts are audited; and all
-planted faults, each of which has to be found by one of the first 1,000 seeds. The seed of a run that fails is printed,
-with the run shrunk, and those that time has broken off. Runs alone too: python3 .ci/sim.py [NODE PROGRAM [FOLDER
-[SECONDS]]], of other builds, with the folder that libepaxos.a is in.
+60 seconds, beginning at another one each time; up to 20 seeds in as long, whose logs and receipts are audited, as
+chains; and all planted faults, each of which has to be found by one of the first 1,000 seeds. The seed of a run that
+fails is printed, with the run shrunk, and those that time has broken off. Then a host's folder, as the power is lost
+(.ci/disks/hosts.py). Runs alone too: python3 .ci/sim.py [NODE PROGRAM [FOLDER [SECONDS]]], of other builds, with the
+folder that libepaxos.a is in.
 """
 
 import os
@@ -13,6 +14,7 @@ import time
 
 sys.dont_write_bytecode = True
 
+from disks import hosts
 from store import BUILT, TOP, is_well, joined, library_there
 
 CRATE = f"{TOP}/bindings/rust/epaxos"
@@ -33,7 +35,8 @@ def tried(node=BUILT[0], program=BUILT[1], library=None, seconds=SECONDS):
     with tempfile.TemporaryDirectory(prefix="epaxos-sim-") as scratch:
         folders = {"CARGO_TARGET_DIR": f"{scratch}/target", "EPAXOS_LIBRARY": library}
         environment = {**os.environ, **QUICK, **folders}
-        build = ["cargo", "build", "--release", "--offline", "--quiet", "--features", "plants", "--example", "sim"]
+        build = ["cargo", "build", "--release", "--offline", "--quiet", "--features", "plants"]
+        build += ["--example", "sim", "--example", "power"]
         well = [is_well(build, cwd=CRATE, env=environment)]
         sim = [f"{scratch}/target/release/examples/sim"]
         if all(well):
@@ -44,6 +47,8 @@ def tried(node=BUILT[0], program=BUILT[1], library=None, seconds=SECONDS):
                 audit = ["--audit", joined(scratch, node, program)]
                 well.append(is_well([*fresh, "--seeds", str(AUDITED), *audit], env=environment))
             well.append(is_well([*sim, *threads, "--seeds", "1000", "--plant", "all"], env=environment))
+            passed, failed = hosts.tried(f"{scratch}/target/release/examples/power")
+            well += [True] * passed + [False] * failed
     return well.count(True), well.count(False)
 
 

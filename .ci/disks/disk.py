@@ -6,10 +6,11 @@ It is fed the lines that shim.c writes, and assumes no more than file systems pr
   The file's length may be on the disk before the bytes are;
 - a sync that is done puts the file's dirty pages and its length on the disk. One that fails puts some of them there, and marks all
   of them clean: the cache goes on to show bytes that the disk hasn't, and later syncs don't write them (as Linux does it);
-- names (a file or a folder that is made, a rename) reach the disk in the order of their folder, and surely by a sync of their folder alone. A
-  folder whose own name isn't on the disk is gone, with all that is in it.
+- names (a file or a folder that is made or removed, a rename) reach the disk in the order of their folder, and surely
+  by a sync of their folder alone. A folder whose own name isn't on the disk is gone, with all that is in it.
 """
 
+import copy
 import itertools
 import os
 
@@ -157,10 +158,26 @@ class Disk:
         names = dict(self.names)
         for folder in self.changes if chance else ():
             names.update(chance.choice(self.ways_in(folder)))
-        made = {path for changes in self.changes.values() for change in changes for path, it in change.items() if isinstance(it, Folder)}
-        gone = [path for path in made if names.get(path) is None]
+        made = {path for changes in self.changes.values() for change in changes for path in change}
+        gone = [path for path in {*names, *made} if names.get(path) is None]
         left = {path: it for path, it in names.items() if it is not None and not any(path.startswith(f"{it}/") for it in gone)}
         return {path: None if isinstance(it, Folder) else bytes(it.disk) if chance is None else it.left(chance) for path, it in left.items()}
+
+    def moved(self, root, to):
+        """The same in other places: what is at and below `root` is at and below `to`, and made there as the cache has it."""
+        it, place = copy.deepcopy(self), lambda path: to + path.removeprefix(root)
+        moved = lambda names: {place(path): held for path, held in names.items()}
+        it.names = moved(it.names)
+        it.changes = {place(at): [moved(change) for change in changes] for at, changes in it.changes.items()}
+        it.files, it.folders = {}, {}
+        for path, held in sorted(it.current().items()):
+            if isinstance(held, Folder):
+                os.makedirs(path, exist_ok=True)
+            elif held:
+                with open(path, "wb") as file:
+                    file.write(held.cache)
+                it.files[os.stat(path).st_ino] = held
+        return it
 
     def feed(self, line):
         """Takes a line of the shim's, of a call that is done."""

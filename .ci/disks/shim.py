@@ -158,8 +158,7 @@ class Case:
         # where the node is
         self.started = self.place
         trace = f"{self.folder}/{self.starts}.trace"
-        run = [self.shim, trace, self.root, *rules, "--", self.node, "node", "--replicas", "3", "--replica", "0", *self.where()]
-        run += [*words, *(["--new"] if is_new else [])]
+        run = [self.shim, trace, self.root, *rules, "--", *self.command(words, is_new)]
         ended = subprocess.run(run, input=requests, capture_output=True, timeout=SECONDS)
         self.status, self.errors = ended.returncode, ended.stderr.decode(errors="replace")
         with open(trace, encoding="ascii") as it:
@@ -167,9 +166,18 @@ class Case:
         self.follow(self.lines)
         return self.status
 
+    def command(self, words, is_new):
+        """The program, and its words."""
+        more = [*words, *(["--new"] if is_new else [])]
+        return [self.node, "node", "--replicas", "3", "--replica", "0", *self.where(), *more]
+
     def where(self):
         """The words that name the place."""
         return ["--log", self.log]
+
+    def whole(self, told):
+        """The answers that stand whole at the beginning of these bytes, and how many bytes they have."""
+        return answers(told, self.version)
 
     def follow(self, lines):
         """Does with the disk what these calls did, and looks after each."""
@@ -180,7 +188,7 @@ class Case:
             self.name(kind, rest)
             if kind == "out" and int(rest[0]) > 0:
                 out += bytes.fromhex(rest[1])
-                whole, size = answers(out[read:], self.version)
+                whole, size = self.whole(out[read:])
                 read += size
                 self.hear(whole)
             elif kind == "unused":
@@ -240,7 +248,19 @@ class Case:
         self.disk = disk.Disk()
         for path, content in sorted(left.items()):
             self.lay(root + path.removeprefix(self.root), content)
-        self.root, self.place, self.log = root, root + self.place.removeprefix(self.root), root + self.log.removeprefix(self.root)
+        self.go_to(root)
+
+    def begin_again(self):
+        """The process was killed here, and the power stays on: what it has done with its files is in the cache."""
+        self.starts += 1
+        root = f"{self.folder}/{self.starts}"
+        self.disk = self.disk.moved(self.root, root)
+        self.go_to(root)
+
+    def go_to(self, root):
+        """Everything is below another root."""
+        places = (root + it.removeprefix(self.root) for it in (self.root, self.place, self.log))
+        self.root, self.place, self.log = places
 
     def lay(self, path, content):
         """Makes a file of this content, or a folder where there is none; it is on the disk."""

@@ -29,7 +29,7 @@ extern "C" {
 #endif
 
 /* What ep_version() answers of the library that this header is of. */
-#define EP_VERSION 8
+#define EP_VERSION 9
 
 /* Begins a struct ep_bytes of no bytes, and a struct ep_replica of no replica. */
 #define EP_EMPTY { (const uint8_t *)"", 0 }
@@ -163,10 +163,20 @@ struct ep_leading {
     uint8_t answers;
 };
 
-/* What an opening file tells before its map (docs/FORMATS.md, section 12). */
+/* What a log says before its records (docs/FORMATS.md, section 9). */
+struct ep_log_head {
+    /* The generation; 0 of a replica of version 2. */
+    uint32_t generation;
+    /* How many replicas the cluster has. */
+    uint8_t replicas;
+    /* The replica's number. */
+    uint8_t replica;
+};
+
+/* What an opening file says before its map (docs/FORMATS.md, section 12). */
 struct ep_opening_head {
     /* The stamp that clocks go on from. */
-    uint64_t since;
+    uint64_t base_stamp;
     /* At which of the file's bytes its map begins, by how many keys that has (4 bytes). */
     uint64_t map_at;
     /* The generation. */
@@ -179,6 +189,20 @@ struct ep_opening_head {
     uint8_t replicas;
     /* 1: a seal began the generation; 0 of generation 1. */
     uint8_t has_seal;
+};
+
+/* What an opening file is made of that no replica's log has led to. */
+struct ep_opening_parts {
+    /* The value of the seal, of at most 65,535 bytes, that is to stand for the one that began the generation. */
+    struct ep_bytes seal;
+    /* The map, as ep_contents lends one and opening files have it, with the number of its keys. */
+    struct ep_bytes map;
+    /* The stamp that clocks go on from. */
+    uint64_t base_stamp;
+    /* The generation, from 2. */
+    uint32_t generation;
+    /* How many replicas it has: 3, 5 or 7. */
+    uint8_t replicas;
 };
 
 /* A key and its value, as they stand in the bytes of a map. */
@@ -286,7 +310,7 @@ struct ep_waits {
     uint32_t granularity;
     /* The time-out of a peer that was never measured, 1 s in RFC 6298. */
     uint32_t initial;
-    /* How long a Commit is waited for of which a peer tells. 1.5 s are a good choice. */
+    /* How long to wait for a Commit of which a peer has told. 1.5 s are a good choice. */
     uint32_t told;
     /* Waits double up to this one. 20 s are a good choice. */
     uint32_t longest;
@@ -349,8 +373,8 @@ enum {
     EP_HAS_REPLICA = 33,
     /* The whole log is lent, and isn't on the disk yet, so nothing is taken: write it, and say so by ep_synced. */
     EP_LENT = 34,
-    /* Not all that was taken is on the disk, so nothing is told: ep_ready lends it. Or, of ep_prepare, not all of it
-       is lent. */
+    /* Not all that was taken is on the disk, so nothing is reported: ep_ready lends it. Or, of ep_prepare, not all
+       of it is lent. */
     EP_UNSYNCED = 35,
     /* Nothing is lent. */
     EP_NOT_LENT = 36,
@@ -358,7 +382,7 @@ enum {
     EP_NOT_ALL = 37,
     /* There is none: no value, no such instance, nothing that was cut off. */
     EP_NONE = 38,
-    /* The buffer is too short; how many bytes it needs is told. */
+    /* The buffer is too short; how many bytes it needs is reported. */
     EP_TOO_SHORT = 39,
     /* The bytes aren't one request: its length is out of range, or isn't that of the bytes. */
     EP_NOT_ONE = 40,
@@ -368,11 +392,11 @@ enum {
     EP_NOT_SEALED = 42,
     /* There is no generation after it. */
     EP_LAST_GENERATION = 43,
-    /* Nothing was begun that tells when to wait no longer, it was freed, or another thread is in a call with it. */
+    /* Nothing was begun that says when to wait no longer, it was freed, or another thread is in a call with it. */
     EP_NO_PATIENCE = 44,
     /* It was begun already. */
     EP_HAS_PATIENCE = 45,
-    /* What ep_prepare made before wasn't told: ep_told lends it. */
+    /* What ep_prepare made before wasn't reported: ep_told lends it. */
     EP_UNTOLD = 46,
     /* There is no file that is given in pieces: none was begun, it was freed, or another thread is in a call with
        it. */
@@ -533,15 +557,15 @@ static inline const char *ep_status_name(uint8_t status)
 /* ---- A replica's life ---- */
 
 /* Opens a replica, if there is none, of version 2 or of a generation: a new one, or one that goes on from its log.
-   The first thing to do then is `ep_ready`, which lends the whole log, written anew; nothing is taken or told before
-   that is on the disk. `ep_free` ends it. EP_HAS_REPLICA, EP_MEMORY; EP_OUT_OF_RANGE: `replicas` isn't 3, 5 or 7, or
-   `replica` isn't below it; and each status from EP_NO_LOG on, by which the log or the opening is refused: `place`
-   becomes the numbers that the status names. */
+   The first thing to do then is `ep_ready`, which lends the whole log, written anew; nothing is taken or reported
+   before that is on the disk. `ep_free` ends it. EP_HAS_REPLICA, EP_MEMORY; EP_OUT_OF_RANGE: `replicas` isn't 3, 5
+   or 7, or `replica` isn't below it; and each status from EP_NO_LOG on, by which the log or the opening is refused:
+   `place` becomes the numbers that the status names. */
 uint8_t ep_open(struct ep_replica *replica, const struct ep_setup *setup, struct ep_place *place);
 
-/* Tells what was cut off the log's end as the replica was opened, if a crash had left bytes that are no whole
-   record: from byte `at` on, `by` bytes. Pass it on to whoever runs the replica. EP_NO_REPLICA; EP_NONE: nothing was
-   cut off. */
+/* Says what was cut off the log's end as the replica was opened, if a crash had left bytes that are no whole record:
+   from byte `at` on, `by` bytes. Pass it on to whoever runs the replica. EP_NO_REPLICA; EP_NONE: nothing was cut
+   off. */
 uint8_t ep_cut(struct ep_replica *replica, struct ep_place *place);
 
 /* Ends the replica, if there is one. Its log is as what was said to be on the disk; `ep_open` goes on from there.
@@ -575,8 +599,8 @@ uint8_t ep_propose_swap(struct ep_replica *replica, const struct ep_call *call, 
 uint8_t ep_propose_cas(struct ep_replica *replica, const struct ep_call *call, const uint8_t *key, size_t key_len,
                        const struct ep_exchange *exchange);
 
-/* A client asks for a command of a machine of your own: the core puts it in order by its keys, and `ep_answers`
-   tells when it is executed; what its body says only your machine knows. Statuses are those of `ep_propose_get`. */
+/* A client asks for a command of a machine of your own: the core puts it in order by its keys, and `ep_answers` says
+   when it is executed; what its body says only your machine knows. Statuses are those of `ep_propose_get`. */
 uint8_t ep_propose_opaque(struct ep_replica *replica, const struct ep_call *call, const struct ep_touching *touching,
                           const uint8_t *body, size_t body_len);
 
@@ -593,7 +617,7 @@ uint8_t ep_propose_seal(struct ep_replica *replica, const struct ep_call *call, 
 
 /* ---- What happened to a replica ---- */
 
-/* A frame came from a peer: its bytes, as that one's `ep_answers` told them. EP_NO_REPLICA, EP_LENT, EP_MEMORY;
+/* A frame came from a peer: its bytes, as that one's `ep_answers` reported them. EP_NO_REPLICA, EP_LENT, EP_MEMORY;
    EP_BAD_FRAME; EP_NOT_MINE; EP_OUT_OF_RANGE: a replica of which it speaks isn't of the cluster; EP_SEQ_EXHAUSTED;
    EP_STAMP_FULL. */
 uint8_t ep_handle(struct ep_replica *replica, const uint8_t *frame, size_t frame_len);
@@ -641,7 +665,8 @@ uint8_t ep_synced(struct ep_replica *replica, size_t count);
 /* Lends the answers of all that was asked by `ep_ask` since the last time, in that order, and after them one of kind
    9: all frames, receipts, commits and executions of the entries after the first `told`, each once, and at most
    `most` open instances. It says how many entries there are: hand that in as `told` the next time; at first 0. All
-   that is told is on the disk. EP_NO_REPLICA; EP_UNSYNCED; EP_MEMORY: what was asked still waits for the next call. */
+   that is reported is on the disk. EP_NO_REPLICA; EP_UNSYNCED; EP_MEMORY: what was asked still waits for the next
+   call. */
 uint8_t ep_answers(struct ep_replica *replica, uint32_t told, uint8_t most, struct ep_bytes *answers);
 
 /* Makes what `ep_answers` would lend if all that was taken were on the disk, and holds it until `ep_told` asks for
@@ -661,7 +686,7 @@ uint8_t ep_answers_all(struct ep_replica *replica, uint32_t told, uint8_t most, 
    for it then, as `ep_prepare` does, whose statuses it has. */
 uint8_t ep_prepare_all(struct ep_replica *replica, uint32_t told, uint8_t most);
 
-/* Lends what `ep_prepare` made, once. All that it tells is on the disk. EP_NO_REPLICA; EP_NONE: it made nothing;
+/* Lends what `ep_prepare` made, once. All that it reports is on the disk. EP_NO_REPLICA; EP_NONE: it made nothing;
    EP_UNSYNCED: what was lent then isn't on the disk yet. */
 uint8_t ep_told(struct ep_replica *replica, struct ep_bytes *answers);
 
@@ -682,16 +707,16 @@ uint8_t ep_get(struct ep_replica *replica, const uint8_t *key, size_t key_len, s
    (1), that of the value (4), the key and the value. EP_NO_REPLICA, EP_UNSYNCED, EP_MEMORY. */
 uint8_t ep_contents(struct ep_replica *replica, struct ep_bytes *contents);
 
-/* Tells how many entries of a peer the replica knows of, by its log: the greatest number among the entries whose
+/* Says how many entries of a peer the replica knows of, by its log: the greatest number among the entries whose
    frames it has handled; 0 if it has handled none. A peer whose log has fewer has lost what it promised, or was put
    back to an older copy, and must not go on. EP_NO_REPLICA; EP_OUT_OF_RANGE: there is no such replica. */
 uint8_t ep_handled(struct ep_replica *replica, uint8_t peer, uint32_t *entries);
 
-/* Tells the least instance that the replica knows of and hasn't committed, above this one, or, if its number is 0,
+/* Reports the least instance that the replica knows of and hasn't committed, above this one, or, if its number is 0,
    of all. EP_NO_REPLICA, EP_UNSYNCED; EP_NONE: there is none; EP_OUT_OF_RANGE: there is no such instance. */
 uint8_t ep_next_open(struct ep_replica *replica, struct ep_instance above, struct ep_instance *instance);
 
-/* Tells how far the replica leads the instance. EP_NO_REPLICA, EP_UNSYNCED; EP_NONE: it doesn't lead it;
+/* Says how far the replica leads the instance. EP_NO_REPLICA, EP_UNSYNCED; EP_NONE: it doesn't lead it;
    EP_OUT_OF_RANGE: there is no such instance. */
 uint8_t ep_leads(struct ep_replica *replica, struct ep_instance instance, struct ep_leading *leading);
 
@@ -708,6 +733,13 @@ uint8_t ep_close(struct ep_replica *replica, uint8_t replicas, struct ep_bytes *
    EP_OUT_OF_RANGE: `sum` hasn't 32 bytes, the length is less than that of a header, 43, the generation isn't from 2,
    or `replicas` isn't 3, 5 or 7. */
 uint8_t ep_reference(const struct ep_closed_log *closed, uint8_t *out, size_t out_len, size_t *len);
+
+/* Copies what says that the opening file of this digest is the one for which the reference of that digest stood:
+   have it on the disk once the file is, and then the file is read in the reference's place. It has 69 bytes, and no
+   others say so; `len` becomes how many it has. EP_TOO_SHORT: nothing was copied; EP_MEMORY; EP_OUT_OF_RANGE: a
+   digest hasn't 32 bytes. */
+uint8_t ep_binding(const uint8_t *reference, size_t reference_len, const uint8_t *opening, size_t opening_len,
+                   uint8_t *out, size_t out_len, size_t *len);
 
 /* Goes on in the next generation, once a seal was executed here, all is on the disk and nothing is lent: the replica
    is then that of the next generation, new, with the map as it is, of which nothing is copied. ep_ready lends the
@@ -748,8 +780,8 @@ uint8_t ep_open_bound(struct ep_replica *replica, const uint8_t *opening, size_t
 
 /* ---- When to give up, and when to recover ---- */
 
-/* Begins to tell when a replica is to wait no longer, if nothing was begun: any answer is safe, and this one is wise
-   by the time that peers take to answer, which it is told. All peers are taken to be reached, and nothing is waited
+/* Begins to say when a replica is to wait no longer, if nothing was begun: any answer is safe, and this one is wise
+   by the time that peers take to answer, which you report. All peers are taken to be reached, and nothing is waited
    for. Times are numbers of a clock of yours, which doesn't turn back; the first is any. `ep_patience_free` ends it.
    EP_HAS_PATIENCE, EP_MEMORY; EP_OUT_OF_RANGE: `replicas` isn't 3, 5 or 7, or `replica` isn't below it. */
 uint8_t ep_patience_begin(struct ep_patience *patience, const struct ep_waits *waits);
@@ -757,14 +789,14 @@ uint8_t ep_patience_begin(struct ep_patience *patience, const struct ep_waits *w
 /* Ends it, if it was begun. EP_DONE. */
 uint8_t ep_patience_free(struct ep_patience *patience);
 
-/* Tells that an answer of this peer to an own proposal (a frame PreAcceptOK) came so long after the proposal's frame
+/* Says that an answer of this peer to an own proposal (a frame PreAcceptOK) came so long after the proposal's frame
    was sent to it, which is after the sync. Not where that frame was sent twice: it isn't known then which one is
-   answered (Karn's rule). Of a peer that proposals spare, tell now and then how long a message of yours and its
+   answered (Karn's rule). Of a peer that proposals spare, say now and then how long a message of yours and its
    answer took: else nothing is known of it, and its time-out stays at `initial`. EP_NO_PATIENCE; EP_OUT_OF_RANGE:
    `peer` is above 6. */
 uint8_t ep_patience_measure(struct ep_patience *patience, uint8_t peer, uint32_t took);
 
-/* Tells that frames to this peer arrive, as far as you know, or, if `is_reached` is 0, that they don't: its
+/* Says that frames to this peer arrive, as far as you know, or, if `is_reached` is 0, that they don't: its
    connection is lost. Where one is reached again, what was asked for is hurried. EP_NO_PATIENCE; EP_OUT_OF_RANGE:
    `peer` is above 6. */
 uint8_t ep_patience_reach(struct ep_patience *patience, uint8_t peer, uint8_t is_reached);
@@ -773,7 +805,7 @@ uint8_t ep_patience_reach(struct ep_patience *patience, uint8_t peer, uint8_t is
    seal is committed, say, as it waits for all. EP_NO_PATIENCE. */
 uint8_t ep_patience_hurry(struct ep_patience *patience);
 
-/* Tells that somebody recovers this instance: a Prepare or an Accept of it was sent or handled here, at a ballot of
+/* Says that somebody recovers this instance: a Prepare or an Accept of it was sent or handled here, at a ballot of
    this counter. Another recovery would be in its way, so it is put off, if it is waited for. EP_NO_PATIENCE;
    EP_OUT_OF_RANGE: there is no such instance. */
 uint8_t ep_patience_put_off(struct ep_patience *patience, struct ep_instance instance, uint16_t ballot, uint64_t now);
@@ -781,30 +813,44 @@ uint8_t ep_patience_put_off(struct ep_patience *patience, struct ep_instance ins
 /* Has a turn at this time, at which just these instances are open, and lends what to ask the replica for.
    `instances` has ten bytes for each, in rising order: nine as the answer of kind 9 has them (docs/FORMATS.md,
    section 10), and the replica that your proposal of it spares (the one just below you where it names none; of
-   another's any); one that isn't open here, and of which a peer tells that it is committed, has the phase 4. `late`
+   another's any); one that isn't open here, and of which a peer says that it is committed, has the phase 4. `late`
    has four bytes for each of at most 64 events: 3 (give up) or 4 (recover), and the instance, as in a request.
    EP_NO_PATIENCE, EP_MEMORY; EP_OUT_OF_RANGE: the bytes aren't open instances in rising order. */
 uint8_t ep_patience_turn(struct ep_patience *patience, uint64_t now, const uint8_t *instances, size_t instances_len,
                          struct ep_bytes *late);
 
-/* Tells when to have the next turn at the latest, if no instance is opened before. EP_NO_PATIENCE; EP_NONE: nothing
+/* Says when to have the next turn at the latest, if no instance is opened before. EP_NO_PATIENCE; EP_NONE: nothing
    is waited for, or too few peers are reached. */
 uint8_t ep_patience_due(struct ep_patience *patience, uint64_t *due);
 
 /* ---- Frames, as a host reads them that passes them on ---- */
 
-/* Tells what the header of a frame says, by its first 48 bytes. Of these no more is looked at than that the frame is
+/* Says what the header of a frame says, by its first 48 bytes. Of these no more is looked at than that the frame is
    of version 3: a host that passes frames on needs to know what goes by, and ep_handle judges them. EP_BAD_FRAME:
    there are fewer than 48, or they begin as no frame of version 3 does. */
 uint8_t ep_frame_head(const uint8_t *frame, size_t frame_len, struct ep_frame_head *head);
 
-/* ---- What opening files tell before their maps ---- */
+/* ---- What opening files say before their maps ---- */
 
-/* Tells what an opening file says before its map, by its first bytes: 65,562 are always enough. The digest isn't
-   looked at, as ep_open does. So a host knows of which generation a file is that it is sent, and whom its seal
+/* Reports what an opening file says before its map, by its first bytes: 65,562 are always enough. It doesn't look at
+   the digest, as ep_open does. So a host knows of which generation a file is that it is sent, and whom its seal
    names, before it has all of it; and what the first pieces of a checkpoint say. EP_OPENING_SHORT: more bytes are
    needed; EP_OPENING_WRONG: no opening begins so. */
 uint8_t ep_opening_head(const uint8_t *opening, size_t opening_len, struct ep_opening_head *head);
+
+/* ---- Opening files, whole ---- */
+
+/* Reads an opening file, exactly: what is refused is none. Of what is wrong the first is reported, in the order of
+   length, format, digest, and then the other fields as they stand in the file. EP_MEMORY; EP_OPENING_SHORT,
+   EP_OPENING_DAMAGED, EP_OPENING_WRONG, where `place` becomes the numbers that the status names. */
+uint8_t ep_check_opening(const uint8_t *opening, size_t opening_len, struct ep_place *place);
+
+/* Copies the opening file that these parts make, before which nothing was executed: for a cluster that begins anew
+   with a map that is left, as after the loss of a majority. `len` becomes how many bytes it has: 59, and those of
+   seal and map. EP_TOO_SHORT: nothing was copied; EP_MEMORY; EP_OUT_OF_RANGE: the seal has more than 65,535 bytes;
+   EP_OPENING_WRONG: the parts make none, and `place` becomes the numbers that the status names. */
+uint8_t ep_opening(const struct ep_opening_parts *parts, uint8_t *out, size_t out_len, size_t *len,
+                   struct ep_place *place);
 
 /* ---- References, as a host reads them ---- */
 
@@ -813,9 +859,21 @@ uint8_t ep_opening_head(const uint8_t *opening, size_t opening_len, struct ep_op
 uint8_t ep_read_reference(const uint8_t *reference, size_t reference_len, struct ep_reference_head *read,
                           struct ep_place *place);
 
+/* ---- Logs, as a host reads them ---- */
+
+/* Says whose log it is, by its first 43 bytes, behind which its records begin; from byte 11 on stands the digest of
+   what the generation opened with, 32 bytes. EP_NO_HEADER: there are fewer than 43, or they begin as no log of
+   version 3 does. */
+uint8_t ep_log_head(const uint8_t *log, size_t log_len, struct ep_log_head *head);
+
+/* Says how many bytes the first record takes of a log's bytes from behind its header on; with those behind it, the
+   next one; and so on. Its checksum isn't looked at: ask so of a log that ep_open has read, as far as it wasn't cut
+   (ep_cut). EP_NONE: there isn't a whole one. */
+uint8_t ep_record(const uint8_t *records, size_t records_len, uint64_t *len);
+
 /* ---- The keys of maps in bytes ---- */
 
-/* Tells where the first key and its value stand of the bytes of a map, as ep_contents lends them and opening files
+/* Says where the first key and its value stand of the bytes of a map, as ep_contents lends them and opening files
    have them, from behind the 4 bytes on that say how many keys it has; with the bytes behind these, the next one;
    and so on. EP_NONE: there isn't a whole one. */
 uint8_t ep_pair(const uint8_t *pairs, size_t pairs_len, struct ep_pair *pair);
@@ -830,22 +888,23 @@ uint8_t ep_pair(const uint8_t *pairs, size_t pairs_len, struct ep_pair *pair);
 uint8_t ep_plan(const struct ep_held_generation *held, size_t held_len, const struct ep_start_wish *wish,
                 struct ep_start_plan *plan, struct ep_place *place);
 
-/* Tells the greatest generation that is in the folder, which has an opening or a reference; 0 if none is. EP_MEMORY. */
+/* Says which is the greatest generation of which the folder has an opening or a reference; 0 if there is none.
+   EP_MEMORY. */
 uint8_t ep_newest(const struct ep_held_generation *held, size_t held_len, uint32_t *newest);
 
-/* Tells from which generation on logs are replayed to open this one: `first` becomes the greatest up to it whose
+/* Says from which generation on logs are replayed to open this one: `first` becomes the greatest up to it whose
    opening can be read, where those above it, up to this one, have references. EP_MEMORY; EP_BROKEN: `first` becomes
    the generation that has neither. */
 uint8_t ep_first(const struct ep_held_generation *held, size_t held_len, uint32_t generation, uint32_t *first);
 
-/* Tells which generation the name of a folder spells: in decimal, without a zero in front. EP_NONE: it spells none. */
+/* Says which generation the name of a folder spells: in decimal, without a zero in front. EP_NONE: it spells none. */
 uint8_t ep_generation_in(const uint8_t *name, size_t name_len, uint32_t *generation);
 
 /* The later generation that the mark of this one names, by the mark's bytes. What can't be read stands for every
    later one: 2^32 - 1. */
 uint32_t ep_left_in(const uint8_t *mark, size_t mark_len, uint32_t generation);
 
-/* ---- What is told without a replica ---- */
+/* ---- Calls that need no replica ---- */
 
 /* Which library this is: EP_VERSION of the header that it was built with. Another number is another set of calls. */
 uint32_t ep_version(void);

@@ -129,7 +129,7 @@ static void go_on(uint8_t me)
     ep_checkpoint_free(&checkpoint);
 }
 
-/* How a replica starts by what its folder has, and what a reference says. */
+/* How a replica starts by what its folder has, what a reference says, and files that are written without a replica. */
 static void plan(void)
 {
     static const uint8_t zeros[32] = { 0 };
@@ -140,13 +140,20 @@ static void plan(void)
     struct ep_reference_head head = { 0, 0, 0 };
     struct ep_place place;
     uint32_t newest = 0, first = 0;
-    uint8_t reference[82];
+    static const uint8_t map[] = { 0, 0, 0, 1, 1, 0, 0, 0, 1, 'a', '1' };
+    const struct ep_opening_parts parts = { { zeros, 1 }, { map, sizeof map }, 5, 2, 3 };
+    uint8_t reference[82], binding[69], opening[71];
     size_t len;
     ask(ep_plan, (held, 2, &wish, &plan, &place));
     ask(ep_newest, (held, 2, &newest));
     ask(ep_first, (held, 2, 2, &first));
     ask(ep_reference, (&closed, reference, sizeof reference, &len));
     ask(ep_read_reference, (reference, len, &head, &place));
+    ask(ep_binding, (zeros, sizeof zeros, zeros, sizeof zeros, binding, sizeof binding, &len));
+    add(binding, len);
+    ask(ep_opening, (&parts, opening, sizeof opening, &len, &place));
+    ask(ep_check_opening, (opening, len, &place));
+    add(opening, len);
     add((uint8_t[]){ (uint8_t)plan.generation, plan.log, (uint8_t)newest, (uint8_t)first, (uint8_t)head.length }, 5);
 }
 

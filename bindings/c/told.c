@@ -85,7 +85,7 @@ static void read_openings(void)
     WANT(3, head.replicas);
     WANT(1, head.generation);
     WANT(19, head.map_at);
-    WANT(0, head.since + head.seal_len + head.keys + head.has_seal);
+    WANT(0, head.base_stamp + head.seal_len + head.keys + head.has_seal);
     file[18] = 1;
     WANT(EP_OPENING_WRONG, ep_opening_head(file, len, &head));
     len = bytes_of("45504f50" "03" "03" "00000002" "0000000000000005" "01" "00000001" "78"
@@ -95,7 +95,7 @@ static void read_openings(void)
     WANT(EP_DONE, ep_opening_head(file, 28, &head));
     WANT(3, head.replicas);
     WANT(2, head.generation);
-    WANT(5, head.since);
+    WANT(5, head.base_stamp);
     WANT(1, head.has_seal);
     WANT(1, head.seal_len);
     WANT('x', file[23]);
@@ -147,6 +147,106 @@ static void read_references(void)
     WANT(EP_OPENING_WRONG, ep_read_reference(file, len, &head, &place));
     WANT(6, place.at);
     WANT(772, head.length);
+}
+
+/* Whose log it is: replica 4 of 5, in generation 258; and what isn't a log's. Behind it are two records, of 2 bytes and
+   of none, and one whose lengths aren't each other's complement. */
+static void read_logs(void)
+{
+    static uint8_t log[128];
+    struct ep_log_head head = { 7, 7, 7 };
+    uint64_t record = 7;
+    size_t len = bytes_of("45504c47" "03" "05" "04" "00000102"
+                          "000102030405060708090a0b0c0d0e0f101112131415161718191a1b1c1d1e1f"
+                          "00000002" "fffffffd" "000000000000002b" "6162" "0000000000000000"
+                          "00000000" "ffffffff" "000000000000002b" "0000000000000000"
+                          "00000000" "fffffffe" "000000000000002b" "0000000000000000", log);
+    WANT(43 + 26 + 24 + 24, len);
+    for (size_t front = 0; front < 43; front++)
+        WANT(EP_NO_HEADER, ep_log_head(log, front, &head));
+    static const struct {
+        uint8_t at, is;
+    } turned[] = { { 0, 0 }, { 3, 0 }, { 4, 2 }, { 5, 4 }, { 5, 3 }, { 6, 5 } };
+    for (size_t k = 0; k < sizeof turned / sizeof *turned; k++) {
+        uint8_t was = log[turned[k].at];
+        log[turned[k].at] = turned[k].is;
+        WANT(EP_NO_HEADER, ep_log_head(log, len, &head));
+        log[turned[k].at] = was;
+    }
+    WANT(777, head.generation * 100 + head.replicas * 10 + head.replica);
+    WANT(EP_DONE, ep_log_head(log, 43, &head));
+    WANT(258, head.generation);
+    WANT(54, head.replicas * 10 + head.replica);
+    for (size_t front = 0; front < 26; front++)
+        WANT(EP_NONE, ep_record(log + 43, front, &record));
+    WANT(7, record);
+    WANT(EP_DONE, ep_record(log + 43, len - 43, &record));
+    WANT(26, record);
+    WANT(EP_DONE, ep_record(log + 69, 24, &record));
+    WANT(24, record);
+    WANT(EP_NONE, ep_record(log + 93, 24, &record));
+    WANT(24, record);
+}
+
+/* What binds a file of one digest to the reference of the other; and an opening file that is made of parts, judged, and
+   damaged. */
+static void write_files(void)
+{
+    static uint8_t one[32], other[32], out[128], file[128];
+    static const uint8_t seal[65536] = "x", map[] = "\0\0\0\1\1\0\0\0\1a1";
+    struct ep_opening_parts parts = { { seal, 1 }, { map, sizeof map - 1 }, 772, 258, 5 };
+    struct ep_place place = { 9, 9 };
+    size_t bound, made = 7, len = bytes_of("45504f50" "03" "05" "00000102" "0000000000000304" "01" "00000001" "78"
+                                           "00000001" "01" "00000001" "61" "31" "00000000"
+                                           "02d4ce400bc9eae0e4edb8a46165976f387278c9ce03519b6934134941acaaa0", file);
+    memset(one, 1, sizeof one), memset(other, 2, sizeof other);
+    WANT(EP_OUT_OF_RANGE, ep_binding(one, 31, other, 32, out, sizeof out, &made));
+    WANT(EP_OUT_OF_RANGE, ep_binding(one, 32, other, 33, out, sizeof out, &made));
+    WANT(7, made);
+    WANT(EP_TOO_SHORT, ep_binding(one, 32, other, 32, out, 68, &bound));
+    WANT(0, bound == 69 ? out[0] : 1);
+    WANT(EP_DONE, ep_binding(one, 32, other, 32, out, sizeof out, &bound));
+    WANT(69, bound);
+    WANT(0, memcmp(out, "EPOB\3", 5) || memcmp(out + 5, one, 32) || memcmp(out + 37, other, 32));
+
+    WANT(EP_TOO_SHORT, ep_opening(&parts, out, len - 1, &made, &place));
+    WANT(len, made);
+    WANT(0, memcmp(out, "EPOB", 4));
+    WANT(EP_DONE, ep_opening(&parts, out, sizeof out, &made, &place));
+    WANT(0, made != len || memcmp(out, file, len));
+    WANT(EP_DONE, ep_check_opening(file, len, &place));
+    WANT(9, place.at);
+    made = 7;
+    /* as many replicas as no cluster has, a generation before which no seal stands, a stamp above all, no map */
+    parts.replicas = 4;
+    WANT(EP_OPENING_WRONG, ep_opening(&parts, out, sizeof out, &made, &place));
+    WANT(5, place.at);
+    parts.replicas = 3, parts.generation = 0;
+    WANT(EP_OPENING_WRONG, ep_opening(&parts, out, sizeof out, &made, &place));
+    WANT(6, place.at);
+    parts.generation = 1;
+    WANT(EP_OPENING_WRONG, ep_opening(&parts, out, sizeof out, &made, &place));
+    WANT(18, place.at);
+    parts.generation = 2, parts.base_stamp = (uint64_t)1 << 48;
+    WANT(EP_OPENING_WRONG, ep_opening(&parts, out, sizeof out, &made, &place));
+    WANT(10, place.at);
+    parts.base_stamp = 0, parts.map.len = 7;
+    WANT(EP_OPENING_WRONG, ep_opening(&parts, out, sizeof out, &made, &place));
+    parts.seal.len = 65536;
+    place.at = 9;
+    WANT(EP_OUT_OF_RANGE, ep_opening(&parts, out, sizeof out, &made, &place));
+    WANT(9, place.at);
+    WANT(7, made);
+    for (size_t front = 0; front < 59; front++) {
+        WANT(EP_OPENING_SHORT, ep_check_opening(file, front, &place));
+        WANT(front, place.at);
+    }
+    for (size_t at = 0; at < len; at++) {
+        file[at] ^= 1;
+        WANT(at < 5 ? EP_OPENING_WRONG : EP_OPENING_DAMAGED, ep_check_opening(file, len, &place));
+        WANT(at < 4 ? 0 : at < 5 ? 4 : len - 32, place.at);
+        file[at] ^= 1;
+    }
 }
 
 /* The pairs of a map, `a` with 1 and `bc` with nothing, one after the other, and what is cut. */
@@ -285,6 +385,8 @@ int main(void)
     read_frames();
     read_openings();
     read_references();
+    read_logs();
+    write_files();
     read_pairs();
     plan_starts();
     replay();

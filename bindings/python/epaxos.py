@@ -37,11 +37,22 @@ LONGEST_KEY, LONGEST_VALUE = 255, 65_535
 MOST_KEYS, MOST_TOLD, LONGEST_TX = 1_024, 16, 131_080
 # a cluster has so many instances at most, and so many may be named for a read
 MOST_FOUND = 63_000
-# the numbers of the faults' names (docs/FORMATS.md, section 7)
+# tools/generate writes what follows: the numbers of refusals (docs/FORMATS.md, section 7).
 FAULTS = {
-    1: "Memory", 3: "OutOfRange", 4: "SpaceFull", 5: "SeqExhausted", 6: "NotLeading", 7: "TooFewAnswers", 8: "AlreadyCommitted",
-    9: "BallotsExhausted", 10: "NotCommitted", 13: "NotMine", 14: "BadFrame", 15: "StampFull",
-}  # fmt: skip
+    1: "Memory",
+    3: "OutOfRange",
+    4: "SpaceFull",
+    5: "SeqExhausted",
+    6: "NotLeading",
+    7: "TooFewAnswers",
+    8: "AlreadyCommitted",
+    9: "BallotsExhausted",
+    10: "NotCommitted",
+    13: "NotMine",
+    14: "BadFrame",
+    15: "StampFull",
+}
+# What tools/generate writes ends here.
 
 
 class Fault(Exception):
@@ -206,9 +217,11 @@ class Reference(NamedTuple):
         return len(log) == self.length and hashlib.sha256(log).digest() == self.sum
 
     def binding(self, digest):
-        """The bytes of `G/whole`, which say that `G/opening`, a file that ends in this digest, is what the reference stood for. Write it once that is on the disk; then what is older
-        may go."""
-        return b"EPOB\3" + self.digest + digest
+        """The bytes of `G/whole`, which say that `G/opening`, a file that ends in this digest, is what the reference
+        stood for. Write it once that is on the disk; then what is older may go."""
+        status, run = _copied_by("ep_binding", self.digest, 32, bytes(digest), len(digest))
+        _Library.check(status)
+        return run
 
 
 def first_opening(replicas):
@@ -354,11 +367,12 @@ class Replica:
 
     @classmethod
     def open(cls, replicas, me, log, opening=None, told=None, reference=None):
-        """The replica that this log is of, as if it had never stopped. `told`: how many entries were told before; None: all that the log has."""
+        """The replica that this log is of, as if it had never stopped. `told`: how many entries were told before; None:
+        all that the log has."""
         if not log:
             raise OpenFault("the log is empty")
-        told = _told_of(log, told)
-        return cls(_Library(replicas, me, opening, log, reference), told)
+        core = _Library(replicas, me, opening, log, reference)
+        return cls(core, core.told_of(log, told))
 
     @_in_turn
     def propose(self, client, request, command, seen=0, spared=None):
@@ -403,7 +417,7 @@ class Replica:
         log, is_anew = self._core.lend()
         self._end = len(log) if is_anew else self._length + len(log)
         if is_anew:
-            self._generation = int.from_bytes(log[7:11], "big")
+            self._generation = _head_of("log", log).generation
         return Ready(self, log, is_anew, most)
 
     @_in_turn
@@ -517,8 +531,11 @@ class Replica:
             raise Fault("OutOfRange")
         if (reference.generation, reference.length) != (self._generation + 1, self._length):
             raise Fault("OtherReference")
-        told = 0 if log is None else _told_of(log, told)
+        if log is not None:
+            # (what a crash has left may look like a record, which the library alone tells)
+            _told_of(log, told)
         checkpoint = self._core.succeed(reference, me, log)
+        told = 0 if log is None else self._core.told_of(log, told)
         self._told, self._generation, self._length, self._end = told, reference.generation, 0, 0
         return checkpoint
 
@@ -602,38 +619,19 @@ def _check(answer):
         raise Fault("OutOfRange")
 
 
-# A log's records (docs/FORMATS.md, section 9).
-
-_HEADER, _BEFORE, _BEHIND = 43, 16, 8
+# how many bytes a log begins with, before its first record
+_HEADER = 43
 # no entry has this number: behind it there is nothing to tell
 _NOTHING = 0xFFFFFFFF
 _BAD_ANSWER = "Ended: an answer isn't of the protocol"
-_MASK = (1 << 64) - 1
-
-
-def _sum(at, synced, entry):
-    def with_word(total, word):
-        mixed = total ^ word
-        return ((mixed << 29 | mixed >> 35) & _MASK) * 0x9E3779B97F4A7C15 & _MASK
-
-    total, whole = with_word(with_word(len(entry), at), synced), len(entry) // 8 * 8
-    for (word,) in struct.iter_unpack("<Q", entry[:whole]):
-        total = with_word(total, word)
-    for byte in entry[whole:]:
-        total = with_word(total, byte)
-    return total
 
 
 def _entries(log):
-    """How many whole records a log begins with."""
-    at, count = _HEADER, 0
-    while len(log) - at >= _BEFORE + _BEHIND:
-        length, other, synced = struct.unpack_from(">IIQ", log, at)
-        end = at + _BEFORE + length + _BEHIND
-        is_there = length ^ other == 0xFFFFFFFF and synced <= at and end <= len(log)
-        if not is_there or _sum(at, synced, log[at + _BEFORE : end - _BEHIND]) != int.from_bytes(log[end - _BEHIND : end], "big"):
-            break
-        at, count = end, count + 1
+    """How many records these bytes of a log have, all of which are whole, as the library has found them."""
+    log, length, call = bytes(log), ctypes.c_uint64(), _loaded(_library()).ep_record
+    begin, at, count = ctypes.cast(log, ctypes.c_void_p).value, _HEADER, 0
+    while at < len(log) and call(ctypes.c_char_p(begin + at), len(log) - at, length) == _STATUSES["EP_DONE"]:
+        at, count = at + length.value, count + 1
     return count
 
 
@@ -649,7 +647,7 @@ def _told_of(log, told):
 
 # tools/generate writes what follows, from bindings/c/epaxos.h.
 _DECLARED = """
-#define EP_VERSION 8
+#define EP_VERSION 9
 EP_DONE = 0
 EP_MEMORY = 1
 EP_OUT_OF_RANGE = 3
@@ -715,7 +713,9 @@ struct ep_frame_head { uint32_t entry; uint32_t generation; uint32_t body_at; ui
 struct ep_held_generation { uint32_t number; uint32_t left_for; uint8_t has_opening; uint8_t has_reference; uint8_t is_bound; };
 struct ep_instance { uint16_t number; uint8_t replica; };
 struct ep_leading { uint8_t phase; uint8_t answers; };
-struct ep_opening_head { uint64_t since; uint64_t map_at; uint32_t generation; uint32_t seal_len; uint32_t keys; uint8_t replicas; uint8_t has_seal; };
+struct ep_log_head { uint32_t generation; uint8_t replicas; uint8_t replica; };
+struct ep_opening_head { uint64_t base_stamp; uint64_t map_at; uint32_t generation; uint32_t seal_len; uint32_t keys; uint8_t replicas; uint8_t has_seal; };
+struct ep_opening_parts { struct ep_bytes seal; struct ep_bytes map; uint64_t base_stamp; uint32_t generation; uint8_t replicas; };
 struct ep_pair { uint64_t len; uint32_t key_at; uint32_t key_len; uint32_t value_at; uint32_t value_len; };
 struct ep_place { uint64_t at; uint64_t by; };
 struct ep_reference_head { uint64_t length; uint32_t generation; uint8_t replicas; };
@@ -757,6 +757,7 @@ uint8_t ep_next_open(struct ep_replica *replica, struct ep_instance above, struc
 uint8_t ep_leads(struct ep_replica *replica, struct ep_instance instance, struct ep_leading *leading);
 uint8_t ep_close(struct ep_replica *replica, uint8_t replicas, struct ep_bytes *opening);
 uint8_t ep_reference(const struct ep_closed_log *closed, uint8_t *out, size_t out_len, size_t *len);
+uint8_t ep_binding(const uint8_t *reference, size_t reference_len, const uint8_t *opening, size_t opening_len, uint8_t *out, size_t out_len, size_t *len);
 uint8_t ep_succeed(struct ep_replica *replica, struct ep_checkpoint *checkpoint, const struct ep_succession *succession, struct ep_place *place);
 uint8_t ep_checkpoint_next(struct ep_checkpoint *checkpoint, size_t most, struct ep_bytes *piece);
 uint8_t ep_checkpoint_rest(struct ep_checkpoint *checkpoint);
@@ -772,7 +773,11 @@ uint8_t ep_patience_turn(struct ep_patience *patience, uint64_t now, const uint8
 uint8_t ep_patience_due(struct ep_patience *patience, uint64_t *due);
 uint8_t ep_frame_head(const uint8_t *frame, size_t frame_len, struct ep_frame_head *head);
 uint8_t ep_opening_head(const uint8_t *opening, size_t opening_len, struct ep_opening_head *head);
+uint8_t ep_check_opening(const uint8_t *opening, size_t opening_len, struct ep_place *place);
+uint8_t ep_opening(const struct ep_opening_parts *parts, uint8_t *out, size_t out_len, size_t *len, struct ep_place *place);
 uint8_t ep_read_reference(const uint8_t *reference, size_t reference_len, struct ep_reference_head *read, struct ep_place *place);
+uint8_t ep_log_head(const uint8_t *log, size_t log_len, struct ep_log_head *head);
+uint8_t ep_record(const uint8_t *records, size_t records_len, uint64_t *len);
 uint8_t ep_pair(const uint8_t *pairs, size_t pairs_len, struct ep_pair *pair);
 uint8_t ep_plan(const struct ep_held_generation *held, size_t held_len, const struct ep_start_wish *wish, struct ep_start_plan *plan, struct ep_place *place);
 uint8_t ep_newest(const struct ep_held_generation *held, size_t held_len, uint32_t *newest);
@@ -810,6 +815,13 @@ def _bytes(run):
 
 def _copied(lent):
     return ctypes.string_at(lent.at, lent.len) if lent.len else b""
+
+
+def _head_of(what, run):
+    """What an opening or a log says in front, of which these are the first bytes; None where none begins so."""
+    head = _STRUCTS[f"ep_{what}_head"]()
+    status = getattr(_loaded(_library()), f"ep_{what}_head")(bytes(run), len(run), head)
+    return None if status else head
 
 
 def _copied_by(name, *words):
@@ -871,9 +883,11 @@ class _Library:
             self.opened(_STATUSES["EP_OPENING_SHORT"], _STRUCTS["ep_place"]())
         setup = _STRUCTS["ep_setup"](_bytes(opening), _bytes(log or b""), replicas, me, log is None)
         self.replica, place = _STRUCTS["ep_replica"](), _STRUCTS["ep_place"]()
+        # (why an opening is none the library tells as it opens)
+        head = _head_of("opening", opening)
         if reference is None:
             self.opened(self.calls.ep_open(self.replica, setup, place), place)
-        elif (reference.replicas, reference.generation) != (replicas, int.from_bytes(opening[6:10], "big")):
+        elif head and (reference.replicas, reference.generation) != (replicas, head.generation):
             raise OpenFault("the reference is that of another generation")
         else:
             digest = reference.digest
@@ -897,6 +911,16 @@ class _Library:
         self.check(status)
         self.begun, self.replicas = True, reference.replicas
         return Checkpoint(self.calls, checkpoint)
+
+    def told_of(self, log, told):
+        """How many entries were told of the log that it was opened from: so many, or all."""
+        place = _STRUCTS["ep_place"]()
+        status = self.calls.ep_cut(self.replica, place)
+        try:
+            return _told_of(log[: len(log) - (0 if status == _STATUSES["EP_NONE"] else place.by)], told)
+        except OpenFault:
+            self.end()
+            raise
 
     @staticmethod
     def opened(status, place):

@@ -1,17 +1,25 @@
-"""Writes what Rust and Python declare of the library, as header.py does for C: statuses, structs and calls.
+"""Writes what Rust and Python declare of the library, as header.py does for C: statuses, structs and calls; and the
+refusals of a replica.
 
-In Rust these are two files of bindings/rust/epaxos/src, ffi/header.rs and status.rs; in Python what stands between two
-lines of bindings/python/epaxos.py.
+In Rust these are two files of bindings/rust/epaxos/src, ffi/header.rs and status.rs, and parts of fault.rs; in Python
+parts of bindings/python/epaxos.py.
 """
 
 import re
+import textwrap
 
 import header
+import refusals
 
 RUST = f"{header.TOP}/bindings/rust/epaxos/src"
 PYTHON = f"{header.TOP}/bindings/python/epaxos.py"
 BEGIN = "# tools/generate writes what follows, from bindings/c/epaxos.h.\n"
+CODES = "# tools/generate writes what follows: the numbers of refusals (docs/FORMATS.md, section 7).\n"
 END = "# What tools/generate writes ends here.\n"
+# where the variants of Fault stand in fault.rs, and where their numbers do
+VARIANTS = "    // `tools/generate` writes what follows: the refusals of a replica.\n"
+NUMBERED = "            // `tools/generate` writes what follows: their numbers.\n"
+ENDED = "// What `tools/generate` writes ends here.\n"
 NUMBERS = {"uint8_t": "u8", "uint16_t": "u16", "uint32_t": "u32", "uint64_t": "u64", "size_t": "usize"}
 
 
@@ -71,18 +79,31 @@ def rust_statuses(statuses):
     return f"{head}#![allow(dead_code)]\n#![forbid(unsafe_code)]\n\n{lines}"
 
 
-def python(version, statuses, structs, calls):
-    with open(PYTHON, encoding="utf-8") as file:
-        before, rest = file.read().split(BEGIN)
-    _, behind = rest.split(END)
+def rust_fault(text, known):
+    """fault.rs, which holds this, with the variants of the refusals and their numbers."""
+    variants, numbers = "", ""
+    for it in known:
+        about = textwrap.wrap(it.about, header.WIDTH - len("    /// "))
+        variants += "".join(f"    /// {line}\n" for line in about) + f"    {it.name}{'(Instance)' * it.has_instance},\n"
+        numbers += f"            {it.number} => Fault::{it.name}{'(instance?)' * it.has_instance},\n"
+    text = header.filled(text, VARIANTS, f"    {ENDED}", variants)
+    return header.filled(text, NUMBERED, f"            {ENDED}", numbers)
+
+
+def python(text, known, version, statuses, structs, calls):
+    """epaxos.py, which holds this, with the numbers of refusals and what the header declares."""
+    codes = "FAULTS = {\n" + "".join(f'    {it.number}: "{it.name}",\n' for it in known) + "}\n"
     numbers = [f"EP_{name} = {number}" for name, number in statuses]
     lines = [f"#define EP_VERSION {version}", *numbers, *structs, *calls]
-    return before + BEGIN + '_DECLARED = """\n' + "\n".join(lines) + '\n"""\n' + END + behind
+    text = header.filled(text, CODES, END, codes)
+    return header.filled(text, BEGIN, END, '_DECLARED = """\n' + "\n".join(lines) + '\n"""\n')
 
 
 def files():
     """The path of each file, and what it has to hold."""
     version, statuses, structs, calls = declared()
+    known, fault = refusals.table(), f"{RUST}/fault.rs"
     yield f"{RUST}/ffi/header.rs", rust(version, structs, calls).encode()
     yield f"{RUST}/status.rs", rust_statuses(statuses).encode()
-    yield PYTHON, python(version, statuses, structs, calls).encode()
+    yield fault, rust_fault(header.read(fault), known).encode()
+    yield PYTHON, python(header.read(PYTHON), known, version, statuses, structs, calls).encode()

@@ -15,7 +15,7 @@ BEGIN = "/* tools/generate writes what follows, from crates/ep_library/src. */\n
 END = "/* What tools/generate writes ends here. */\n"
 # The files that have calls, in the order in which the header has them.
 CALLS = ("life", "proposing", "events", "executing", "syncing", "answering", "succeeding", "bound", "patience")
-CALLS += ("framing", "fronts", "references", "pairs", "planning", "alone")
+CALLS += ("framing", "fronts", "openings", "references", "logs", "pairs", "planning", "alone")
 # How C names what isn't named alike.
 NAMES = {"Handle": "ep_replica", "PatienceHandle": "ep_patience", "CheckpointHandle": "ep_checkpoint", "Lent": "ep_bytes"}
 NUMBERS = {"u8": "uint8_t", "u16": "uint16_t", "u32": "uint32_t", "u64": "uint64_t", "usize": "size_t", "*mut u8": "void *", "*const u8": "const uint8_t *"}
@@ -29,6 +29,13 @@ class Unknown(Exception):
 def read(path):
     with open(path, encoding="utf-8") as file:
         return file.read()
+
+
+def filled(text, begin, end, made):
+    """A text with this between two of its lines."""
+    before, rest = text.split(begin)
+    behind = rest.split(end, 1)[1]
+    return before + begin + made + end + behind
 
 
 def struct_name(name):
@@ -84,9 +91,14 @@ def structs(text):
         yield name, comment(doc(about)) + f"struct {struct_name(name)} {{\n{made}}};\n"
 
 
+def found_statuses():
+    """The statuses: the comment of each, its name and its number."""
+    return re.findall(r"((?:^///.*\n)+)pub\(crate\) const (\w+): u8 = (\d+);", read(f"{SOURCES}/status.rt"), re.M)
+
+
 def statuses():
     """The statuses, as C declares them."""
-    found = re.findall(r"((?:^///.*\n)+)pub\(crate\) const (\w+): u8 = (\d+);", read(f"{SOURCES}/status.rt"), re.M)
+    found = found_statuses()
     lines = "".join(comment(doc(said), "    ") + f"    EP_{name} = {value},\n" for said, name, value in found)
     return f"/* Statuses. Those below 16 are the numbers of the faults' names (docs/FORMATS.md, section 7). */\nenum {{\n{lines.rstrip().rstrip(',')}\n}};\n\n{status_names(it[1] for it in found)}"
 
@@ -143,6 +155,4 @@ def written():
 
 def files():
     """The path of the header, and what it has to hold."""
-    before, rest = read(HEADER).split(BEGIN)
-    _, behind = rest.split(END)
-    yield HEADER, (before + BEGIN + written() + END + behind).encode()
+    yield HEADER, filled(read(HEADER), BEGIN, END, written()).encode()

@@ -69,12 +69,12 @@ int pthread_create(void *thread, const void *kind, void *(*work)(void *), void *
 
 
 def test_ends(ample, ran):
-    """How a test ended: well, for want of memory, or otherwise."""
+    """How a test ended: well, when out of memory, or otherwise."""
     return "well" if ran.status == 0 else "want" if ran.status is not None and WANT.search(ran.output + ran.told) else "other"
 
 
 def program_ends(ample, ran):
-    """How the program ended: as with ample memory, for want of memory, or otherwise."""
+    """How the program ended: as with ample memory, when out of memory, or otherwise."""
     return "well" if ran == ample else "want" if ran == WANTED else "other"
 
 

@@ -6,7 +6,7 @@ usage: tools/sweep bytes [SEED]          all of them; SEED is a number, 1 where 
 The bundles are of worked scripts, as ep_main plays them: of three, five and seven replicas, with slow paths, recoveries and swaps, one with values of
 1,024 bytes, and one of version 1. Which byte is turned, and into which one, a generator draws from the seed. The programs are those that `rt run` left
 in crates/ep_main/out and crates/ep_viewer/out. Each bundle is audited, shown, shown in columns, explained, and drawn as a page, a diagram and a graph; by
-docs/FORMATS.md, sections 5, 6 and 11:
+docs/CLI.md, sections 5, 6 and 11:
 - `audit` has to accept it (status 0), to refuse it by a fault (1), or not to read it (2, one line on the fault output and nothing else);
 - where `audit` reads it, so has every other (status 0, but 1 for `explain` where `audit` has it): `show` in lines that are an entry each, `draw` in a page, or in
   lines that Mermaid or Graphviz reads;

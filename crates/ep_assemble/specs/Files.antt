@@ -13,7 +13,7 @@ pub record IsCollected (logs receipts log_bytes receipt_bytes : List (List ℕ))
   pub assembled : IsAssembled log_bytes receipt_bytes text ends receipt_ends
   pub told : lines ≡ torn_lines 0 logs ends ++ torn_lines 0 receipts receipt_ends
 
--- other than want of memory
+-- other than out of memory
 abbrev pub IsOfFiles : AssembleFault → Type 0
 IsOfFiles Memory = ⊥
 IsOfFiles (Log place fault) = Unit {0}

@@ -20,7 +20,7 @@ pub record IsCollectedOf (g : ℕ) (logs receipts : List (List ℕ)) (kept : Lis
   pub assembled : IsAssembledOf g kept receipt_bytes text ends receipt_ends
   pub told : lines ≡ torn_lines 0 logs ends ++ torn_lines 0 receipts receipt_ends
 
--- other than want of memory
+-- other than out of memory
 abbrev pub IsOfGeneration : GenerationFault → Type 0
 IsOfGeneration NoLog = Unit {0}
 IsOfGeneration (Opening place fault) = Unit {0}
@@ -43,13 +43,13 @@ pub record IsNotCollectedOf (g : ℕ) (openings logs receipts : List (List ℕ))
 abbrev pub IsMissingLine : List (List ℕ) → List ℕ → Type 0
 IsMissingLine names line = (name : List ℕ) × Contains names name × (line ≡ missing_line name)
 
--- want of memory, or a file of one of these names that isn't read or is missing
+-- out of memory, or a file of one of these names that isn't read or is missing
 abbrev pub IsLacking : List (List ℕ) → FilesFault → Type 0
 IsLacking names files.Memory = Unit {0}
 IsLacking names (files.ReadFailed line) = IsUnreadLine names line.items
 IsLacking names (files.Refused line) = IsMissingLine names line.items
 
--- want of memory, or the file of this name isn't read or is missing
+-- out of memory, or the file of this name isn't read or is missing
 abbrev pub IsOfLacking : List ℕ → FilesFault → Type 0
 IsOfLacking name files.Memory = Unit {0}
 IsOfLacking name (files.ReadFailed line) = IsUnreadOf name line.items

@@ -46,11 +46,11 @@ pub record IsLike (g : ℕ) (first file : File) : Type 0 where
 -- the least of s and of the stamps that these go on from
 abbrev pub least_since : ℕ → List File → ℕ
 least_since s [] = s
-least_since s (file ∷ files) = least_since (min s file.opening.since) files
+least_since s (file ∷ files) = least_since (min s file.opening.base_stamp) files
 
 -- what all journals open with: the map of all files, and the least of their stamps
 abbrev pub common : File → List File → Begun
-common first files = record { contents = first.opening.contents; since = least_since first.opening.since files }
+common first files = record { contents = first.opening.contents; base_stamp = least_since first.opening.base_stamp files }
 
 -- the files are those of one cluster in generation g, and this is the cluster
 pub record IsClusterOf (g : ℕ) (files : List File) (c : OpenedCluster) : Type 0 where
@@ -101,7 +101,7 @@ IsAssembledOf g kept files text ends receipt_ends = OfCluster g kept (λ c. IsAs
 
 -- Faults of opening files.
 
--- a file's fault, other than want of memory
+-- a file's fault, other than out of memory
 abbrev pub IsOfOpening : OpeningFault → Type 0
 IsOfOpening opening_.Memory = ⊥
 IsOfOpening (opening_.CutShort at) = Unit {0}

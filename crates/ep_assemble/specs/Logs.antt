@@ -51,7 +51,7 @@ pub record IsAssembled (logs files : List (List ℕ)) (text : List ℕ) (ends re
   pub collects : Collects journals collected
   pub bundled : IsBundled collected files text receipt_ends
 
--- a log's fault, other than want of memory
+-- a log's fault, other than out of memory
 abbrev pub IsOfLog : LogFault → Type 0
 IsOfLog log.Memory = ⊥
 IsOfLog log.NoHeader = Unit {0}

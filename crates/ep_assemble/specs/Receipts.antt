@@ -70,7 +70,7 @@ pub record IsSpoiled (w : Version) (n at : ℕ) (bytes : List ℕ) : Type 0 wher
   pub whole : receipt_length w tail.bytes ≤ length tail.bytes
   pub refused : receipt w n tail ≡ Err (bundle.BadBundle at)
 
--- why no receipts were read of these bytes: want of memory is no fault of theirs
+-- why no receipts were read of these bytes: out of memory is no fault of theirs
 abbrev pub IsUnheld : Version → ℕ → List ℕ → BundleFault → Type 0
 IsUnheld w n bytes bundle.Memory = Unit {0}
 IsUnheld w n bytes bundle.ReadFailed = Unit {0}

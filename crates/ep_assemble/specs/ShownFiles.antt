@@ -20,7 +20,7 @@ pub record AreShown (g : ℕ) (log_name opening digest log text lines : List ℕ
   pub shown : IsShown g opening digest log text end
   pub told : lines ≡ end_line log_name end
 
--- other than want of memory
+-- other than out of memory
 abbrev pub IsOfFiles : ShowFault → Type 0
 IsOfFiles Memory = ⊥
 IsOfFiles (Opening fault) = Unit {0}

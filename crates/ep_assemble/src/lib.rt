@@ -3,8 +3,8 @@
 //! `epaxos collect` calls it, of the logs of replicas of version 2 (`assemble`), and of those of a generation, each with its opening file
 //! (`assemble_generation`). `collect` answers `Journals` exactly where there is one journal for each replica of one cluster, of one version.
 //! `epaxos contents` calls it of the newest generation in the folder of a node: `show_map` reads an opening file and the log beside it, and
-//! answers the lines of docs/FORMATS.md, section 6.3. A log or a file of receipts whose end is torn is taken up to it, which is told; whatever
-//! else is wrong is told as the first fault, by the names of the files in `collect_files`, `collect_generation` and `show_files`.
+//! answers the lines of docs/CLI.md, section 6.3. A log or a file of receipts whose end is torn is taken up to it, which is reported; whatever
+//! else is wrong is reported as the first fault, by the names of the files in `collect_files`, `collect_generation` and `show_files`.
 //!
 //! Start with `assembling.rt` and specs/Logs.antt: `IsAssembled`, `IsRefused`; specs/Clusters.antt: `AreOfOne`, `Collects`; then
 //! specs/Receipts.antt, `Hold`; then `generation.rt` and specs/Generations.antt: `IsAssembledOf`, `IsRefusedIn`; and `showing.rt` and

@@ -140,19 +140,19 @@ fn common_of(
     ensures { IfOk result (λ o. o ≡ common first.now files.now) }
 {
     let contents = first.opening().contents().copy(alloc)?;
-    match Opening::new(contents, least_of(first.opening().since(), files)) {
+    match Opening::new(contents, least_of(first.opening().base_stamp(), files)) {
         Ok(opening) => Ok(opening),
         Err(_) => Err(AllocError),
     }
 }
 
 /// The least of this stamp and of those that the files go on from.
-fn least_of(since: u64, files: &[OpeningFile]) -> u64
-    ensures { result ≡ least_since since files.now }
+fn least_of(base_stamp: u64, files: &[OpeningFile]) -> u64
+    ensures { result ≡ least_since base_stamp files.now }
 {
-    let mut least = since;
+    let mut least = base_stamp;
     for file in files {
-        least = least.min(file.opening().since());
+        least = least.min(file.opening().base_stamp());
     }
     least
 }

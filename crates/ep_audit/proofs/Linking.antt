@@ -79,19 +79,19 @@ linked_more links vs link v place linked count there judged goes = record {
 
 -- The stamps of a journal are above its opening's.
 
-above_all : (since : ℕ) (es : List Written) (e : Entry) → IsAbove since es → AreNumbered 1 0 (entries_of es) → In e (entries_of es) → since < e.stamp
-above_all since [] e a h k = absurd k
-above_all since (x ∷ es) e a h (inl is) = subst (λ (z : Entry). since < z.stamp) is a
-above_all since (x ∷ es) e a h (inr k) = let t = above 2 x.stamp (entries_of es) e h.3 k in let first : since < x.stamp = a in omega arith
+above_all : (base_stamp : ℕ) (es : List Written) (e : Entry) → IsAbove base_stamp es → AreNumbered 1 0 (entries_of es) → In e (entries_of es) → base_stamp < e.stamp
+above_all base_stamp [] e a h k = absurd k
+above_all base_stamp (x ∷ es) e a h (inl is) = subst (λ (z : Entry). base_stamp < z.stamp) is a
+above_all base_stamp (x ∷ es) e a h (inr k) = let t = above 2 x.stamp (entries_of es) e h.3 k in let first : base_stamp < x.stamp = a in omega arith
 
-pub all_later : (c : Collected) (r : ℕ) (e : Entry) → AreJournals c → In e (journals_of c r) → c.opening.since < e.stamp
+pub all_later : (c : Collected) (r : ℕ) (e : Entry) → AreJournals c → In e (journals_of c r) → c.opening.base_stamp < e.stamp
 all_later c r e are k = elim (cases_lt r (size c.faults)) [
-  | inl lt ↦ (let j = are.journal r lt in above_all c.opening.since (entries_at c r) e j.above j.run.0 k)
+  | inl lt ↦ (let j = are.journal r lt in above_all c.opening.base_stamp (entries_at c r) e j.above j.run.0 k)
   | inr ge ↦ absurd (subst (λ (es : List Written). In e (entries_of es)) (are.others r ge) k)
 ]
 
 -- it goes on where all three tests pass
-pub goes_on : (p : ChainLink) (v : Verdict) (c : Closing) (next : ChainLink) → AreJournals next.journals → v.closing ≡ Some c → number_of next ≡ suc (number_of p) → next.journals.opening.contents ≡ map_after p v → ¬ (next.journals.opening.since < c.stamp) → GoesOn p v next
+pub goes_on : (p : ChainLink) (v : Verdict) (c : Closing) (next : ChainLink) → AreJournals next.journals → v.closing ≡ Some c → number_of next ≡ suc (number_of p) → next.journals.opening.contents ≡ map_after p v → ¬ (next.journals.opening.base_stamp < c.stamp) → GoesOn p v next
 goes_on p v c next are closed consecutive opening clocks = record {
   closing = c;
   closed = closed;

@@ -75,7 +75,7 @@ pub record IsAudited (base : Store) (f : ℕ) (journal : Journals) (receipts : L
   pub says : IsSummarized base f journal receipts (summary_of v)
   pub schedule : v.schedule.items ≡ places_of says.summary.order
 
--- why there is no verdict: want of memory, or the first fault
+-- why there is no verdict: out of memory, or the first fault
 abbrev pub IsRefused : Store → ℕ → Journals → List Receipt → VerdictFault → Type 0
 IsRefused base f journal receipts Memory = Unit {0}
 IsRefused base f journal receipts (Fault fault) = IsFault base f journal receipts (fault_of fault)

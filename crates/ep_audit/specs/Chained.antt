@@ -48,7 +48,7 @@ pub record GoesOn (p : ChainLink) (v : Verdict) (next : ChainLink) : Type 0 wher
   pub closed : v.closing ≡ Some closing
   pub consecutive : number_of next ≡ suc (number_of p)
   pub opening : next.journals.opening.contents ≡ map_after p v
-  pub clocks : closing.stamp ≤ next.journals.opening.since
+  pub clocks : closing.stamp ≤ next.journals.opening.base_stamp
   -- so each of its stamps is above that of the seal
   pub later : (r : ℕ) (e : Entry) → In e (journals_of next.journals r) → closing.stamp < e.stamp
 
@@ -58,7 +58,7 @@ IsParted p v c next (Audit fault) = ⊥
 IsParted p v c next NotConsecutive = number_of next ≢ suc (number_of p)
 IsParted p v c next (OpeningDiffers key) = (number_of next ≡ suc (number_of p)) × IsLeastDifference next.journals.opening.contents (map_after p v) key
 IsParted p v c next StampsGoBack =
-    (number_of next ≡ suc (number_of p)) × (next.journals.opening.contents ≡ map_after p v) × (next.journals.opening.since < c.stamp)
+    (number_of next ≡ suc (number_of p)) × (next.journals.opening.contents ≡ map_after p v) × (next.journals.opening.base_stamp < c.stamp)
 IsParted p v c next NotClosed = ⊥
 
 -- Generations, one after the other.
@@ -99,7 +99,7 @@ pub data IsChainFault (links : List ChainLink) (k : ℕ) : ChainFault → Type 0
       (verdicts : List Verdict) (v : Verdict) → length verdicts ≡ suc k → AreLinked links verdicts → slice_get verdicts k ≡ Some v → v.closing ≡ None → suc k < length links →
       IsChainFault links k NotClosed
 
--- why there are no verdicts: want of memory, or the first fault
+-- why there are no verdicts: out of memory, or the first fault
 abbrev pub IsChainRefused : List ChainLink → ChainVerdictFault → Type 0
 IsChainRefused links Memory = Unit {0}
 IsChainRefused links (Fault place fault) = IsChainFault links place fault

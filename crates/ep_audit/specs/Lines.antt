@@ -5,7 +5,7 @@ use Rattle.ep_base.specs.declared.decree.Decree.{Decree}
 use Rattle.ep_base.specs.declared.reply.Reply.{Reply}
 use Rattle.ep_base.specs.declared.reply.Reply.TheVariants.{Absent}
 use Rattle.ep_base.specs.declared.reply.Answer.{Answer}
-use Rattle.ep_base.specs.declared.reply.Answer.TheVariants.{Lost, Told}
+use Rattle.ep_base.specs.declared.reply.Answer.TheVariants.{Lost, Replied}
 use Rattle.ep_rules.specs.History.{is_new}
 use Rattle.ep_rules.specs.Journals.{Scheduled}
 use Rattle.ep_rules.specs.Steps.{order_of}
@@ -14,7 +14,7 @@ use Rattle.ep_audit.specs.declared.happening.Happening.{Happening}
 -- the reply that an answer tells; absent where the proposal was lost
 abbrev pub told_by : Answer → Reply
 told_by Lost = Absent
-told_by (Told r) = r
+told_by (Replied r) = r
 
 -- the line of i where this is agreed on; none where it is a no-op
 abbrev pub line_at : ℕ → Answer → Option Decree → List Happening

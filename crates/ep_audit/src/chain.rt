@@ -52,7 +52,7 @@ fn parting(
     if let Some(key) = opens_otherwise(alloc, before, verdict, link)? {
         return Ok(Some(ChainFault::OpeningDiffers(key)));
     }
-    if opening.since() < closing.stamp.ticks() {
+    if opening.base_stamp() < closing.stamp.ticks() {
         return Ok(Some(ChainFault::StampsGoBack));
     }
     Ok(None)

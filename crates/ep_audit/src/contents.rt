@@ -24,7 +24,7 @@ fn apply(store: &mut Store, command: &Command) -> Result<(), AllocError>
     Ok(())
 }
 
-/// What the keys have after the history, from the opening on; more than fit into 32 bits are want of memory.
+/// What the keys have after the history, from the opening on; more than fit into 32 bits count as out of memory.
 pub fn contents_of(
     alloc: Global,
     opening: &Opening,

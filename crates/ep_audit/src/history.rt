@@ -24,7 +24,7 @@ fn reply_in(alloc: Global, answer: &Answer) -> Result<Reply, AllocError>
 {
     match answer {
         Answer::Lost => Ok(Reply::Absent),
-        Answer::Told(reply) => reply.copy(alloc),
+        Answer::Replied(reply) => reply.copy(alloc),
     }
 }
 

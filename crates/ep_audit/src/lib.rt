@@ -9,12 +9,12 @@
 //!
 //! The work is in two halves. `matching.rt` finds the first fault (`listing.rt` all of them): it goes through the handled frames by replica and entry, and then through the
 //! receipts, and answers the first one that isn't as `IsAccepted` of `ep_rules`, specs/Audits.antt, asks. Frames and proposals are found by
-//! their places, so that an audit is one pass. `summary.rt` tells what the journals say (specs/Verdicts.antt): it
+//! their places, so that an audit is one pass. `summary.rt` says what the journals say (specs/Verdicts.antt): it
 //! collects what is committed, merges the entries that execute something by stamp and replica, and takes each command at its first execution. `verdict.rt` adds the
 //! schedule: all entries, merged. That the replies told are one map's is a law of `ep_rules` on journals
 //! that match, and not work done here.
 //!
-//! The order of the checks is part of the contract: which fault is told first. How things are found, merged and looked up isn't.
+//! The order of the checks is part of the contract: which fault is reported first. How things are found, merged and looked up isn't.
 //!
 //! It knows nothing of scripts and reports: `ep_report` prints verdicts and faults.
 #![tactic(auto)]

@@ -89,7 +89,7 @@ fn closing_by(
     match happening.command.view() {
         CommandView::Seal(bytes) => Ok(Some(Closing {
             instance: happening.instance,
-            value: Value::known(alloc, bytes)?,
+            value: Value::from_valid(alloc, bytes)?,
             stamp,
         })),
         CommandView::Noop

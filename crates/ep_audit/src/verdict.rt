@@ -52,7 +52,7 @@ impl Verdict {
     }
 
     /// What the keys have after all of the history, from these journals' opening on. What comes after a seal changes nothing. A report counts the
-    /// keys in 32 bits: more are want of memory.
+    /// keys in 32 bits: more count as out of memory.
     pub fn contents(&self, alloc: Global, journals: &Journals) -> Result<Contents, AllocError>
         ensures value { IfOk result (λ m. m ≡ left_after (opens journals.now.opening) self.now) }
         ensures few { IfOk result (λ m. length (entries m) < 2 ^ 32) }

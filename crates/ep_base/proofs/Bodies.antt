@@ -8,7 +8,7 @@ use Rattle.std.proofs.lemmas.List.{append-nil}
 use Rattle.ep_base.specs.Attributes.{same_list}
 use Rattle.ep_base.specs.Items.{Item, told_count, rise_above}
 use Rattle.ep_base.specs.Ops.{is_items_len}
-use Rattle.ep_base.specs.Parts.{part_bytes, part_at, flag, write_flag, flags_of, guard_bytes, put_bytes, write_bytes, item_bytes, items_bytes, tx_bytes, guard_in, put_in, write_in, write_behind, item_with, item_at, items_at, items_in, all_items, are_items, is_tx}
+use Rattle.ep_base.specs.CommandParts.{part_bytes, part_at, flag, write_flag, flags_of, guard_bytes, put_bytes, write_bytes, item_bytes, items_bytes, tx_bytes, guard_in, put_in, write_in, write_behind, item_with, item_at, items_at, items_in, all_items, are_items, is_tx}
 use Rattle.ep_base.proofs.Same.{Decides-same_list}
 
 pub part_again : (e : Option (List ℕ)) (rest : List ℕ) → part_at (part_bytes e ++ rest) ≡ e

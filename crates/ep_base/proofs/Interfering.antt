@@ -8,7 +8,7 @@ use Rattle.std.proofs.lemmas.Bool.Decides.{Decides-like, Decides-and, Decides-or
 use Rattle.std.proofs.lemmas.List.Elements.{Decides-contains, Contains-get_or, at_from_Contains}
 use Rattle.ep_base.specs.Commands.{Command, Noop, Get, Put, Del, Swap, Cas, Seal, Opaque, Tx}
 use Rattle.ep_base.specs.Attributes.{same_list}
-use Rattle.ep_base.specs.Interference.{keys_of, has_key, share_key, only_reads, is_seal, meet, part, interfere, Meets, Parts, Interferes, InterferenceLaw}
+use Rattle.ep_base.specs.Interference.{keys_of, has_key, share_key, only_reads, is_seal, meet, meet_seal, interfere, Meets, MeetsSeal, Interferes, InterferenceLaw}
 use Rattle.ep_base.specs.Sameness.{is_noop}
 use Rattle.ep_base.proofs.Same.{Decides-same_list}
 
@@ -36,15 +36,15 @@ Decides-meet a b =
     let both_read = Decides-and (only_reads a) (only_reads b) (λ e. e, λ e. e) (λ e. e, λ e. e) in
     Decides-and (share_key (keys_of a) (keys_of b)) (not (only_reads a && only_reads b)) (Decides-share_key (keys_of a) (keys_of b)) (Decides-not (only_reads a && only_reads b) both_read)
 
-Decides-part : (a b : Command) → Decides (part a b) (Parts a b)
-Decides-part a b =
+Decides-meet_seal : (a b : Command) → Decides (meet_seal a b) (MeetsSeal a b)
+Decides-meet_seal a b =
     let seals = Decides-or (is_seal a) (is_seal b) (λ e. e, λ e. e) (λ e. e, λ e. e) in
     let noops = Decides-or (is_noop a) (is_noop b) (λ e. e, λ e. e) (λ e. e, λ e. e) in
     Decides-and (is_seal a || is_seal b) (not (is_noop a || is_noop b)) seals (Decides-not (is_noop a || is_noop b) noops)
 
 -- the test decides the relation
 pub Decides-interfere : (a b : Command) → Decides (interfere a b) (Interferes a b)
-Decides-interfere a b = Decides-or (meet a b) (part a b) (Decides-meet a b) (Decides-part a b)
+Decides-interfere a b = Decides-or (meet a b) (meet_seal a b) (Decides-meet a b) (Decides-meet_seal a b)
 
 pub turn : {A B : Type 0} → A ⊎ B → B ⊎ A
 turn (inl a) = inr a

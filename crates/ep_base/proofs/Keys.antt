@@ -3,7 +3,7 @@ use Rattle.std.proofs.Common.{◌≡◌, ◌∷◌, ◌++◌, refl, sym, ap}
 use Rattle.std.proofs.lemmas.List.{append-nil}
 use Rattle.ep_base.specs.Commands.{Command, Noop, Get, Put, Del, Swap, Cas, Seal, Opaque, Tx}
 use Rattle.ep_base.specs.Items.{item_keys}
-use Rattle.ep_base.specs.Parts.{items_of}
+use Rattle.ep_base.specs.CommandParts.{items_of}
 use Rattle.ep_base.specs.Interference.{listed, keys_of, key_of, second_key_of}
 
 pub keys_listed : (a : Command) → keys_of a ≡ listed (key_of a) ++ listed (second_key_of a) ++ item_keys (items_of a)

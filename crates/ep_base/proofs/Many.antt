@@ -10,7 +10,7 @@ use Rattle.ep_base.specs.Interference.{is_many}
 use Rattle.ep_base.specs.Attributes.{same_list}
 use Rattle.ep_base.specs.Items.{Item, told_count, rise_above}
 use Rattle.ep_base.specs.Ops.{is_items_len}
-use Rattle.ep_base.specs.Parts.{parts_of, items_of, items_in, items_at, item_at, item_bytes, items_bytes, tx_bytes, all_items, are_items, are_items_at, are_counted, is_tx, part_at, guard_in, guard_bytes, is_short_in, are_parts, body_said, command_of, IsPartLen, IsGuardLen, IsInRange}
+use Rattle.ep_base.specs.CommandParts.{parts_of, items_of, items_in, items_at, item_at, item_bytes, items_bytes, tx_bytes, all_items, are_items, are_items_at, are_counted, is_tx, part_at, guard_in, guard_bytes, is_short_in, are_parts, body_said, command_of, IsPartLen, IsGuardLen, IsInRange}
 use Rattle.ep_base.proofs.Bodies.{tx_again, tx_there, tx_parts}
 use Rattle.ep_base.proofs.Same.{Decides-same_list}
 use Rattle.ep_base.proofs.Partitions.{fits, of_then, short_there}

@@ -12,7 +12,7 @@ use Rattle.ep_base.specs.Interference.{keys_of, listed, only_reads, key_of, seco
 use Rattle.ep_base.specs.Ops.{reads, is_key_len, first_fits, second_fits, body_fits}
 use Rattle.ep_base.specs.Items.{item_keys}
 use Rattle.ep_base.specs.Partition.{PartsLaw}
-use Rattle.ep_base.specs.Parts.{Parts, parts_of, command_with, command_in, command_of, are_parts, lengths_fit, is_twice, body_said, key_if_any, key_bytes, part_bytes, part_at, expected_in, new_in, is_short, is_comparison, items_of, tx_bytes, are_items, IsKey, IsSecond, IsShort, IsInRange}
+use Rattle.ep_base.specs.CommandParts.{CommandParts, parts_of, command_with, command_in, command_of, are_parts, lengths_fit, is_twice, body_said, key_if_any, key_bytes, part_bytes, part_at, expected_in, new_in, is_short, is_comparison, items_of, tx_bytes, are_items, IsKey, IsSecond, IsShort, IsInRange}
 use Rattle.ep_base.specs.Values.{most_value}
 use Rattle.ep_base.specs.declared.op.Op.{Op}
 use Rattle.ep_base.specs.declared.op.Op.TheVariants as op
@@ -56,7 +56,7 @@ apart k l h n e = not_true (is_twice k l) n (twice_is k l h ∙ (Decides-same_li
 apart_from : (k l : List ℕ) → IsKey l → k ≢ l → not (is_twice k l) ≡ true
 apart_from k l h n = not_from (is_twice k l) (λ e. n (sym ((Decides-same_list l k).0 (sym (twice_is k l h) ∙ e))))
 
-abbrev made : Op → List ℕ → List ℕ → List ℕ → Parts
+abbrev made : Op → List ℕ → List ℕ → List ℕ → CommandParts
 made o k l b = record { op = o; first = k; second = l; body = b }
 
 same_made : (o : Op) {k l b : List ℕ} {k' l' b' : List ℕ} → k ≡ k' → l ≡ l' → b ≡ b' → made o k l b ≡ made o k' l' b'
@@ -221,10 +221,10 @@ fits_with (Opaque p b) h = go p.reads
 
 -- The command of parts.
 
-pub of_fitting : (p : Parts) → are_parts p ≡ true → command_of p ≡ Some (command_in p)
+pub of_fitting : (p : CommandParts) → are_parts p ≡ true → command_of p ≡ Some (command_in p)
 of_fitting p e = ap (λ b. cond b (Some (command_in p)) None) e
 
-pub of_then : (p : Parts) (c : Command) → command_of p ≡ Some c → (are_parts p ≡ true) × (command_in p ≡ c)
+pub of_then : (p : CommandParts) (c : Command) → command_of p ≡ Some c → (are_parts p ≡ true) × (command_in p ≡ c)
 of_then p c e = go (are_parts p) refl e
   where
     go : (b : Bool) → are_parts p ≡ b → cond b (Some (command_in p)) None ≡ Some c → (are_parts p ≡ true) × (command_in p ≡ c)
@@ -234,10 +234,10 @@ of_then p c e = go (are_parts p) refl e
 pub forth_lem : (c : Command) → IsInRange c → command_of (parts_of c) ≡ Some c
 forth_lem c h = of_fitting (parts_of c) (fits_with c h) ∙ ap Some (again_with c h)
 
-back_lem : (p : Parts) (c : Command) → command_of p ≡ Some c → parts_of c ≡ p
+back_lem : (p : CommandParts) (c : Command) → command_of p ≡ Some c → parts_of c ≡ p
 back_lem p c e = let h = of_then p c e in ap parts_of (sym h.1) ∙ back_is p.op p.first p.second p.body h.0
 
-ranges_lem : (p : Parts) (c : Command) → command_of p ≡ Some c → IsInRange c
+ranges_lem : (p : CommandParts) (c : Command) → command_of p ≡ Some c → IsInRange c
 ranges_lem p c e = let h = of_then p c e in subst IsInRange h.1 (range_is p.op p.first p.second p.body h.0)
 
 -- The keys.

@@ -6,7 +6,7 @@ use Rattle.std.proofs.Math.Seq.{take-append_seam, drop-append_seam}
 use Rattle.std.proofs.lemmas.Bool.{eqb-true, eq-eqb, and_parts}
 use Rattle.std.proofs.lemmas.List.{append-nil, take-append-drop, drop-drop, drop-take, take_all, take_rest}
 use Rattle.ep_base.specs.Commands.{Command, Cas, Opaque}
-use Rattle.ep_base.specs.Parts.{Parts, parts_of, command_in, command_with, command_of, are_parts, cut, body_said, key_if_any, key_bytes, part_bytes, part_at, expected_in, new_in, is_short, is_comparison, IsShort, IsPartLen, IsInRange}
+use Rattle.ep_base.specs.CommandParts.{CommandParts, parts_of, command_in, command_with, command_of, are_parts, cut, body_said, key_if_any, key_bytes, part_bytes, part_at, expected_in, new_in, is_short, is_comparison, IsShort, IsPartLen, IsInRange}
 use Rattle.ep_base.specs.Ops.{is_key_len}
 use Rattle.ep_base.specs.Sameness.{same_command}
 use Rattle.ep_base.specs.Touched.{Touched}
@@ -30,7 +30,7 @@ view_fits o run m n s e v = ap are_parts (view_parts o run m n s e v) ∙ e
 pub view_again : (o : Op) (run : List ℕ) (m n : ℕ) (s : Command) → are_parts (cut o run m n) ≡ true → command_in (cut o run m n) ≡ s → command_of (parts_of s) ≡ Some s
 view_again o run m n s e v = forth_lem s (view_range o run m n s e v)
 
-abbrev all_of : Parts → List ℕ
+abbrev all_of : CommandParts → List ℕ
 all_of p = p.first ++ p.second ++ p.body
 
 cut_whole : (run : List ℕ) (m n : ℕ) → take m run ++ take n (drop m run) ++ drop (m + n) run ≡ run
@@ -44,11 +44,11 @@ pub view_whole : (o : Op) (run : List ℕ) (m n : ℕ) (s : Command) → are_par
 view_whole o run m n s e v = sym (ap all_of (view_parts o run m n s e v) ∙ cut_whole run m n)
 
 pub view_body : (o : Op) (run : List ℕ) (m n : ℕ) (s : Command) → are_parts (cut o run m n) ≡ true → command_in (cut o run m n) ≡ s → (xs : List ℕ) → xs ≡ run → take (length xs - (m + n)) (drop (m + n) xs) ≡ (parts_of s).body
-view_body o run m n s e v xs is = take_rest xs (m + n) ∙ ap (λ x. drop (m + n) x) is ∙ sym (ap (λ (p : Parts). p.body) (view_parts o run m n s e v))
+view_body o run m n s e v xs is = take_rest xs (m + n) ∙ ap (λ x. drop (m + n) x) is ∙ sym (ap (λ (p : CommandParts). p.body) (view_parts o run m n s e v))
 
 pub view_second : (o : Op) (run : List ℕ) (m n : ℕ) (s : Command) → are_parts (cut o run m n) ≡ true → command_in (cut o run m n) ≡ s → (xs : List ℕ) → xs ≡ run → take (m + n - m) (drop m xs) ≡ (parts_of s).second
 view_second o run m n s e v xs is =
-    ap (λ k. take k (drop m xs)) (let f : m + n - m ≡ n = omega arith in f) ∙ ap (λ x. take n (drop m x)) is ∙ sym (ap (λ (p : Parts). p.second) (view_parts o run m n s e v))
+    ap (λ k. take k (drop m xs)) (let f : m + n - m ≡ n = omega arith in f) ∙ ap (λ x. take n (drop m x)) is ∙ sym (ap (λ (p : CommandParts). p.second) (view_parts o run m n s e v))
 
 -- how long they are
 pub record Lens (o : Op) (m n : ℕ) (s : Command) : Type 0 where
@@ -61,9 +61,9 @@ view_lens o run m n s le e v =
     let p = view_parts o run m n s e v in
     let rest = length-drop m run in
     record {
-      op = ap (λ (x : Parts). x.op) p;
-      first = ap (λ (x : Parts). length x.first) p ∙ length-take-le m run (omega arith);
-      second = ap (λ (x : Parts). length x.second) p ∙ length-take-le n (drop m run) (omega arith);
+      op = ap (λ (x : CommandParts). x.op) p;
+      first = ap (λ (x : CommandParts). length x.first) p ∙ length-take-le m run (omega arith);
+      second = ap (λ (x : CommandParts). length x.second) p ∙ length-take-le n (drop m run) (omega arith);
     }
 
 -- Keys.
@@ -71,20 +71,20 @@ view_lens o run m n s le e v =
 -- Sameness.
 
 -- the op, how long the keys are, and all the bytes
-pub record Alike (p q : Parts) : Type 0 where
+pub record Alike (p q : CommandParts) : Type 0 where
   pub op : p.op ≡ q.op
   pub first : length p.first ≡ length q.first
   pub second : length p.second ≡ length q.second
   pub whole : all_of p ≡ all_of q
 
-first_of : (p : Parts) → take (length p.first) (all_of p) ≡ p.first
+first_of : (p : CommandParts) → take (length p.first) (all_of p) ≡ p.first
 first_of p = ap (λ x. take (length p.first) x) (append_assoc p.first p.second p.body) ∙ take-append_seam p.first (p.second ++ p.body)
 
-rest_of : (p : Parts) → drop (length p.first) (all_of p) ≡ p.second ++ p.body
+rest_of : (p : CommandParts) → drop (length p.first) (all_of p) ≡ p.second ++ p.body
 rest_of p = ap (λ x. drop (length p.first) x) (append_assoc p.first p.second p.body) ∙ drop-append_seam p.first (p.second ++ p.body)
 
 -- parts that are alike are the same
-pub alike_same : (p q : Parts) → Alike p q → p ≡ q
+pub alike_same : (p q : CommandParts) → Alike p q → p ≡ q
 alike_same p q a =
     let first : p.first ≡ q.first = sym (first_of p) ∙ (λ i. take (a.first i) (a.whole i)) ∙ first_of q in
     let rest : p.second ++ p.body ≡ q.second ++ q.body = sym (rest_of p) ∙ (λ i. drop (a.first i) (a.whole i)) ∙ rest_of q in
@@ -92,12 +92,12 @@ alike_same p q a =
     let body : p.body ≡ q.body = sym (drop-append_seam p.second p.body) ∙ (λ i. drop (a.second i) (rest i)) ∙ drop-append_seam q.second q.body in
     λ i. record { op = a.op i; first = first i; second = second i; body = body i }
 
-pub same_alike : (p q : Parts) → p ≡ q → Alike p q
+pub same_alike : (p q : CommandParts) → p ≡ q → Alike p q
 same_alike p q e =
     record {
-      op = ap (λ (x : Parts). x.op) e;
-      first = ap (λ (x : Parts). length x.first) e;
-      second = ap (λ (x : Parts). length x.second) e;
+      op = ap (λ (x : CommandParts). x.op) e;
+      first = ap (λ (x : CommandParts). length x.first) e;
+      second = ap (λ (x : CommandParts). length x.second) e;
       whole = ap all_of e;
     }
 
@@ -147,10 +147,10 @@ cas_fits k run e n h is =
 pub cas_made : (k run : List ℕ) (e n : Option (List ℕ)) → IsInRange (Cas k e n) → run ≡ k ++ (part_bytes e ++ part_bytes n) → command_in (cut op.Cas run (length k) 0) ≡ Cas k e n
 cas_made k run e n h is = ap command_in (cas_cut k run e n is) ∙ again_with (Cas k e n) h
 
-range_of : (p : Parts) → are_parts p ≡ true → IsInRange (command_in p)
+range_of : (p : CommandParts) → are_parts p ≡ true → IsInRange (command_in p)
 range_of p e = range_is p.op p.first p.second p.body e
 
-abbrev opaque_parts : Touched → List ℕ → List ℕ → Parts
+abbrev opaque_parts : Touched → List ℕ → List ℕ → CommandParts
 opaque_parts p l b = record { op = cond p.reads op.Ask op.Act; first = p.first; second = l; body = b }
 
 opaque_again : (p : Touched) (l b : List ℕ) → key_if_any l ≡ p.second → command_in (opaque_parts p l b) ≡ Opaque p b

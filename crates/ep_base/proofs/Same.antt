@@ -11,7 +11,7 @@ use Rattle.ep_base.specs.declared.decree.Decree.{Decree}
 use Rattle.ep_base.specs.declared.reply.Reply.{Reply}
 use Rattle.ep_base.specs.declared.reply.Reply.TheVariants.{Absent, Present, Closed, Ordered, Done, Undone}
 use Rattle.ep_base.specs.declared.reply.Answer.{Answer}
-use Rattle.ep_base.specs.declared.reply.Answer.TheVariants.{Lost, Told}
+use Rattle.ep_base.specs.declared.reply.Answer.TheVariants.{Lost, Replied}
 use Rattle.ep_base.specs.Attributes.{same_list, same_attrs}
 use Rattle.ep_base.specs.Sameness.{same_keys, same_option, same_bool, same_touched, same_asked, same_item, same_items, same_options, same_command, same_decree, same_reply, same_answer}
 use Rattle.ep_base.specs.Items.{Item}
@@ -298,13 +298,13 @@ Decides-same_reply r s = apart reply_kind refl
 
 abbrev answer_kind : Answer → ℕ
 answer_kind Lost = 0
-answer_kind (Told r) = 1
+answer_kind (Replied r) = 1
 
 abbrev told_reply : Answer → Reply
 told_reply Lost = Absent
-told_reply (Told r) = r
+told_reply (Replied r) = r
 
 pub Decides-same_answer : (a b : Answer) → Decides (same_answer a b) (a ≡ b)
 Decides-same_answer Lost Lost = (λ _. refl, λ _. refl)
-Decides-same_answer (Told r) (Told s) = Decides-like (same_reply r s) (ap Told) (ap told_reply) (Decides-same_reply r s)
+Decides-same_answer (Replied r) (Replied s) = Decides-like (same_reply r s) (ap Replied) (ap told_reply) (Decides-same_reply r s)
 Decides-same_answer a b = apart answer_kind refl

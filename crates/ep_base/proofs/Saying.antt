@@ -8,7 +8,7 @@ use Rattle.std.proofs.lemmas.Bool.{and_parts, le-leb}
 use Rattle.std.proofs.lemmas.List.{take-append-drop, drop-drop}
 use Rattle.ep_base.specs.Attributes.{same_list}
 use Rattle.ep_base.specs.Ops.{is_key_len}
-use Rattle.ep_base.specs.Parts.{flag, write_flag, flags_of, item_at, item_bytes, items_at, items_bytes, is_item, all_items, are_items_at, IsItemLen, guard_in, guard_bytes, write_in, write_bytes, write_behind, said_bytes, is_short_in, IsGuardLen, IsWriteLen, IsSaidLen}
+use Rattle.ep_base.specs.CommandParts.{flag, write_flag, flags_of, item_at, item_bytes, items_at, items_bytes, is_item, all_items, are_items_at, IsItemLen, guard_in, guard_bytes, write_in, write_bytes, write_behind, said_bytes, is_short_in, IsGuardLen, IsWriteLen, IsSaidLen}
 use Rattle.ep_base.proofs.Same.{Decides-same_list}
 
 pub on_none : {X : Type 0} {P : Type 0} (r : Option X) → P → IfNone r P

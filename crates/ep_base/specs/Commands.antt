@@ -21,5 +21,5 @@ pub data Command : Type 0 where
   Seal : (value : List ℕ) → Command
   -- is a machine's outside: it is put in order by its footprint, leaves the map, and means what its body says there
   Opaque : (footprint : Touched) (body : List ℕ) → Command
-  -- writes what its items say, if each guard holds, and tells what they ask for
+  -- writes what its items say, if each guard holds, and says what they ask for
   Tx : (items : List Item) → Command

@@ -15,7 +15,7 @@ abbrev pub tells : {T E : Type 0} → (E → Bool) → Result T E → Bool
 tells is_its (Ok x) = false
 tells is_its (Err e) = is_its e
 
--- after a call its device has failed where the call tells so or it had failed before, and nowhere else
+-- after a call its device has failed where the call says so or it had failed before, and nowhere else
 abbrev pub FailsAsTold : {T E : Type 0} → (E → Bool) → Result T E → Bool → Bool → Type 0
 FailsAsTold is_its r had has = has ≡ (tells is_its r || had)
 

@@ -134,12 +134,12 @@ abbrev pub meet : Command → Command → Bool
 meet a b = share_key (keys_of a) (keys_of b) && not (only_reads a && only_reads b)
 
 -- one of them is a seal, and neither a no-op
-abbrev pub part : Command → Command → Bool
-part a b = (is_seal a || is_seal b) && not (is_noop a || is_noop b)
+abbrev pub meet_seal : Command → Command → Bool
+meet_seal a b = (is_seal a || is_seal b) && not (is_noop a || is_noop b)
 
 -- they name a key in common and do not both only read, or one of them is a seal and neither a no-op
 abbrev pub interfere : Command → Command → Bool
-interfere a b = meet a b || part a b
+interfere a b = meet a b || meet_seal a b
 
 -- a key that both name
 abbrev pub SharesKey : Command → Command → Type 0
@@ -148,12 +148,12 @@ SharesKey a b = (k : List ℕ) × Contains (keys_of a) k × Contains (keys_of b)
 abbrev pub Meets : Command → Command → Type 0
 Meets a b = SharesKey a b × ¬ (IsTrue (only_reads a) × IsTrue (only_reads b))
 
-abbrev pub Parts : Command → Command → Type 0
-Parts a b = (IsTrue (is_seal a) ⊎ IsTrue (is_seal b)) × ¬ (IsTrue (is_noop a) ⊎ IsTrue (is_noop b))
+abbrev pub MeetsSeal : Command → Command → Type 0
+MeetsSeal a b = (IsTrue (is_seal a) ⊎ IsTrue (is_seal b)) × ¬ (IsTrue (is_noop a) ⊎ IsTrue (is_noop b))
 
 -- the order of the two matters
 abbrev pub Interferes : Command → Command → Type 0
-Interferes a b = Meets a b ⊎ Parts a b
+Interferes a b = Meets a b ⊎ MeetsSeal a b
 
 -- interference is symmetric; a no-op interferes with nothing, itself included, and a seal with everything else, itself included
 pub record InterferenceLaw : Type 0 where

@@ -8,7 +8,7 @@ pub record Item : Type 0 where
   pub key : List ℕ
   -- the guard: what the key must have, be it a value or none, if the item asks for that
   pub guard : Option (Option (List ℕ))
-  -- the reply tells what the key has
+  -- the reply says what the key has
   pub told : Bool
   -- what the key is given, be it a value or none, if the item writes
   pub write : Option (Option (List ℕ))
@@ -22,7 +22,7 @@ abbrev pub none_writes : List Item → Bool
 none_writes [] = true
 none_writes (i ∷ is) = is_none i.write && none_writes is
 
--- how many items are told
+-- how many items are reported
 abbrev pub told_count : List Item → ℕ
 told_count [] = 0
 told_count (i ∷ is) = if i.told then suc (told_count is) else told_count is

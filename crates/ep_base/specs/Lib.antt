@@ -7,7 +7,7 @@ pub mod Items
 pub mod Commands
 pub mod Ops
 pub mod Views
-pub mod Parts
+pub mod CommandParts
 pub mod Values
 pub mod Interference
 pub mod Places

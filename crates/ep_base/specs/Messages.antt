@@ -3,8 +3,8 @@ use Rattle.std.specs.Prelude.{ℕ}
 use Rattle.std.specs.Option.{option_copied}
 use Rattle.ep_base.specs.declared.message.Message.{Message}
 use Rattle.ep_base.specs.declared.message.Message.TheVariants.{PreAccept, PreAcceptOk, Accept, AcceptOk, Commit, Prepare, PrepareOk, Nack}
-use Rattle.ep_base.specs.declared.said.Said.{Said}
-use Rattle.ep_base.specs.declared.said.Said.TheVariants as said
+use Rattle.ep_base.specs.declared.message_view.MessageView.{MessageView}
+use Rattle.ep_base.specs.declared.message_view.MessageView.TheVariants as said
 
 abbrev pub instance_of_message : Message → ℕ
 instance_of_message (PreAccept i b x) = i
@@ -17,7 +17,7 @@ instance_of_message (PrepareOk i b v) = i
 instance_of_message (Nack i b p) = i
 
 -- the message about instance i that says this
-abbrev pub says : ℕ → Said → Message
+abbrev pub says : ℕ → MessageView → Message
 says i (said.PreAccept b x) = PreAccept i b x.now
 says i (said.PreAcceptOk b a) = PreAcceptOk i b a.now
 says i (said.Accept b x) = Accept i b x.now

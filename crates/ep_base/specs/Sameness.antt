@@ -5,7 +5,7 @@ use Rattle.ep_base.specs.declared.decree.Decree.{Decree}
 use Rattle.ep_base.specs.declared.reply.Reply.{Reply}
 use Rattle.ep_base.specs.declared.reply.Reply.TheVariants.{Absent, Present, Closed, Ordered, Done, Undone}
 use Rattle.ep_base.specs.declared.reply.Answer.{Answer}
-use Rattle.ep_base.specs.declared.reply.Answer.TheVariants.{Lost, Told}
+use Rattle.ep_base.specs.declared.reply.Answer.TheVariants.{Lost, Replied}
 use Rattle.ep_base.specs.Attributes.{same_list, same_attrs}
 use Rattle.ep_base.specs.Items.{Item}
 use Rattle.ep_base.specs.Touched.{Touched}
@@ -71,7 +71,7 @@ same_reply _ _ = false
 
 abbrev pub same_answer : Answer → Answer → Bool
 same_answer Lost Lost = true
-same_answer (Told r) (Told s) = same_reply r s
+same_answer (Replied r) (Replied s) = same_reply r s
 same_answer _ _ = false
 
 abbrev pub is_noop : Command → Bool

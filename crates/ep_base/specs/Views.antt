@@ -4,7 +4,7 @@ use Rattle.std.specs.Borrow.{Bor}
 use Rattle.std.specs.Option.{option_copied, option_map}
 use Rattle.ep_base.specs.Commands.{Command, Noop, Get, Put, Del, Swap, Cas, Seal, Opaque, Tx}
 use Rattle.ep_base.specs.Items.{Item}
-use Rattle.ep_base.specs.Parts.{items_in}
+use Rattle.ep_base.specs.CommandParts.{items_in}
 use Rattle.ep_base.specs.Touched.{Touched}
 use Rattle.ep_base.specs.declared.command_view.CommandView.{CommandView}
 use Rattle.ep_base.specs.declared.command_view.CommandView.TheVariants as view

@@ -41,7 +41,7 @@ impl Ballot {
     }
 
     /// The ballot of this counter, which is at most 60,000, and leader.
-    pub fn known(counter: u16, replica: ReplicaId) -> Ballot
+    pub fn from_valid(counter: u16, replica: ReplicaId) -> Ballot
         requires { counter ≤ highest_counter }
         ensures { result ≡ ballot_of counter replica }
     {

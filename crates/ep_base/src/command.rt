@@ -7,7 +7,7 @@ ghost use Rattle.std.specs.Prelude.{Option, Some, None};
 ghost use Rattle.ep_base.specs.Commands.{Noop, Get, Put, Del, Swap, Cas, Seal, Opaque, Tx};
 ghost use Rattle.ep_base.specs.Interference.{only_reads, is_swap, is_late, is_long, is_many, is_seal, keys_of, key_of, second_key_of, has_key, listed};
 ghost use Rattle.ep_base.specs.Partition.{PartsLaw};
-ghost use Rattle.ep_base.specs.Parts.{is_short, parts_of, command_in, command_of, are_parts, items_of, lengths_fit, is_twice, body_said, cut, is_tx, items_in, key_if_any, IsInRange};
+ghost use Rattle.ep_base.specs.CommandParts.{is_short, parts_of, command_in, command_of, are_parts, items_of, lengths_fit, is_twice, body_said, cut, is_tx, items_in, key_if_any, IsInRange};
 ghost use Rattle.ep_base.specs.Sameness.{same_command, is_noop};
 ghost use Rattle.ep_base.specs.Values.{most_value};
 ghost use Rattle.ep_base.specs.Views.{means, touched};
@@ -47,7 +47,7 @@ impl Drop for Command {
 impl Model for Command {
     ghost use Rattle.std.specs.Prelude.{◌≡◌, ◌≤◌, ◌+◌, length, true};
     ghost use Rattle.ep_base.specs.Commands.{Command};
-    ghost use Rattle.ep_base.specs.Parts.{cut, command_in, are_parts};
+    ghost use Rattle.ep_base.specs.CommandParts.{cut, command_in, are_parts};
 
     ghost Value = { Command };
 
@@ -162,7 +162,7 @@ impl Command {
         }
     }
 
-    // The same, where the second key, if there is one, has these bytes.
+    // The opaque command whose second key, if it has one, has these bytes.
     fn opaque_of(
         alloc: Global,
         touching: &Touching<'_>,
@@ -223,7 +223,7 @@ impl Command {
 
     /// As `from_parts`, for parts that are known to be a command's.
     #[inline(always)]
-    pub fn known(op: Op, run: Bytes, first: u8, second: u8) -> Command
+    pub fn from_valid_parts(op: Op, run: Bytes, first: u8, second: u8) -> Command
         requires long { first + second ≤ length run }
         requires parts { are_parts (cut op run first second) ≡ true }
         ensures { result ≡ command_in (cut op run first second) }

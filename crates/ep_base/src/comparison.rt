@@ -2,7 +2,7 @@
 
 ghost use Rattle.std.specs.Prelude.{◌≡◌, ◌≤◌, ◌++◌, IsTrue, IfOk, OnOk, Some, None, length, take};
 ghost use Rattle.std.specs.Option.{option_copied};
-ghost use Rattle.ep_base.specs.Parts.{part_bytes, part_at, expected_in, new_in, is_comparison, is_short, IsShort, IsPartLen};
+ghost use Rattle.ep_base.specs.CommandParts.{part_bytes, part_at, expected_in, new_in, is_comparison, is_short, IsShort, IsPartLen};
 ghost use Rattle.ep_base.specs.Values.{most_value};
 
 use crate::value::Value;

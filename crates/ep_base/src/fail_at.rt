@@ -56,7 +56,7 @@ impl<T> FailAt<T> {
         inner
     }
 
-    // Counts the call, and tells whether it is the one that fails.
+    // Counts the call, and says whether it is the one that fails.
     fn fails(&mut self) -> bool
         ensures test { result ≡ (self.old.call == 1) }
         ensures value { self.new ≡ record { inner = self.old.inner; call = self.old.call - 1; failed = result || self.old.failed } }

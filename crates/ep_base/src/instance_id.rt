@@ -67,7 +67,7 @@ impl InstanceId {
     }
 
     /// The instance of this place, which is one.
-    pub fn known(place: u32) -> InstanceId
+    pub fn from_valid(place: u32) -> InstanceId
         requires { IsInstance place }
         ensures { result ≡ place }
     {
@@ -86,7 +86,7 @@ impl InstanceId {
     pub fn replica(self) -> ReplicaId
         ensures { result ≡ leader_of self }
     {
-        ReplicaId::known((self.place / 65536) as u8)
+        ReplicaId::from_valid((self.place / 65536) as u8)
     }
 
     /// The instance's number among those that its replica leads, from 1 to 9,000.

@@ -1,9 +1,9 @@
 //! Which commands interfere.
 
 ghost use Rattle.std.specs.Prelude.{◌≡◌, ◌↔◌, IsTrue};
-ghost use Rattle.ep_base.specs.Interference.{interfere, Interferes, InterferenceLaw, FootprintLaw, keys_of, listed, share_key, meet, part};
+ghost use Rattle.ep_base.specs.Interference.{interfere, Interferes, InterferenceLaw, FootprintLaw, keys_of, listed, share_key, meet, meet_seal};
 ghost use Rattle.ep_base.specs.Items.{item_keys};
-ghost use Rattle.ep_base.specs.Parts.{key_if_any};
+ghost use Rattle.ep_base.specs.CommandParts.{key_if_any};
 
 use crate::command::Command;
 use crate::items::Items;
@@ -21,7 +21,7 @@ pub fn interferes(a: &Command, b: &Command) -> bool
 fn touch(a: &Command, b: &Command) -> bool
     ensures { result ≡ interfere a.now b.now }
 {
-    meet(a, b) || part(a, b)
+    meet(a, b) || meet_seal(a, b)
 }
 
 #[inline(always)]
@@ -33,8 +33,8 @@ fn meet(a: &Command, b: &Command) -> bool
 
 // Whether one of them is a seal, and neither a no-op.
 #[inline(always)]
-fn part(a: &Command, b: &Command) -> bool
-    ensures { result ≡ part a.now b.now }
+fn meet_seal(a: &Command, b: &Command) -> bool
+    ensures { result ≡ meet_seal a.now b.now }
 {
     (a.is_seal() || b.is_seal()) && !(a.is_noop() || b.is_noop())
 }

@@ -3,7 +3,7 @@
 ghost use Rattle.std.specs.Prelude.{◌≡◌, ◌∷◌, ◌≤◌, ◌<◌, ◌+◌, ◌*◌, ◌^◌, length, slice_index, true, IfNone, IfSome, [], Some, None};
 ghost use Rattle.ep_base.specs.Items.{none_writes, told_count, rise_above, item_keys};
 ghost use Rattle.ep_base.specs.Interference.{has_key};
-ghost use Rattle.ep_base.specs.Parts.{is_tx, items_in, are_items_at, is_item, item_at, guard_in, write_in, write_behind, IsItemLen, IsSaidLen, IsGuardLen, IsWriteLen, IsPutLen, are_counted};
+ghost use Rattle.ep_base.specs.CommandParts.{is_tx, items_in, are_items_at, is_item, item_at, guard_in, write_in, write_behind, IsItemLen, IsSaidLen, IsGuardLen, IsWriteLen, IsPutLen, are_counted};
 ghost use Rattle.ep_base.specs.Views.{asked, seen};
 
 use crate::comparison::{part_len, value_in};
@@ -22,7 +22,7 @@ pub struct ItemView<'a> {
     pub key: &'a [u8],
     /// What the key must have, be it a value or none, if the item asks for that.
     pub guard: Option<Option<&'a [u8]>>,
-    /// Whether the reply tells what the key has.
+    /// Whether the reply says what the key has.
     pub told: bool,
     /// What the key is given, be it a value or none, if the item writes.
     pub write: Option<Option<&'a [u8]>>,
@@ -38,7 +38,7 @@ pub struct Items<'a> {
 impl<'a> Model for Items<'a> {
     ghost use Rattle.std.specs.Prelude.{◌≡◌, List, true};
     ghost use Rattle.ep_base.specs.Items.{Item};
-    ghost use Rattle.ep_base.specs.Parts.{items_at, are_items_at};
+    ghost use Rattle.ep_base.specs.CommandParts.{items_at, are_items_at};
 
     ghost Value = { List Item };
 
@@ -86,7 +86,7 @@ impl<'a> Items<'a> {
 }
 
 /// Whether the bytes are the body of a command over many keys: 1 to 1,024 items in rising order of keys, of which at most
-/// 16 are told, with nothing left over.
+/// 16 are reported, with nothing left over.
 #[tactic(auto, using(crate::proofs::Many::tx_counted, crate::proofs::Many::tx_short, crate::proofs::Many::tx_long))]
 pub fn is_tx(body: &[u8]) -> bool
     ensures { result ≡ is_tx body.now }
@@ -100,7 +100,7 @@ pub fn is_tx(body: &[u8]) -> bool
     are_counted(count_in(body), &body[2..])
 }
 
-// Whether the bytes are so many items, as many as a command may have, in order, and few enough are told.
+// Whether the bytes are so many items, as many as a command may have, in order, and few enough are reported.
 fn are_counted(left: usize, rest: &[u8]) -> bool
     requires { left < 2 ^ 16 }
     ensures { result ≡ are_counted left rest.now }

@@ -36,7 +36,7 @@ impl ReplicaId {
     }
 
     /// The replica of this number, which is 0 to 6.
-    pub fn known(index: u8) -> ReplicaId
+    pub fn from_valid(index: u8) -> ReplicaId
         requires { index ≤ 6 }
         ensures { result ≡ index }
     {

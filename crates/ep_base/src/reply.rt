@@ -26,7 +26,7 @@ pub enum Reply {
 }
 
 impl Reply {
-    /// The same reply again.
+    /// A copy of the reply.
     pub fn copy(&self, alloc: Global) -> Result<Reply, AllocError>
         ensures { IfOk result (λ r. r ≡ self.now) }
     {
@@ -63,17 +63,17 @@ pub enum Answer {
     /// A no-op took the proposal's place.
     Lost,
     /// The reply to the command.
-    Told(Reply),
+    Replied(Reply),
 }
 
 impl Answer {
-    /// The same answer again.
+    /// A copy of the answer.
     pub fn copy(&self, alloc: Global) -> Result<Answer, AllocError>
         ensures { IfOk result (λ a. a ≡ self.now) }
     {
         match self {
             Answer::Lost => Ok(Answer::Lost),
-            Answer::Told(reply) => Ok(Answer::Told(reply.copy(alloc)?)),
+            Answer::Replied(reply) => Ok(Answer::Replied(reply.copy(alloc)?)),
         }
     }
 
@@ -84,7 +84,7 @@ impl Answer {
     {
         match (self, other) {
             (Answer::Lost, Answer::Lost) => true,
-            (Answer::Told(reply), Answer::Told(other_reply)) => reply.is_same(other_reply),
+            (Answer::Replied(reply), Answer::Replied(other_reply)) => reply.is_same(other_reply),
             _ => false,
         }
     }

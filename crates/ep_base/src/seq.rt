@@ -36,7 +36,7 @@ impl Seq {
     }
 
     /// The sequence number of this number, which is 1 to 1,000,000.
-    pub fn known(number: u32) -> Seq
+    pub fn from_valid(number: u32) -> Seq
         requires { (1 ≤ number) × (number ≤ 1000000) }
         ensures { result ≡ number }
     {

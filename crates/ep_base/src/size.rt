@@ -66,7 +66,7 @@ impl Size {
 pub fn usually_spared(size: Size, leader: ReplicaId) -> ReplicaId
     ensures { result ≡ usual size leader }
 {
-    ReplicaId::known((leader.index() + 2 * size.faults()) % size.count())
+    ReplicaId::from_valid((leader.index() + 2 * size.faults()) % size.count())
 }
 
 /// The replica that a proposal of the leader spares: the one that it names, or else the usual one.

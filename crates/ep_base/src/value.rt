@@ -53,7 +53,7 @@ impl Value {
     }
 
     /// The value of these bytes, of which there are at most 65,535.
-    pub fn known(alloc: Global, bytes: &[u8]) -> Result<Value, AllocError>
+    pub fn from_valid(alloc: Global, bytes: &[u8]) -> Result<Value, AllocError>
         requires { length bytes.now ≤ most_value }
         ensures { IfOk result (λ v. v ≡ bytes.now) }
     {

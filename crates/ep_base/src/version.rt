@@ -50,7 +50,7 @@ impl Version {
     }
 
     /// The version with this number, and for 3 with this generation (1 or more): 1, 3, or else 2.
-    pub fn known(number: u8, generation: u32) -> Version
+    pub fn from_valid(number: u8, generation: u32) -> Version
         requires { number ≡ 3 → 1 ≤ generation }
         ensures { result ≡ version_of number generation }
     {

@@ -3,7 +3,7 @@ use Rattle.std.proofs.Common.{◌≡◌, ℕ, ◌+◌, ◌≤◌, Bool, true, fa
 use Rattle.std.proofs.lemmas.Bool.{leb-true, and_parts}
 use Rattle.ep_base.specs.Commands.{Command}
 use Rattle.ep_base.specs.Ops.{op_number, first_fits, second_fits, body_fits}
-use Rattle.ep_base.specs.Parts.{Parts, parts_of, command_of, command_in, command_with, are_parts, is_twice, body_said}
+use Rattle.ep_base.specs.CommandParts.{CommandParts, parts_of, command_of, command_in, command_with, are_parts, is_twice, body_said}
 use Rattle.ep_base.specs.declared.op.Op.{Op}
 use Rattle.ep_base.specs.declared.version.Version.{Version}
 use Rattle.ep_base.specs.declared.version_kind.VersionKind.TheVariants.{V1, V2, V3}
@@ -129,7 +129,7 @@ lengths_gives v l h =
 -- the parts
 
 pub record Made (s : Lengths) (c : Command) (bs : List ℕ) : Type 0 where
-  pub parts : Parts
+  pub parts : CommandParts
   pub is : command_of parts ≡ Some c
   pub bytes : bs ≡ parts.first ++ parts.second ++ parts.body
   pub op : parts.op ≡ s.op
@@ -140,7 +140,7 @@ pub record Made (s : Lengths) (c : Command) (bs : List ℕ) : Type 0 where
 are : (a b c d e : Bool) → a ≡ true → b ≡ true → c ≡ true → not d ≡ true → e ≡ true → ((a && (b && c)) && (not d && e)) ≡ true
 are a b c d e ea eb ec ed ee = (λ t. (ea t && (eb t && ec t)) && (ed t && ee t))
 
-if_true : (b : Bool) (c : Command) (p : Parts) → are_parts p ≡ b → b ≡ true → command_in p ≡ c → command_of p ≡ Some c
+if_true : (b : Bool) (c : Command) (p : CommandParts) → are_parts p ≡ b → b ≡ true → command_in p ≡ c → command_of p ≡ Some c
 if_true true c p is e same = ap (λ (x : Bool). cond x (Some (command_in p)) None) is ∙ ap (λ (x : Command). Some x) same
 if_true false c p is e same = absurd (cc)
 
@@ -166,7 +166,7 @@ parts_comes s l fit h =
 
 -- commands
 
-same_lengths : (v : Version) (s : Lengths) (p : Parts) → length p.second ≡ s.second → length p.body ≡ s.body → other_in v s ≡ length_bytes v p
+same_lengths : (v : Version) (s : Lengths) (p : CommandParts) → length p.second ≡ s.second → length p.body ≡ s.body → other_in v s ≡ length_bytes v p
 same_lengths V1 s p second body = ap (λ n. number_bytes 2 n) (let e = length-append p.second p.body in omega arith)
 same_lengths V2 s p second body = ap (λ n. number_bytes 2 n) (let e = length-append p.second p.body in omega arith)
 same_lengths (V3 g) s p second body = λ t. number_bytes 1 (sym second t) ++ number_bytes 4 (sym body t)
@@ -183,8 +183,8 @@ made_bytes v s c bs told m =
       bytes = ap (λ x. lengths_in v s ++ x) m.bytes
           ∙ (λ t. number_bytes 1 (op_number (sym m.op t)) ++ number_bytes 1 (sym m.first t) ++ same_lengths v s m.parts m.second m.body t ++ (m.parts.first ++ m.parts.second ++ m.parts.body))
           ∙ ap (part_bytes v) (sym back);
-      fits = op_known v c (subst (λ (p : Parts). op_number p.op ≤ highest_op v) (sym back) (subst (λ (o : Op). op_number o ≤ highest_op v) (sym m.op) told.op))
-          (subst (λ (p : Parts). IsShortIn v (length p.body)) (sym back) (subst (IsShortIn v) (sym m.body) told.short));
+      fits = op_known v c (subst (λ (p : CommandParts). op_number p.op ≤ highest_op v) (sym back) (subst (λ (o : Op). op_number o ≤ highest_op v) (sym m.op) told.op))
+          (subst (λ (p : CommandParts). IsShortIn v (length p.body)) (sym back) (subst (IsShortIn v) (sym m.body) told.short));
     }
 
 pub command_gives : (v : Version) (l : Left) → AreBytes l.bytes → Gives (command_bytes v) (CommandFits v) l (command v l)

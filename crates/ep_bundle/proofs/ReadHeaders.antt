@@ -30,10 +30,10 @@ use Rattle.ep_bundle.proofs.ReadNumbers.{Gives, Comes, Ranges, done, step, last,
 
 pub record IsEdition (n : ℕ) (e : Version × ℕ) : Type 0 where
   pub version : version_number e.0 ≡ n
-  pub since : e.1 ≤ 281474976710655
+  pub base_stamp : e.1 ≤ 281474976710655
   pub starts : StartsAt e.0 e.1
 
--- of version 1 or 2 nothing is told
+-- of version 1 or 2 nothing is reported
 record IsEarly (n : ℕ) (v : Version) : Type 0 where
   bytes : [] ≡ edition_bytes v 0
   version : version_number v ≡ n
@@ -55,10 +55,10 @@ early n p not_three = go (eqb n 1) (eqb n 3) refl not_three
 pub edition_gives : (n : ℕ) (l : Left) → Ranges 1 3 n → AreBytes l.bytes → Gives (λ e. edition_bytes e.0 e.1) (IsEdition n) l (edition n l)
 edition_gives n l p h =
     whole (choice (eqb n 3) (late_edition l) (Ok ((version_of n 0, 0), l))
-    (λ is. step (field 4 1 4294967295 l) (λ g l. and_then (field 8 0 281474976710655 l) (λ since l. Ok ((V3 g, since), l))) h (field_gives 4 wide4 1 4294967295 l h)
-    (λ g l q h. step (field 8 0 281474976710655 l) (λ since l. Ok ((V3 g, since), l)) h (field_gives 8 wide8 0 281474976710655 l h)
-    (λ since l r h. done (V3 g, since) (ap (λ x. number_bytes 4 g ++ x) (append-nil (number_bytes 8 since)), record { version = sym (eqb-true n 3 is); since = r.most; starts = tt }))))
-    (λ not_three. let e = early n p not_three in done (version_of n 0, 0) (e.bytes, record { version = e.version; since = omega arith; starts = e.starts })))
+    (λ is. step (field 4 1 4294967295 l) (λ g l. and_then (field 8 0 281474976710655 l) (λ base_stamp l. Ok ((V3 g, base_stamp), l))) h (field_gives 4 wide4 1 4294967295 l h)
+    (λ g l q h. step (field 8 0 281474976710655 l) (λ base_stamp l. Ok ((V3 g, base_stamp), l)) h (field_gives 8 wide8 0 281474976710655 l h)
+    (λ base_stamp l r h. done (V3 g, base_stamp) (ap (λ x. number_bytes 4 g ++ x) (append-nil (number_bytes 8 base_stamp)), record { version = sym (eqb-true n 3 is); base_stamp = r.most; starts = tt }))))
+    (λ not_three. let e = early n p not_three in done (version_of n 0, 0) (e.bytes, record { version = e.version; base_stamp = omega arith; starts = e.starts })))
 
 -- the keys
 
@@ -145,10 +145,10 @@ cluster_gives l h =
 
 -- the whole header
 
-pub opens_in : (v : Version) (m : Contents) (since : ℕ) → StartsAt v since → HoldsAt v m → OpensIn v (record { contents = m; since = since })
-opens_in V1 m since at none = λ t. record { contents = none t; since = at t }
-opens_in V2 m since at none = λ t. record { contents = none t; since = at t }
-opens_in (V3 g) m since at none = tt
+pub opens_in : (v : Version) (m : Contents) (base_stamp : ℕ) → StartsAt v base_stamp → HoldsAt v m → OpensIn v (record { contents = m; base_stamp = base_stamp })
+opens_in V1 m base_stamp at none = λ t. record { contents = none t; base_stamp = at t }
+opens_in V2 m base_stamp at none = λ t. record { contents = none t; base_stamp = at t }
+opens_in (V3 g) m base_stamp at none = tt
 
 pub record IsHeader (h : BundleHeader) : Type 0 where
   pub receipts : h.receipts < 256 ^ 4
@@ -156,17 +156,17 @@ pub record IsHeader (h : BundleHeader) : Type 0 where
   pub fits : OpeningFits h.opening
 
 header_spelled : (x n : ℕ) (v : Version) (o : Opening) (a b : ℕ) → x ≡ magic → version_number v ≡ n
-    → number_bytes 4 x ++ (number_bytes 1 n ++ (number_bytes 1 a ++ (edition_bytes v o.since ++ (number_bytes 4 b ++ (map_bytes v o.contents ++ []))))) ≡ header_bytes v o a b
+    → number_bytes 4 x ++ (number_bytes 1 n ++ (number_bytes 1 a ++ (edition_bytes v o.base_stamp ++ (number_bytes 4 b ++ (map_bytes v o.contents ++ []))))) ≡ header_bytes v o a b
 header_spelled x n v o a b ex en =
-    (λ t. number_bytes 4 (ex t) ++ (number_bytes 1 (sym en t) ++ (number_bytes 1 a ++ (edition_bytes v o.since ++ (number_bytes 4 b ++ append-nil (map_bytes v o.contents) t)))))
-    ∙ six (number_bytes 4 magic) (number_bytes 1 (version_number v)) (number_bytes 1 a) (edition_bytes v o.since) (number_bytes 4 b) (map_bytes v o.contents)
+    (λ t. number_bytes 4 (ex t) ++ (number_bytes 1 (sym en t) ++ (number_bytes 1 a ++ (edition_bytes v o.base_stamp ++ (number_bytes 4 b ++ append-nil (map_bytes v o.contents) t)))))
+    ∙ six (number_bytes 4 magic) (number_bytes 1 (version_number v)) (number_bytes 1 a) (edition_bytes v o.base_stamp) (number_bytes 4 b) (map_bytes v o.contents)
   where
     six : (a b c d e f : List ℕ) → a ++ (b ++ (c ++ (d ++ (e ++ f)))) ≡ a ++ b ++ c ++ d ++ e ++ f
     six a b c d e f = simp append_assoc
 
 -- what is made of the parts
 abbrev made : Version × ℕ → ℕ → ℕ → Contents → BundleHeader
-made e f k m = record { version = e.0; cluster = f; opening = record { contents = m; since = e.1 }; receipts = k }
+made e f k m = record { version = e.0; cluster = f; opening = record { contents = m; base_stamp = e.1 }; receipts = k }
 
 pub header_gives : (l : Left) → AreBytes l.bytes → Gives (λ h. header_bytes h.version h.opening (size h.cluster) h.receipts) IsHeader l (header l)
 header_gives l h =
@@ -177,8 +177,8 @@ header_gives l h =
     (λ e l s h. step (number 4 l) (λ k l. and_then (map_in e.0 l) (λ m l. Ok (made e f k m, l))) h (number_gives 4 wide4 l h)
     (λ k l t h. step (map_in e.0 l) (λ m l. Ok (made e f k m, l)) h (map_gives e.0 l h)
     (λ m l u h. done (made e f k m) (
-      header_spelled x n e.0 (record { contents = m; since = e.1 }) (size f) k (same magic x p) s.version,
-      record { receipts = t; opens = opens_in e.0 m e.1 s.starts u.1; fits = (u.0, s.since) },
+      header_spelled x n e.0 (record { contents = m; base_stamp = e.1 }) (size f) k (same magic x p) s.version,
+      record { receipts = t; opens = opens_in e.0 m e.1 s.starts u.1; fits = (u.0, s.base_stamp) },
     ))))))))
   where
     same : (n x : ℕ) → Ranges n n x → x ≡ n
@@ -186,18 +186,18 @@ header_gives l h =
 
 -- what a call makes of the edition and the map
 
-pub opens_as : (v : Version) (m : Contents) (since : ℕ) (o : Opening) → o ≡ record { contents = m; since = since } → StartsAt v since → HoldsAt v m → OpensIn v o
-opens_as v m since o is at none = subst (OpensIn v) (sym is) (opens_in v m since at none)
+pub opens_as : (v : Version) (m : Contents) (base_stamp : ℕ) (o : Opening) → o ≡ record { contents = m; base_stamp = base_stamp } → StartsAt v base_stamp → HoldsAt v m → OpensIn v o
+opens_as v m base_stamp o is at none = subst (OpensIn v) (sym is) (opens_in v m base_stamp at none)
 
-header_ends : (v : Version) (f k : ℕ) (m : Contents) (since : ℕ) (o : Opening) (p : ℕ) (ys : List ℕ) (left : Option (List ℕ)) → left ≡ Some ys → o ≡ record { contents = m; since = since }
-    → Reads (Ok (made (v, since) f k m, record { at = p; bytes = ys })) (Ok (record { version = v; cluster = f; opening = o; receipts = k })) p left
-header_ends v f k m since o p ys left h is = (ys, h, ap (λ (x : Opening). Ok (record { version = v; cluster = f; opening = x; receipts = k }, record { at = p; bytes = ys })) (sym is))
+header_ends : (v : Version) (f k : ℕ) (m : Contents) (base_stamp : ℕ) (o : Opening) (p : ℕ) (ys : List ℕ) (left : Option (List ℕ)) → left ≡ Some ys → o ≡ record { contents = m; base_stamp = base_stamp }
+    → Reads (Ok (made (v, base_stamp) f k m, record { at = p; bytes = ys })) (Ok (record { version = v; cluster = f; opening = o; receipts = k })) p left
+header_ends v f k m base_stamp o p ys left h is = (ys, h, ap (λ (x : Opening). Ok (record { version = v; cluster = f; opening = x; receipts = k }, record { at = p; bytes = ys })) (sym is))
 
 -- all parts of a header were read
 pub header_read : (low high : ℕ) (l : Left) (x n f : ℕ) (e : Version × ℕ) (k : ℕ) (m : Contents) (o : Opening) (p0 p1 p2 p3 p4 p5 : ℕ) (left0 left1 left2 left3 left4 left5 : Option (List ℕ)) → Reads (field 4 magic magic l) (Ok x) p0 left0
     → ((ys : List ℕ) → left0 ≡ Some ys → Reads (field 1 low high (record { at = p0; bytes = ys })) (Ok n) p1 left1) → ((ys : List ℕ) → left1 ≡ Some ys → Reads (cluster (record { at = p1; bytes = ys })) (Ok f) p2 left2)
     → ((ys : List ℕ) → left2 ≡ Some ys → Reads (edition n (record { at = p2; bytes = ys })) (Ok e) p3 left3) → ((ys : List ℕ) → left3 ≡ Some ys → Reads (number 4 (record { at = p3; bytes = ys })) (Ok k) p4 left4)
-    → ((ys : List ℕ) → left4 ≡ Some ys → Reads (map_in e.0 (record { at = p4; bytes = ys })) (Ok m) p5 left5) → o ≡ record { contents = m; since = e.1 }
+    → ((ys : List ℕ) → left4 ≡ Some ys → Reads (map_in e.0 (record { at = p4; bytes = ys })) (Ok m) p5 left5) → o ≡ record { contents = m; base_stamp = e.1 }
     → Reads (header_of low high l) (Ok (record { version = e.0; cluster = f; opening = o; receipts = k })) p5 left5
 header_read low high l x n f e k m o p0 p1 p2 p3 p4 p5 left0 left1 left2 left3 left4 left5 r0 r1 r2 r3 r4 r5 is =
     let h : BundleHeader = record { version = e.0; cluster = f; opening = o; receipts = k } in

@@ -122,13 +122,13 @@ numbers_low V1 = omega arith
 numbers_low V2 = omega arith
 numbers_low (V3 g) = omega arith
 
-edition_given : (v : Version) (o : Opening) → HasItsGeneration v → OpensIn v o → o.since ≤ 281474976710655 → Gives (edition (version_number v)) (edition_bytes v o.since) (v, o.since)
-edition_given V1 o generation opens high = λ at rest. (at, ap (λ (p : Opening). Ok ((V1, p.since), record { at = at; bytes = rest })) (sym opens))
-edition_given V2 o generation opens high = λ at rest. (at, ap (λ (p : Opening). Ok ((V2, p.since), record { at = at; bytes = rest })) (sym opens))
+edition_given : (v : Version) (o : Opening) → HasItsGeneration v → OpensIn v o → o.base_stamp ≤ 281474976710655 → Gives (edition (version_number v)) (edition_bytes v o.base_stamp) (v, o.base_stamp)
+edition_given V1 o generation opens high = λ at rest. (at, ap (λ (p : Opening). Ok ((V1, p.base_stamp), record { at = at; bytes = rest })) (sym opens))
+edition_given V2 o generation opens high = λ at rest. (at, ap (λ (p : Opening). Ok ((V2, p.base_stamp), record { at = at; bytes = rest })) (sym opens))
 edition_given (V3 g) o generation opens high =
     let most : g ≤ 4294967295 = generation.1 in
-    then_gives (field 4 1 4294967295) (λ g l. and_then (field 8 0 281474976710655 l) (λ since l. Ok ((V3 g, since), l))) (number_bytes 4 g) (number_bytes 8 o.since) g (V3 g, o.since) (fielded 4 1 4294967295 g (omega arith) generation.0 most)
-    (made_of (field 8 0 281474976710655) (λ since l. Ok ((V3 g, since), l)) (number_bytes 8 o.since) o.since (V3 g, o.since) (fielded 8 0 281474976710655 o.since (omega arith) (omega arith) high) (λ l. refl))
+    then_gives (field 4 1 4294967295) (λ g l. and_then (field 8 0 281474976710655 l) (λ base_stamp l. Ok ((V3 g, base_stamp), l))) (number_bytes 4 g) (number_bytes 8 o.base_stamp) g (V3 g, o.base_stamp) (fielded 4 1 4294967295 g (omega arith) generation.0 most)
+    (made_of (field 8 0 281474976710655) (λ base_stamp l. Ok ((V3 g, base_stamp), l)) (number_bytes 8 o.base_stamp) o.base_stamp (V3 g, o.base_stamp) (fielded 8 0 281474976710655 o.base_stamp (omega arith) (omega arith) high) (λ l. refl))
 
 -- the whole
 
@@ -136,7 +136,7 @@ group6 : (a b c d e f : List ℕ) → a ++ (b ++ (c ++ (d ++ (e ++ f)))) ≡ a +
 group6 a b c d e f = simp append_assoc
 
 abbrev made : Version × ℕ → ℕ → ℕ → Contents → BundleHeader
-made e f k m = record { version = e.0; cluster = f; opening = record { contents = m; since = e.1 }; receipts = k }
+made e f k m = record { version = e.0; cluster = f; opening = record { contents = m; base_stamp = e.1 }; receipts = k }
 
 pub headed : (v : Version) (o : Opening) (f k : ℕ) → 1 ≤ f → f ≤ 3 → k < 2 ^ 32 → HasItsGeneration v → OpensIn v o → OpeningFits o → All PairTyped (entries o.contents)
     → Gives header (header_bytes v o (size f) k) (record { version = v; cluster = f; opening = o; receipts = k })
@@ -144,7 +144,7 @@ headed v o f k low high lt generation opens fits typed =
     let a = number_bytes 4 magic in
     let b = number_bytes 1 (version_number v) in
     let c = number_bytes 1 (size f) in
-    let d = edition_bytes v o.since in
+    let d = edition_bytes v o.base_stamp in
     let e = number_bytes 4 k in
     let m = map_bytes v o.contents in
     let h : BundleHeader = record { version = v; cluster = f; opening = o; receipts = k } in
@@ -159,6 +159,6 @@ headed v o f k low high lt generation opens fits typed =
     (then_gives cluster (λ f l. and_then (edition n l) (λ w l. and_then (number 4 l) (λ k l. and_then (map_in w.0 l) (λ m l. Ok (made w f k m, l)))))
     c (d ++ (e ++ m)) f h (clustered f low high)
     (then_gives (edition n) (λ w l. and_then (number 4 l) (λ k l. and_then (map_in w.0 l) (λ m l. Ok (made w f k m, l))))
-    d (e ++ m) (v, o.since) h (edition_given v o generation opens fits.1)
-    (then_gives (number 4) (λ k l. and_then (map_in v l) (λ m l. Ok (made (v, o.since) f k m, l))) e m k h (numbered 4 k (omega arith))
-    (made_of (map_in v) (λ m l. Ok (made (v, o.since) f k m, l)) m o.contents h (map_given v o opens fits.0 typed) (λ l. refl)))))))
+    d (e ++ m) (v, o.base_stamp) h (edition_given v o generation opens fits.1)
+    (then_gives (number 4) (λ k l. and_then (map_in v l) (λ m l. Ok (made (v, o.base_stamp) f k m, l))) e m k h (numbered 4 k (omega arith))
+    (made_of (map_in v) (λ m l. Ok (made (v, o.base_stamp) f k m, l)) m o.contents h (map_given v o opens fits.0 typed) (λ l. refl)))))))

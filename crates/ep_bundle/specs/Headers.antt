@@ -18,7 +18,7 @@ cluster l = and_then (number 1 l) (λ n l'. cond (eqb n 3 || eqb n 5 || eqb n 7)
 
 -- of version 3 the generation, and the stamp that the clocks go on from
 abbrev pub late_edition : Left → Reading (Version × ℕ)
-late_edition l = and_then (field 4 1 4294967295 l) (λ g l. and_then (field 8 0 281474976710655 l) (λ since l. Ok ((V3 g, since), l)))
+late_edition l = and_then (field 4 1 4294967295 l) (λ g l. and_then (field 8 0 281474976710655 l) (λ base_stamp l. Ok ((V3 g, base_stamp), l)))
 
 -- the version of this number; a life of version 1 or 2 begins at 0
 abbrev pub edition : ℕ → Left → Reading (Version × ℕ)
@@ -26,9 +26,9 @@ edition n l = cond (eqb n 3) (late_edition l) (Ok ((version_of n 0, 0), l))
 
 -- only version 3 goes on from a stamp
 abbrev pub StartsAt : Version → ℕ → Type 0
-StartsAt V1 since = since ≡ 0
-StartsAt V2 since = since ≡ 0
-StartsAt (V3 g) since = Unit {0}
+StartsAt V1 base_stamp = base_stamp ≡ 0
+StartsAt V2 base_stamp = base_stamp ≡ 0
+StartsAt (V3 g) base_stamp = Unit {0}
 
 -- a key, with what it has
 abbrev pub Pair : Type 0
@@ -68,7 +68,7 @@ HoldsAt (V3 g) m = Unit {0}
 abbrev pub header_of : ℕ → ℕ → Left → Reading BundleHeader
 header_of low high l =
     and_then (field 4 magic magic l) (λ x l. and_then (field 1 low high l) (λ n l. and_then (cluster l) (λ f l. and_then (edition n l) (λ e l. and_then (number 4 l) (λ k l. and_then (map_in e.0 l)
-    (λ m l. Ok (record { version = e.0; cluster = f; opening = record { contents = m; since = e.1 }; receipts = k }, l)))))))
+    (λ m l. Ok (record { version = e.0; cluster = f; opening = record { contents = m; base_stamp = e.1 }; receipts = k }, l)))))))
 
 abbrev pub header : Left → Reading BundleHeader
 header l = header_of 1 3 l

@@ -3,7 +3,7 @@
 ghost use Rattle.std.specs.Prelude.{◌≡◌, ◌≤◌, not, ℕ, List, Some, IfOk, OnOk, true, false, length};
 ghost use Rattle.ep_base.specs.Devices.{FailsAsTold};
 ghost use Rattle.ep_base.specs.Ops.{first_fits, second_fits, body_fits};
-ghost use Rattle.ep_base.specs.Parts.{command_of, is_twice};
+ghost use Rattle.ep_base.specs.CommandParts.{command_of, is_twice};
 ghost use Rattle.ep_frame.specs.Faults.{highest_op, op_of};
 ghost use Rattle.ep_bundle.specs.Reading.{field, is_read_failed, map_ok, Reads};
 ghost use Rattle.ep_bundle.specs.Stages.{AreLengths, allowed, allowed_run, body_in, command, early_fits, early_lengths, lengths, op as op_of_command, other_lengths, parts, second_in};
@@ -172,7 +172,7 @@ fn read_early_lengths<S: Source>(
     Ok(early_of(op, first, len))
 }
 
-/// The same of version 3.
+/// The lengths of a command of version 3, after that of its first key.
 fn read_late_lengths<S: Source>(
     source: &mut S,
     place: &mut u64,
@@ -194,7 +194,7 @@ fn read_late_lengths<S: Source>(
     })
 }
 
-/// The same of this version.
+/// The lengths of a command of this version, after that of its first key.
 fn read_other_lengths<S: Source>(
     source: &mut S,
     place: &mut u64,

@@ -32,12 +32,12 @@ fn read_late_edition<S: Source>(
 ) -> Result<(Version, u64), BundleFault>
     ensures bytes { (zs : List ℕ) → S.left source.old ≡ Some zs → Reads (late_edition (record { at = place.old; bytes = zs })) result place.new (S.left source.new) }
     ensures starts { IfOk result (λ e. StartsAt e.0 e.1) }
-    ensures since { IfOk result (λ e. e.1 ≤ 281474976710655) }
+    ensures base_stamp { IfOk result (λ e. e.1 ≤ 281474976710655) }
     ensures told { FailsAsTold is_read_failed result (S.has_failed source.old) (S.has_failed source.new) }
 {
     let generation = field_u32(source, place, 1, u32::MAX)?;
-    let since = field_u64(source, place, 0, 281_474_976_710_655)?;
-    Ok((Version::known(3, generation), since))
+    let base_stamp = field_u64(source, place, 0, 281_474_976_710_655)?;
+    Ok((Version::from_valid(3, generation), base_stamp))
 }
 
 /// Version 1 or 2, by its number, whose clocks begin at 0.
@@ -46,7 +46,7 @@ fn early_edition(number: u8) -> (Version, u64)
     ensures value { result ≡ (version_of number 0, 0) }
     ensures starts { StartsAt result.0 result.1 }
 {
-    (Version::known(number, 0), 0)
+    (Version::from_valid(number, 0), 0)
 }
 
 /// The version of this number, 1 to 3; in version 3 its generation, and the stamp that the clocks go on from.
@@ -58,7 +58,7 @@ fn read_edition<S: Source>(
     requires { (1 ≤ number) × (number ≤ 3) }
     ensures bytes { (zs : List ℕ) → S.left source.old ≡ Some zs → Reads (edition number (record { at = place.old; bytes = zs })) result place.new (S.left source.new) }
     ensures starts { IfOk result (λ e. StartsAt e.0 e.1) }
-    ensures since { IfOk result (λ e. e.1 ≤ 281474976710655) }
+    ensures base_stamp { IfOk result (λ e. e.1 ≤ 281474976710655) }
     ensures told { FailsAsTold is_read_failed result (S.has_failed source.old) (S.has_failed source.new) }
 {
     if number == 3 {
@@ -81,7 +81,7 @@ pub fn read_header<S: Source>(
     read_header_of(alloc, source, place, 1, 3)
 }
 
-/// The same of a bundle whose version is of these numbers.
+/// The header of a bundle whose version has these numbers.
 pub(crate) fn read_header_of<S: Source>(
     alloc: Global,
     source: &mut S,
@@ -98,11 +98,11 @@ pub(crate) fn read_header_of<S: Source>(
     let number = field_u8(source, place, low, high)?;
     let cluster = read_cluster(source, place)?;
     let edition = read_edition(source, place, number)?;
-    let (version, since) = edition;
+    let (version, base_stamp) = edition;
     let receipts = read_u32(source, place)?;
     let contents = read_map(alloc, source, place, version)?;
     // Both are in range, so it is made.
-    let Ok(opening) = Opening::new(contents, since) else {
+    let Ok(opening) = Opening::new(contents, base_stamp) else {
         return Err(BundleFault::Memory);
     };
     Ok(BundleHeader {

@@ -62,10 +62,10 @@ fn plain_answer(code: u8) -> Answer
     ensures { result ≡ plain_answer code }
 {
     match code {
-        0 => Answer::Told(Reply::Absent),
+        0 => Answer::Replied(Reply::Absent),
         2 => Answer::Lost,
-        3 => Answer::Told(Reply::Closed),
-        _ => Answer::Told(Reply::Ordered),
+        3 => Answer::Replied(Reply::Closed),
+        _ => Answer::Replied(Reply::Ordered),
     }
 }
 
@@ -74,9 +74,9 @@ fn told_answer(code: u8, told: ToldValues) -> Answer
     ensures { result ≡ told_answer code told }
 {
     if code == 5 {
-        Answer::Told(Reply::Done(told))
+        Answer::Replied(Reply::Done(told))
     } else {
-        Answer::Told(Reply::Undone(told))
+        Answer::Replied(Reply::Undone(told))
     }
 }
 
@@ -93,7 +93,7 @@ fn read_reply<S: Source>(
 {
     if code == 1 {
         let value = read_value(source, place, version, room)?;
-        return Ok(Answer::Told(Reply::Present(value)));
+        return Ok(Answer::Replied(Reply::Present(value)));
     }
     if code < 5 {
         return Ok(plain_answer(code));
@@ -144,8 +144,8 @@ fn told_in(answer: &Answer) -> &[Option<Value>]
     ensures { result.now ≡ told_in answer.now }
 {
     match answer {
-        Answer::Told(Reply::Done(told)) => told.as_slice(),
-        Answer::Told(Reply::Undone(told)) => told.as_slice(),
+        Answer::Replied(Reply::Done(told)) => told.as_slice(),
+        Answer::Replied(Reply::Undone(told)) => told.as_slice(),
         _ => &[],
     }
 }
@@ -157,8 +157,8 @@ fn has_code(answer: &Answer, code: u8) -> bool
     ensures other { (os : List (Maybe (List ℕ))) → answer.now ≡ told_answer code os → result ≡ true }
 {
     match answer {
-        Answer::Told(Reply::Done(_)) => code == 5,
-        Answer::Told(Reply::Undone(_)) => code == 6,
+        Answer::Replied(Reply::Done(_)) => code == 5,
+        Answer::Replied(Reply::Undone(_)) => code == 6,
         _ => false,
     }
 }

@@ -13,7 +13,7 @@ use ep_rules::Receipt;
 use std::alloc::Global;
 use std::mem::forget;
 
-/// What a fault of bytes in memory is told as: reading them never fails.
+/// What a fault of bytes in memory is reported as: reading them never fails.
 fn told(fault: BundleFault) -> BundleFault
     ensures { (zs : List ℕ) → IsUnread zs fault → IsNoBundle zs result }
 {

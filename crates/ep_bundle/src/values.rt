@@ -2,7 +2,7 @@
 
 ghost use Rattle.std.specs.Prelude.{◌≡◌, ◌≤◌, ℕ, List, [], Option as Maybe, Some, None, Ok, true, IfOk, length, get_or};
 ghost use Rattle.ep_base.specs.Devices.{FailsAsTold};
-ghost use Rattle.ep_base.specs.declared.reply.Answer.TheVariants.{Told};
+ghost use Rattle.ep_base.specs.declared.reply.Answer.TheVariants.{Replied};
 ghost use Rattle.ep_base.specs.declared.reply.Reply.TheVariants.{Present};
 ghost use Rattle.ep_bundle.specs.Reading.{and_then, field, is_read_failed, map_ok, many, Compares, Reads};
 ghost use Rattle.ep_bundle.specs.Stages.{one_told, told_values, value, value_length};
@@ -109,11 +109,11 @@ pub(crate) fn read_told<S: Source>(
 
 /// Whether the answer is the reply of this value.
 fn tells(answer: &Answer, value: &[u8]) -> bool
-    ensures yes { result ≡ true → answer.now ≡ Told (Present value.now) }
-    ensures other { answer.now ≡ Told (Present value.now) → result ≡ true }
+    ensures yes { result ≡ true → answer.now ≡ Replied (Present value.now) }
+    ensures other { answer.now ≡ Replied (Present value.now) → result ≡ true }
 {
     match answer {
-        Answer::Told(Reply::Present(told)) => told.as_slice() == value,
+        Answer::Replied(Reply::Present(told)) => told.as_slice() == value,
         _ => false,
     }
 }
@@ -126,7 +126,7 @@ pub(crate) fn read_same_value<S: Source>(
     answer: &Answer,
     spare: &mut Vec<u8>,
 ) -> Result<bool, BundleFault>
-    ensures bytes { (zs : List ℕ) → S.left source.old ≡ Some zs → Compares answer.now (and_then (value version (record { at = place.old; bytes = zs })) (λ x l. Ok (Told (Present x), l))) result place.new (S.left source.new) }
+    ensures bytes { (zs : List ℕ) → S.left source.old ≡ Some zs → Compares answer.now (and_then (value version (record { at = place.old; bytes = zs })) (λ x l. Ok (Replied (Present x), l))) result place.new (S.left source.new) }
     ensures told { FailsAsTold is_read_failed result (S.has_failed source.old) (S.has_failed source.new) }
 {
     let len = read_value_len(source, place, version)?;

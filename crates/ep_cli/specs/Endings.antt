@@ -15,7 +15,7 @@ abbrev pub TellsWhy : WordsFault → Status → Output → Type 0
 TellsWhy (declined.Words why) status fault = (status ≡ Refused) × Told fault (command_line_refused ++ string_bytes why)
 TellsWhy declined.Memory status fault = (status ≡ OutOfMemory) × Told fault out_of_memory
 
--- why files aren't taken is told, and decides on the status
+-- why files aren't taken is reported, and decides on the status
 abbrev pub TurnsAway : FilesFault → Status → Output → Type 0
 TurnsAway files.Memory status fault = (status ≡ OutOfMemory) × Told fault out_of_memory
 TurnsAway (files.ReadFailed line) status fault = (status ≡ Failed) × Told fault line.items
@@ -26,12 +26,12 @@ pub record IsOutOfMemory (out fault : Output) : Type 0 where
   pub silent : WroteNothing out
   pub told : Told fault out_of_memory
 
--- The output has failed, which is told.
+-- The output has failed, which is reported.
 pub record IsUnwritten (out fault : Output) : Type 0 where
   pub failed : out.failed ≡ true
   pub told : Told fault writing_failed
 
--- what was made is written, which may fail, and its lines are told; or it is told why nothing is made
+-- what was made is written, which may fail, and its lines are reported; or it is told why nothing is made
 abbrev pub Prints : Result Printout FilesFault → Status → Output → Output → Type 0
 Prints (Ok p) Done out fault = Wrote out p.text.items × Told fault p.lines.items
 Prints (Ok p) AuditRefused out fault = ⊥
@@ -42,7 +42,7 @@ Prints (Err why) status out fault = WroteNothing out × TurnsAway why status fau
 
 -- Files whose bytes are known, of which a text with lines is made, or which are refused by a line.
 
--- A text that is made of them was written, and its lines were told.
+-- A text that is made of them was written, and its lines were reported.
 pub record IsGiven (Makes : List ℕ → List ℕ → Type 0) (out fault : Output) : Type 0 where
   pub text : List ℕ
   pub lines : List ℕ
@@ -50,7 +50,7 @@ pub record IsGiven (Makes : List ℕ → List ℕ → Type 0) (out fault : Outpu
   pub wrote : Wrote out text
   pub told : Told fault lines
 
--- They are refused: the line is told, and nothing was written on the output.
+-- They are refused: the line is reported, and nothing was written on the output.
 pub record IsDenied (Refuses : List ℕ → Type 0) (out fault : Output) : Type 0 where
   pub line : List ℕ
   pub refused : Refuses line

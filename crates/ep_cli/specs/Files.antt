@@ -5,7 +5,7 @@ use Rattle.ep_cli.specs.declared.files_fault.FilesFault.{FilesFault}
 use Rattle.ep_cli.specs.declared.files_fault.FilesFault.TheVariants as files
 use Rattle.ep_device.specs.declared.system_fault.SystemFault.{SystemFault}
 
--- want of memory, or a line that says why what files hold is refused
+-- out of memory, or a line that says why what files hold is refused
 abbrev pub IsReason : (List ℕ → Type 0) → FilesFault → Type 0
 IsReason Refuses files.Memory = Unit {0}
 IsReason Refuses (files.ReadFailed line) = ⊥
@@ -23,13 +23,13 @@ IsUnreadOf name line = (cause : SystemFault) × (line ≡ unread_line name cause
 abbrev pub IsUnreadLine : List (List ℕ) → List ℕ → Type 0
 IsUnreadLine names line = (name : List ℕ) × Contains names name × IsUnreadOf name line
 
--- want of memory, or a file of one of these names that isn't read
+-- out of memory, or a file of one of these names that isn't read
 abbrev pub IsUnread : List (List ℕ) → FilesFault → Type 0
 IsUnread names files.Memory = Unit {0}
 IsUnread names (files.ReadFailed line) = IsUnreadLine names line.items
 IsUnread names (files.Refused line) = ⊥
 
--- want of memory, or the file of this name isn't read
+-- out of memory, or the file of this name isn't read
 abbrev pub IsOfFile : List ℕ → FilesFault → Type 0
 IsOfFile name files.Memory = Unit {0}
 IsOfFile name (files.ReadFailed line) = IsUnreadOf name line.items

@@ -12,7 +12,7 @@ use crate::telling::tell_words;
 use crate::words_fault::WordsFault;
 use ep_base::Sink;
 
-/// How a program ends that does nothing. Why is told on the fault output; where that fails, the status stays.
+/// How a program ends that does nothing. Why is reported on the fault output; where that fails, the status stays.
 pub fn decline<F: Sink>(why: WordsFault, fault_writer: &mut F) -> Status
     ensures { TellsWhy why result (became F.held F.has_failed fault_writer.old fault_writer.new) }
 {
@@ -25,7 +25,7 @@ pub fn decline<F: Sink>(why: WordsFault, fault_writer: &mut F) -> Status
     }
 }
 
-/// How a program ends that can't take its files. Why is told on the fault output; where that fails, the status stays.
+/// How a program ends that can't take its files. Why is reported on the fault output; where that fails, the status stays.
 pub fn turned_away<F: Sink>(fault: FilesFault, fault_writer: &mut F) -> Status
     ensures { TurnsAway fault result (became F.held F.has_failed fault_writer.old fault_writer.new) }
 {
@@ -36,7 +36,7 @@ pub fn turned_away<F: Sink>(fault: FilesFault, fault_writer: &mut F) -> Status
     }
 }
 
-/// Prints what was made of files, in one go, and tells its lines; or tells why nothing is made, or that the output has failed. Where telling
+/// Prints what was made of files, in one go, and tells its lines; or says why nothing is made, or that the output has failed. Where telling
 /// fails, the status stays.
 pub fn put_printout<S, W: Sink, F: Sink>(
     made: Result<Printout, FilesFault>,

@@ -2,13 +2,13 @@
 //! say of their outputs.
 //!
 //! Each program is its table of commands above it. Start with `streams.rt` and specs/Outputs.antt (what was written, and which device
-//! failed), and specs/Lines.antt, which says each line, as docs/FORMATS.md, section 6, lists them.
+//! failed), and specs/Lines.antt, which says each line, as docs/CLI.md, section 6, lists them.
 #![tactic(auto)]
 
-mod ahead;
 mod arg_kind;
 mod arg_row;
 mod arguments;
+mod buffered;
 mod causes;
 mod command_row;
 mod commands;
@@ -23,10 +23,10 @@ mod streams;
 mod telling;
 mod words_fault;
 
-pub use ahead::{Ahead, read_ahead};
 pub use arg_kind::ArgKind;
 pub use arg_row::ArgRow;
 pub use arguments::words;
+pub use buffered::{Buffered, read_ahead};
 pub use causes::{push_cause, push_number};
 pub use command_row::CommandRow;
 pub use commands::program;

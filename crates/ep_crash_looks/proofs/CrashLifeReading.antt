@@ -22,7 +22,7 @@ use Rattle.ep_rules.proofs.JournalsCommitted.{of_both, ends_left}
 use Rattle.ep_rules.proofs.Lives.{acts_both as turn_acts_both}
 use Rattle.ep_rules.proofs.Merged.{of_in}
 use Rattle.ep_rules.proofs.RunHistories.{history_grows_lem}
-use Rattle.ep_looks.specs.AheadReads.{Leads, IsAheadRead, IsAheadWholeRead}
+use Rattle.ep_looks.specs.AheadReads.{LeadsTo, IsAheadRead, IsAheadWholeRead}
 use Rattle.ep_looks.specs.Reads.{found, world_at, Read}
 use Rattle.ep_looks.specs.LifeReads.{life_at, history_to, IsRightOrClosed}
 use Rattle.ep_looks.specs.LifeOrder.{IsRight, KeepsLifeTime}
@@ -184,7 +184,7 @@ module _ (start : Start) (f : ℕ → ℕ) (sizes : (g : ℕ) → (0 < f g) × (
         (subst (λ (m : Contents). IsRun (f g) (opening (opened m)) (acts_in g (turns_of (now n)))) (sym ((so_far n).maps g q o) ∙ map_is n g q o)
         (run start.map f sizes (turns_of (now n)) (so_far n).life g))
 
-    leads : (a n q : ℕ) → a ≤ n → (at n).has_opened g q ≡ true → Leads first (f g) these (count_to a) q (state_at start f moves g n q)
+    leads : (a n q : ℕ) → a ≤ n → (at n).has_opened g q ≡ true → LeadsTo first (f g) these (count_to a) q (state_at start f moves g n q)
     leads a n q le o =
         let t = goes_on (f g) (taken_in g (lasts a)) (taken_in g (now n)) (opening first) (run_now n q o) (begins a n le) in
         subst (λ (w : World). (late : List Act) × IsRun (f g) w late × ((ends (f g) w late).states q ≡ state_at start f moves g n q)) (sym (world_is a))
@@ -200,10 +200,10 @@ module _ (start : Start) (f : ℕ → ℕ) (sizes : (g : ℕ) → (0 < f g) × (
           omega arith
 
       goes_on_seen : (a : ℕ) → ((q n : ℕ) → looked q ≡ Some n → a ≤ n) → ((q n : ℕ) → looked q ≡ Some n → (at n).has_opened g q ≡ true) → (q : ℕ) (s : State) → seen q ≡ Some s →
-          Leads first (f g) these (count_to a) q s
+          LeadsTo first (f g) these (count_to a) q s
       goes_on_seen a later here q s e =
           let t = mapped_back (λ n. state_at start f moves g n q) (looked q) s e in
-          subst (Leads first (f g) these (count_to a) q) t.2 (leads a t.0 q (later q t.0 t.1) (here q t.0 t.1))
+          subst (LeadsTo first (f g) these (count_to a) q) t.2 (leads a t.0 q (later q t.0 t.1) (here q t.0 t.1))
 
       found_then : (c : Command) (r a b : ℕ) → IsKept start f moves g r a b → (at a).has_opened g r ≡ true →
           ((q n i : ℕ) → looked q ≡ Some n → Has (found (state_at start f moves g n q) c) i → Has (state_at start f moves g a r).executed i) →

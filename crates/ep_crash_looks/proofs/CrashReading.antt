@@ -13,7 +13,7 @@ use Rattle.ep_rules.specs.Worlds.{World, opening, Act, IsRun, ends}
 use Rattle.ep_rules.proofs.Counting.{count_le}
 use Rattle.ep_rules.proofs.JournalsCommitted.{of_both, ends_left, acts_both}
 use Rattle.std.specs.Option.{option_map}
-use Rattle.ep_looks.specs.AheadReads.{Leads, IsAheadRead}
+use Rattle.ep_looks.specs.AheadReads.{LeadsTo, IsAheadRead}
 use Rattle.ep_looks.specs.Reads.{found, world_at, Read}
 use Rattle.ep_looks.proofs.Mapped.{mapped_is, mapped_back}
 use Rattle.ep_looks.proofs.Reading.{ahead_reads_are_linearizable_lem}
@@ -140,7 +140,7 @@ module _ (start : Start) (f : ℕ) (some : 0 < f) (few : size f ≤ 256) where
         (begins_trans (of q (standing survive xs (drop n moves))) (of q xs) (of q xs ++ of q new) last.0 (of q new, refl))))
 
     -- steps lead from there to the state that a node has later, with what isn't on its disk
-    leads : (a n q : ℕ) → a ≤ n → Leads base f acts (A a) q (state_at start f moves n q)
+    leads : (a n q : ℕ) → a ≤ n → LeadsTo base f acts (A a) q (state_at start f moves n q)
     leads a n q le =
         let then : List Scheduled = standing stand_after [] (take n moves) in
         let real = crashing_runs_are_linearizable_lem start f some few (take n moves) (two n).0 in
@@ -165,7 +165,7 @@ module _ (start : Start) (f : ℕ) (some : 0 < f) (few : size f ≤ 256) where
             omega arith);
         goes_on = λ q s e.
             let t = mapped_back (λ n. state_at start f moves n q) (r.looked q) s e in
-            subst (Leads base f acts (A r.asked) q) t.2 (leads r.asked t.0 q (is.later q t.0 t.1));
+            subst (LeadsTo base f acts (A r.asked) q) t.2 (leads r.asked t.0 q (is.later q t.0 t.1));
         executed = λ q i s e k.
             let t = mapped_back (λ n. state_at start f moves n q) (r.looked q) s e in
             subst (λ (z : State). Has z.executed i) (same_state r.answered r.reader is.reader)

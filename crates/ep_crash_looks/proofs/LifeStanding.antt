@@ -23,13 +23,13 @@ stand_both : (m : LifeMove) (xs ys : List Stood) → stand_on m (xs ++ ys) ≡ o
 stand_both (Within g (Take r e)) xs ys = append_assoc xs ys (Took g (record { replica = r; entry = e }) ∷ [])
 stand_both (Within g (HandOut r n)) xs ys = refl
 stand_both (Within g (ComeBack r n)) xs ys = without_both (is_lost g r n) xs ys
-stand_both (OpensNext g r q since) xs ys = append_assoc xs ys (Opened g r q ∷ [])
+stand_both (OpensNext g r q base_stamp) xs ys = append_assoc xs ys (Opened g r q ∷ [])
 
 outlast_both : (m : LifeMove) (xs ys : List Stood) → outlast m (xs ++ ys) ≡ outlast m xs ++ outlast m ys
 outlast_both (Within g (Take r e)) xs ys = refl
 outlast_both (Within g (HandOut r n)) xs ys = refl
 outlast_both (Within g (ComeBack r n)) xs ys = without_both (is_lost g r n) xs ys
-outlast_both (OpensNext g r q since) xs ys = refl
+outlast_both (OpensNext g r q base_stamp) xs ys = refl
 
 pub are_parts : Parts stand_on outlast
 are_parts = record { both = stand_both; outlast_both = outlast_both }
@@ -52,7 +52,7 @@ opened_outlast : (o : ℕ → ℕ → Bool) (m : LifeMove) (xs : List Stood) →
 opened_outlast o (Within g (Take r e)) xs = refl
 opened_outlast o (Within g (HandOut r n)) xs = refl
 opened_outlast o (Within g (ComeBack r n)) xs = has_kept g r n o xs
-opened_outlast o (OpensNext g r q since) xs = refl
+opened_outlast o (OpensNext g r q base_stamp) xs = refl
 
 opened_outlasts : (o : ℕ → ℕ → Bool) (ms : List LifeMove) (xs : List Stood) → has_over o (standing outlast xs ms) ≡ has_over o xs
 opened_outlasts o [] xs = refl
@@ -197,7 +197,7 @@ pub outlasting : (f : ℕ → ℕ) (g q h : ℕ) (late : List LifeMove) (l : Gen
 outlasting f g q h [] l xs are numbered low = keeps_all h (of q (taken_in g xs))
 outlasting f g q h (Within k (Take r e) ∷ late) l xs are numbered low = outlasting f g q h late (after_move f l (Within k (Take r e))) xs are.1 numbered (λ n. low (suc n))
 outlasting f g q h (Within k (HandOut r n) ∷ late) l xs are numbered low = outlasting f g q h late (after_move f l (Within k (HandOut r n))) xs are.1 numbered (λ m. low (suc m))
-outlasting f g q h (OpensNext k r p since ∷ late) l xs are numbered low = outlasting f g q h late (after_move f l (OpensNext k r p since)) xs are.1 numbered (λ m. low (suc m))
+outlasting f g q h (OpensNext k r p base_stamp ∷ late) l xs are numbered low = outlasting f g q h late (after_move f l (OpensNext k r p base_stamp)) xs are.1 numbered (λ m. low (suc m))
 outlasting f g q h (Within k (ComeBack r n) ∷ late) l xs are numbered low_at =
     crashed (low_at 1) (λ is. outlasting f g q h late (after_move f l (Within k (ComeBack r n))) (without (is_lost k r n) xs) are.1 is (λ m. low_at (suc m))) (eqb k g && eqb r q) refl
   where

@@ -15,7 +15,7 @@ pub standing_on : {M X : Type 0} (stand : M → List X → List X) (early late :
 standing_on stand [] late these = refl
 standing_on stand (m ∷ early) late these = standing_on stand early late (stand m these)
 
--- outlast tells what a move leaves of the first of two lists, of which stand tells what it leaves
+-- outlast says what a move leaves of the first of two lists, of which stand says what it leaves
 pub record Parts {M X : Type 0} (stand outlast : M → List X → List X) : Type 0 where
   pub both : (m : M) (xs ys : List X) → stand m (xs ++ ys) ≡ outlast m xs ++ stand m ys
   pub outlast_both : (m : M) (xs ys : List X) → outlast m (xs ++ ys) ≡ outlast m xs ++ outlast m ys

@@ -14,7 +14,7 @@ use Rattle.ep_node.specs.LifeCalls.{IsNodeIn}
 use Rattle.ep_replica.specs.Kept.{Kept}
 use Rattle.ep_replica.specs.Pending.{state_of}
 use Rattle.ep_replica.specs.Reading.{IsReading}
-use Rattle.ep_replica.specs.declared.reading.Reading.TheVariants.{Told}
+use Rattle.ep_replica.specs.declared.reading.Reading.TheVariants.{Replied}
 use Rattle.ep_crash_looks.specs.CrashLifeReads.{generations_at, life_of, in_life}
 
 -- Where calls are made: the moves of a life, and a generation in it, whose version counts from the first one's number.
@@ -42,7 +42,7 @@ pub record IsLook (at : Place) (n q : ℕ) (c : Command) (given : List ℕ) : Ty
 pub record IsAnswer (at : Place) (n q : ℕ) (c : Command) (given : List ℕ) (y : Reply) : Type 0 where
   pub replica : Kept
   pub has : IsReplicaOf at n q replica
-  pub reading : IsReading (state_of replica) c given (Told y)
+  pub reading : IsReading (state_of replica) c given (Replied y)
   pub told : drop n at.moves ≡ Within at.g (HandOut q (length replica.entries)) ∷ drop (suc n) at.moves
 
 -- a read of one key in the generation, for which more than F nodes are asked after the question, and which is told this
@@ -54,8 +54,8 @@ pub record IsAskedRead (at : Place) (r : Read) (given : List ℕ) (y : Reply) : 
   pub looks : (q n : ℕ) → r.looked q ≡ Some n → IsLook at n q r.command given
   pub answer : IsAnswer at r.answered r.reader r.command given y
 
--- Whatever crashes, and whatever disk is lost, what such a read is told takes effect between its question and its
--- answer in the life that stands in the end: it is right, or tells that the map is closed.
+-- Whatever crashes, and whatever disk is lost, what such a read is reported takes effect between its question and its
+-- answer in the life that stands in the end: it is right, or says that the map is closed.
 abbrev pub AskedReadsAreLinearizable : Type 0
 AskedReadsAreLinearizable =
     (start : Start) (first : ℕ) (f : ℕ → ℕ) → ((g : ℕ) → (0 < f g) × (size (f g) ≤ 256)) →

@@ -17,13 +17,13 @@ pub fn crash_reads_are_linearizable()
 /// Whatever crashes, and whatever disk is lost, every read of one key in a generation takes effect between its question and its
 /// answer in the life that stands in the end. It is right, or it is answered that the map is closed.
 ///
-/// What is looked at needn't be on any disk. The reply is told once all is on the reader's disk that it had when the reply was
+/// What is looked at needn't be on any disk. The reply is reported once all is on the reader's disk that it had when the reply was
 /// taken.
 pub fn crash_life_reads_are_linearizable()
     ensures { CrashLifeReadsAreLinearizable }
 {}
 
-/// So is what a read of one key is told by the calls of nodes: each node that is looked at tells what interferes with
+/// So is what a read of one key is told by the calls of nodes: each node that is looked at says what interferes with
 /// the read; the reader, which is given all of that, tells a reply once all its entries are on its disk.
 pub fn asked_reads_are_linearizable()
     ensures { AskedReadsAreLinearizable }

@@ -1,6 +1,6 @@
 //! Reads that write nothing, of nodes that crash and come back: laws of looks at what they have, on their disks or not.
 //!
-//! Start with specs/CrashReads.antt, and with specs/CrashLifeReads.antt for generations. docs/SAFETY.md tells how the proof
+//! Start with specs/CrashReads.antt, and with specs/CrashLifeReads.antt for generations. docs/SAFETY.md says how the proof
 //! goes.
 #![tactic(auto)]
 

@@ -34,7 +34,7 @@ impl Countdown {
         }
     }
 
-    /// Notes a fault, want of memory too, and tells the first one.
+    /// Notes a fault, out of memory too, and tells the first one.
     pub(crate) fn told(&mut self, answer: Result<(), DeviceFault>) -> Result<(), DeviceFailed>
         ensures result { IsOk result ↔ IsOk answer }
         ensures failed { is_some self.new.failed ≡ (is_err result || is_some self.old.failed) }

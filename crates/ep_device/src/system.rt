@@ -1,4 +1,4 @@
-//! What the operating system's errors are told as.
+//! What the operating system's errors are reported as.
 
 ghost use Rattle.std.specs.Prelude.{◌≡◌, ◌≢◌, ◌⊎◌};
 ghost use Rattle.std_io.specs.IoError.{error_kind, raw_os_error};
@@ -42,7 +42,7 @@ pub(crate) fn cause_of(error: &io::Error) -> SystemFault
     }
 }
 
-/// What the error is told as: want of memory, or a failure.
+/// What the error is reported as: out of memory, or a failure.
 pub fn fault_of(error: &io::Error) -> DeviceFault
     ensures { ((error_kind error.now ≡ ErrorKind.OutOfMemory) × (result ≡ DeviceFault.Memory)) ⊎ ((error_kind error.now ≢ ErrorKind.OutOfMemory) × (result ≡ DeviceFault.Failed (cause_of (raw_os_error error.now)))) }
 {

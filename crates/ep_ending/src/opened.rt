@@ -22,7 +22,7 @@ pub(crate) fn journal_at(journals: &Journals, replica: u8) -> &Journal
     requires there { replica < size journals.now.faults }
     ensures { result.now ≡ log_at journals.now replica }
 {
-    match journals.get(ReplicaId::known(replica)) {
+    match journals.get(ReplicaId::from_valid(replica)) {
         Some(journal) => journal,
         None => unreachable!(),
     }

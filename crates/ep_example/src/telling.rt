@@ -25,13 +25,13 @@ pub(crate) fn tell(rt: &impl Print, receipt: Receipt) -> Result<u64, ExampleFaul
 fn words_of(answer: &Answer) -> &str {
     match answer {
         Answer::Lost => "lost to a no-op",
-        Answer::Told(Reply::Absent) => "absent",
-        Answer::Told(Reply::Present(value)) => {
+        Answer::Replied(Reply::Absent) => "absent",
+        Answer::Replied(Reply::Present(value)) => {
             str::from_utf8(value.as_slice()).unwrap_or("present")
         }
-        Answer::Told(Reply::Closed) => "closed",
-        Answer::Told(Reply::Ordered) => "ordered",
-        Answer::Told(Reply::Done(_)) => "done",
-        Answer::Told(Reply::Undone(_)) => "undone",
+        Answer::Replied(Reply::Closed) => "closed",
+        Answer::Replied(Reply::Ordered) => "ordered",
+        Answer::Replied(Reply::Done(_)) => "done",
+        Answer::Replied(Reply::Undone(_)) => "undone",
     }
 }

@@ -7,10 +7,10 @@ use Rattle.ep_base.specs.Commands.{Command, Noop, Get, Put, Del, Swap, Cas, Seal
 use Rattle.ep_base.specs.Interference.{is_many}
 use Rattle.ep_base.specs.Items.{Item, rise_above, told_count}
 use Rattle.ep_base.specs.Ops.{is_items_len}
-use Rattle.ep_base.specs.Parts.{IsInRange, all_items, are_items, items_of, tx_bytes}
+use Rattle.ep_base.specs.CommandParts.{IsInRange, all_items, are_items, items_of, tx_bytes}
 use Rattle.ep_rules.specs.OneMap.{Contents, value_at, told_values}
 
--- as many values are told as items are
+-- as many values are reported as items are
 pub told_length : (m : Contents) (is : List Item) → length (told_values m is) ≡ told_count is
 told_length m [] = refl
 told_length m (i ∷ is) = go i.told (told_values m is) (told_count is) (told_length m is)

@@ -6,7 +6,7 @@ use Rattle.ep_exec.specs.Table.{key_cmp}
 use Rattle.ep_exec.specs.declared.contents_fault.ContentsFault.{ContentsFault}
 use Rattle.ep_exec.specs.declared.contents_fault.ContentsFault.TheVariants.{Memory, NotAbove, OutOfRange}
 
--- want of memory, or the keys wouldn't rise strictly with this one at their end
+-- out of memory, or the keys wouldn't rise strictly with this one at their end
 abbrev pub IsNotTaken : Contents → List ℕ → List ℕ → ContentsFault → Type 0
 IsNotTaken m k v Memory = Unit {0}
 IsNotTaken m k v OutOfRange = ⊥

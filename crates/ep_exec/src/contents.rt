@@ -135,7 +135,7 @@ impl Contents {
         self.ground.settle_some();
     }
 
-    /// The same again, with the same entries in memory.
+    /// A copy that shares the entries in memory.
     pub fn copy(&self, alloc: Global) -> Result<Contents, AllocError>
         ensures { IfOk result (λ c. c ≡ self.now) }
     {

@@ -4,7 +4,7 @@ ghost use Rattle.std.specs.Prelude.{◌≡◌, ◌≤◌, ◌<◌, ◌+◌, ℕ,
 ghost use Rattle.std.specs.Option.{option_copied};
 ghost use Rattle.std.specs.Vec.{vec_len, vec_capacity};
 ghost use Rattle.ep_base.specs.Interference.{is_many};
-ghost use Rattle.ep_base.specs.Parts.{IsShort, items_of};
+ghost use Rattle.ep_base.specs.CommandParts.{IsShort, items_of};
 ghost use Rattle.ep_base.specs.Views.{asked};
 ghost use Rattle.ep_rules.specs.OneMap.{Contents, value_at, with_key, holds_of, all_hold, told_values, with_writes, written, read};
 ghost use Rattle.ep_exec.specs.Held.{held};

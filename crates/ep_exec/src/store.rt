@@ -82,7 +82,7 @@ impl Store {
     }
 
     /// Does a command other than a no-op: the reply says what its key had, of a swap the first one. A closed map says so and stays as it is.
-    /// At want of memory the map stays as it was.
+    /// When out of memory, the map stays as it was.
     pub fn apply(&mut self, command: &Command) -> Result<Reply, AllocError>
         requires { is_noop command.now ≡ false }
         ensures reply { IfOk result (λ r. r ≡ reply self.old command.now) }

@@ -5,7 +5,7 @@ ghost use Rattle.std.specs.Map.{lookup};
 ghost use Rattle.std.specs.Option.{option_copied, option_flatten};
 ghost use Rattle.ep_base.specs.Commands.{Swap, Cas};
 ghost use Rattle.ep_base.specs.Interference.{is_many};
-ghost use Rattle.ep_base.specs.Parts.{IsShort};
+ghost use Rattle.ep_base.specs.CommandParts.{IsShort};
 ghost use Rattle.ep_rules.specs.OneMap.{Contents, value_at, with_key, written, read, told, sealed_by};
 ghost use Rattle.ep_space.specs.Index.{is_at};
 ghost use Rattle.ep_base.specs.Sameness.{same_option};
@@ -253,7 +253,7 @@ pub fn made(alloc: Global, bytes: Option<&[u8]>) -> Result<Option<Value>, AllocE
 {
     match bytes {
         None => Ok(None),
-        Some(bytes) => Ok(Some(Value::known(alloc, bytes)?)),
+        Some(bytes) => Ok(Some(Value::from_valid(alloc, bytes)?)),
     }
 }
 
@@ -277,7 +277,7 @@ pub fn compare(
         None => clear(alloc, table, key),
         Some(bytes) => {
             let name = Vec::from_slice(alloc, key)?;
-            let value = Value::known(alloc, bytes)?;
+            let value = Value::from_valid(alloc, bytes)?;
             set(alloc, table, name, Some(value))
         }
     }
@@ -325,7 +325,7 @@ pub fn apply_open(alloc: Global, table: &mut Table, command: &Command) -> Result
         CommandView::Get(key) => Ok(told(copied(alloc, value_of(table, key))?)),
         CommandView::Put(key, bytes) => {
             let name = Vec::from_slice(alloc, key)?;
-            let value = Value::known(alloc, bytes)?;
+            let value = Value::from_valid(alloc, bytes)?;
             Ok(told(set(alloc, table, name, Some(value))?))
         }
         CommandView::Del(key) => Ok(told(clear(alloc, table, key)?)),
@@ -341,7 +341,7 @@ pub fn sealed(alloc: Global, command: &Command) -> Result<Option<Value>, AllocEr
     ensures { IfOk result (λ v. v ≡ sealed_by command.now) }
 {
     match command.view() {
-        CommandView::Seal(bytes) => Ok(Some(Value::known(alloc, bytes)?)),
+        CommandView::Seal(bytes) => Ok(Some(Value::from_valid(alloc, bytes)?)),
         CommandView::Noop
         | CommandView::Get(_)
         | CommandView::Put(_, _)

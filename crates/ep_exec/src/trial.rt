@@ -3,7 +3,7 @@
 ghost use Rattle.std.specs.Prelude.{◌≡◌, IfOk, OnOk, OnErr, is_some, if◌then◌else◌};
 ghost use Rattle.ep_base.specs.Sameness.{is_noop};
 ghost use Rattle.ep_base.specs.declared.reply.Reply.TheVariants.{Closed};
-ghost use Rattle.ep_base.specs.declared.reply.Answer.TheVariants.{Lost, Told};
+ghost use Rattle.ep_base.specs.declared.reply.Answer.TheVariants.{Lost, Replied};
 ghost use Rattle.ep_rules.specs.OneMap.{answer, read, written};
 ghost use Rattle.ep_exec.specs.Held.{held};
 ghost use Rattle.ep_exec.specs.Table.{HavePlaces, first_of, restored};
@@ -61,7 +61,7 @@ impl Trial {
         }
     }
 
-    /// Does one more command. A no-op answers lost; any other command's reply says what its key had, of a swap the first one. At want of
+    /// Does one more command. A no-op answers lost; any other command's reply says what its key had, of a swap the first one. When out of
     /// memory nothing changes.
     pub fn apply(&mut self, command: &Command) -> Result<Answer, AllocError>
         ensures answer { IfOk result (λ a. a ≡ answer self.old.current command.now) }
@@ -130,12 +130,12 @@ fn is_closed(before: &Option<Value>, since: &Option<Value>) -> bool
 
 // What a closed map answers.
 fn closed_answer(command: &Command) -> Answer
-    ensures { result ≡ (if is_noop command.now then Lost else Told Closed) }
+    ensures { result ≡ (if is_noop command.now then Lost else Replied Closed) }
 {
     if command.is_noop() {
         return Answer::Lost;
     }
-    Answer::Told(Reply::Closed)
+    Answer::Replied(Reply::Closed)
 }
 
 // Does a command on an open map, but for closing it, and notes what it changes.
@@ -145,7 +145,7 @@ fn try_open(
     undo: &mut Vec<(Vec<u8>, Option<Value>)>,
     command: &Command,
 ) -> Result<Answer, AllocError>
-    ensures answer { IfOk result (λ a. a ≡ (if is_noop command.now then Lost else Told (read (held table.old) command.now))) }
+    ensures answer { IfOk result (λ a. a ≡ (if is_noop command.now then Lost else Replied (read (held table.old) command.now))) }
     ensures ok { OnOk result (held table.new ≡ written (held table.old) command.now) }
     ensures err { OnErr result (held table.new ≡ held table.old) }
     ensures undo { restored undo.new.items (held table.new) ≡ restored undo.old.items (held table.old) }
@@ -153,27 +153,27 @@ fn try_open(
 {
     match command.view() {
         CommandView::Noop => Ok(Answer::Lost),
-        CommandView::Seal(_) => Ok(Answer::Told(Reply::Absent)),
-        CommandView::Opaque(_, _) => Ok(Answer::Told(Reply::Ordered)),
-        CommandView::Tx(_) => Ok(Answer::Told(transact(alloc, table, undo, command)?)),
-        CommandView::Get(key) => Ok(Answer::Told(told(copied(alloc, value_of(table, key))?))),
+        CommandView::Seal(_) => Ok(Answer::Replied(Reply::Absent)),
+        CommandView::Opaque(_, _) => Ok(Answer::Replied(Reply::Ordered)),
+        CommandView::Tx(_) => Ok(Answer::Replied(transact(alloc, table, undo, command)?)),
+        CommandView::Get(key) => Ok(Answer::Replied(told(copied(alloc, value_of(table, key))?))),
         CommandView::Put(key, bytes) => {
-            let value = Value::known(alloc, bytes)?;
+            let value = Value::from_valid(alloc, bytes)?;
             let was = write(alloc, table, undo, key, Some(value))?;
-            Ok(Answer::Told(told(was)))
+            Ok(Answer::Replied(told(was)))
         }
         CommandView::Del(key) => {
             let was = write(alloc, table, undo, key, None)?;
-            Ok(Answer::Told(told(was)))
+            Ok(Answer::Replied(told(was)))
         }
         CommandView::Swap(first, second) => {
             let was = exchange(alloc, table, undo, first, second)?;
-            Ok(Answer::Told(told(was)))
+            Ok(Answer::Replied(told(was)))
         }
         CommandView::Cas(key, expected, new) => {
             let change = Change { expected, new };
             let was = compare_noted(alloc, table, undo, key, change)?;
-            Ok(Answer::Told(told(was)))
+            Ok(Answer::Replied(told(was)))
         }
     }
 }

@@ -40,7 +40,7 @@ IsVerdictTold c [] finding text = (finding ≡ Accepted) × AddsEndings c (text_
 IsVerdictTold c (x ∷ xs) finding text =
     (finding ≡ Refused) × (told : List ℕ) × AreTold (x ∷ xs) told × (text ≡ text_of (codes "verdict refused" ∷ []) ++ edition_line c.version c.opening ++ told)
 
--- all faults of the journals and the receipts are told, of which the first is the audit's; where there are none, it accepts
+-- all faults of the journals and the receipts are reported, of which the first is the audit's; where there are none, it accepts
 pub record IsJudged (c : Collected) (ts : List Receipt) (finding : Finding) (text : List ℕ) : Type 0 where
   pub first : IsFirst (opens c.opening) c.faults (journals_of c) ts (all_faults c ts)
   pub told : IsVerdictTold c (all_faults c ts) finding text

@@ -4,14 +4,14 @@ use Rattle.std.specs.Io.KnownBytes.{prepend_known}
 use Rattle.ep_explain.specs.declared.explain_fault.ExplainFault.{ExplainFault}
 use Rattle.ep_explain.specs.declared.explain_fault.ExplainFault.TheVariants.{Memory, ReadFailed}
 
--- a source, the bytes that are kept of it, how many of them were pulled, and whether the source has told its end: it isn't pulled from then on
+-- a source, the bytes that are kept of it, how many of them were pulled, and whether the source has reported its end: it isn't pulled from then on
 pub record Keeper (S : Type 0) : Type 0 where
   pub source : S
   pub bytes : List ℕ
   pub at : ℕ
   pub is_over : Bool
 
--- these bytes, and then those that a source has left, where these are known; none where it has told its end
+-- these bytes, and then those that a source has left, where these are known; none where it has reported its end
 abbrev pub followed : Bool → List ℕ → Option (List ℕ) → Option (List ℕ)
 followed true bs known = Some bs
 followed false bs known = prepend_known bs known

@@ -2,7 +2,7 @@
 
 use crate::wording::Wording;
 
-/// What a field may be: words with `#` for each number, and these numbers; and how much of what it is is told as a word, where it isn't told
+/// What a field may be: words with `#` for each number, and these numbers; and how much of what it is is reported as a word, where it isn't told
 /// as a number.
 #[derive(Drop)]
 pub(crate) struct Allowed {

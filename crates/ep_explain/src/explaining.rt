@@ -139,7 +139,7 @@ fn refusal_reasons(alloc: Global, bytes: Option<&[u8]>, fault: BundleFault) -> R
     reasons
 }
 
-/// Memory and reading aren't told as reasons.
+/// Memory and reading aren't reported as reasons.
 fn add_refusal(alloc: Global, bytes: &[u8], fault: BundleFault, reasons: &mut Reasons) {
     match fault {
         BundleFault::Memory | BundleFault::ReadFailed => reasons.cut(),

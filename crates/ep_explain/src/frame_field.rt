@@ -5,7 +5,7 @@ use crate::form::Form;
 use crate::wording::Wording;
 use ep_base::{InstanceId, ReplicaId};
 
-/// How many bytes of a key, a value or a body are told.
+/// How many bytes of a key, a value or a body are reported.
 const SHOWN: usize = 1024;
 
 /// The fields of a header, by docs/FORMATS.md, section 1.2: their names, and where they end. Versions 1 and 2 have no more than 40 bytes of them.

@@ -39,7 +39,7 @@ impl Terms {
     fn limits(&self) -> Version {
         match self.version {
             1 => Version::V1,
-            3 => Version::known(3, 1),
+            3 => Version::from_valid(3, 1),
             _ => Version::V2,
         }
     }

@@ -55,7 +55,7 @@ fn hint_of(word: &[u8]) -> Hint {
     match word {
         b"execute" | b"deliver" | b"flush" => Hint::Of(Subcommand::Replay),
         b"section" | b"drop" | b"hold" | b"repeat" => Hint::Of(Subcommand::Run),
-        // (a line `generation` tells nothing, as reports of version 3 have one, and scripts have `replicas` before it)
+        // (a line `generation` says nothing, as reports of version 3 have one, and scripts have `replicas` before it)
         b"replicas" | b"since" | b"opening" => Hint::Both,
         b"propose" | b"sparing" | b"giveup" | b"recover" => Hint::Both,
         [b'#', ..] => Hint::Skipped,

@@ -20,7 +20,7 @@ pub struct Kept<S> {
     bytes: Vec<u8>,
     /// How many of the bytes were pulled.
     at: usize,
-    /// Whether the source has told its end. It isn't pulled from then on.
+    /// Whether the source has reported its end. It isn't pulled from then on.
     is_over: bool,
     keeps: bool,
     /// Whether all bytes are kept since they are: memory may have been refused.
@@ -81,7 +81,7 @@ impl<S: Source> Kept<S> {
         Ok(())
     }
 
-    // Pulls from the source, which hasn't told its end, and notes whether it tells it now.
+    // Pulls from the source, which hasn't reported its end, and notes whether it tells it now.
     fn pull_source(&mut self, buf: &mut [u8]) -> Result<usize, ReadFailed>
         requires { self.old.is_over ≡ false }
         ensures bound { IfOk result (λ n. n ≤ length buf.new) }
@@ -151,7 +151,7 @@ impl<S: Source> Kept<S> {
         }
     }
 
-    // Pulls from the source, which hasn't told its end, where all bytes that are kept were pulled.
+    // Pulls from the source, which hasn't reported its end, where all bytes that are kept were pulled.
     fn pull_more(&mut self, buf: &mut [u8]) -> Result<usize, ReadFailed>
         requires given { self.old.at ≡ length self.old.bytes }
         requires goes_on { self.old.is_over ≡ false }
@@ -167,7 +167,7 @@ impl<S: Source> Kept<S> {
     }
 }
 
-// Whether a source has told its end that gave so many bytes where there was room for so many.
+// Whether a source has reported its end that gave so many bytes where there was room for so many.
 fn ends(count: usize, room: usize) -> bool
     ensures { result ≡ ends count room }
 {

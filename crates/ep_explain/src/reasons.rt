@@ -8,7 +8,7 @@ use crate::wording::Wording;
 use std::alloc::{AllocError, Global};
 use std::marker::Model;
 
-/// Why something is refused: lines of words, in order. Where memory is refused for one of them they are cut, and aren't told.
+/// Why something is refused: lines of words, in order. Where memory is refused for one of them they are cut, and aren't reported.
 #[derive(Drop)]
 pub(crate) struct Reasons {
     lines: Vec<Wording>,

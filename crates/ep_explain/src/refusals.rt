@@ -5,7 +5,7 @@ use crate::reasons::Reasons;
 use crate::wording::Wording;
 use ep_script::{COMMANDS, Form, LINES, Operand, Refusal, Standing, Why};
 
-/// How much of a word is told.
+/// How much of a word is reported.
 const SHOWN: usize = 60;
 
 /// Appends why the line is refused, behind its number.
@@ -117,7 +117,7 @@ fn tell_why(line: &mut Wording, refusal: &Refusal<'_>) {
     }
 }
 
-/// What may stand there is told behind these words.
+/// What may stand there is reported behind these words.
 fn tell_ranged(line: &mut Wording, words: &[u8], refusal: &Refusal<'_>) {
     line.say(words);
     tell_range(line, refusal);

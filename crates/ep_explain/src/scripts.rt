@@ -283,6 +283,6 @@ fn add_taken_for(subcommand: Subcommand, bytes: &[u8], reasons: &mut Reasons) {
         Some((line, other)) if other == subcommand => told.tell(b", by line #", &[line]),
         _ => {}
     }
-    told.say(b"; docs/FORMATS.md, section 4, has all lines");
+    told.say(b"; docs/CLI.md, section 4, has all lines");
     reasons.add(told);
 }

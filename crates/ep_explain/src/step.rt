@@ -31,7 +31,7 @@ pub(crate) fn add_draft(alloc: Global, journal: &mut Journal, draft: Draft, reas
     drop(done);
 }
 
-/// Takes the event as the journal's next one, with this stamp; tells where that can't be.
+/// Takes the event as the journal's next one, with this stamp; says where that can't be.
 fn take(
     alloc: Global,
     journal: &mut Journal,

@@ -36,7 +36,7 @@ pub(crate) fn add_step(
     }
 }
 
-/// Reads up to the entry, and tells what is wrong with it.
+/// Reads up to the entry, and says what is wrong with it.
 fn add_entry<S: Source>(
     alloc: Global,
     source: &mut S,
@@ -51,7 +51,7 @@ fn add_entry<S: Source>(
     told
 }
 
-/// Reads the entry, and tells what is wrong with it as the journal's next one.
+/// Reads the entry, and says what is wrong with it as the journal's next one.
 fn add_next<S: Source>(
     alloc: Global,
     source: &mut S,

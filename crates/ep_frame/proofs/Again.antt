@@ -10,7 +10,7 @@ use Rattle.ep_frame.specs.declared.header.Header.{Header}
 use Rattle.ep_frame.specs.Fields.{header_at, header_bytes, number_at, number_bytes, spelled, start_fields, origin_fields, ballot_fields, vote_fields, text_len, body_fields, late_fields, second_len_from, generation_from, body_len_from, header_len, dep_bytes, deps_in}
 use Rattle.ep_frame.proofs.Packing.{instance_again}
 use Rattle.ep_frame.specs.Faults.{second_place, body_place, deps_place, frame_len}
-use Rattle.ep_frame.specs.Spelling.{Parts, parts_at, parts_bytes}
+use Rattle.ep_frame.specs.Spelling.{FrameParts, parts_at, parts_bytes}
 use Rattle.ep_frame.proofs.BigEndian.{from_drop, fields_from, total}
 
 pub number_again : (i n x : ℕ) (pre rest : List ℕ) → length pre ≡ i → x < 256 ^ n → number_at i n (pre ++ (number_bytes n x ++ rest)) ≡ x
@@ -204,14 +204,14 @@ length-deps (i ∷ is) =
     let e = ap length (flat_map-cons dep_bytes i is) in
     omega (arith, e, length-append (dep_bytes i) (flat_map dep_bytes is), length-append (number_bytes 1 (leader_of i)) (number_bytes 2 (number_of i)), length-number_bytes 1 (leader_of i), length-number_bytes 2 (number_of i), length-deps is)
 
-pub record PartsFit (p : Parts) : Type 0 where
+pub record PartsFit (p : FrameParts) : Type 0 where
   pub header : HeaderFits p.header
   pub key : length p.key ≡ p.header.key_len
   pub second : length p.second ≡ p.header.second_len
   pub body : length p.body ≡ p.header.body_len
   pub deps : AllByRecursion IsInstance p.deps
 
-abbrev parts_with : Header → List ℕ → Parts
+abbrev parts_with : Header → List ℕ → FrameParts
 parts_with h b = record {
   header = h;
   key = take h.key_len (drop (header_len h.version) b);
@@ -224,7 +224,7 @@ parts_with h b = record {
 part_again : (x y z b : List ℕ) (i n : ℕ) → b ≡ x ++ (y ++ z) → length x ≡ i → length y ≡ n → take n (drop i b) ≡ y
 part_again x y z b i n is lx ly = ap (λ (ys : List ℕ). take n (drop i ys)) is ∙ ap (take n) (drop_at x (y ++ z) i lx) ∙ take_at y z n ly
 
-pub parts_again : (p : Parts) → PartsFit p → parts_at (parts_bytes p) ≡ p
+pub parts_again : (p : FrameParts) → PartsFit p → parts_at (parts_bytes p) ≡ p
 parts_again p fits =
     let h = p.header in let x = header_bytes h in let d = flat_map dep_bytes p.deps in let b = parts_bytes p in
     let lx = length-header_bytes h in
@@ -241,7 +241,7 @@ parts_again p fits =
     let deps : deps_in (drop (deps_place h) b) ≡ p.deps = ap deps_in (drop_at (((x ++ p.key) ++ p.second) ++ p.body) d (deps_place h) lb) ∙ deps_again p.deps fits.deps in
     ap (λ (g : Header). parts_with g b) head ∙ (λ t. record { header = h; key = key t; second = second t; body = body t; deps = deps t })
 
-pub length-parts_bytes : (p : Parts) → PartsFit p → length p.deps ≡ p.header.count → length (parts_bytes p) ≡ frame_len p.header
+pub length-parts_bytes : (p : FrameParts) → PartsFit p → length p.deps ≡ p.header.count → length (parts_bytes p) ≡ frame_len p.header
 length-parts_bytes p fits c =
     let h = p.header in let x = header_bytes h in let d = flat_map dep_bytes p.deps in
     omega (arith, c, fits.key, fits.second, fits.body, length-header_bytes h, length-append (((x ++ p.key) ++ p.second) ++ p.body) d, length-append ((x ++ p.key) ++ p.second) p.body, length-append (x ++ p.key) p.second, length-append x p.key, length-deps p.deps)

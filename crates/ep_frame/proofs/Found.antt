@@ -2,7 +2,7 @@
 use Rattle.std.proofs.Common.{◌≡◌, ℕ, zero, suc, ◌^◌, ◌≤◌, ◌<◌, Bool, true, false, cond, eqb, leb, List, [], ◌∷◌, length, None, refl, sym, ap, subst, ◌∙◌, arith}
 use Rattle.std.specs.Prelude.{◌&&◌, not, Some}
 use Rattle.ep_base.specs.Ops.{op_number, first_fits, second_fits, body_fits}
-use Rattle.ep_base.specs.Parts.{Parts as CommandParts, parts_of as command_parts, command_in, command_of, are_parts, is_twice, body_said}
+use Rattle.ep_base.specs.CommandParts.{CommandParts, parts_of as command_parts, command_in, command_of, are_parts, is_twice, body_said}
 use Rattle.ep_base.proofs.Partitions.{fits_from, parts_law_lem}
 use Rattle.ep_base.proofs.Versions.{highest_low}
 use Rattle.std.specs.List.{AllByRecursion}
@@ -19,18 +19,18 @@ use Rattle.ep_base.specs.declared.vote.VoteStatus.TheVariants.{PreAccepted, Acce
 use Rattle.ep_base.specs.declared.message.Message.{Message}
 use Rattle.ep_base.specs.declared.message.Message.TheVariants.{PrepareOk}
 use Rattle.ep_frame.specs.Faults.{names_rows, ballot_rows, vote_rows, body_rows, late_rows, within, highest_op, op_of, text_fits, generation_fits, are_deps, are_in, deps_allowed, is_instance, precedes_first}
-use Rattle.ep_frame.specs.Spelling.{Parts, parts_of, status_code, IsBallot, IsCommand, AreAttrs, AreBytes, IsDecree, IsMessage, IsOrigin}
+use Rattle.ep_frame.specs.Spelling.{FrameParts, parts_of, status_code, IsBallot, IsCommand, AreAttrs, AreBytes, IsDecree, IsMessage, IsOrigin}
 use Rattle.ep_frame.specs.Meaning.{origin_in, instance_in, ballot_in, other_in, attrs_of, command_parts_of, decree_of, message_of}
 use Rattle.ep_frame.proofs.Packing.{leader_again, number_again, counter_again, owner_again}
 use Rattle.ep_frame.proofs.Rows.{AllPass, within-is, apart-is, chosen, other_chosen}
 use Rattle.ep_frame.proofs.Saying.{op_low, count_low, version_is, IsShortIn, text_is, op_found, op_known, deps_found}
 
 -- the version that the header names
-abbrev pub version_in : Parts → Version
+abbrev pub version_in : FrameParts → Version
 version_in p = version_of p.header.version p.header.generation
 
 -- what stands behind the header
-pub record GoodRuns (p : Parts) : Type 0 where
+pub record GoodRuns (p : FrameParts) : Type 0 where
   pub key : length p.key ≡ p.header.key_len
   pub second : length p.second ≡ p.header.second_len
   pub body : length p.body ≡ p.header.body_len
@@ -42,7 +42,7 @@ pub record GoodRuns (p : Parts) : Type 0 where
   pub second_bytes : AreBytes p.second
   pub body_bytes : AreBytes p.body
 
-pub record Good (p : Parts) : Type 0 where
+pub record Good (p : FrameParts) : Type 0 where
   pub names : AllPass (names_rows p.header)
   pub ballot : AllPass (ballot_rows (version_in p) p.header)
   pub vote : AllPass (vote_rows p.header)
@@ -53,21 +53,21 @@ pub record Good (p : Parts) : Type 0 where
   pub entry : p.header.entry < 2 ^ 32
   pub runs : GoodRuns p
 
-pub record Found (p : Parts) : Type 0 where
+pub record Found (p : FrameParts) : Type 0 where
   pub version : HasItsGeneration (version_in p)
   pub origin : IsOrigin p.header.from (origin_in p.header)
   pub message : IsMessage (message_of p)
   pub sayable : CanSay (version_in p) (message_of p)
   pub is : parts_of (version_in p) p.header.from (origin_in p.header) (message_of p) ≡ p
 
-abbrev with_kind : ℕ → Parts → Parts
+abbrev with_kind : ℕ → FrameParts → FrameParts
 with_kind k p = record p { header = record p.header { kind = k } }
 
-abbrev with_status : ℕ → Parts → Parts
+abbrev with_status : ℕ → FrameParts → FrameParts
 with_status s p = record p { header = record p.header { kind = 7; status = s } }
 
 -- parts with these in place of its own
-abbrev made : Parts → (magic version generation leader number counter replica status other_counter other_replica seq op kl sl bl count : ℕ) (key second body deps : List ℕ) → Parts
+abbrev made : FrameParts → (magic version generation leader number counter replica status other_counter other_replica seq op kl sl bl count : ℕ) (key second body deps : List ℕ) → FrameParts
 made q magic version generation leader number counter replica status other_counter other_replica seq op kl sl bl count key second body deps = record {
   header = record q.header {
     magic = magic;
@@ -96,7 +96,7 @@ made q magic version generation leader number counter replica status other_count
 -- ---- groups of fields
 
 -- what all kinds have
-record Front (p : Parts) : Type 0 where
+record Front (p : FrameParts) : Type 0 where
   origin : IsOrigin p.header.from (origin_in p.header)
   magic : 17744 ≡ p.header.magic
   version : version_number (version_in p) ≡ p.header.version
@@ -108,7 +108,7 @@ record Front (p : Parts) : Type 0 where
   number : number_of (instance_in p.header) ≡ p.header.number
   leader_small : p.header.leader ≤ 6
 
-front : (p : Parts) (k : ℕ) → AllPass (names_rows (with_kind k p).header) → leb p.header.leader 6 ≡ true → within 1 (highest_in (version_in p)) p.header.number ≡ true → p.header.out < 2 ^ 16 → p.header.entry < 2 ^ 32
+front : (p : FrameParts) (k : ℕ) → AllPass (names_rows (with_kind k p).header) → leb p.header.leader 6 ≡ true → within 1 (highest_in (version_in p)) p.header.number ≡ true → p.header.out < 2 ^ 16 → p.header.entry < 2 ^ 32
     → generation_fits (version_in p) p.header.generation ≡ true → p.header.generation < 2 ^ 32 → Front p
 front p k n l m out entry fits small_generation =
     let to = and_parts (leb p.header.to 6) (not (eqb p.header.to p.header.from)) n.1.1.1.1.0 in
@@ -167,12 +167,12 @@ ballot_found i leader least counter replica is le low high e =
     }
 
 -- a ballot of kinds 1 to 4 and 8
-any_ballot : (p : Parts) → Front p → leb p.header.counter 60000 ≡ true → cond (eqb p.header.counter 0) (eqb p.header.replica p.header.leader) (leb p.header.replica 6) ≡ true
+any_ballot : (p : FrameParts) → Front p → leb p.header.counter 60000 ≡ true → cond (eqb p.header.counter 0) (eqb p.header.replica p.header.leader) (leb p.header.replica 6) ≡ true
     → BallotIs (instance_in p.header) 0 p.header.counter p.header.replica
 any_ballot p f c r = ballot_found (instance_in p.header) p.header.leader 0 p.header.counter p.header.replica f.leader f.leader_small (omega arith) (leb-true _ _ c) r
 
 -- a ballot of kinds 6 and 7
-joined_ballot : (p : Parts) → Front p → within 1 60000 p.header.counter ≡ true → cond (eqb p.header.counter 0) (eqb p.header.replica p.header.leader) (leb p.header.replica 6) ≡ true
+joined_ballot : (p : FrameParts) → Front p → within 1 60000 p.header.counter ≡ true → cond (eqb p.header.counter 0) (eqb p.header.replica p.header.leader) (leb p.header.replica 6) ≡ true
     → BallotIs (instance_in p.header) 1 p.header.counter p.header.replica
 joined_ballot p f c r = let n = within-is 1 60000 p.header.counter c in ballot_found (instance_in p.header) p.header.leader 1 p.header.counter p.header.replica f.leader f.leader_small n.0 n.1 r
 
@@ -180,19 +180,19 @@ nothing_found : (xs : List ℕ) (n : ℕ) → length xs ≡ n → eqb n 0 ≡ tr
 nothing_found xs n len e = sym (nil_from_length xs (len ∙ eqb-true n 0 e))
 
 -- the parts are those of a command
-pub parts_there : (p : Parts) → first_fits (op_of p.header.op) p.header.key_len ≡ true → second_fits (op_of p.header.op) p.header.second_len ≡ true → body_fits (op_of p.header.op) p.header.body_len ≡ true → GoodRuns p
+pub parts_there : (p : FrameParts) → first_fits (op_of p.header.op) p.header.key_len ≡ true → second_fits (op_of p.header.op) p.header.second_len ≡ true → body_fits (op_of p.header.op) p.header.body_len ≡ true → GoodRuns p
     → are_parts (command_parts_of p) ≡ true
 parts_there p k s y r =
     let o = op_of p.header.op in
     fits_from o p.key p.second p.body
     (record { first = ap (first_fits o) r.key ∙ k; second = ap (second_fits o) r.second ∙ s; body = ap (body_fits o) r.body ∙ y; once = ap not r.once; said = r.said })
 
-record CommandIs (p : Parts) : Type 0 where
+record CommandIs (p : FrameParts) : Type 0 where
   is : IsCommand (command_in (command_parts_of p))
   parts_are : command_parts (command_in (command_parts_of p)) ≡ command_parts_of p
   op_is : op_number (command_parts (command_in (command_parts_of p))).op ≡ p.header.op
 
-command_found : (p : Parts) → 1 ≤ p.header.op → p.header.op ≤ 10 → are_parts (command_parts_of p) ≡ true → GoodRuns p → CommandIs p
+command_found : (p : FrameParts) → 1 ≤ p.header.op → p.header.op ≤ 10 → are_parts (command_parts_of p) ≡ true → GoodRuns p → CommandIs p
 command_found p lo hi e r =
     let q = command_parts_of p in
     let c = command_in q in
@@ -246,7 +246,7 @@ rising_found (i ∷ is) e =
     below [] e = tt
     below (j ∷ js) e = ltb-true _ _ e
 
-attrs_found : (p : Parts) → within 1 1000000 p.header.seq ≡ true → leb p.header.count (most_deps_in (version_in p)) ≡ true → length p.deps ≡ p.header.count → deps_allowed (version_in p) p.deps ≡ true → AreAttrs (attrs_of p)
+attrs_found : (p : FrameParts) → within 1 1000000 p.header.seq ≡ true → leb p.header.count (most_deps_in (version_in p)) ≡ true → length p.deps ≡ p.header.count → deps_allowed (version_in p) p.deps ≡ true → AreAttrs (attrs_of p)
 attrs_found p s c len d =
     let n = within-is 1 1000000 p.header.seq s in
     let few = leb-true p.header.count (most_deps_in (version_in p)) c in
@@ -255,7 +255,7 @@ attrs_found p s c len d =
     let r = rising_found p.deps both.0 in
     record { low = n.0; high = n.1; few = omega (arith, few, most, len); rising = r.0; instances = r.1 }
 
-attrs_known : (p : Parts) → deps_allowed (version_in p) p.deps ≡ true → AreDepsIn (version_in p) p.deps
+attrs_known : (p : FrameParts) → deps_allowed (version_in p) p.deps ≡ true → AreDepsIn (version_in p) p.deps
 attrs_known p d = let both = and_parts (are_deps p.deps) (are_in (version_in p) p.deps) d in deps_found (version_in p) p.deps (rising_found p.deps both.0).1 both.1
 
 record NoAttrs (seq count : ℕ) (deps : List ℕ) : Type 0 where
@@ -266,7 +266,7 @@ record NoAttrs (seq count : ℕ) (deps : List ℕ) : Type 0 where
 no_attrs : (seq count : ℕ) (deps : List ℕ) → eqb seq 0 ≡ true → eqb count 0 ≡ true → length deps ≡ count → NoAttrs seq count deps
 no_attrs seq count deps s c len = let ec = eqb-true count 0 c in record { seq_is = sym (eqb-true seq 0 s); count_is = sym ec; deps_is = sym (nil_from_length deps (len ∙ ec)) }
 
-record DecreeIs (p : Parts) : Type 0 where
+record DecreeIs (p : FrameParts) : Type 0 where
   is : IsDecree (decree_of p)
   known : IsDecreeIn (version_in p) (decree_of p)
   op_is : op_number (command_parts (decree_of p).command).op ≡ p.header.op
@@ -277,7 +277,7 @@ record DecreeIs (p : Parts) : Type 0 where
   second_is : (command_parts (decree_of p).command).second ≡ p.second
   body_is : (command_parts (decree_of p).command).body ≡ p.body
 
-decree_found : (p : Parts) → within 1 1000000 p.header.seq ≡ true → within 1 (highest_op (version_in p)) p.header.op ≡ true → first_fits (op_of p.header.op) p.header.key_len ≡ true
+decree_found : (p : FrameParts) → within 1 1000000 p.header.seq ≡ true → within 1 (highest_op (version_in p)) p.header.op ≡ true → first_fits (op_of p.header.op) p.header.key_len ≡ true
     → text_fits (version_in p) (op_of p.header.op) p.header.second_len p.header.body_len ≡ true → leb p.header.count (most_deps_in (version_in p)) ≡ true → body_fits (op_of p.header.op) p.header.body_len ≡ true
     → GoodRuns p → DecreeIs p
 decree_found p s o k v n y r =
@@ -303,7 +303,7 @@ decree_found p s o k v n y r =
     }
 
 -- that there is no command
-nothing_is : (p : Parts) → eqb p.header.op 0 ≡ true → first_fits (op_of p.header.op) p.header.key_len ≡ true
+nothing_is : (p : FrameParts) → eqb p.header.op 0 ≡ true → first_fits (op_of p.header.op) p.header.key_len ≡ true
     → text_fits (version_in p) (op_of p.header.op) p.header.second_len p.header.body_len ≡ true → body_fits (op_of p.header.op) p.header.body_len ≡ true → GoodRuns p
     → NoCommand p.header.op p.header.key_len p.header.second_len p.header.body_len p.key p.second p.body
 nothing_is p o k v y r =
@@ -314,13 +314,13 @@ nothing_is p o k v y r =
 
 -- the kind and the status have no part in them
 
-of_kind : (k : ℕ) (p : Parts) → GoodRuns (with_kind k p) → GoodRuns p
+of_kind : (k : ℕ) (p : FrameParts) → GoodRuns (with_kind k p) → GoodRuns p
 of_kind k p r = record { key = r.key; second = r.second; body = r.body; count = r.count; deps = r.deps; once = r.once; said = r.said; key_bytes = r.key_bytes; second_bytes = r.second_bytes; body_bytes = r.body_bytes }
 
-of_status : (s : ℕ) (p : Parts) → GoodRuns (with_status s p) → GoodRuns p
+of_status : (s : ℕ) (p : FrameParts) → GoodRuns (with_status s p) → GoodRuns p
 of_status s p r = record { key = r.key; second = r.second; body = r.body; count = r.count; deps = r.deps; once = r.once; said = r.said; key_bytes = r.key_bytes; second_bytes = r.second_bytes; body_bytes = r.body_bytes }
 
-kind1 : (p : Parts) → Good (with_kind 1 p) → Found (with_kind 1 p)
+kind1 : (p : FrameParts) → Good (with_kind 1 p) → Found (with_kind 1 p)
 kind1 p g =
     let f = front p 1 g.names g.ballot.0 g.ballot.1.0 g.out g.entry g.late.0 g.generation in
     let b = any_ballot p f g.ballot.1.1.0 g.ballot.1.1.1.0 in
@@ -335,7 +335,7 @@ kind1 p g =
           p.header.seq (x.op_is t) (x.kl_is t) (x.sl_is t) (x.bl_is t) (g.runs.count t) (x.key_is t) (x.second_is t) (x.body_is t) p.deps;
     }
 
-kind2 : (p : Parts) → Good (with_kind 2 p) → Found (with_kind 2 p)
+kind2 : (p : FrameParts) → Good (with_kind 2 p) → Found (with_kind 2 p)
 kind2 p g =
     let f = front p 2 g.names g.ballot.0 g.ballot.1.0 g.out g.entry g.late.0 g.generation in
     let b = any_ballot p f g.ballot.1.1.0 g.ballot.1.1.1.0 in
@@ -350,7 +350,7 @@ kind2 p g =
           p.header.seq (c.op_is t) (c.kl_is t) (c.sl_is t) (c.bl_is t) (g.runs.count t) (c.key_is t) (c.second_is t) (c.body_is t) p.deps;
     }
 
-kind3 : (p : Parts) → Good (with_kind 3 p) → Found (with_kind 3 p)
+kind3 : (p : FrameParts) → Good (with_kind 3 p) → Found (with_kind 3 p)
 kind3 p g =
     let f = front p 3 g.names g.ballot.0 g.ballot.1.0 g.out g.entry g.late.0 g.generation in
     let b = any_ballot p f g.ballot.1.1.0 g.ballot.1.1.1.0 in
@@ -365,7 +365,7 @@ kind3 p g =
           p.header.seq (x.op_is t) (x.kl_is t) (x.sl_is t) (x.bl_is t) (g.runs.count t) (x.key_is t) (x.second_is t) (x.body_is t) p.deps;
     }
 
-kind4 : (p : Parts) → Good (with_kind 4 p) → Found (with_kind 4 p)
+kind4 : (p : FrameParts) → Good (with_kind 4 p) → Found (with_kind 4 p)
 kind4 p g =
     let f = front p 4 g.names g.ballot.0 g.ballot.1.0 g.out g.entry g.late.0 g.generation in
     let b = any_ballot p f g.ballot.1.1.0 g.ballot.1.1.1.0 in
@@ -381,7 +381,7 @@ kind4 p g =
           (a.seq_is t) (c.op_is t) (c.kl_is t) (c.sl_is t) (c.bl_is t) (a.count_is t) (c.key_is t) (c.second_is t) (c.body_is t) (a.deps_is t);
     }
 
-kind5 : (p : Parts) → Good (with_kind 5 p) → Found (with_kind 5 p)
+kind5 : (p : FrameParts) → Good (with_kind 5 p) → Found (with_kind 5 p)
 kind5 p g =
     let f = front p 5 g.names g.ballot.0 g.ballot.1.0 g.out g.entry g.late.0 g.generation in
     let x = decree_found p g.body.0 g.body.1.0 g.body.1.1.0 g.body.1.1.1.0 g.body.1.1.1.1.0 g.late.1.0 (of_kind 5 p g.runs) in
@@ -396,7 +396,7 @@ kind5 p g =
           p.header.seq (x.op_is t) (x.kl_is t) (x.sl_is t) (x.bl_is t) (g.runs.count t) (x.key_is t) (x.second_is t) (x.body_is t) p.deps;
     }
 
-kind6 : (p : Parts) → Good (with_kind 6 p) → Found (with_kind 6 p)
+kind6 : (p : FrameParts) → Good (with_kind 6 p) → Found (with_kind 6 p)
 kind6 p g =
     let f = front p 6 g.names g.ballot.0 g.ballot.1.0 g.out g.entry g.late.0 g.generation in
     let b = joined_ballot p f g.ballot.1.1.0 g.ballot.1.1.1.0 in
@@ -412,7 +412,7 @@ kind6 p g =
           (a.seq_is t) (c.op_is t) (c.kl_is t) (c.sl_is t) (c.bl_is t) (a.count_is t) (c.key_is t) (c.second_is t) (c.body_is t) (a.deps_is t);
     }
 
-kind8 : (p : Parts) → Good (with_kind 8 p) → Found (with_kind 8 p)
+kind8 : (p : FrameParts) → Good (with_kind 8 p) → Found (with_kind 8 p)
 kind8 p g =
     let f = front p 8 g.names g.ballot.0 g.ballot.1.0 g.out g.entry g.late.0 g.generation in
     let b = any_ballot p f g.ballot.1.1.0 g.ballot.1.1.1.0 in
@@ -430,7 +430,7 @@ kind8 p g =
           (a.seq_is t) (c.op_is t) (c.kl_is t) (c.sl_is t) (c.bl_is t) (a.count_is t) (c.key_is t) (c.second_is t) (c.body_is t) (a.deps_is t);
     }
 
-status0 : (p : Parts) → Good (with_status 0 p) → Found (with_status 0 p)
+status0 : (p : FrameParts) → Good (with_status 0 p) → Found (with_status 0 p)
 status0 p g =
     let f = front p 7 g.names g.ballot.0 g.ballot.1.0 g.out g.entry g.late.0 g.generation in
     let b = joined_ballot p f g.ballot.1.1.0 g.ballot.1.1.1.0 in
@@ -448,17 +448,17 @@ status0 p g =
     }
 
 -- the answer to a Prepare with this vote
-abbrev voted : Parts → VoteStatus → Message
+abbrev voted : FrameParts → VoteStatus → Message
 voted p st = PrepareOk (instance_in p.header) (ballot_in p.header) (Some (record { status = st; ballot = other_in p.header; decree = decree_of p }))
 
-record FoundVote (p : Parts) (s : ℕ) (st : VoteStatus) : Type 0 where
+record FoundVote (p : FrameParts) (s : ℕ) (st : VoteStatus) : Type 0 where
   version : HasItsGeneration (version_in p)
   origin : IsOrigin p.header.from (origin_in p.header)
   message : IsMessage (voted p st)
   sayable : CanSay (version_in p) (voted p st)
   is : parts_of (version_in p) p.header.from (origin_in p.header) (voted p st) ≡ with_status s p
 
-vote_found : (p : Parts) (s : ℕ) (st : VoteStatus) → status_code st ≡ s → eqb s 0 ≡ false → Good (with_status s p) → FoundVote p s st
+vote_found : (p : FrameParts) (s : ℕ) (st : VoteStatus) → status_code st ≡ s → eqb s 0 ≡ false → Good (with_status s p) → FoundVote p s st
 vote_found p s st code e g =
     let has = ap not e in
     let f = front p 7 g.names g.ballot.0 g.ballot.1.0 g.out g.entry g.late.0 g.generation in
@@ -475,14 +475,14 @@ vote_found p s st code e g =
           p.header.seq (x.op_is t) (x.kl_is t) (x.sl_is t) (x.bl_is t) (g.runs.count t) (x.key_is t) (x.second_is t) (x.body_is t) p.deps;
     }
 
-at_status : (p : Parts) (s : ℕ) → s ≤ 3 → Good (with_status s p) → Found (with_status s p)
+at_status : (p : FrameParts) (s : ℕ) → s ≤ 3 → Good (with_status s p) → Found (with_status s p)
 at_status p zero le g = status0 p g
 at_status p (suc zero) le g = let v = vote_found p 1 PreAccepted refl refl g in record { version = v.version; origin = v.origin; message = v.message; sayable = v.sayable; is = v.is }
 at_status p (suc (suc zero)) le g = let v = vote_found p 2 Accepted refl refl g in record { version = v.version; origin = v.origin; message = v.message; sayable = v.sayable; is = v.is }
 at_status p (suc (suc (suc zero))) le g = let v = vote_found p 3 Committed refl refl g in record { version = v.version; origin = v.origin; message = v.message; sayable = v.sayable; is = v.is }
 at_status p (suc (suc (suc (suc s)))) le g = absurd (omega arith)
 
-at_kind : (p : Parts) (k : ℕ) → 1 ≤ k → k ≤ 8 → Good (with_kind k p) → Found (with_kind k p)
+at_kind : (p : FrameParts) (k : ℕ) → 1 ≤ k → k ≤ 8 → Good (with_kind k p) → Found (with_kind k p)
 at_kind p zero low high g = absurd (omega arith)
 at_kind p (suc zero) low high g = kind1 p g
 at_kind p (suc (suc zero)) low high g = kind2 p g
@@ -494,5 +494,5 @@ at_kind p (suc (suc (suc (suc (suc (suc (suc zero))))))) low high g = at_status 
 at_kind p (suc (suc (suc (suc (suc (suc (suc (suc zero)))))))) low high g = kind8 p g
 at_kind p (suc (suc (suc (suc (suc (suc (suc (suc (suc k))))))))) low high g = absurd (omega arith)
 
-pub found : (p : Parts) → Good p → Found p
+pub found : (p : FrameParts) → Good p → Found p
 found p g = let n = within-is 1 8 p.header.kind g.names.1.1.0 in at_kind p p.header.kind n.0 n.1 g

@@ -1,7 +1,7 @@
 -- Bytes without a fault spell a message.
 use Rattle.std.proofs.Common.{◌≡◌, ℕ, ◌*◌, ◌^◌, ◌≤◌, ◌<◌, Bool, true, false, cond, eqb, leb, List, length, take, drop, Result, Ok, Err, refl, sym, ap, ◌∙◌, arith}
 use Rattle.std.specs.Prelude.{not}
-use Rattle.ep_base.specs.Parts.{body_said}
+use Rattle.ep_base.specs.CommandParts.{body_said}
 use Rattle.ep_base.specs.Versions.{version_of, highest_in}
 use Rattle.ep_base.proofs.Versions.{highest_low}
 use Rattle.std.proofs.lemmas.Bool.{eqb-true, ltb-false, leb-true, and_parts, not-false}

@@ -15,9 +15,9 @@ use Rattle.ep_base.specs.declared.message.Message.{Message}
 use Rattle.ep_base.specs.declared.message.Message.TheVariants.{PreAccept, PreAcceptOk, Accept, AcceptOk, Commit, Prepare, PrepareOk, Nack}
 use Rattle.ep_frame.specs.declared.origin.Origin.{Origin}
 use Rattle.ep_frame.specs.Meaning.{origin_in, instance_in, instance_at, status_of, message_of, version_at, sender_at, origin_at, message_at}
-use Rattle.ep_frame.specs.Spelling.{Parts, parts_at, parts_of, Spells, IsCommand, IsDecree, IsMessage, status_code}
+use Rattle.ep_frame.specs.Spelling.{FrameParts, parts_at, parts_of, Spells, IsCommand, IsDecree, IsMessage, status_code}
 use Rattle.ep_base.specs.Ops.{op_number}
-use Rattle.ep_base.specs.Parts.{parts_of as command_parts, command_with, command_in, are_parts}
+use Rattle.ep_base.specs.CommandParts.{parts_of as command_parts, command_with, command_in, are_parts}
 use Rattle.ep_base.specs.declared.op.Op.{Op}
 use Rattle.ep_base.proofs.Partitions.{parts_law_lem}
 use Rattle.ep_frame.specs.Faults.{op_of}
@@ -114,13 +114,13 @@ parts_spelled v b from o m s = ap parts_at s.is ∙ parts_again (parts_of v from
 -- the bytes that spell a message stand for it
 pub version_spelled : (v : Version) (b : List ℕ) (from : ℕ) (o : Origin) (m : Message) → Spells v b from o m → version_at b ≡ v
 version_spelled v b from o m s =
-    ap (λ (p : Parts). version_of p.header.version p.header.generation) (parts_spelled v b from o m s) ∙ (λ t. version_of (version_kept v from o m t) (generation_kept v from o m t)) ∙ version_again v
+    ap (λ (p : FrameParts). version_of p.header.version p.header.generation) (parts_spelled v b from o m s) ∙ (λ t. version_of (version_kept v from o m t) (generation_kept v from o m t)) ∙ version_again v
 
 pub sender_spelled : (v : Version) (b : List ℕ) (from : ℕ) (o : Origin) (m : Message) → Spells v b from o m → sender_at b ≡ from
-sender_spelled v b from o m s = ap (λ (p : Parts). p.header.from) (parts_spelled v b from o m s) ∙ sender_again v from o m
+sender_spelled v b from o m s = ap (λ (p : FrameParts). p.header.from) (parts_spelled v b from o m s) ∙ sender_again v from o m
 
 pub origin_spelled : (v : Version) (b : List ℕ) (from : ℕ) (o : Origin) (m : Message) → Spells v b from o m → origin_at b ≡ o
-origin_spelled v b from o m s = ap (λ (p : Parts). origin_in p.header) (parts_spelled v b from o m s) ∙ origin_again v from o m
+origin_spelled v b from o m s = ap (λ (p : FrameParts). origin_in p.header) (parts_spelled v b from o m s) ∙ origin_again v from o m
 
 pub message_spelled : (v : Version) (b : List ℕ) (from : ℕ) (o : Origin) (m : Message) → Spells v b from o m → message_at b ≡ m
 message_spelled v b from o m s = ap message_of (parts_spelled v b from o m s) ∙ message_again v from o m s.message
@@ -130,7 +130,7 @@ by_test i true m n d e = d
 by_test i false m n d e = e
 
 -- the message is about the instance that the fields name
-pub instance_is : (p : Parts) → instance_of_message (message_of p) ≡ instance_in p.header
+pub instance_is : (p : FrameParts) → instance_of_message (message_of p) ≡ instance_in p.header
 instance_is p =
     let i = instance_in p.header in
     by_test i (eqb p.header.kind 1) _ _ refl

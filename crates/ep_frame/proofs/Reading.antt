@@ -6,8 +6,8 @@ use Rattle.std.proofs.lemmas.Bool.{eqb-true, leb-true, and_parts}
 use Rattle.ep_frame.specs.declared.header.Header.{Header}
 use Rattle.ep_frame.specs.Faults.{within, op_of, are_deps, are_in, counter_allowed, replica_allowed, other_counter_allowed, other_replica_allowed}
 use Rattle.ep_frame.specs.Ranges.{Readable}
-use Rattle.ep_frame.specs.Spelling.{Parts}
-use Rattle.ep_base.specs.Parts.{are_parts}
+use Rattle.ep_frame.specs.Spelling.{FrameParts}
+use Rattle.ep_base.specs.CommandParts.{are_parts}
 use Rattle.ep_base.proofs.Versions.{highest_low}
 use Rattle.ep_frame.specs.Meaning.{command_parts_of}
 use Rattle.ep_frame.proofs.Rows.{within-is, chosen, either}
@@ -38,13 +38,13 @@ small_other_replica h le e =
     (λ t. either (eqb h.other_counter 0) _ _ t (as_leader h.leader h.other_replica le) (leb-true h.other_replica 6))
     (λ t. either (eqb h.kind 8) _ _ t (leb-true h.other_replica 6) (at_zero h.other_replica 6))
 
-command_there : (p : Parts) → Good p → are_parts (command_parts_of p) ≡ true
+command_there : (p : FrameParts) → Good p → are_parts (command_parts_of p) ≡ true
 command_there p g =
     let h = p.header in
     let text = text_is (version_in p) (op_of h.op) h.second_len h.body_len g.body.1.1.1.0 in
     parts_there p g.body.1.1.0 text.0 g.late.1.0 g.runs
 
-pub readable : (p : Parts) → Good p → Readable p
+pub readable : (p : FrameParts) → Good p → Readable p
 readable p g =
     let h = p.header in
     let leader : h.leader ≤ 6 = leb-true _ _ g.ballot.0 in

@@ -9,11 +9,11 @@ use Rattle.ep_base.specs.declared.message.Message.TheVariants.{PreAccept, PreAcc
 use Rattle.ep_frame.specs.declared.origin.Origin.{Origin}
 use Rattle.ep_frame.specs.Fields.{spelled, number_at, number_bytes, start_fields, origin_fields, ballot_fields, vote_fields, body_fields, late_fields, dep_bytes}
 use Rattle.ep_frame.specs.Origins.{origin_bytes, readdressed, OriginFits, KeepsMessage}
-use Rattle.ep_frame.specs.Spelling.{Parts, Spells, parts_bytes, parts_of}
+use Rattle.ep_frame.specs.Spelling.{FrameParts, Spells, parts_bytes, parts_of}
 use Rattle.ep_frame.proofs.Again.{length-spelled}
 use Rattle.ep_frame.proofs.Meanings.{sender_spelled}
 
-abbrev reorigin : Origin → Parts → Parts
+abbrev reorigin : Origin → FrameParts → FrameParts
 reorigin o p = record p { header = record p.header { to = o.to; out = o.out; entry = o.entry; stamp = o.stamp } }
 
 reorigin_is : (v : Version) (from : ℕ) (o n : Origin) (m : Message) → parts_of v from n m ≡ reorigin n (parts_of v from o m)
@@ -27,7 +27,7 @@ reorigin_is v from o n (PrepareOk i b None) = refl
 reorigin_is v from o n (PrepareOk i b (Some x)) = refl
 reorigin_is v from o n (Nack i p q) = refl
 
-abbrev tail_of : Parts → List ℕ
+abbrev tail_of : FrameParts → List ℕ
 tail_of p = spelled (ballot_fields p.header) ++ (spelled (vote_fields p.header) ++ (spelled (body_fields p.header) ++ (spelled (late_fields p.header) ++ (p.key ++ (p.second ++ (p.body ++ flat_map dep_bytes p.deps))))))
 
 regrouped : (s o a v y l k w c d : List ℕ) → (((((((((s ++ o) ++ a) ++ v) ++ y) ++ l) ++ k) ++ w) ++ c) ++ d) ≡ s ++ (o ++ (a ++ (v ++ (y ++ (l ++ (k ++ (w ++ (c ++ d))))))))
@@ -36,11 +36,11 @@ regrouped s o a v y l k w c d = simp append_assoc
 origin_joined : (a b c d : List ℕ) → ((a ++ b) ++ c) ++ d ≡ a ++ (b ++ (c ++ (d ++ [])))
 origin_joined a b c d = simp (append_assoc, append-nil)
 
-parts_split : (p : Parts) → parts_bytes p ≡ spelled (start_fields p.header) ++ (spelled (origin_fields p.header) ++ tail_of p)
+parts_split : (p : FrameParts) → parts_bytes p ≡ spelled (start_fields p.header) ++ (spelled (origin_fields p.header) ++ tail_of p)
 parts_split p =
     regrouped (spelled (start_fields p.header)) (spelled (origin_fields p.header)) (spelled (ballot_fields p.header)) (spelled (vote_fields p.header)) (spelled (body_fields p.header)) (spelled (late_fields p.header)) p.key p.second p.body (flat_map dep_bytes p.deps)
 
-changed : (o : Origin) (p : Parts) → parts_bytes (reorigin o p) ≡ (take 5 (parts_bytes p) ++ origin_bytes o) ++ drop 20 (parts_bytes p)
+changed : (o : Origin) (p : FrameParts) → parts_bytes (reorigin o p) ≡ (take 5 (parts_bytes p) ++ origin_bytes o) ++ drop 20 (parts_bytes p)
 changed o p =
     let s = spelled (start_fields p.header) in let g = spelled (origin_fields p.header) in
     let front : take 5 (parts_bytes p) ≡ s = ap (take 5) (parts_split p) ∙ take_at s (g ++ tail_of p) 5 (length-spelled (start_fields p.header)) in

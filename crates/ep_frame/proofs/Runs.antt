@@ -7,7 +7,7 @@ use Rattle.std.proofs.lemmas.List.{take_at, drop_at, drop-take, length-take, len
 use Rattle.ep_base.specs.Attributes.{same_list}
 use Rattle.ep_base.specs.Commands.{Command}
 use Rattle.ep_base.specs.Ops.{op_number}
-use Rattle.ep_base.specs.Parts.{Parts, parts_of, command_in, command_of, are_parts, cut}
+use Rattle.ep_base.specs.CommandParts.{CommandParts, parts_of, command_in, command_of, are_parts, cut}
 use Rattle.ep_base.specs.Sameness.{same_command}
 use Rattle.ep_base.specs.declared.op.Op.{Op}
 use Rattle.ep_base.proofs.Partitions.{parts_law_lem}
@@ -18,7 +18,7 @@ use Rattle.ep_frame.specs.Meaning.{command_parts_at, run_at, command_at}
 use Rattle.ep_frame.proofs.BigEndian.{rest_is}
 use Rattle.ep_frame.proofs.Saying.{op_again}
 
-abbrev made : Op → List ℕ → List ℕ → List ℕ → Parts
+abbrev made : Op → List ℕ → List ℕ → List ℕ → CommandParts
 made o k l b = record { op = o; first = k; second = l; body = b }
 
 -- the first of the first
@@ -72,17 +72,17 @@ same_op : (o p : Op) → op_number o ≡ op_number p → o ≡ p
 same_op o p e = sym (op_again o) ∙ ap op_of e ∙ op_again p
 
 -- the test of two commands' parts
-abbrev test : Parts → Parts → Bool
+abbrev test : CommandParts → CommandParts → Bool
 test p q = eqb (op_number p.op) (op_number q.op) && (eqb (length p.first) (length q.first) && (eqb (length p.second) (length q.second) && same_list ((p.first ++ p.second) ++ p.body) ((q.first ++ q.second) ++ q.body)))
 
-cut_alike : (p q : Parts) → length p.first ≡ length q.first → length p.second ≡ length q.second → (p.first ++ p.second) ++ p.body ≡ (q.first ++ q.second) ++ q.body → (p.first ≡ q.first) × (p.second ≡ q.second) × (p.body ≡ q.body)
+cut_alike : (p q : CommandParts) → length p.first ≡ length q.first → length p.second ≡ length q.second → (p.first ++ p.second) ++ p.body ≡ (q.first ++ q.second) ++ q.body → (p.first ≡ q.first) × (p.second ≡ q.second) × (p.body ≡ q.body)
 cut_alike p q f s e = (
   sym (run_first p.first p.second p.body) ∙ (λ t. take (f t) (e t)) ∙ run_first q.first q.second q.body,
   sym (run_second p.first p.second p.body) ∙ (λ t. take (s t) (drop (f t) (e t))) ∙ run_second q.first q.second q.body,
   sym (run_body p.first p.second p.body) ∙ (λ t. drop (f t + s t) (e t)) ∙ run_body q.first q.second q.body,
 )
 
-test_true : (p q : Parts) → test p q ≡ true → p ≡ q
+test_true : (p q : CommandParts) → test p q ≡ true → p ≡ q
 test_true p q e =
     let a = and_parts (eqb (op_number p.op) (op_number q.op)) _ e in
     let b = and_parts (eqb (length p.first) (length q.first)) _ a.1 in
@@ -91,7 +91,7 @@ test_true p q e =
     let r = cut_alike p q (eqb-true _ _ b.0) (eqb-true _ _ c.0) ((Decides-same_list ((p.first ++ p.second) ++ p.body) ((q.first ++ q.second) ++ q.body)).0 c.1) in
     λ t. made (o t) (r.0 t) (r.1 t) (r.2 t)
 
-test_self : (p : Parts) → test p p ≡ true
+test_self : (p : CommandParts) → test p p ≡ true
 test_self p =
     and_from _ _ (eq-eqb (op_number p.op) (op_number p.op) refl)
     (and_from _ _ (eq-eqb (length p.first) (length p.first) refl)
@@ -102,13 +102,13 @@ some_if true x y e = cc
 some_if false x y e = absurd (cc)
 
 -- the parts of a command are those of another one exactly where the commands are one
-pub same_parts : (p : Parts) (c : Command) → are_parts p ≡ true → command_of (parts_of c) ≡ Some c → test p (parts_of c) ≡ same_command (command_in p) c
+pub same_parts : (p : CommandParts) (c : Command) → are_parts p ≡ true → command_of (parts_of c) ≡ Some c → test p (parts_of c) ≡ same_command (command_in p) c
 same_parts p c e f =
     let own : command_in (parts_of c) ≡ c = some_if (are_parts (parts_of c)) (command_in (parts_of c)) c f in
     let back : parts_of (command_in p) ≡ p = parts_law_lem.back p (command_in p) (ap (λ (b : Bool). cond b (Some (command_in p)) None) e) in
     iff (test p (parts_of c)) (same_command (command_in p) c)
     (λ t. (Decides-same_command (command_in p) c).1 (ap command_in (test_true p (parts_of c) t) ∙ own))
-    (λ t. let same : p ≡ parts_of c = sym back ∙ ap parts_of ((Decides-same_command (command_in p) c).0 t) in subst (λ (q : Parts). test p q ≡ true) same (test_self p))
+    (λ t. let same : p ≡ parts_of c = sym back ∙ ap parts_of ((Decides-same_command (command_in p) c).0 t) in subst (λ (q : CommandParts). test p q ≡ true) same (test_self p))
 
 -- ---- the run of a frame
 
@@ -132,7 +132,7 @@ run_there b whole =
     (λ t. let p = sym is t in (p.first ++ p.second) ++ p.body) ∙ run_whole h.key_len h.second_len r
 
 -- the test of a frame's parts and a command's
-abbrev test_at : List ℕ → Parts → Bool
+abbrev test_at : List ℕ → CommandParts → Bool
 test_at b q =
     eqb (op_number (command_parts_at b).op) (op_number q.op)
     && (eqb (header_at b).key_len (length q.first) && (eqb (header_at b).second_len (length q.second) && same_list (run_at b) ((q.first ++ q.second) ++ q.body)))

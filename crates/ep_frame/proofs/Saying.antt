@@ -13,7 +13,7 @@ use Rattle.ep_base.specs.declared.version.Version.{Version}
 use Rattle.ep_base.specs.declared.version_kind.VersionKind.TheVariants.{V1, V2, V3}
 use Rattle.ep_base.proofs.Versions.{deps_in_last}
 use Rattle.ep_base.specs.Ops.{op_number, second_fits, body_fits, first_fits, is_key_len}
-use Rattle.ep_base.specs.Parts.{parts_of}
+use Rattle.ep_base.specs.CommandParts.{parts_of}
 use Rattle.ep_base.specs.declared.op.Op.{Op}
 use Rattle.ep_base.specs.declared.op.Op.TheVariants as op
 use Rattle.ep_frame.specs.Faults.{highest_op, op_of, are_early, are_in, text_fits, generation_fits}

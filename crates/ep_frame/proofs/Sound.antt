@@ -9,7 +9,7 @@ use Rattle.ep_base.specs.Ballots.{counter_of, owner_of}
 use Rattle.ep_base.specs.Deps.{IsRising, IsBelowFirst, most_deps}
 use Rattle.ep_base.specs.Generations.{HasItsGeneration}
 use Rattle.ep_base.specs.Ops.{op_number, first_fits}
-use Rattle.ep_base.specs.Parts.{parts_of as command_parts, command_in, are_parts, is_twice, body_said, IsInRange}
+use Rattle.ep_base.specs.CommandParts.{parts_of as command_parts, command_in, are_parts, is_twice, body_said, IsInRange}
 use Rattle.ep_base.specs.declared.op.Op.{Op}
 use Rattle.ep_base.proofs.Partitions.{Fits, fits, parts_law_lem}
 use Rattle.ep_base.specs.Versions.{version_number, generation_of, highest_in, most_deps_in, IsInstanceIn, AreDepsIn, IsDecreeIn, CanSay}
@@ -29,13 +29,13 @@ use Rattle.ep_frame.specs.declared.header.Header.{Header}
 use Rattle.ep_frame.specs.declared.origin.Origin.{Origin}
 use Rattle.ep_frame.specs.Fields.{header_at, header_len, generation_from, text_len, deps_in}
 use Rattle.ep_frame.specs.Faults.{◌>>◌, names_rows, ballot_rows, vote_rows, body_rows, late_rows, within, checked, highest_op, op_of, text_fits, are_deps, are_in, deps_allowed, has_same_keys, has_other_body, is_instance, precedes_first, version_in, header_fault_in, header_fault, rest_fault, fault_of, frame_len, deps_place}
-use Rattle.ep_frame.specs.Spelling.{Parts, parts_at, parts_of, status_code, IsBallot, AreAttrs, IsDecree, IsMessage, IsOrigin, Spells}
+use Rattle.ep_frame.specs.Spelling.{FrameParts, parts_at, parts_of, status_code, IsBallot, AreAttrs, IsDecree, IsMessage, IsOrigin, Spells}
 use Rattle.ep_frame.proofs.Rows.{AllPass, fine, all_pass, within-from, apart-from, choose, choose_other}
 use Rattle.ep_frame.proofs.Again.{PartsFit, parts_again, length-parts_bytes}
 use Rattle.ep_frame.proofs.Saying.{op_low, is_version, generation_again, IsShortIn, text_from, text_again, op_again, op_one, first_high, second_high, body_high, op_within, short_within, deps_within}
 
 -- parts with these fields
-abbrev frame : (v : Version) (k from : ℕ) (o : Origin) (i counter replica status other_counter other_replica seq op : ℕ) (key second body deps : List ℕ) → Parts
+abbrev frame : (v : Version) (k from : ℕ) (o : Origin) (i counter replica status other_counter other_replica seq op : ℕ) (key second body deps : List ℕ) → FrameParts
 frame v k from o i counter replica status other_counter other_replica seq op key second body deps = record {
   header = record {
     magic = 17744;
@@ -67,7 +67,7 @@ frame v k from o i counter replica status other_counter other_replica seq op key
   deps = deps;
 }
 
-pub record Sound (p : Parts) : Type 0 where
+pub record Sound (p : FrameParts) : Type 0 where
   pub header : header_fault p.header ≡ fine
   pub fits : PartsFit p
   pub count : length p.deps ≡ p.header.count
@@ -349,7 +349,7 @@ sound v from o (Nack i b p) own g m e =
 rest_fine : (len deps keys body : Bool) → len ≡ true → deps ≡ true → keys ≡ false → body ≡ false → cond (not len) (Err Length) (cond (not deps) (Err Order) (cond keys (Err SameKey) (cond body (Err Body) fine))) ≡ fine
 rest_fine len deps keys body l d k b = λ t. cond (not (l t)) (Err Length) (cond (not (d t)) (Err Order) (cond (k t) (Err SameKey) (cond (b t) (Err Body) fine)))
 
-no_fault : (b : List ℕ) (p : Parts) → parts_at b ≡ p → header_len p.header.version ≤ length b → length b ≡ frame_len p.header → header_fault p.header ≡ fine → deps_allowed (version_in p.header) p.deps ≡ true
+no_fault : (b : List ℕ) (p : FrameParts) → parts_at b ≡ p → header_len p.header.version ≤ length b → length b ≡ frame_len p.header → header_fault p.header ≡ fine → deps_allowed (version_in p.header) p.deps ≡ true
     → is_twice p.key p.second ≡ false → body_said (op_of p.header.op) p.body ≡ true → fault_of b ≡ fine
 unfolding fault_of rest_fault
 no_fault b p is long len header deps apart body =

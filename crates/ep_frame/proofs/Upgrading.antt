@@ -8,7 +8,7 @@ use Rattle.ep_base.specs.declared.version_kind.VersionKind.TheVariants.{V1, V2}
 use Rattle.ep_frame.specs.declared.origin.Origin.{Origin}
 use Rattle.ep_frame.specs.Fields.{number_bytes}
 use Rattle.ep_frame.specs.Meaning.{version_at, sender_at, origin_at, message_at}
-use Rattle.ep_frame.specs.Spelling.{IsFrame, Parts, Spells, parts_bytes, parts_of}
+use Rattle.ep_frame.specs.Spelling.{IsFrame, FrameParts, Spells, parts_bytes, parts_of}
 use Rattle.ep_frame.specs.Upgrading.{IsUpgradedFrame}
 use Rattle.ep_frame.proofs.Meanings.{version_spelled, sender_spelled, origin_spelled, message_spelled}
 use Rattle.ep_frame.proofs.Frames.{frame_long}
@@ -35,7 +35,7 @@ says_same b c s = record {
 abbrev pub in_version_2 : List ℕ → List ℕ
 in_version_2 b = take 2 b ++ 2 ∷ drop 3 b
 
-abbrev parts_in : ℕ → Parts → Parts
+abbrev parts_in : ℕ → FrameParts → FrameParts
 parts_in n p = record p { header = record p.header { version = n } }
 
 -- versions 1 and 2 spell a message alike, but for their number
@@ -50,7 +50,7 @@ same_parts from o (PrepareOk i b None) = (refl, refl)
 same_parts from o (PrepareOk i b (Some x)) = (refl, refl)
 same_parts from o (Nack i p q) = (refl, refl)
 
-changed : (p : Parts) → parts_bytes (parts_in 2 p) ≡ in_version_2 (parts_bytes (parts_in 1 p))
+changed : (p : FrameParts) → parts_bytes (parts_in 2 p) ≡ in_version_2 (parts_bytes (parts_in 1 p))
 unfolding number_bytes
 changed p = refl
 

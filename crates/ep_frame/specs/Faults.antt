@@ -1,7 +1,7 @@
 -- What is wrong with the bytes of a frame: the first fault, from left to right.
 use Rattle.std.specs.Prelude.{ℕ, ◌+◌, ◌*◌, List, [], ◌∷◌, Bool, true, ◌&&◌, ◌||◌, not, ◌==◌, nat_le, nat_lt, if◌then◌else◌, length, take, drop, Result, Ok, Err, ◌≡◌}
 use Rattle.ep_base.specs.Ops.{first_fits, second_fits, body_fits}
-use Rattle.ep_base.specs.Parts.{is_twice, body_said}
+use Rattle.ep_base.specs.CommandParts.{is_twice, body_said}
 use Rattle.ep_base.specs.declared.op.Op.{Op}
 use Rattle.ep_base.specs.declared.op.Op.TheVariants as op
 use Rattle.ep_base.specs.Instances.{leader_of, number_of, highest_number}

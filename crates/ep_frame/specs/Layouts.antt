@@ -3,11 +3,11 @@ use Rattle.std.specs.Prelude.{◌+◌, take, drop}
 use Rattle.ep_base.specs.Messages.{says}
 use Rattle.ep_base.specs.declared.message.Message.{Message}
 use Rattle.ep_frame.specs.declared.layout.Layout.{Layout}
-use Rattle.ep_frame.specs.declared.telling.Telling.{Telling}
-use Rattle.ep_frame.specs.Spelling.{Parts}
+use Rattle.ep_frame.specs.declared.instance_message.InstanceMessage.{InstanceMessage}
+use Rattle.ep_frame.specs.Spelling.{FrameParts}
 
 -- what goes into a frame: both keys and the body stand in one run
-abbrev pub parts_in : Layout → Parts
+abbrev pub parts_in : Layout → FrameParts
 parts_in l =
     let h = l.header in
     record {
@@ -19,5 +19,5 @@ parts_in l =
     }
 
 -- the message that is told
-abbrev pub told_by : Telling → Message
+abbrev pub told_by : InstanceMessage → Message
 told_by t = says t.instance t.said

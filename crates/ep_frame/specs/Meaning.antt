@@ -16,10 +16,10 @@ use Rattle.ep_frame.specs.declared.header.Header.{Header}
 use Rattle.ep_frame.specs.declared.kind.Kind.{Kind}
 use Rattle.ep_frame.specs.declared.kind.Kind.TheVariants as kind
 use Rattle.ep_frame.specs.declared.origin.Origin.{Origin}
-use Rattle.ep_base.specs.Parts.{command_in, Parts as CommandParts}
+use Rattle.ep_base.specs.CommandParts.{command_in, CommandParts}
 use Rattle.ep_frame.specs.Faults.{version_in, op_of, deps_place}
 use Rattle.ep_frame.specs.Fields.{header_at, header_len}
-use Rattle.ep_frame.specs.Spelling.{Parts, parts_at}
+use Rattle.ep_frame.specs.Spelling.{FrameParts, parts_at}
 
 abbrev pub origin_in : Header → Origin
 origin_in h = record { to = h.to; out = h.out; entry = h.entry; stamp = h.stamp }
@@ -35,24 +35,24 @@ ballot_in h = ballot_of h.counter h.replica
 abbrev pub other_in : Header → ℕ
 other_in h = ballot_of h.other_counter h.other_replica
 
-abbrev pub attrs_of : Parts → Attrs
+abbrev pub attrs_of : FrameParts → Attrs
 attrs_of p = record { seq = p.header.seq; deps = p.deps }
 
 -- the parts of the command
-abbrev pub command_parts_of : Parts → CommandParts
+abbrev pub command_parts_of : FrameParts → CommandParts
 command_parts_of p = record { op = op_of p.header.op; first = p.key; second = p.second; body = p.body }
 
-abbrev pub decree_of : Parts → Decree
+abbrev pub decree_of : FrameParts → Decree
 decree_of p = record { command = command_in (command_parts_of p); attrs = attrs_of p }
 
 abbrev pub status_of : ℕ → VoteStatus
 status_of n = if n == 1 then PreAccepted else if n == 2 then Accepted else Committed
 
-abbrev pub vote_of : Parts → Option Vote
+abbrev pub vote_of : FrameParts → Option Vote
 vote_of p =
     if p.header.status == 0 then None else Some (record { status = status_of p.header.status; ballot = other_in p.header; decree = decree_of p })
 
-abbrev pub message_of : Parts → Message
+abbrev pub message_of : FrameParts → Message
 message_of p =
     if p.header.kind == 1 then PreAccept (instance_in p.header) (ballot_in p.header) (decree_of p)
     else if p.header.kind == 2 then PreAcceptOk (instance_in p.header) (ballot_in p.header) (attrs_of p)
@@ -160,7 +160,7 @@ abbrev pub is_within : ℕ → List ℕ → Bool
 is_within n b = ltb (sender_at b) n && (ltb (origin_at b).to n && message_within n (message_at b))
 
 -- the same by the parts: a message's frame has 0 where it has no ballot
-abbrev pub parts_within : ℕ → Parts → Bool
+abbrev pub parts_within : ℕ → FrameParts → Bool
 parts_within n p =
     let h = p.header in
     ltb h.from n && (ltb h.to n && (ltb h.leader n && (ltb h.replica n && (ltb h.other_replica n && are_within n p.deps))))

@@ -3,8 +3,8 @@ use Rattle.std.specs.Prelude.{ℕ, ◌≡◌, ◌≤◌, List, length, true}
 use Rattle.ep_base.specs.Instances.{highest_number}
 use Rattle.ep_base.specs.Ballots.{highest_counter}
 use Rattle.ep_frame.specs.Faults.{has_attributes, are_deps}
-use Rattle.ep_frame.specs.Spelling.{Parts}
-use Rattle.ep_base.specs.Parts.{are_parts}
+use Rattle.ep_frame.specs.Spelling.{FrameParts}
+use Rattle.ep_base.specs.CommandParts.{are_parts}
 use Rattle.ep_frame.specs.Meaning.{command_parts_of}
 use Rattle.ep_frame.specs.Fields.{number_at}
 
@@ -20,7 +20,7 @@ pub record InRange (b : List ℕ) : Type 0 where
   pub number_high : number_at 21 2 b ≤ highest_number
 
 -- what is known of the parts of a frame without a fault
-pub record Readable (p : Parts) : Type 0 where
+pub record Readable (p : FrameParts) : Type 0 where
   pub leader : p.header.leader ≤ 6
   pub number_low : 1 ≤ p.header.number
   pub number_high : p.header.number ≤ highest_number

@@ -6,7 +6,7 @@ use Rattle.ep_base.specs.Ballots.{counter_of, owner_of, highest_counter}
 use Rattle.ep_base.specs.Deps.{IsRising, AreInstances, most_deps}
 use Rattle.ep_base.specs.Generations.{HasItsGeneration}
 use Rattle.ep_base.specs.Ops.{op_number}
-use Rattle.ep_base.specs.Parts.{parts_of as command_parts, IsInRange}
+use Rattle.ep_base.specs.CommandParts.{parts_of as command_parts, IsInRange}
 use Rattle.ep_base.specs.Versions.{version_number, generation_of, CanSay}
 use Rattle.ep_base.specs.Commands.{Command}
 use Rattle.ep_base.specs.declared.attrs.Attrs.{Attrs}
@@ -23,14 +23,14 @@ use Rattle.ep_frame.specs.Faults.{second_place, body_place, deps_place}
 use Rattle.ep_frame.specs.Fields.{header_bytes, header_at, header_len, dep_bytes, deps_in}
 
 -- a frame's fields, and the bytes and instances after them
-pub record Parts : Type 0 where
+pub record FrameParts : Type 0 where
   pub header : Header
   pub key : List ℕ
   pub second : List ℕ
   pub body : List ℕ
   pub deps : List ℕ
 
-abbrev pub parts_bytes : Parts → List ℕ
+abbrev pub parts_bytes : FrameParts → List ℕ
 parts_bytes p = header_bytes p.header ++ p.key ++ p.second ++ p.body ++ flat_map dep_bytes p.deps
 
 -- where the keys and the body lie
@@ -45,7 +45,7 @@ abbrev pub body_at : List ℕ → List ℕ
 body_at b = slice_range b (body_place (header_at b)) (deps_place (header_at b))
 
 -- the parts of a frame's bytes
-abbrev pub parts_at : List ℕ → Parts
+abbrev pub parts_at : List ℕ → FrameParts
 parts_at b =
     let h = header_at b in
     record {
@@ -57,7 +57,7 @@ parts_at b =
     }
 
 -- a frame of this version and kind in which all that a kind may leave out is zero
-abbrev pub blank : Version → ℕ → Origin → ℕ → ℕ → Parts
+abbrev pub blank : Version → ℕ → Origin → ℕ → ℕ → FrameParts
 blank v from o kind i = record {
   header = record {
     magic = 0x4550;
@@ -89,16 +89,16 @@ blank v from o kind i = record {
   deps = [];
 }
 
-abbrev pub with_ballot : ℕ → Parts → Parts
+abbrev pub with_ballot : ℕ → FrameParts → FrameParts
 with_ballot b p = record p { header = record p.header { counter = counter_of b; replica = owner_of b } }
 
-abbrev pub with_other : ℕ → ℕ → ℕ → Parts → Parts
+abbrev pub with_other : ℕ → ℕ → ℕ → FrameParts → FrameParts
 with_other status counter replica p = record p { header = record p.header { status = status; other_counter = counter; other_replica = replica } }
 
-abbrev pub with_attrs : Attrs → Parts → Parts
+abbrev pub with_attrs : Attrs → FrameParts → FrameParts
 with_attrs a p = record p { header = record p.header { seq = a.seq; count = length a.deps }; deps = a.deps }
 
-abbrev pub with_parts : (op : ℕ) (key second body : List ℕ) → Parts → Parts
+abbrev pub with_parts : (op : ℕ) (key second body : List ℕ) → FrameParts → FrameParts
 with_parts op key second body p = record p {
   header = record p.header { op = op; key_len = length key; second_len = length second; body_len = length body };
   key = key;
@@ -106,10 +106,10 @@ with_parts op key second body p = record p {
   body = body;
 }
 
-abbrev pub with_command : Command → Parts → Parts
+abbrev pub with_command : Command → FrameParts → FrameParts
 with_command c p = with_parts (op_number (command_parts c).op) (command_parts c).first (command_parts c).second (command_parts c).body p
 
-abbrev pub with_decree : Decree → Parts → Parts
+abbrev pub with_decree : Decree → FrameParts → FrameParts
 with_decree x p = with_attrs x.attrs (with_command x.command p)
 
 abbrev pub status_code : VoteStatus → ℕ
@@ -118,12 +118,12 @@ status_code Accepted = 2
 status_code Committed = 3
 
 -- without a vote the voted ballot is written as the one that the instance's leader begins with
-abbrev pub with_vote : ℕ → Option Vote → Parts → Parts
+abbrev pub with_vote : ℕ → Option Vote → FrameParts → FrameParts
 with_vote i None p = with_other 0 0 (leader_of i) p
 with_vote i (Some v) p = with_decree v.decree (with_other (status_code v.status) (counter_of v.ballot) (owner_of v.ballot) p)
 
 -- the parts of the message's frame
-abbrev pub parts_of : Version → ℕ → Origin → Message → Parts
+abbrev pub parts_of : Version → ℕ → Origin → Message → FrameParts
 parts_of v from o (PreAccept i b x) = with_decree x (with_ballot b (blank v from o 1 i))
 parts_of v from o (PreAcceptOk i b a) = with_attrs a (with_ballot b (blank v from o 2 i))
 parts_of v from o (Accept i b x) = with_decree x (with_ballot b (blank v from o 3 i))

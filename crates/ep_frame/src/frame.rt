@@ -75,7 +75,7 @@ impl Frame {
         ensures spelled { Spells (version_at self.now) self.now (sender_at self.now) (origin_at self.now) (message_at self.now) }
         ensures frame { IsFrame self.now }
     {
-        FrameView::known(&self.bytes)
+        FrameView::from_valid(&self.bytes)
     }
 
     /// The bytes.

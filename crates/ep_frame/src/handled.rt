@@ -3,7 +3,7 @@
 ghost use Rattle.std.specs.Prelude.{◌≡◌, ◌≤◌, ◌+◌, ◌++◌, ◌&&◌, eqb, Some, IfOk, OnOk, OnErr, length, drop, true};
 ghost use Rattle.ep_base.specs.Attributes.{join, same_attrs, same_list};
 ghost use Rattle.ep_base.specs.Ops.{op_number};
-ghost use Rattle.ep_base.specs.Parts.{parts_of, command_of};
+ghost use Rattle.ep_base.specs.CommandParts.{parts_of, command_of};
 ghost use Rattle.ep_base.specs.Sameness.{same_command, same_decree};
 ghost use Rattle.ep_rules.specs.Steps.{are_within};
 ghost use Rattle.ep_frame.specs.DepBytes.{AreDepBytes};
@@ -65,7 +65,7 @@ fn command_from(bytes: &[u8], run: Bytes) -> Command
     ensures { result ≡ command_at bytes.now }
 {
     let op = made_op(u8_at(bytes, 34));
-    Command::known(op, run, u8_at(bytes, 35), second_len_at(bytes) as u8)
+    Command::from_valid_parts(op, run, u8_at(bytes, 35), second_len_at(bytes) as u8)
 }
 
 // The command, which shares the frame's bytes.

@@ -179,14 +179,14 @@ impl Header {
         requires { self.now.version ≡ 3 → 1 ≤ self.now.generation }
         ensures { result ≡ version_in self.now }
     {
-        Version::known(self.version, self.generation)
+        Version::from_valid(self.version, self.generation)
     }
 
     // A version with the limits of the frame's: those of version 3 are the same in all generations.
     pub(crate) fn limits(&self) -> Version
         ensures { result ≡ version_of self.now.version 1 }
     {
-        Version::known(self.version, 1)
+        Version::from_valid(self.version, 1)
     }
 
     /// Whether the message carries attributes: a pre-accept, its answer, an accept, a commit, or an answer to a Prepare with a vote.

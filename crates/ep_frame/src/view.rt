@@ -2,7 +2,7 @@
 
 ghost use Rattle.std.specs.Prelude.{◌≡◌, ◌≢◌, ◌≤◌, ◌<◌, ◌^◌, ◌+◌, ◌*◌, ◌↔◌, Ok, Err, IfOk, IsOk, IfSome, IsSome, IsTrue, MatchResult, length, drop};
 ghost use Rattle.ep_base.specs.Instances.{instance_of, highest_number};
-ghost use Rattle.ep_base.specs.Parts.{body_said};
+ghost use Rattle.ep_base.specs.CommandParts.{body_said};
 ghost use Rattle.ep_base.specs.Messages.{instance_of_message};
 ghost use Rattle.ep_frame.specs.Faults.{HasNoFault, are_deps, are_early, are_in, deps_allowed, has_same_keys, has_other_body, is_short, fault_of, is_instance, rest_fault, second_place, body_place, deps_place, frame_len};
 ghost use Rattle.ep_frame.specs.DepBytes.{deps_at};
@@ -281,7 +281,7 @@ fn version_in(bytes: &[u8]) -> Version
     requires { HasNoFault bytes.now }
     ensures { result ≡ version_at bytes.now }
 {
-    Version::known(u8_at(bytes, 2), generation_at(bytes))
+    Version::from_valid(u8_at(bytes, 2), generation_at(bytes))
 }
 
 fn sender_in(bytes: &[u8]) -> ReplicaId
@@ -353,7 +353,7 @@ impl<'a> FrameView<'a> {
     }
 
     /// The frame that the bytes are known to be.
-    pub(crate) fn known(bytes: &'a Bytes) -> FrameView<'a>
+    pub(crate) fn from_valid(bytes: &'a Bytes) -> FrameView<'a>
         requires { HasNoFault bytes.now }
         ensures value { result ≡ bytes.now }
         ensures spelled { Spells (version_at bytes.now) bytes.now (sender_at bytes.now) (origin_at bytes.now) (message_at bytes.now) }

@@ -13,10 +13,10 @@ ghost use Rattle.ep_frame.specs.Rounds.{AreFramesTo, OriginsFit, readdressed_to}
 use crate::frame::Frame;
 use crate::frame_mut::origin_array;
 use crate::header::Header;
+use crate::instance_message::InstanceMessage;
 use crate::layout::Layout;
 use crate::origin::Origin;
 use crate::round::Round;
-use crate::telling::Telling;
 use bytes::Bytes;
 use ep_base::{InstanceId, Message, ReplicaId, Version};
 use std::alloc::{AllocError, Global};
@@ -209,7 +209,7 @@ pub fn write(
     requires sayable { CanSay version message.now }
     ensures { IfOk result (λ f. Spells version f from origin message.now) }
 {
-    let telling = Telling {
+    let telling = InstanceMessage {
         instance: message.instance(),
         said: message.said(),
     };
@@ -221,7 +221,7 @@ pub fn write_said(
     alloc: Global,
     version: Version,
     from: ReplicaId,
-    telling: &Telling<'_>,
+    telling: &InstanceMessage<'_>,
     origin: Origin,
 ) -> Result<Frame, AllocError>
     requires apart { origin.to ≢ from }
@@ -241,7 +241,7 @@ pub fn write_each(
     alloc: Global,
     version: Version,
     from: ReplicaId,
-    telling: &Telling<'_>,
+    telling: &InstanceMessage<'_>,
     round: &Round<'_>,
 ) -> Result<Vec<Frame>, AllocError>
     requires apart { AllByRecursion (λ to. to ≢ from) round.now.receivers.now }
@@ -262,7 +262,7 @@ fn written(
     alloc: Global,
     version: Version,
     from: ReplicaId,
-    telling: &Telling<'_>,
+    telling: &InstanceMessage<'_>,
     origin: Origin,
 ) -> Result<Vec<u8>, AllocError>
     requires apart { origin.to ≢ from }

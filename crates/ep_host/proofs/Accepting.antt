@@ -88,7 +88,7 @@ none_after [] r low = refl
 none_after (n ∷ ns) zero low = absurd (omega arith)
 none_after (n ∷ ns) (suc r) low = none_after ns r (omega arith)
 
--- the first one tells what all start as
+-- the first one says what all start as
 first_is : (nodes : List Node) → 0 < length nodes → ((get_or nodes 0 blank).replica.version ≡ first_version (replicas_in nodes)) × ((get_or nodes 0 blank).replica.opening ≡ first_opening (replicas_in nodes))
 first_is [] low = absurd (omega arith)
 first_is (n ∷ ns) low = (refl, refl)
@@ -119,10 +119,10 @@ module _ (f : ℕ) (nodes : List Node) (host : IsHost f nodes) (know : All Knows
       let s = start_at 0 low in
       subst (λ (v : Version). OpensIn v opening) s.0 (subst (λ (o : Opening). OpensIn n.version o) s.1 (know 0 blank low).opens)
 
-  clocked_at : (r : ℕ) → AreClocked opening.since (their_journals (replicas_in nodes) r)
+  clocked_at : (r : ℕ) → AreClocked opening.base_stamp (their_journals (replicas_in nodes) r)
   clocked_at r = ⊎_elim
-      (λ (low : r < length nodes). subst (λ (es : List rules.Entry). AreClocked opening.since es) (sym (journal_is r)) (subst (λ (o : Opening). AreClocked o.since (entries_of (get_or nodes r blank).replica.entries)) (start_at r low).1 (know r blank low).clocked))
-      (λ (ge : length nodes ≤ r). subst (λ (es : List Entry). AreClocked opening.since (entries_of es)) (sym (none_after nodes r ge)) tt)
+      (λ (low : r < length nodes). subst (λ (es : List rules.Entry). AreClocked opening.base_stamp es) (sym (journal_is r)) (subst (λ (o : Opening). AreClocked o.base_stamp (entries_of (get_or nodes r blank).replica.entries)) (start_at r low).1 (know r blank low).clocked))
+      (λ (ge : length nodes ≤ r). subst (λ (es : List Entry). AreClocked opening.base_stamp (entries_of es)) (sym (none_after nodes r ge)) tt)
       (cases_lt r (length nodes))
 
   sent_at : AllSent nodes → (r : ℕ) (e : rules.Entry) (m : Frame) → In e (their_journals (replicas_in nodes) r) → e.event ≡ Handles m → WasSent (their_journals (replicas_in nodes)) m
@@ -179,7 +179,7 @@ pub host_accepted :
     (f : ℕ) (nodes : List Node) (receipts : List Receipt) → IsHost f nodes → All Knows nodes → AllSent nodes → AreOwn (opens (first_opening (replicas_in nodes))) f (their_journals (replicas_in nodes)) receipts →
     IsAccepted (opens (first_opening (replicas_in nodes))) f (their_journals (replicas_in nodes)) receipts
 host_accepted f nodes receipts host know sent own =
-    clocked_accepted_lem (opens (first_opening (replicas_in nodes))) (λ _. (first_opening (replicas_in nodes)).since) f (their_journals (replicas_in nodes)) (clocked_at f nodes host know) (sent_at f nodes host know sent) receipts own
+    clocked_accepted_lem (opens (first_opening (replicas_in nodes))) (λ _. (first_opening (replicas_in nodes)).base_stamp) f (their_journals (replicas_in nodes)) (clocked_at f nodes host know) (sent_at f nodes host know sent) receipts own
 
 -- Lists of nodes.
 

@@ -73,7 +73,7 @@ IsRefused s f r event Memory = ⊥
 IsRefused s f r event OutOfRange = size f ≤ r
 IsRefused s f r event (Replica fault) = (r < size f) × IsDeclinedThere s event fault
 
--- why no receipts are told: want of memory, or there is no such replica in the cluster
+-- why no receipts are reported: out of memory, or there is no such replica in the cluster
 abbrev pub IsUntold : ℕ → ℕ → HostFault → Type 0
 IsUntold f r Memory = r < size f
 IsUntold f r OutOfRange = size f ≤ r

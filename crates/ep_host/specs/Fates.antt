@@ -58,7 +58,7 @@ count_of Dropped = 1
 count_of Held = 1
 count_of (Repeated first second) = 1
 
--- what the weather has said; of a frame for which there was no memory, this tells nothing
+-- what the weather has said; of a frame for which there was no memory, this says nothing
 abbrev pub kind_of : Delivery → Option WeatherKind
 kind_of (Put put) = None
 kind_of Short = None

@@ -30,7 +30,7 @@ pub record Follows (a b : Node) : Type 0 where
   pub frames : frames_in fates ≡ frames_of works.entries
   pub rings : Each (Carries a.weather fates) a.links b.links
   pub weather : b.weather ≡ a.weather
-  -- so many frames that were taken are lost, for want of memory
+  -- so many frames that were taken are lost, when out of memory
   pub dropped : ℕ
   pub lost : b.lost ≡ counted_up a.lost (lost_in fates + dropped)
 

@@ -86,7 +86,7 @@ pub record Knows (n : Node) : Type 0 where
   pub booked : IsBooked n.replica.me n.replica.entries n.links
   pub opens : OpensIn n.replica.version n.replica.opening
   pub journal : IsJournal n.replica.version n.replica.opening n.replica.faults n.replica.me n.replica.entries
-  pub clocked : AreClocked n.replica.opening.since (entries_of n.replica.entries)
+  pub clocked : AreClocked n.replica.opening.base_stamp (entries_of n.replica.entries)
   pub some : 0 < n.replica.faults
 
 -- each frame that a node has handled is a frame out of a node's journal

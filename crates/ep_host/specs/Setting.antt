@@ -19,7 +19,7 @@ pub record SetsWeather (ws : List Weather) (a b : Node) : Type 0 where
   pub counts : Each CountsAnew a.links links
   pub is : b ≡ record a { links = links; weather = ws }
 
--- why a list was not set, where P says that it is a weather, of the cluster or of one replica: want of memory, and it is one; or it is none
+-- why a list was not set, where P says that it is a weather, of the cluster or of one replica: out of memory, and it is one; or it is none
 abbrev pub IsUnset : Type 0 → HostFault → Type 0
 IsUnset P Memory = P
 IsUnset P OutOfRange = P → ⊥

@@ -20,7 +20,7 @@ abbrev pub event_of : Act → Event
 event_of (GiveUp i) = event.GiveUp i
 event_of (Recover i) = event.Recover i
 
--- a frame that is refused for want of memory is lost; one that is refused otherwise isn't
+-- a frame that is refused when out of memory is lost; one that is refused otherwise isn't
 abbrev pub lost_by : StepFault → ℕ
 lost_by Memory = 1
 lost_by OtherVersion = 0

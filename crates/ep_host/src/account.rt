@@ -107,7 +107,7 @@ pub fn taken_was_sent(nodes: &mut [RingNode])
     account(nodes);
 }
 
-/// The same of the nodes as they are after the look.
+/// Each node looks at both ends of its rings: frames taken were sent, of the nodes as they are then.
 pub(crate) fn look_at_all(nodes: &mut [RingNode])
     requires { (f : ℕ) × IsHost f nodes.old }
     ensures looked { Each Looked nodes.old nodes.new }

@@ -42,7 +42,7 @@ pub fn act(
 }
 
 /// Handles a frame that was taken, and answers how many frames are lost. One that is refused is dropped, and is lost where it was refused
-/// for want of memory.
+/// when out of memory.
 pub fn handle(
     replica: &mut Replica,
     links: &mut Vec<Link>,

@@ -35,7 +35,7 @@ fn audited(alloc: Global, journals: Journals, receipts: &[Receipt]) -> Result<Fi
     }
 }
 
-/// The same of journals of a cluster, one for each replica, in replica order, which all start as the first one does. A host's always are these.
+/// The audit of a cluster's journals, one for each replica, in replica order, which all start as the first one does. A host's always are these.
 pub fn finished(
     alloc: Global,
     journals: Vec<Journal>,

@@ -9,7 +9,7 @@ use ep_frame::Frame;
 use ep_replica::Replica;
 use std::alloc::Global;
 
-/// Frames to be sent, and how many were lost for want of memory.
+/// Frames to be sent, and how many were lost when out of memory.
 #[derive(Drop)]
 pub struct FramesOut {
     pub frames: Vec<Frame>,

@@ -160,7 +160,7 @@ impl<S: Start> LockHost<S> {
         LockHost::of(alloc, cluster, capacity, version, opening)
     }
 
-    /// The same, of this version, which is 2 or 3, and with this opening, which is none in version 2.
+    /// The replicas in this version, which is 2 or 3, with this opening, which is none in version 2.
     pub fn of(
         alloc: Global,
         cluster: Size,
@@ -347,8 +347,7 @@ impl<S: Start> LockHost<S> {
     /// Sets the weather: what is to become of which frames that the replicas send from now on. Each replica's part of the list takes the place of the
     /// one before, by rising replica, each under its sending lock, and its frames for each other one are counted anew; what is held stays held.
     ///
-    /// `OutOfRange` where one of these names no frame that a replica of the cluster puts for another one, or two name one frame, and nothing has
-    /// changed; otherwise `Memory` at want of memory. The replicas before the one that it was wanted for then have their new part, and the others
+    /// `OutOfRange` if an item names a frame that no replica sends, or two items name the same frame; nothing changes. Otherwise `Memory` when out of memory. The replicas before the one that it was wanted for then have their new part, and the others
     /// are as they were.
     pub fn set_weather<R: Wait>(&self, rt: &R, weather: &[Weather]) -> Result<(), HostFault>
         ensures ok { OnOk result (IsWeather self.now.cluster weather.now) }
@@ -371,7 +370,7 @@ impl<S: Start> LockHost<S> {
         }
     }
 
-    /// How many frames were lost: for want of memory, and where an inbox was full. Counted up to 2^64 - 1.
+    /// How many frames were lost: when out of memory, and where an inbox was full. Counted up to 2^64 - 1.
     pub fn lost<R: Wait>(&self, rt: &R) -> u64 {
         let mut sum = 0u64;
         for seat in &self.seats {

@@ -30,7 +30,7 @@ pub fn replica(
     }
 }
 
-/// The same, of version 2.
+/// The replica of this number in version 2.
 fn second(alloc: Global, cluster: Size, index: u8) -> Replica
     requires { index < size cluster }
     ensures { result ≡ begun cluster index }
@@ -40,7 +40,7 @@ fn second(alloc: Global, cluster: Size, index: u8) -> Replica
     Replica::new(alloc, cluster, me).unwrap()
 }
 
-/// The same, of the generation of this number.
+/// The replica of this number, in the generation of this number.
 fn in_generation(
     alloc: Global,
     cluster: Size,

@@ -61,7 +61,7 @@ fn accepted(alloc: Global, journals: &Journals, receipts: &[Receipt]) -> Result<
     }
 }
 
-/// The audit of the nodes of one host, with all their receipts. It never finds a fault. Want of memory drops the nodes.
+/// The audit of the nodes of one host, with all their receipts. It never finds a fault. Running out of memory drops the nodes.
 pub fn finish(alloc: Global, mut nodes: Vec<RingNode>) -> Result<Verdict, AllocError>
     requires { (f : ℕ) × IsHost f nodes.items }
     ensures verdict { (f : ℕ) → IsHost f nodes.items → IfOk result (λ v. IsAudited (opens (first_opening (replicas_in nodes.items))) f (their_journals (replicas_in nodes.items)) (their_receipts (replicas_in nodes.items)) v) }

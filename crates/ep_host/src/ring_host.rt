@@ -123,7 +123,7 @@ impl RingHost {
         RingHost::of(alloc, cluster, capacity, version, opening)
     }
 
-    /// The same, of this version, which is 2 or 3, and with this opening, which is none in version 2.
+    /// The nodes in this version, which is 2 or 3, with this opening, which is none in version 2.
     pub fn of(
         alloc: Global,
         cluster: Size,
@@ -147,7 +147,7 @@ impl RingHost {
         }
     }
 
-    /// Assigns a task to one of the nodes of a host, which stays one. At want of memory the node is as it was.
+    /// Assigns a task to one of the nodes of a host, which stays one. When out of memory, the node is as it was.
     pub fn assign(nodes: &mut [RingNode], node: usize, task: Task) -> Result<(), AllocError>
         requires { node < length nodes.old }
         ensures ok { OnOk result (AssignsAt node task nodes.old nodes.new) }

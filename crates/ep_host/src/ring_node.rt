@@ -124,14 +124,14 @@ impl RingNode {
     }
 
     /// How many frames it lost: frames out, where a ring was full or there was no memory for them, and frames that it took and that were refused
-    /// for want of memory. Counted up to 2^64 - 1.
+    /// when out of memory. Counted up to 2^64 - 1.
     pub fn lost(&self) -> u64
         ensures { result ≡ self.now.lost }
     {
         self.lost
     }
 
-    /// The tasks that were refused, each with its place from 0 among all that were assigned, and why. A place past 4,294,967,295 is told as that number.
+    /// The tasks that were refused, each with its place from 0 among all that were assigned, and why. A place past 4,294,967,295 is reported as that number.
     pub fn refused(&self) -> &[(u32, StepFault)]
         ensures { result.now ≡ self.now.refused }
     {
@@ -260,7 +260,7 @@ impl RingNode {
     /// Sets the weather: what is to become of which frames that the node puts from now on. It takes the place of the one before; what is held stays held.
     ///
     /// `OutOfRange` where one of these names no frame that this node puts for another one of the cluster, or two name one frame; otherwise `Memory`
-    /// at want of memory. Either leaves the node as it was.
+    /// when out of memory. Either leaves the node as it was.
     pub fn set_weather(&mut self, weather: &[Weather]) -> Result<(), HostFault>
         ensures ok { OnOk result (IsWeatherAt self.old.replica.faults self.old.replica.me weather.now × SetsWeather weather.now self.old self.new) }
         ensures refused { IfErr result (IsUnset (IsWeatherAt self.old.replica.faults self.old.replica.me weather.now)) }

@@ -9,6 +9,6 @@ pub struct Tended {
     pub moved: bool,
     /// The frames to be sent, in order.
     pub frames: Vec<Frame>,
-    /// How many frames were lost for want of memory: of those to be sent, and the frame that was given.
+    /// How many frames were lost when out of memory: of those to be sent, and the frame that was given.
     pub lost: u64,
 }

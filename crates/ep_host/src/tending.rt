@@ -38,7 +38,7 @@ fn handle(alloc: Global, replica: &mut Replica, frame: Option<Frame>) -> FramesO
 
 /// Handles the frame, if there is one, and then executes the next ready instance of the replica's own, if there is one.
 ///
-/// A frame that is refused is dropped, and is lost where it was refused for want of memory. The frames to be sent are of the replica's version.
+/// A frame that is refused is dropped, and is lost where it was refused when out of memory. The frames to be sent are of the replica's version.
 pub fn tend(alloc: Global, replica: &mut Replica, frame: Option<Frame>) -> Tended
     ensures tends { Tends frame replica.old replica.new result }
     ensures version { AreHostFrames result.frames.items }

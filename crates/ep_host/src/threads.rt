@@ -34,7 +34,7 @@ fn run_each<R: Threads + Sync, G: Gate>(rt: &R, nodes: &mut [RingNode], gate: &G
     );
 }
 
-/// The same, and then a look at both ends of every ring.
+/// The turns of each node, and then a look at both ends of every ring.
 fn turn_each<R: Threads + Sync, G: Gate>(rt: &R, nodes: &mut [RingNode], gate: &G, turns: u32)
     requires host { (f : ℕ) × IsHost f nodes.old }
     ensures runs { Each Runs nodes.old nodes.new }

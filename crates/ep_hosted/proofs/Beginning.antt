@@ -80,7 +80,7 @@ pub record IsHanded (n : Logged MemoryDevice) (h : Hosting) : Type 0 where
   pub held : h.held ≡ None
   pub told : h.answers.items ≡ []
 
--- it is the one of this log, which a test tells whether it is begun
+-- it is the one of this log, which a test says whether it is begun
 pub begun_on : (o : Origin) (f r : ℕ) (log : Option (List ℕ)) (begin : Begin) (n : Logged MemoryDevice) (h : Hosting) → begin ≡ begin_of log → IsHanded n h → origin_of n ≡ o → n.replica.faults ≡ f → n.replica.me ≡ r
     → IsOpened begin o f r (log_of log) n.replica.entries n.cut → (bytes : List ℕ) × (Some (memory_bytes n.device) ≡ Some bytes) × IsWrittenAnew begin o f r (log_of log) bytes → IsBegunAs o f r log h
 begun_on o f r log begin n h begins handed of_it cluster me opened written =

@@ -4,10 +4,10 @@ use Rattle.ep_device.specs.declared.host_device.HostDevice.{HostDevice}
 use Rattle.ep_hosted.specs.Following.{AllFollowed, HasPreparedAll}
 use Rattle.ep_hosted.specs.Hosting.{Buffer, Hosting}
 use Rattle.ep_node.specs.Nodes.{IsQuiet, Logged}
-use Rattle.ep_serve.specs.declared.due.Due.{Due}
+use Rattle.ep_serve.specs.declared.pending_answer.PendingAnswer.{PendingAnswer}
 
 -- all that was taken is lent, and they are held
-pub prepared_all : (h0 h : Hosting) (n' : Logged HostDevice) (dues asked : List Due) (after most until : ℕ)
+pub prepared_all : (h0 h : Hosting) (n' : Logged HostDevice) (dues asked : List PendingAnswer) (after most until : ℕ)
     (bytes : Buffer) → h0 ≡ h → IsQuiet h.node → h.held ≡ None
     → asked ≡ h0.dues → AllFollowed h0.node.replica asked after most bytes.items → n' ≡ h0.node → dues ≡ []
     → until ≡ length n'.replica.entries
@@ -18,7 +18,7 @@ prepared_all h0 h n' dues asked after most until bytes same quiet none to tells 
       lent = subst (λ (x : Hosting). IsQuiet x.node) (sym same) quiet;
       none = ap (λ (x : Hosting). x.held) same ∙ none;
       bytes = bytes;
-      tells = subst (λ (ds : List Due). AllFollowed h0.node.replica ds after most bytes.items) to tells;
+      tells = subst (λ (ds : List PendingAnswer). AllFollowed h0.node.replica ds after most bytes.items) to tells;
       is = λ t. record h0 {
         node = is t;
         dues = empty t;

@@ -8,7 +8,7 @@ use Rattle.ep_node.specs.Nodes.{Logged}
 use Rattle.ep_replica.specs.Kept.{Kept}
 use Rattle.ep_replica.specs.Pending.{TriesNext}
 use Rattle.ep_serve.specs.Acting.{Acts, ExecutesEach, ExecutesSo, IsPassedOver, IsUndone, TakesNear}
-use Rattle.ep_serve.specs.declared.due.Due.{Due}
+use Rattle.ep_serve.specs.declared.pending_answer.PendingAnswer.{PendingAnswer}
 use Rattle.ep_serve.proofs.Growing.{Extends, acts_more, extends_more, extends_same}
 use Rattle.ep_wire.specs.declared.request.Request.{Request}
 use Rattle.ep_wire.specs.declared.request.Request.TheVariants as request
@@ -23,10 +23,10 @@ grows_none k = grows k k (extends_same k k refl)
 pub grows_same : (n n' : Logged HostDevice) → n' ≡ n → Grows n.replica n'.replica
 grows_same n n' is = grows n.replica n'.replica (extends_same n.replica n'.replica (ap (λ (x : Logged HostDevice). x.replica) is))
 
-pub acts_grow : (k k' : Kept) (r : Request) (d : Due) → Acts k r d k' → Grows k k'
+pub acts_grow : (k k' : Kept) (r : Request) (d : PendingAnswer) → Acts k r d k' → Grows k k'
 acts_grow k k' r d h = grows k k' (acts_more k k' r d h)
 
-pub takes_grow : (k k' : Kept) (event : Happening) (d : Due) → TakesNear k event d k' → Grows k k'
+pub takes_grow : (k k' : Kept) (event : Happening) (d : PendingAnswer) → TakesNear k event d k' → Grows k k'
 takes_grow k k' event d h = acts_grow k k' (request.Event event) d h
 
 executes : (n : ℕ) (k k' : Kept) → ExecutesSo n k k' → Extends k k'

@@ -2,7 +2,7 @@
 use Rattle.std.proofs.Common.{◌≡◌, ℕ, ◌+◌, ◌≤◌, true, Some, List, [], ◌++◌, length, take, drop, refl, sym, ap, ◌∙◌, arith}
 use Rattle.std.proofs.lemmas.List.{take_at, drop_at}
 use Rattle.ep_base.specs.Commands.{Put}
-use Rattle.ep_base.specs.Parts.{are_parts, command_in, cut}
+use Rattle.ep_base.specs.CommandParts.{are_parts, command_in, cut}
 use Rattle.ep_base.specs.Values.{most_value}
 use Rattle.ep_base.specs.declared.op.Op.TheVariants as op
 use Rattle.ep_base.proofs.Partitions.{fits_from, key_from, short_from}

@@ -53,14 +53,14 @@ failed : (read : Reading (Option Request)) (other : Request) → IsErr read → 
 failed (Ok p) other err is = absurd (false≢true err)
 failed (Err fault) other err is = absurd (let e : None ≡ Some other = is in cc)
 
--- they are cut, or their length is out of range, or memory is wanted
+-- they are cut, or their length is out of range, or memory runs out
 pub is_bad : (how : JournalDialect) (zs : List ℕ) (fault : RequestFault) (told : AskFault) (place : ℕ) (left : Option (List ℕ)) → told ≡ of_request fault → ReadsRequest how (record { at = 0; bytes = zs }) (Err fault) place left → IsUnread how zs told
 is_bad how zs wire.Memory told place left is read = subst (λ (f : AskFault). IsUnread how zs f) (sym is) tt
 is_bad how zs wire.ReadFailed told place left is read = subst (λ (f : AskFault). IsUnread how zs f) (sym is) tt
 is_bad how zs (wire.BadRequest at) told place left is read =
     subst (λ (f : AskFault). IsUnread how zs f) (sym is) (λ other one. failed (next_request how (record { at = 0; bytes = zs })) other read.1 (ap found_of one.read))
 
--- where its device works, it stopped for want of memory
+-- where its device works, it stopped when out of memory
 pub swept : (n n' : Logged HostDevice) → n.closed ≡ false → IsUndone n request.ExecuteAll n' → StopsShort n.replica n'.replica
 swept n n' works (inl over) = absurd (false≢true (sym works ∙ over.0))
 swept n n' works (inr part) = part

@@ -15,7 +15,7 @@ use Rattle.ep_opening.specs.Files.{File}
 use Rattle.ep_replica.specs.Kept.{Kept}
 use Rattle.ep_replica.specs.Pending.{IsHeldUp}
 use Rattle.ep_serve.specs.Answering.{AllAnswered}
-use Rattle.ep_serve.specs.declared.due.Due.{Due}
+use Rattle.ep_serve.specs.declared.pending_answer.PendingAnswer.{PendingAnswer}
 use Rattle.ep_wire.specs.declared.take_fault.TakeFault.TheVariants.{Step}
 use Rattle.ep_hosted.specs.Hosting.{AreRecords, Buffer, Grows, Hosting, IsHosted, IsLent, IsOnDisk}
 use Rattle.ep_hosted.specs.Taking.{IsNotExecuted}
@@ -102,7 +102,7 @@ told_now h0 h bytes rest same held may none = subst (λ (x : Hosting). HasTold x
     (bytes, held, subst (λ (x : Hosting). MayTell x) (sym same) may, ap (λ (r : Option Buffer). record h0 { held = r; answers = bytes }) none)
 
 -- all that was taken is lent, and the answers to what was asked are held
-pub prepared : (h0 h : Hosting) (n' : Logged HostDevice) (dues asked : List Due) (after most until : ℕ) (bytes : Buffer) → h0 ≡ h → IsQuiet h.node → h.held ≡ None
+pub prepared : (h0 h : Hosting) (n' : Logged HostDevice) (dues asked : List PendingAnswer) (after most until : ℕ) (bytes : Buffer) → h0 ≡ h → IsQuiet h.node → h.held ≡ None
     → asked ≡ h0.dues → AllAnswered h0.node.replica asked after most bytes.items → n' ≡ h0.node → dues ≡ [] → until ≡ length n'.replica.entries
     → HasPrepared h after most (record h0 { node = n'; dues = dues; held = Some bytes; until = until })
 prepared h0 h n' dues asked after most until bytes same quiet none to tells is empty all =
@@ -110,6 +110,6 @@ prepared h0 h n' dues asked after most until bytes same quiet none to tells is e
       lent = subst (λ (x : Hosting). IsQuiet x.node) (sym same) quiet;
       none = ap (λ (x : Hosting). x.held) same ∙ none;
       bytes = bytes;
-      tells = subst (λ (ds : List Due). AllAnswered h0.node.replica ds after most bytes.items) to tells;
+      tells = subst (λ (ds : List PendingAnswer). AllAnswered h0.node.replica ds after most bytes.items) to tells;
       is = λ t. record h0 { node = is t; dues = empty t; held = Some bytes; until = (all ∙ ap (λ (n : Logged HostDevice). length n.replica.entries) is) t };
     })

@@ -3,7 +3,7 @@ use Rattle.std.specs.Prelude.{◌≡◌, ◌⊎◌, ℕ, List, [], ◌∷◌, �
 use Rattle.ep_bundle.specs.Reading.{Left}
 use Rattle.ep_serve.specs.Acting.{Acts, IsCutShort}
 use Rattle.ep_serve.specs.Serving.{dialect_of}
-use Rattle.ep_serve.specs.declared.due.Due.{Due}
+use Rattle.ep_serve.specs.declared.pending_answer.PendingAnswer.{PendingAnswer}
 use Rattle.ep_wire.specs.Requests.{next_request}
 use Rattle.ep_bundle.specs.declared.journal_dialect.JournalDialect.{JournalDialect}
 use Rattle.ep_wire.specs.declared.request.Request.{Request}
@@ -18,7 +18,7 @@ pub record IsRequest (how : JournalDialect) (bytes : List ℕ) (r : Request) : T
   pub read : next_request how (record { at = 0; bytes = bytes }) ≡ Ok (Some r, after)
   pub whole : after.bytes ≡ []
 
--- why no request was read: want of memory; or the bytes aren't just one
+-- why no request was read: out of memory; or the bytes aren't just one
 abbrev pub IsUnread : JournalDialect → List ℕ → AskFault → Type 0
 IsUnread how bytes Lent = ⊥
 IsUnread how bytes Memory = Unit {0}
@@ -29,7 +29,7 @@ pub record HasAsked (h : Hosting) (bytes : List ℕ) (h' : Hosting) : Type 0 whe
   pub begun : h.is_anew ≡ false
   pub request : Request
   pub read : IsRequest (dialect_of h.node.replica) bytes request
-  pub due : Due
+  pub due : PendingAnswer
   pub acted : Acts h.node.replica request due h'.node.replica
   pub rest : h' ≡ record (with_replica h h'.node.replica) { dues = h.dues ++ due ∷ [] }
 

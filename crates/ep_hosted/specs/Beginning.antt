@@ -72,14 +72,14 @@ pub record IsBegun (seat : Seat) (opening log : Option (List ℕ)) (h : Hosting)
   pub held : h.held ≡ None
   pub told : h.answers.items ≡ []
 
--- why it can't be said what a replica begins with: want of memory; the bytes are no file; or the file is that of a cluster of another size
+-- why it can't be said what a replica begins with: out of memory; the bytes are no file; or the file is that of a cluster of another size
 abbrev pub IsUnfounded : ℕ → Option (List ℕ) → StartFault → Type 0
 IsUnfounded cluster opening Memory = Unit {0}
 IsUnfounded cluster opening (Opening fault) = (bytes : List ℕ) × (opening ≡ Some bytes) × IsRefused fault bytes × (fault ≢ unread.Memory)
 IsUnfounded cluster opening (OtherSize count) = (bytes : List ℕ) × (file : File) × (opening ≡ Some bytes) × (bytes ≡ opening_bytes file) × (file.faults ≢ cluster) × (count ≡ size file.faults)
 IsUnfounded cluster opening (Log fault) = ⊥
 
--- why no node of this replica is: want of memory; no such member; or the log can't be begun, or gone on from
+-- why no node of this replica is: out of memory; no such member; or the log can't be begun, or gone on from
 abbrev pub IsUnbegunAs : Origin → ℕ → ℕ → Option (List ℕ) → OpenFault → Type 0
 IsUnbegunAs o f r log fault = IsUnopened (begin_of log) o f r (log_of log) fault
 

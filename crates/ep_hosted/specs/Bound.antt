@@ -19,7 +19,7 @@ pub record IsFileFor (heir : Heir) (bytes : List ℕ) (file : File) : Type 0 whe
 abbrev pub IsBegunBound : Heir → List ℕ → Option (List ℕ) → Hosting → Type 0
 IsBegunBound heir bytes log h = (file : File) × IsFileFor heir bytes file × IsBegunBy heir file log h
 
--- why none began with this file: want of memory; or the log can't be begun, or gone on from
+-- why none began with this file: out of memory; or the log can't be begun, or gone on from
 abbrev pub IsUnbegunWith : Heir → File → Option (List ℕ) → StartFault → Type 0
 IsUnbegunWith heir file log Memory = Unit {0}
 IsUnbegunWith heir file log (Opening fault) = ⊥

@@ -1,4 +1,4 @@
--- What the faults of the parts are told as.
+-- What the faults of the parts are reported as.
 use Rattle.ep_node.specs.declared.close_fault.CloseFault.{CloseFault}
 use Rattle.ep_node.specs.declared.close_fault.CloseFault.TheVariants as close
 use Rattle.ep_node.specs.declared.open_fault.OpenFault.{OpenFault}
@@ -20,7 +20,7 @@ of_opening (file.CutShort at) = Opening (file.CutShort at)
 of_opening (file.Damaged at) = Opening (file.Damaged at)
 of_opening (file.Wrong at field) = Opening (file.Wrong at field)
 
--- a device in memory fails for want of memory alone
+-- a device in memory fails only when out of memory
 abbrev pub of_open : OpenFault → StartFault
 of_open node.OutOfRange = Log node.OutOfRange
 of_open node.Memory = Memory
@@ -45,7 +45,7 @@ of_close close.LastGeneration = succeed.LastGeneration
 of_close close.Unsynced = succeed.Unsynced
 of_close close.Closed = succeed.Unsynced
 
--- a device in memory fails for want of memory alone
+-- a device in memory fails only when out of memory
 abbrev pub of_reopen : OpenFault → SucceedFault
 of_reopen node.OutOfRange = succeed.OutOfRange
 of_reopen node.Memory = succeed.Memory

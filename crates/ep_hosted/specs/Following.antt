@@ -15,7 +15,7 @@ use Rattle.ep_rules.specs.States.{committed_in}
 use Rattle.ep_base.specs.declared.reply.Answer.{Answer}
 use Rattle.ep_base.specs.declared.decree.Decree.{Decree}
 use Rattle.ep_serve.specs.Answering.{AllAnswered}
-use Rattle.ep_serve.specs.declared.due.Due.{Due}
+use Rattle.ep_serve.specs.declared.pending_answer.PendingAnswer.{PendingAnswer}
 use Rattle.ep_wire.specs.Answers.{taken_as}
 
 -- a proposal, and the instance that it took
@@ -60,12 +60,12 @@ abbrev pub followed_bytes : Kept → ℕ → List ℕ
 followed_bytes k after = framed (followed k after)
 
 -- the answers that wait, and behind them that one
-pub record AllFollowed (k : Kept) (ds : List Due) (after most : ℕ) (bytes : List ℕ) : Type 0 where
+pub record AllFollowed (k : Kept) (ds : List PendingAnswer) (after most : ℕ) (bytes : List ℕ) : Type 0 where
   pub answered : List ℕ
   pub all : AllAnswered k ds after most answered
   pub is : bytes ≡ answered ++ followed_bytes k after
 
--- all was on the disk, and what waited was told, what there is to tell, and what the entries did
+-- all was on the disk, and what waited was reported, what there is to tell, and what the entries did
 pub record HasFollowed (h : Hosting) (after most : ℕ) (h' : Hosting) : Type 0 where
   pub on_disk : IsOnDisk h
   pub told : AllFollowed h.node.replica h.dues after most h'.answers.items

@@ -14,8 +14,8 @@ use Rattle.ep_log.specs.Bytes.{records_in}
 use Rattle.ep_log.specs.declared.log_version.LogVersion.TheVariants.{Three}
 use Rattle.ep_node.specs.Nodes.{IsLogOf, IsQuiet, Logged, logged_code, origin_of, said}
 use Rattle.ep_replica.specs.Kept.{Kept}
-use Rattle.ep_serve.specs.contracts.due.Due as due_facts
-use Rattle.ep_serve.specs.declared.due.Due.{Due}
+use Rattle.ep_serve.specs.contracts.pending_answer.PendingAnswer as due_facts
+use Rattle.ep_serve.specs.declared.pending_answer.PendingAnswer.{PendingAnswer}
 
 -- bytes in memory, where they stand
 abbrev pub Buffer : Type 0
@@ -31,14 +31,14 @@ pub record Hosting : Type 0 where
   pub lent : Option Buffer
   pub is_anew : Bool
   pub durable : ℕ
-  pub dues : List Due
+  pub dues : List PendingAnswer
   pub held : Option Buffer
   pub until : ℕ
   pub answers : Buffer
 
 abbrev pub hosting_code : Coded Hosting
 hosting_code =
-    code_by (Logged HostDevice × (Option Buffer × (Bool × (ℕ × (List Due × (Option Buffer × (ℕ × Buffer)))))))
+    code_by (Logged HostDevice × (Option Buffer × (Bool × (ℕ × (List PendingAnswer × (Option Buffer × (ℕ × Buffer)))))))
     (coded× (logged_code host_facts.the_row.coded) (coded× (coded_option buffer_code) (coded× coded_bool (coded× coded_ℕ
     (coded× (coded_list due_facts.the_row.coded) (coded× (coded_option buffer_code) (coded× coded_ℕ buffer_code)))))))
     (λ h. (h.node, (h.lent, (h.is_anew, (h.durable, (h.dues, (h.held, (h.until, h.answers))))))))

@@ -22,7 +22,7 @@ origin_by file digest = record { version = V3 file.generation; opening = file.op
 abbrev pub IsBegunBy : Heir → File → Option (List ℕ) → Hosting → Type 0
 IsBegunBy heir file log h = IsBegunAs (origin_by file heir.digest) heir.cluster heir.me log h
 
--- why there is none: want of memory; no such member; or the log can't be begun, or gone on from
+-- why there is none: out of memory; no such member; or the log can't be begun, or gone on from
 abbrev pub IsUnbegunBy : Heir → File → Option (List ℕ) → SucceedFault → Type 0
 IsUnbegunBy heir file log Memory = Unit {0}
 IsUnbegunBy heir file log OutOfRange = size heir.cluster ≤ heir.me

@@ -6,8 +6,8 @@ use Rattle.ep_journal.specs.declared.event.Event.TheVariants.{Handle}
 use Rattle.ep_journal.specs.declared.step_fault.StepFault.TheVariants.{Memory}
 use Rattle.ep_replica.specs.Pending.{IsHeldUp, TriesNext}
 use Rattle.ep_serve.specs.Acting.{ExecutesAll, ExecutesSo, StopsShort, TakesNear}
-use Rattle.ep_serve.specs.declared.due.Due.{Due}
-use Rattle.ep_serve.specs.declared.due.Due.TheVariants as due
+use Rattle.ep_serve.specs.declared.pending_answer.PendingAnswer.{PendingAnswer}
+use Rattle.ep_serve.specs.declared.pending_answer.PendingAnswer.TheVariants as due
 use Rattle.ep_wire.specs.declared.take_fault.TakeFault.{TakeFault}
 use Rattle.ep_wire.specs.declared.take_fault.TakeFault.TheVariants.{BadFrame, Step}
 use Rattle.ep_hosted.specs.Hosting.{Hosting, with_replica}
@@ -25,7 +25,7 @@ pub record IsBusy (h h' : Hosting) : Type 0 where
   pub same : h' ≡ h
 
 -- why an event was refused, where that is the answer
-abbrev pub refusal_of : Due → Option TakeFault
+abbrev pub refusal_of : PendingAnswer → Option TakeFault
 refusal_of (due.Taken from count) = None
 refusal_of (due.Refused refusal) = Some refusal
 refusal_of (due.Value key) = None
@@ -70,7 +70,7 @@ IsNotExecuted h (Refused (Step fault)) h' = (h.is_anew ≡ false) × IsHeldUp h.
 abbrev pub HasAdvanced : Hosting → Hosting → Type 0
 HasAdvanced h h' = Moves h h' × ((times : ℕ) × ExecutesSo times h.node.replica h'.node.replica × TriesNext h'.node.replica (Ok false) h'.node.replica)
 
--- some were executed, and the next one was refused, for want of memory or a full stamp
+-- some were executed, and the next one was refused, when out of memory or a full stamp
 abbrev pub HasStopped : Hosting → TakingFault → Hosting → Type 0
 HasStopped h Lent h' = IsBusy h h'
 HasStopped h (Refused BadFrame) h' = ⊥
@@ -79,7 +79,7 @@ HasStopped h (Refused (Step fault)) h' = Moves h h' × ((times : ℕ) × Execute
 -- Executing all instances that are ready.
 
 abbrev pub HasSwept : Hosting → Hosting → Type 0
-HasSwept h h' = Moves h h' × ((told : Due) × ExecutesAll h.node.replica told h'.node.replica)
+HasSwept h h' = Moves h h' × ((told : PendingAnswer) × ExecutesAll h.node.replica told h'.node.replica)
 
 -- some were executed, each in its turn, and for the next one memory was wanted
 abbrev pub HasLeftOff : Hosting → TakingFault → Hosting → Type 0

@@ -65,13 +65,13 @@ abbrev pub IsUnnoted : Hosting → ℕ → SyncFault → Type 0
 IsUnnoted h count sync.NotLent = (h.lent ≡ None) × (count ≢ 0)
 IsUnnoted h count sync.NotAll = (bytes : Buffer) × (h.lent ≡ Some bytes) × (length bytes.items ≢ count)
 
--- all was on the disk, and what waited was told, and what there is to tell
+-- all was on the disk, and what waited was reported, and what there is to tell
 pub record HasAnswered (h : Hosting) (after most : ℕ) (h' : Hosting) : Type 0 where
   pub on_disk : IsOnDisk h
   pub told : AllAnswered h.node.replica h.dues after most h'.answers.items
   pub is : h' ≡ record h { dues = []; answers = h'.answers }
 
--- why nothing is told
+-- why nothing is reported
 abbrev pub IsUntold : Hosting → TellFault → Type 0
 IsUntold h Memory = IsOnDisk h
 IsUntold h Unsynced = ¬ IsOnDisk h
@@ -106,16 +106,16 @@ HasTold h false h' = (h.held ≡ None) × (h' ≡ h)
 abbrev pub IsWithheld : Hosting → TellFault → Type 0
 IsWithheld h fault = (fault ≡ Unsynced) × (h.held ≢ None) × (¬ MayTell h)
 
--- all was on the disk, and the value that the map has at the key was told; or it has none
+-- all was on the disk, and the value that the map has at the key was reported; or it has none
 abbrev pub HasLooked : Hosting → List ℕ → Bool → Hosting → Type 0
 HasLooked h key true h' = IsOnDisk h × (value_at (state_of h.node.replica).store.contents key ≡ Some h'.answers.items) × (h' ≡ record h { answers = h'.answers })
 HasLooked h key false h' = IsOnDisk h × (value_at (state_of h.node.replica).store.contents key ≡ None) × (h' ≡ h)
 
--- all was on the disk, and what all keys have was told
+-- all was on the disk, and what all keys have was reported
 abbrev pub HasListed : Hosting → Hosting → Type 0
 HasListed h h' = IsOnDisk h × (h'.answers.items ≡ contents_bytes (state_of h.node.replica).store.contents) × (h' ≡ record h { answers = h'.answers })
 
--- all was on the disk, a seal was executed, and the file of the generation after is told
+-- all was on the disk, a seal was executed, and the file of the generation after is reported
 pub record HasClosed (h : Hosting) (next : ℕ) (h' : Hosting) : Type 0 where
   pub on_disk : IsOnDisk h
   pub file : File

@@ -2,7 +2,7 @@
 
 ghost use Rattle.std.specs.Prelude.{◌≡◌, ◌≢◌, ◌⊎◌, ◌++◌, ◌∷◌, [], None, Some, true, false, IfOk, IfErr, OnOk, OnErr};
 ghost use Rattle.ep_serve.specs.Acting.{Acts, IsCutShort};
-ghost use Rattle.ep_serve.specs.declared.due.Due.{Due as Answer};
+ghost use Rattle.ep_serve.specs.declared.pending_answer.PendingAnswer.{PendingAnswer as Answer};
 ghost use Rattle.ep_hosted.specs.Asking.{IsRequest, IsUnread};
 ghost use Rattle.ep_hosted.specs.Hosting.{Grows};
 ghost use Rattle.ep_hosted.specs.declared.ask_fault.AskFault.TheVariants.{NotOne};
@@ -12,7 +12,7 @@ use crate::hosted::Hosted;
 use ep_base::Noted;
 use ep_device::HostDevice;
 use ep_node::Node;
-use ep_serve::{Due, act, dialect_of};
+use ep_serve::{PendingAnswer, act, dialect_of};
 use ep_wire::{JournalDialect, Request, read_request};
 use std::alloc::{AllocError, Global};
 
@@ -57,7 +57,11 @@ fn read_one(alloc: Global, bytes: &[u8], dialect: &JournalDialect) -> Result<Req
 
 /// The node does what is asked, and the answer waits behind the others.
 #[tactic(auto, using(ep_serve::proofs::Stopping::cut_short, crate::proofs::Longer::acts_grow, crate::proofs::Longer::undone_grows, crate::proofs::Longer::grows_none))]
-fn add(node: &mut Node<HostDevice>, dues: &mut Vec<Due>, request: Request) -> Result<(), AllocError>
+fn add(
+    node: &mut Node<HostDevice>,
+    dues: &mut Vec<PendingAnswer>,
+    request: Request,
+) -> Result<(), AllocError>
     requires { node.old.closed ≡ false }
     ensures ok { OnOk result ((due : Answer) × Acts node.old.replica request due node.new.replica × (dues.new.items ≡ dues.old.items ++ due ∷ [])) }
     ensures same { node.new ≡ record node.old { replica = node.new.replica } }
@@ -84,7 +88,7 @@ impl Hosted {
     /// Does what one request asks, whose bytes these are, from its length on, as docs/FORMATS.md lays requests out. Its answer waits for the next `answer`,
     /// in the order of requests, also that of a request that is malformed or refused.
     ///
-    /// A fault has changed nothing, with one exception: want of memory may stop a request of kind 6 or 12, which executes all that is ready, when some of that
+    /// A fault has changed nothing, with one exception: running out of memory may stop a request of kind 6 or 12, which executes all that is ready, when some of that
     /// has been executed.
     pub fn ask(&mut self, alloc: Global, bytes: &[u8]) -> Result<(), AskFault>
         ensures ok { OnOk result (HasAsked self.old bytes.now self.new) }

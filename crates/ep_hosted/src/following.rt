@@ -16,7 +16,7 @@ use ep_device::HostDevice;
 use ep_journal::{Entry, Event};
 use ep_node::Node;
 use ep_replica::Replica;
-use ep_serve::{Due, all_answers};
+use ep_serve::{PendingAnswer, all_answers};
 use ep_wire::taken_as;
 use std::alloc::{AllocError, Global};
 
@@ -176,7 +176,7 @@ fn with_followed(
 fn all_followed(
     alloc: Global,
     node: &mut Node<HostDevice>,
-    dues: &[Due],
+    dues: &[PendingAnswer],
     count: u32,
     most: u8,
 ) -> Result<Vec<u8>, AllocError>

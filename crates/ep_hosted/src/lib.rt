@@ -1,15 +1,15 @@
 //! A node whose log is in its caller's hands.
 //!
-//! A `Hosted` takes what happens, lends the bytes that its caller is to write, and tells nothing before the caller says that these are on the disk. Meanwhile it
+//! A `Hosted` takes what happens, lends the bytes that its caller is to write, and says nothing before the caller says that these are on the disk. Meanwhile it
 //! takes what happens then. What it takes and tells is what `ep_serve` says of a node's requests and answers.
 //!
 //! Start with `hosted.rt` and specs/Hosting.antt; then `opening.rt` and `bound.rt` (how one begins), `taking.rt` (what it takes), `asking.rt` (requests in bytes),
 //! `telling.rt`, `preparing.rt` and `listing.rt` (what it lends and tells), with specs/Beginning.antt and specs/Taking.antt.
 #![tactic(auto)]
 
+mod arena;
 mod ask_fault;
 mod asking;
-mod blocks;
 mod bound;
 mod call;
 mod following;

@@ -13,7 +13,7 @@ use ep_exec::Contents;
 use ep_replica::Replica;
 use std::alloc::{AllocError, Global};
 
-/// A map of more keys than this isn't told.
+/// A map of more keys than this isn't reported.
 const MOST_KEYS: usize = 4_294_967_295;
 
 /// What the keys of the replica's map have.

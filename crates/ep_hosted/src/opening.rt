@@ -8,7 +8,7 @@ ghost use Rattle.ep_opening.specs.Bytes.{opening_bytes};
 ghost use Rattle.ep_hosted.specs.Beginning.{begin_of, log_of, IsBegunAs, IsFileOf, IsOriginOf, IsUnbegunAs, IsUnfounded};
 ghost use Rattle.ep_hosted.specs.Hosting.{Buffer};
 
-use crate::blocks::Blocks;
+use crate::arena::Arena;
 use crate::hosted::Hosted;
 use crate::seat::Seat;
 use crate::start_fault::StartFault;
@@ -107,7 +107,7 @@ fn hosted_by(alloc: Global, node: Node<MemoryDevice>) -> Hosted
         held: None,
         until: 0,
         answers: Vec::new(alloc),
-        blocks: Blocks::new(alloc),
+        blocks: Arena::new(alloc),
     }
 }
 

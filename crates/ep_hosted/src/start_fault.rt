@@ -15,13 +15,13 @@ pub enum StartFault {
     /// Memory was refused.
     #[error("E1 memory")]
     Memory,
-    /// The bytes are no opening, and why. It isn't want of memory.
+    /// The bytes are no opening, and why. It isn't out of memory.
     #[error("{0}")]
     Opening(OpeningFault),
     /// The opening is that of a cluster of so many replicas.
     #[error("the opening is of a cluster of {0}")]
     OtherSize(u8),
-    /// The log can't be begun, or gone on from, and why. It isn't want of memory.
+    /// The log can't be begun, or gone on from, and why. It isn't out of memory.
     #[error("{0}")]
     Log(OpenFault),
 }
@@ -52,7 +52,7 @@ impl From<OpenFault> for StartFault {
 
     fn from(fault: OpenFault) -> StartFault {
         match fault {
-            // A device in memory fails for want of memory alone.
+            // A device in memory fails only when out of memory.
             OpenFault::Memory | OpenFault::Failed(_) => StartFault::Memory,
             OpenFault::OutOfRange
             | OpenFault::NoLog

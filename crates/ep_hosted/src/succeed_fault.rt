@@ -26,7 +26,7 @@ pub enum SucceedFault {
     /// Not all that it took is on the disk.
     #[error("not all is on the disk")]
     Unsynced,
-    /// The log that is there can't be gone on from, and why. It isn't want of memory.
+    /// The log that is there can't be gone on from, and why. It isn't out of memory.
     #[error("{0}")]
     Log(OpenFault),
 }
@@ -58,7 +58,7 @@ impl From<OpenFault> for SucceedFault {
 
     fn from(fault: OpenFault) -> SucceedFault {
         match fault {
-            // A device in memory fails for want of memory alone.
+            // A device in memory fails only when out of memory.
             OpenFault::Memory | OpenFault::Failed(_) => SucceedFault::Memory,
             OpenFault::OutOfRange => SucceedFault::OutOfRange,
             OpenFault::NoLog

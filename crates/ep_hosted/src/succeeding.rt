@@ -83,7 +83,7 @@ impl Hosted {
         }
     }
 
-    /// The same, of a node that may be succeeded.
+    /// The node of the next generation, where this node may be succeeded.
     fn succeeded(
         self,
         alloc: Global,

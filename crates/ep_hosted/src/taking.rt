@@ -2,8 +2,8 @@
 
 ghost use Rattle.std.specs.Prelude.{◌≡◌, false, length, None, Some, IfErr, OnOk, OnErr};
 ghost use Rattle.ep_serve.specs.Acting.{ExecutesAll, StopsShort, TakesNear};
-ghost use Rattle.ep_serve.specs.declared.due.Due.{Due as Answer};
-ghost use Rattle.ep_serve.specs.declared.due.Due.TheVariants.{Refused, Taken};
+ghost use Rattle.ep_serve.specs.declared.pending_answer.PendingAnswer.{PendingAnswer as Answer};
+ghost use Rattle.ep_serve.specs.declared.pending_answer.PendingAnswer.TheVariants.{Refused, Taken};
 ghost use Rattle.ep_hosted.specs.Hosting.{Grows};
 ghost use Rattle.ep_hosted.specs.Taking.{refusal_of};
 
@@ -15,32 +15,32 @@ use ep_device::HostDevice;
 use ep_frame::Frame;
 use ep_journal::{Event, StepFault};
 use ep_node::Node;
-use ep_serve::{Due, act, advance_own, execute_own};
+use ep_serve::{PendingAnswer, act, advance_own, execute_own};
 use ep_wire::{Request, TakeFault};
 use std::alloc::{AllocError, Global};
 
 /// Why an event was refused, where that is the answer.
-fn refusal_of(due: &Due) -> Option<TakeFault>
+fn refusal_of(due: &PendingAnswer) -> Option<TakeFault>
     ensures { result ≡ refusal_of due.now }
 {
     match due {
-        Due::Refused(refusal) => Some(*refusal),
-        Due::Taken { .. }
-        | Due::Value(_)
-        | Due::Open(_)
-        | Due::Leads(_)
-        | Due::Synced
-        | Due::State
-        | Due::Ready { .. }
-        | Due::Handled(_)
-        | Due::Interfering(_)
-        | Due::Read { .. }
-        | Due::Malformed(_) => None,
+        PendingAnswer::Refused(refusal) => Some(*refusal),
+        PendingAnswer::Taken { .. }
+        | PendingAnswer::Value(_)
+        | PendingAnswer::Open(_)
+        | PendingAnswer::Leads(_)
+        | PendingAnswer::Synced
+        | PendingAnswer::State
+        | PendingAnswer::Ready { .. }
+        | PendingAnswer::Handled(_)
+        | PendingAnswer::Interfering(_)
+        | PendingAnswer::Read { .. }
+        | PendingAnswer::Malformed(_) => None,
     }
 }
 
 /// What came of an event whose answer this is.
-fn came_of(due: Due) -> Result<(), TakeFault>
+fn came_of(due: PendingAnswer) -> Result<(), TakeFault>
     ensures ok { OnOk result (refusal_of due ≡ None) }
     ensures err { IfErr result (λ refusal. refusal_of due ≡ Some refusal) }
 {
@@ -54,7 +54,7 @@ fn came_of(due: Due) -> Result<(), TakeFault>
 
 /// The node takes an event, or refuses it.
 #[tactic(auto, using(crate::proofs::Refusals::taken_if, crate::proofs::Refusals::refused_if, crate::proofs::Longer::takes_grow))]
-fn take_at(node: &mut Node<HostDevice>, event: Event) -> Result<(), TakeFault>
+fn take_event(node: &mut Node<HostDevice>, event: Event) -> Result<(), TakeFault>
     requires { node.old.closed ≡ false }
     ensures ok { OnOk result (TakesNear node.old.replica event (Taken (length node.old.replica.entries) 1) node.new.replica) }
     ensures same { node.new ≡ record node.old { replica = node.new.replica } }
@@ -97,7 +97,7 @@ impl Hosted {
             drop(event);
             return Err(TakingFault::Lent);
         }
-        take_at(&mut self.node, event)?;
+        take_event(&mut self.node, event)?;
         Ok(())
     }
 
@@ -187,7 +187,7 @@ impl Hosted {
         Ok(executed)
     }
 
-    /// Executes all own instances that are ready, in rising order, until none is. After `Refused`, for want of memory or of a stamp, those before the one that
+    /// Executes all own instances that are ready, in rising order, until none is. After `Refused`, when out of memory or of stamps, those before the one that
     /// was refused have been executed; after `Lent` none has.
     pub fn advance(&mut self) -> Result<(), TakingFault>
         ensures ok { OnOk result (HasAdvanced self.old self.new) }
@@ -200,7 +200,7 @@ impl Hosted {
         Ok(())
     }
 
-    /// Executes all instances that are ready, own or not: before a local read, or where a machine outside is to keep up. After `Refused`, for want of memory,
+    /// Executes all instances that are ready, own or not: before a local read, or where a machine outside is to keep up. After `Refused`, when out of memory,
     /// some have been executed, each in its turn; after `Lent` none has.
     pub fn execute_all(&mut self) -> Result<(), TakingFault>
         ensures ok { OnOk result (HasSwept self.old self.new) }

@@ -1,8 +1,8 @@
-//! Why a node tells nothing.
+//! Why a node says nothing.
 
 use thiserror::Error;
 
-/// Why a node tells nothing. It is as it was.
+/// Why a node says nothing. It is as it was.
 #[derive(Clone, Copy, Debug, PartialEq, Eq, Error)]
 pub enum TellFault {
     /// Memory was refused, or an answer would be longer than answers can be.

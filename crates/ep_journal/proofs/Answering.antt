@@ -5,7 +5,7 @@ use Rattle.ep_base.specs.Sameness.{is_noop}
 use Rattle.ep_base.specs.Versions.{knows, IsVoteIn}
 use Rattle.ep_base.specs.Commands.{Command, Noop, Get, Put, Del, Swap, Cas, Seal, Opaque, Tx}
 use Rattle.ep_base.specs.declared.decree.Decree.{Decree}
-use Rattle.ep_base.specs.declared.reply.Answer.TheVariants.{Lost, Told}
+use Rattle.ep_base.specs.declared.reply.Answer.TheVariants.{Lost, Replied}
 use Rattle.ep_base.specs.declared.version.Version.{Version}
 use Rattle.ep_base.specs.declared.version_kind.VersionKind.TheVariants.{V1, V2, V3}
 use Rattle.ep_base.specs.declared.vote.VoteStatus.{VoteStatus}
@@ -90,7 +90,7 @@ early_under (Some v) m c e all h = absurd (cc)
 early_after : (s : Store) (c : Command) → IsEarly s → knows V2 c ≡ true → IsEarly (after s c)
 early_after s c e h = early_under s.seal s.contents c e.unsealed e.short h
 
-told_early : (o : Option (List ℕ)) → IsShort o → IsEarlyAnswer (Told (told o))
+told_early : (o : Option (List ℕ)) → IsShort o → IsEarlyAnswer (Replied (told o))
 told_early None h = tt
 told_early (Some x) h = h x refl
 
@@ -106,7 +106,7 @@ answer_open m (Opaque p b) all h = absurd (true≢false (sym h))
 answer_open m (Tx is) all h = absurd (true≢false (sym h))
 
 answer_early : (s : Store) (c : Command) → IsEarly s → knows V2 c ≡ true → IsEarlyAnswer (answer s c)
-answer_early s c e h = subst (λ (o : Option (List ℕ)). IsEarlyAnswer (cond (is_noop c) Lost (Told (reply_under o s.contents c)))) (sym e.unsealed) (answer_open s.contents c e.short h)
+answer_early s c e h = subst (λ (o : Option (List ℕ)). IsEarlyAnswer (cond (is_noop c) Lost (Replied (reply_under o s.contents c)))) (sym e.unsealed) (answer_open s.contents c e.short h)
 
 -- Any version.
 

@@ -12,8 +12,8 @@ use Rattle.ep_base.specs.declared.message.Message.{Message}
 use Rattle.ep_base.specs.declared.message.Message.TheVariants.{PreAccept, PreAcceptOk, Accept, AcceptOk, Commit, Prepare, PrepareOk, Nack}
 use Rattle.ep_frame.specs.Meaning.{sender_at, message_at}
 use Rattle.ep_frame.specs.Spelling.{IsFrame}
-use Rattle.ep_phase.specs.Known.{known_of}
-use Rattle.ep_phase.specs.Leads.{Leads}
+use Rattle.ep_phase.specs.InstanceViews.{view_of}
+use Rattle.ep_phase.specs.Leads.{Lead}
 use Rattle.ep_rules.specs.Cells.{OutOfRange, NotMine, SpaceFull}
 use Rattle.ep_rules.specs.InterferenceSet.{interference}
 use Rattle.ep_rules.specs.OneMap.{Store}
@@ -23,14 +23,14 @@ use Rattle.ep_rules.specs.Steps.{at, handled, proposed, may_ask, screened, Propo
 use Rattle.ep_space.specs.Records.{Records}
 use Rattle.ep_journal.specs.Events.{frame_at, lacking}
 use Rattle.ep_journal.specs.Inputs.{outcome_at, handled_at}
-use Rattle.ep_journal.specs.Parts.{state_of}
+use Rattle.ep_journal.specs.ReplicaStates.{state_of}
 use Rattle.ep_journal.specs.Stepping.{standing_of, IsLet, IsAsked}
 use Rattle.ep_journal.specs.declared.event.Event.TheVariants.{Propose, Handle, GiveUp, Recover}
 use Rattle.ep_journal.specs.declared.input.Input.TheVariants as input
-use Rattle.ep_journal.specs.declared.parts.Parts.{Parts}
+use Rattle.ep_journal.specs.declared.replica_state.ReplicaState.{ReplicaState}
 
-handled_same : (me : ℕ) (s : Records) (l : Leads) (done : List ℕ) (store : Store) (from : ℕ) (m : Message) →
-    at (instance_of_message m) (handled s.faults me from (state_of s l done store) m) ≡ at (instance_of_message m) (handled_at (known_of me s l (instance_of_message m)) from m)
+handled_same : (me : ℕ) (s : Records) (l : Lead) (done : List ℕ) (store : Store) (from : ℕ) (m : Message) →
+    at (instance_of_message m) (handled s.faults me from (state_of s l done store) m) ≡ at (instance_of_message m) (handled_at (view_of me s l (instance_of_message m)) from m)
 handled_same me s l done store from (PreAccept i b x) = refl
 handled_same me s l done store from (PreAcceptOk i b a) = refl
 handled_same me s l done store from (Accept i b x) = refl
@@ -41,31 +41,31 @@ handled_same me s l done store from (PrepareOk i b v) = refl
 handled_same me s l done store from (Nack i b p) = refl
 
 -- a frame's message is handled at its instance
-frame_asked : (p : Parts) (b : List ℕ) (i : ℕ) → IsLet (standing_of p) (Handle b) → i ≡ instance_of_message (message_at b) →
-    IsAsked (standing_of p) (Handle b) (at i (handled_at (known_of p.me p.space p.lead i) (sender_at b) (message_at b)))
+frame_asked : (p : ReplicaState) (b : List ℕ) (i : ℕ) → IsLet (standing_of p) (Handle b) → i ≡ instance_of_message (message_at b) →
+    IsAsked (standing_of p) (Handle b) (at i (handled_at (view_of p.me p.space p.lead i) (sender_at b) (message_at b)))
 frame_asked p b i h instance = record {
   through = h;
   room = tt;
-  asked = handled_same p.me p.space p.lead p.executed.list p.store (sender_at b) (message_at b) ∙ ap (λ j. at j (handled_at (known_of p.me p.space p.lead j) (sender_at b) (message_at b))) (sym instance);
+  asked = handled_same p.me p.space p.lead p.executed.list p.store (sender_at b) (message_at b) ∙ ap (λ j. at j (handled_at (view_of p.me p.space p.lead j) (sender_at b) (message_at b))) (sym instance);
   executes = refl;
 }
 
-pub viewed_asked : (p : Parts) (b v : List ℕ) (f i : ℕ) → v ≡ b → f ≡ p.space.faults → IsFrame b → lacking p.space.version (Handle b) ≡ None → screened f p.me (Handles (frame_at v)) ≡ None → i ≡ instance_of_message (message_at v) →
-    IsAsked (standing_of p) (Handle b) (at i (handled_at (known_of p.me p.space p.lead i) (sender_at v) (message_at v)))
+pub viewed_asked : (p : ReplicaState) (b v : List ℕ) (f i : ℕ) → v ≡ b → f ≡ p.space.faults → IsFrame b → lacking p.space.version (Handle b) ≡ None → screened f p.me (Handles (frame_at v)) ≡ None → i ≡ instance_of_message (message_at v) →
+    IsAsked (standing_of p) (Handle b) (at i (handled_at (view_of p.me p.space p.lead i) (sender_at v) (message_at v)))
 viewed_asked p b v f i same count readable versioned unscreened instance =
-    subst (λ x. IsAsked (standing_of p) (Handle b) (at i (handled_at (known_of p.me p.space p.lead i) (sender_at x) (message_at x)))) (sym same)
+    subst (λ x. IsAsked (standing_of p) (Handle b) (at i (handled_at (view_of p.me p.space p.lead i) (sender_at x) (message_at x)))) (sym same)
     (frame_asked p b i
     (record { readable = readable; versioned = versioned; unscreened = subst (λ n. screened n p.me (Handles (frame_at b)) ≡ None) count (subst (λ x. screened f p.me (Handles (frame_at x)) ≡ None) same unscreened) })
     (subst (λ x. i ≡ instance_of_message (message_at x)) same instance))
 
-pub given_up_asked : (p : Parts) (i : ℕ) → IsLet (standing_of p) (GiveUp i) → IsAsked (standing_of p) (GiveUp i) (at i (outcome_at (known_of p.me p.space p.lead i) input.GiveUp))
+pub given_up_asked : (p : ReplicaState) (i : ℕ) → IsLet (standing_of p) (GiveUp i) → IsAsked (standing_of p) (GiveUp i) (at i (outcome_at (view_of p.me p.space p.lead i) input.GiveUp))
 given_up_asked p i h = record { through = h; room = tt; asked = refl; executes = refl }
 
-pub recovery_asked : (p : Parts) (i : ℕ) → IsLet (standing_of p) (Recover i) → IsAsked (standing_of p) (Recover i) (at i (outcome_at (known_of p.me p.space p.lead i) input.Recover))
+pub recovery_asked : (p : ReplicaState) (i : ℕ) → IsLet (standing_of p) (Recover i) → IsAsked (standing_of p) (Recover i) (at i (outcome_at (view_of p.me p.space p.lead i) input.Recover))
 recovery_asked p i h = record { through = h; room = tt; asked = refl; executes = refl }
 
 -- a request, where a number of the version is free
-pub request_asked : (p : Parts) (client request seen : ℕ) (c : Command) (named : Option ℕ) (f s i n : ℕ) → f ≡ p.space.faults → s ≡ spared f p.me named → IsLet (standing_of p) (Propose client request c seen named) → free_number p.space.records p.me ≡ Some n → n < highest_for p.space.version c → i ≡ instance_of p.me (n + 1) →
+pub request_asked : (p : ReplicaState) (client request seen : ℕ) (c : Command) (named : Option ℕ) (f s i n : ℕ) → f ≡ p.space.faults → s ≡ spared f p.me named → IsLet (standing_of p) (Propose client request c seen named) → free_number p.space.records p.me ≡ Some n → n < highest_for p.space.version c → i ≡ instance_of p.me (n + 1) →
     IsAsked (standing_of p) (Propose client request c seen named) (at i (propose p.space.faults i s c (interference p.space.records i c)))
 request_asked p client request seen c named f s i n count own h free low next = record {
   through = h;
@@ -80,7 +80,7 @@ pub none_for : (v : Version) (c : Command) (free : Option ℕ) → ((n : ℕ) �
 none_for v c free full n e = let most = full n e in let low = below v c in omega arith
 
 -- where none is free at all
-pub request_full : (p : Parts) (client request seen : ℕ) (c : Command) (named : Option ℕ) → IsLet (standing_of p) (Propose client request c seen named) → free_number p.space.records p.me ≡ None → IsAsked (standing_of p) (Propose client request c seen named) (Err SpaceFull)
+pub request_full : (p : ReplicaState) (client request seen : ℕ) (c : Command) (named : Option ℕ) → IsLet (standing_of p) (Propose client request c seen named) → free_number p.space.records p.me ≡ None → IsAsked (standing_of p) (Propose client request c seen named) (Err SpaceFull)
 request_full p client request seen c named h free = record {
   through = h;
   room = λ k e. absurd (let both : None ≡ Some k = sym free ∙ e in cc);

@@ -32,8 +32,8 @@ use Rattle.ep_rules.specs.Phases.{Outcome, others, fast_answered, all_equal, wit
 use Rattle.ep_rules.specs.Recovery.{answered_all, Choice, CommitIt, AcceptIt, AcceptFast, ProposeIt, ProposeNoop, votes, did_commit, did_accept_at, did_preaccept_at, is_fast_witness, top_ballot, with_vote_of, choose_at, choose, act_on, recover_with, prepare_phase, recover, next_counter, on_prepare, count_prepare_ok, use_prepare_ok, more_preparing}
 use Rattle.ep_rules.specs.States.{State, fresh_state, cell_in, command_in, record_in, free_number, with_entry, with_led}
 use Rattle.ep_rules.specs.Steps.{Event, Propose, Handle, GiveUp, Recover, Execute, order_of, at, handled, proposed, acts, leaves, changed_by}
-use Rattle.ep_rules.specs.declared.led.Led.{Led}
-use Rattle.ep_rules.specs.declared.led.Led.TheVariants.{Proposing, Accepting, Preparing}
+use Rattle.ep_rules.specs.declared.led_instance.LedInstance.{LedInstance}
+use Rattle.ep_rules.specs.declared.led_instance.LedInstance.TheVariants.{Proposing, Accepting, Preparing}
 use Rattle.ep_rules.specs.declared.record.Record.{Record}
 use Rattle.ep_space.proofs.Holders.{sorted_true, those-found}
 use Rattle.ep_space.proofs.Rising.{all_from}
@@ -91,11 +91,11 @@ module _ (version : Version) where
   HasEntry None = Unit {0}
   HasEntry (Some r) = IsVoteIn version r.vote
 
-  abbrev HasHeld : Option Led → Type 0
+  abbrev HasHeld : Option LedInstance → Type 0
   HasHeld None = Unit {0}
   HasHeld (Some l) = IsLedIn version l
 
-  abbrev HasLead : Option (Option Led) → Type 0
+  abbrev HasLead : Option (Option LedInstance) → Type 0
   HasLead None = Unit {0}
   HasLead (Some l) = HasHeld l
 
@@ -151,7 +151,7 @@ module _ (version : Version) where
   recorded_in : (r : Record) (from : ℕ) (m : Message) → IsVoteIn version r.vote → CanSay version m → IsChangeIn (recorded r from m)
   recorded_in r from m vote said = record { entry = vote; lead = tt; out = (said, tt) }
 
-  kept_in : (l : Led) → IsLedIn version l → IsChangeIn (kept l)
+  kept_in : (l : LedInstance) → IsLedIn version l → IsChangeIn (kept l)
   kept_in l led = record { entry = tt; lead = led; out = tt }
 
   said_both : (xs ys : List (ℕ × Message)) → AllSayable version xs → AllSayable version ys → AllSayable version (xs ++ ys)
@@ -238,7 +238,7 @@ module _ (version : Version) where
   HasAttrs None = Unit {0}
   HasAttrs (Some more) = AreAttrsIn more.2
 
-  more_proposing_in : (from : ℕ) (a : Attrs) (led : Option Led) → AreDepsIn version a.deps → HasHeld led → HasAttrs (more_proposing from a led)
+  more_proposing_in : (from : ℕ) (a : Attrs) (led : Option LedInstance) → AreDepsIn version a.deps → HasHeld led → HasAttrs (more_proposing from a led)
   more_proposing_in from a None deps held = tt
   more_proposing_in from a (Some (Proposing b s answers)) deps held =
       elim (is_some (answer answers from)) as (λ t. HasAttrs (cond t None (Some (b, s, with_answer answers from a)))) [ true ↦ tt | false ↦ (deps, held) ]
@@ -255,7 +255,7 @@ module _ (version : Version) where
       (split_outcome (leb f (others f me answers)) (Ok (slow_path f i me b answers r.vote)) (Err TooFewAnswers) (slow_in f i me b answers r.vote low all known) tt)
       tt
 
-  give_up_in : (f i me : ℕ) (r : Record) (led : Option Led) → IsInstanceIn version i → IsVoteIn version r.vote → HasHeld led → IsOutcomeIn (give_up f i me r led)
+  give_up_in : (f i me : ℕ) (r : Record) (led : Option LedInstance) → IsInstanceIn version i → IsVoteIn version r.vote → HasHeld led → IsOutcomeIn (give_up f i me r led)
   give_up_in f i me r None low known held = tt
   give_up_in f i me r (Some (Proposing b s answers)) low known held = give_up_with_in f i me b answers r low held known
   give_up_in f i me r (Some (Accepting b answers)) low known held = tt
@@ -319,7 +319,7 @@ module _ (version : Version) where
   HasVotes None = Unit {0}
   HasVotes (Some more) = AreVotesIn more.1
 
-  more_preparing_in : (from : ℕ) (v : Option Vote) (led : Option Led) → IsVoteIn version v → HasHeld led → HasVotes (more_preparing from v led)
+  more_preparing_in : (from : ℕ) (v : Option Vote) (led : Option LedInstance) → IsVoteIn version v → HasHeld led → HasVotes (more_preparing from v led)
   more_preparing_in from v None known held = tt
   more_preparing_in from v (Some (Proposing b s answers)) known held = tt
   more_preparing_in from v (Some (Accepting b answers)) known held = tt
@@ -364,7 +364,7 @@ module _ (version : Version) where
   found_in i None known = tt
   found_in i (Some r) known = (known r refl).1
 
-  held_in : (o : Option Led) → ((l : Led) → o ≡ Some l → IsLedIn version l) → HasHeld o
+  held_in : (o : Option LedInstance) → ((l : LedInstance) → o ≡ Some l → IsLedIn version l) → HasHeld o
   held_in None known = tt
   held_in (Some l) known = known l refl
 
@@ -434,7 +434,7 @@ module _ (version : Version) where
   entry_in m i None low known all = all
   entry_in m i (Some x) low known all = all_inserted IsRecordIn m i all x (low, known)
 
-  lead_in : (m : Map Led) (i : ℕ) (o : Option (Option Led)) → HasLead o → ((j : ℕ) (l : Led) → get m j ≡ Some l → IsLedIn version l) → (j : ℕ) (l : Led) → get (with_led m i o) j ≡ Some l → IsLedIn version l
+  lead_in : (m : Map LedInstance) (i : ℕ) (o : Option (Option LedInstance)) → HasLead o → ((j : ℕ) (l : LedInstance) → get m j ≡ Some l → IsLedIn version l) → (j : ℕ) (l : LedInstance) → get (with_led m i o) j ≡ Some l → IsLedIn version l
   lead_in m i None known all = all
   lead_in m i (Some None) known all = all_removed (λ j l. IsLedIn version l) m i all
   lead_in m i (Some (Some x)) known all = all_inserted (λ j l. IsLedIn version l) m i all x known
@@ -461,7 +461,7 @@ module _ (version : Version) where
   pub fresh_held : (base : Store) → IsStoreIn version base → Holds version (fresh_state base)
   fresh_held base has = record {
     records = λ i r h. absurd (let n : get (none {X = Record}) i ≡ None = none_there i in cc);
-    leads = λ i l h. absurd (let n : get (none {X = Led}) i ≡ None = none_there i in cc);
+    leads = λ i l h. absurd (let n : get (none {X = LedInstance}) i ≡ None = none_there i in cc);
     store = has;
   }
 
@@ -476,7 +476,7 @@ module _ (v : Version) (early : version_number v ≤ 2) where
   votes_later [] h = tt
   votes_later (a ∷ more) h = (vote_later v V2 a.1 early h.0, votes_later more h.1)
 
-  led_later : (l : Led) → IsLedIn v l → IsLedIn V2 l
+  led_later : (l : LedInstance) → IsLedIn v l → IsLedIn V2 l
   led_later (Proposing b s answers) h = attrs_later answers h
   led_later (Accepting b answers) h = tt
   led_later (Preparing b answers) h = votes_later answers h

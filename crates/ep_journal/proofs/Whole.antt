@@ -14,7 +14,7 @@ use Rattle.ep_frame.specs.declared.origin.Origin.{Origin}
 use Rattle.ep_frame.specs.Meaning.{version_at}
 use Rattle.ep_frame.specs.Spelling.{Spells}
 use Rattle.ep_frame.proofs.Meanings.{version_spelled, sender_spelled, origin_spelled, message_spelled}
-use Rattle.ep_phase.specs.Leads.{Leads}
+use Rattle.ep_phase.specs.Leads.{Lead}
 use Rattle.ep_rules.specs.Cells.{Change, Refusal}
 use Rattle.ep_rules.specs.Journals as rules
 use Rattle.ep_rules.specs.Journals.{messages_of, AreMarked}
@@ -35,7 +35,7 @@ use Rattle.ep_journal.specs.Entries.{entry_of, frames_at, AreFrames, AreFramesIn
 use Rattle.ep_journal.specs.Events.{frame_at, event_of, IsReadable, AreSpelled, lacking, numbered_in, spelled_in}
 use Rattle.ep_journal.specs.Executing.{IsExecuted, IsUnexecuted}
 use Rattle.ep_journal.specs.Inputs.{IsWritable}
-use Rattle.ep_journal.specs.Parts.{state_of, known}
+use Rattle.ep_journal.specs.ReplicaStates.{state_of, known}
 use Rattle.ep_journal.specs.Refused as parts
 use Rattle.ep_journal.specs.Refused.{named}
 use Rattle.ep_journal.specs.Standing.{Standing, Advances, IsRefused, IsSound}
@@ -45,7 +45,7 @@ use Rattle.ep_journal.specs.declared.taken.Taken.{Taken}
 use Rattle.ep_journal.specs.declared.event.Event.{Event as Happening}
 use Rattle.ep_journal.specs.declared.event.Event.TheVariants.{Propose, Handle, GiveUp, Recover, Execute}
 use Rattle.ep_journal.specs.declared.mark.Mark.{Mark}
-use Rattle.ep_journal.specs.declared.parts.Parts.{Parts}
+use Rattle.ep_journal.specs.declared.replica_state.ReplicaState.{ReplicaState}
 use Rattle.ep_journal.specs.declared.step_fault.StepFault.{StepFault}
 use Rattle.ep_journal.specs.declared.step_fault.StepFault.TheVariants.{Memory, OutOfRange, NotMine, OtherVersion, OtherGeneration, StampFull, SpaceFull, SeqExhausted, NotLeading, TooFewAnswers, AlreadyCommitted, BallotsExhausted, NotCommitted}
 use Rattle.ep_journal.proofs.Asked.{request_full}
@@ -100,7 +100,7 @@ pub record Moved (v : Version) (me : ℕ) (s s' : State) (mark : Mark) (out : Li
   pub sent : AreSpelled v mark.number mark.stamp 0 out (sent_by me r)
   pub changed : changed_by s r ≡ s'
 
-moved : (v : Version) (me : ℕ) (s s' : Records) (l l' : Leads) (done : List ℕ) (store : Store) (mark : Mark) (out : List (List ℕ)) (r : Result (ℕ × Change) Refusal) →
+moved : (v : Version) (me : ℕ) (s s' : Records) (l l' : Lead) (done : List ℕ) (store : Store) (mark : Mark) (out : List (List ℕ)) (r : Result (ℕ × Change) Refusal) →
     Acted r v me mark (known s l) (known s' l') out → Moved v me (state_of s l done store) (state_of s' l' done store) mark out r
 moved v me s s' l l' done store mark out (Err e) h = absurd h
 moved v me s s' l l' done store mark out (Ok p) h =
@@ -115,7 +115,7 @@ none_numbered : (v : Version) → AreNumbersIn v []
 none_numbered v = tt
 
 -- what is asked by an event and done is the event's step
-advanced : (p p' : Parts) (event : Happening) (mark : Mark) (out : List (List ℕ)) (r : Result (ℕ × Change) Refusal) → IsAsked (standing_of p) event r → Moves r mark p (sent out) p' →
+advanced : (p p' : ReplicaState) (event : Happening) (mark : Mark) (out : List (List ℕ)) (r : Result (ℕ × Change) Refusal) → IsAsked (standing_of p) event r → Moves r mark p (sent out) p' →
     Advances (standing_of p) mark event (entry_by mark event (sent out)) (standing_of p')
 advanced p p' event mark out r a moves =
     let s : Standing = standing_of p in
@@ -139,7 +139,7 @@ advanced p p' event mark out r a moves =
       };
     }
 
-advanced_by : (p p' : Parts) (event : Happening) (mark : Mark) (t : Taken) (r : Result (ℕ × Change) Refusal) → IsAsked (standing_of p) event r → Moves r mark p t p' → Advances (standing_of p) mark event (entry_by mark event t) (standing_of p')
+advanced_by : (p p' : ReplicaState) (event : Happening) (mark : Mark) (t : Taken) (r : Result (ℕ × Change) Refusal) → IsAsked (standing_of p) event r → Moves r mark p t p' → Advances (standing_of p) mark event (entry_by mark event t) (standing_of p')
 advanced_by p p' event mark t r a moves =
     let is : sent t.frames ≡ t = λ i. record { frames = t.frames; done = sym moves.none i } in
     subst (λ (x : Taken). Advances (standing_of p) mark event (entry_by mark event x) (standing_of p')) is
@@ -194,7 +194,7 @@ refused_rule s event mark m BallotsExhausted r given a why = ruled s event mark 
 refused_rule s event mark m (NotCommitted i) r given a why = absurd why
 
 -- a request that finds no number of the version refuses the event
-full_by : (p : Parts) (client request seen : ℕ) (c : Command) (named : Option ℕ) (mark : Option Mark) (m : Mark) (o : Option ℕ) → mark ≡ Some m → IsLet (standing_of p) (Propose client request c seen named) → free_number p.space.records p.me ≡ o →
+full_by : (p : ReplicaState) (client request seen : ℕ) (c : Command) (named : Option ℕ) (mark : Option Mark) (m : Mark) (o : Option ℕ) → mark ≡ Some m → IsLet (standing_of p) (Propose client request c seen named) → free_number p.space.records p.me ≡ o →
     ((n : ℕ) → free_number p.space.records p.me ≡ Some n → highest_for p.space.version c ≤ n) → IsRefused (standing_of p) (Propose client request c seen named) mark SpaceFull
 full_by p client request seen c named mark m None given h free full = refused_rule (standing_of p) (Propose client request c seen named) mark m SpaceFull _ given (request_full p client request seen c named h free) refl
 full_by p client request seen c named mark m (Some n) given h free full = inr (inr (inr (inl (
@@ -208,14 +208,14 @@ full_by p client request seen c named mark m (Some n) given h free full = inr (i
   },
 ))))
 
-pub refused_full : (p : Parts) (client request seen : ℕ) (c : Command) (named : Option ℕ) (mark : Option Mark) (m : Mark) → mark ≡ Some m → IsLet (standing_of p) (Propose client request c seen named) →
+pub refused_full : (p : ReplicaState) (client request seen : ℕ) (c : Command) (named : Option ℕ) (mark : Option Mark) (m : Mark) → mark ≡ Some m → IsLet (standing_of p) (Propose client request c seen named) →
     ((n : ℕ) → free_number p.space.records p.me ≡ Some n → highest_for p.space.version c ≤ n) → IsRefused (standing_of p) (Propose client request c seen named) mark SpaceFull
 refused_full p client request seen c named mark m given h full = full_by p client request seen c named mark m (free_number p.space.records p.me) given h refl full
 
 -- What is asked, done or refused.
 
 -- where there is a mark
-pub changed_steps : (p p' : Parts) (event : Happening) (mark : Option Mark) (m : Mark) (r : Result (ℕ × Change) Refusal) (told : Result Taken StepFault) → mark ≡ Some m → IsAsked (standing_of p) event r →
+pub changed_steps : (p p' : ReplicaState) (event : Happening) (mark : Option Mark) (m : Mark) (r : Result (ℕ × Change) Refusal) (told : Result Taken StepFault) → mark ≡ Some m → IsAsked (standing_of p) event r →
     IfOk told (λ t. Moves r m p t p') → IfErr told (λ e. parts.IsRefused r e) → OnErr told (standing_of p' ≡ standing_of p) → Steps (standing_of p) event mark told (standing_of p')
 changed_steps p p' event mark m r (Ok t) given a ok refused err = subst (MarkedBy (λ x. Advances (standing_of p) x event (entry_by x event t) (standing_of p'))) (sym given) (advanced_by p p' event m t r a ok)
 changed_steps p p' event mark m r (Err fault) given a ok refused err = (refused_rule (standing_of p) event mark m fault r given a refused, err)
@@ -227,14 +227,14 @@ refused_on s s' event mark fault (Err e) h why same = (subst (IsRefused s event 
 
 -- The event, taken apart.
 
-pub let_as : (p : Parts) (event e : Happening) (v : Version) (f : ℕ) → event ≡ e → v ≡ p.space.version → IsReadable event → lacking v event ≡ None → f ≡ p.space.faults → screened f p.me (event_of e) ≡ None → IsLet (standing_of p) e
+pub let_as : (p : ReplicaState) (event e : Happening) (v : Version) (f : ℕ) → event ≡ e → v ≡ p.space.version → IsReadable event → lacking v event ≡ None → f ≡ p.space.faults → screened f p.me (event_of e) ≡ None → IsLet (standing_of p) e
 let_as p event e v f is version readable has count through = record {
   readable = subst IsReadable is readable;
   versioned = subst (λ x. lacking p.space.version x ≡ None) is (subst (λ w. lacking w event ≡ None) version has);
   unscreened = subst (λ n. screened n p.me (event_of e) ≡ None) count through;
 }
 
-pub screened_as : (p : Parts) (event e : Happening) (v : Version) (f : ℕ) (mark : Option Mark) (fault : StepFault) (told : Result Taken StepFault) → event ≡ e → v ≡ p.space.version → IsReadable event → lacking v event ≡ None → f ≡ p.space.faults →
+pub screened_as : (p : ReplicaState) (event e : Happening) (v : Version) (f : ℕ) (mark : Option Mark) (fault : StepFault) (told : Result Taken StepFault) → event ≡ e → v ≡ p.space.version → IsReadable event → lacking v event ≡ None → f ≡ p.space.faults →
     IsScreened (screened f p.me (event_of e)) fault → IsErrAnd told (λ x. x ≡ fault) → Steps (standing_of p) event mark told (standing_of p)
 screened_as p event e v f mark fault told is version readable has count out passed =
     refused_on (standing_of p) (standing_of p) event mark fault told passed
@@ -255,7 +255,7 @@ numbers_planned v s executed root done held plan = planned_in v s executed root 
 answers_planned : (v : Version) (s : State) (done : List (ℕ × Answer)) → Holds v s → answers_in done ≡ answers_of (command_in s.records) s.store (order_of done) → AreAnswersIn v done
 answers_planned v s done held is = subst (λ (xs : List Answer). AllByRecursion (IsAnswerIn v) xs) (sym is) (answers_given v (command_in s.records) (command_known v s held) s.store (order_of done) held.store)
 
-executed_here : (p p' : Parts) (m : Mark) (root : ℕ) (done : List (ℕ × Answer)) → Holds p.space.version (standing_of p).state → IsLet (standing_of p) (Execute root) →
+executed_here : (p p' : ReplicaState) (m : Mark) (root : ℕ) (done : List (ℕ × Answer)) → Holds p.space.version (standing_of p).state → IsLet (standing_of p) (Execute root) →
     p'.me ≡ p.me → p'.space ≡ p.space → p'.lead ≡ p.lead → IsExecuted p.space root done p.executed.list p.store p'.executed.list p'.store →
     Advances (standing_of p) m (Execute root) (entry_by m (Execute root) (record { frames = []; done = done })) (standing_of p')
 executed_here p p' m root done held through me space lead h = record {
@@ -276,7 +276,7 @@ executed_here p p' m root done held through me space lead h = record {
   };
 }
 
-pub executed_steps : (p p' : Parts) (root : ℕ) (mark : Option Mark) (m : Mark) (out : List (List ℕ)) (done : List (ℕ × Answer)) → mark ≡ Some m → out ≡ [] → IsSound (standing_of p) → IsLet (standing_of p) (Execute root) →
+pub executed_steps : (p p' : ReplicaState) (root : ℕ) (mark : Option Mark) (m : Mark) (out : List (List ℕ)) (done : List (ℕ × Answer)) → mark ≡ Some m → out ≡ [] → IsSound (standing_of p) → IsLet (standing_of p) (Execute root) →
     p'.me ≡ p.me → p'.space ≡ p.space → p'.lead ≡ p.lead → IsExecuted p.space root done p.executed.list p.store p'.executed.list p'.store →
     Steps (standing_of p) (Execute root) mark (Ok (record { frames = out; done = done })) (standing_of p')
 executed_steps p p' root mark m out done given none sound h me space lead x =
@@ -285,7 +285,7 @@ executed_steps p p' root mark m out done given none sound h me space lead x =
     (executed_here p p' m root done sound.held h me space lead x))
 
 -- why the root isn't executed
-pub refused_root : (p : Parts) (root : ℕ) (mark : Option Mark) (m : Mark) (fault : StepFault) → mark ≡ Some m → IsLet (standing_of p) (Execute root) → IsUnexecuted p.space root p.executed.list fault → IsRefused (standing_of p) (Execute root) mark fault
+pub refused_root : (p : ReplicaState) (root : ℕ) (mark : Option Mark) (m : Mark) (fault : StepFault) → mark ≡ Some m → IsLet (standing_of p) (Execute root) → IsUnexecuted p.space root p.executed.list fault → IsRefused (standing_of p) (Execute root) mark fault
 refused_root p root mark m Memory given h why = inl refl
 refused_root p root mark m OutOfRange given h why = absurd why
 refused_root p root mark m NotMine given h why = absurd why

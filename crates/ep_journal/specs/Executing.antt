@@ -28,7 +28,7 @@ pub record IsExecuted (s : Records) (root : ℕ) (done : List (ℕ × Answer)) (
   pub order : executed' ≡ executed ++ order_of done
   pub map : store' ≡ after_all (command_in s.records) store (order_of done)
 
--- why the root was not executed: want of memory, or i is the least instance for which it waits
+-- why the root was not executed: out of memory, or i is the least instance for which it waits
 abbrev pub IsUnexecuted : Records → ℕ → List ℕ → StepFault → Type 0
 IsUnexecuted s root executed Memory = Unit {0}
 IsUnexecuted s root executed OutOfRange = ⊥

@@ -6,7 +6,7 @@ use Rattle.ep_base.specs.declared.version.Version.{Version}
 use Rattle.ep_base.specs.declared.message.Message.{Message}
 use Rattle.ep_base.specs.declared.message.Message.TheVariants.{PreAccept, PreAcceptOk, Accept, AcceptOk, Commit, Prepare, PrepareOk, Nack}
 use Rattle.ep_frame.specs.Meaning.{sender_at, message_at}
-use Rattle.ep_phase.specs.Known.{Known, record_of}
+use Rattle.ep_phase.specs.InstanceViews.{InstanceView, record_of}
 use Rattle.ep_rules.specs.Cells.{Change, Refusal}
 use Rattle.ep_phase.specs.declared.receivers.Receivers.{Receivers}
 use Rattle.ep_phase.specs.declared.receivers.Receivers.TheVariants.{One, FastQuorum, Others}
@@ -20,7 +20,7 @@ use Rattle.ep_journal.specs.declared.input.Input.{Input}
 use Rattle.ep_journal.specs.declared.input.Input.TheVariants.{Start, Message as Handles, GiveUp, Recover}
 
 -- what the rule book answers to a message from this replica
-abbrev pub handled_at : Known → ℕ → Message → Outcome
+abbrev pub handled_at : InstanceView → ℕ → Message → Outcome
 handled_at k from (PreAccept i b x) = on_pre_accept k.instance from b x (interference k.records k.instance x.command) (record_of k)
 handled_at k from (PreAcceptOk i b a) = Ok (on_pre_accept_ok k.faults k.instance k.me from b a (record_of k) k.led)
 handled_at k from (Accept i b x) = Ok (on_accept k.instance from b x (record_of k))
@@ -31,14 +31,14 @@ handled_at k from (PrepareOk i b v) = on_prepare_ok k.faults k.instance k.me fro
 handled_at k from (Nack i b p) = Ok (on_nack p k.told)
 
 -- what it answers to what is asked
-abbrev pub outcome_at : Known → Input → Outcome
+abbrev pub outcome_at : InstanceView → Input → Outcome
 outcome_at k (Start c s) = propose k.faults k.instance s.now c.now (interference k.records k.instance c.now)
 outcome_at k (Handles v) = handled_at k (sender_at v.now) (message_at v.now)
 outcome_at k GiveUp = give_up k.faults k.instance k.me (record_of k) k.led
 outcome_at k Recover = recover k.faults k.instance k.me (record_of k) k.told
 
 -- whether a replica is one of the receivers of what is known there
-abbrev pub receives : Known → Receivers → ℕ → Bool
+abbrev pub receives : InstanceView → Receivers → ℕ → Bool
 receives k (One q) r = eqb r q
 receives k (FastQuorum s) r = is_fast (leader_of k.instance) s r
 receives k Others r = is_other k.me r

@@ -2,7 +2,7 @@ pub mod Holding
 pub mod Executing
 pub mod Events
 pub mod Refused
-pub mod Parts
+pub mod ReplicaStates
 pub mod Inputs
 pub mod Several
 pub mod Stepping

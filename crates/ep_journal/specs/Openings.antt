@@ -9,14 +9,14 @@ use Rattle.ep_rules.specs.OneMap.{Contents, Store, opened, empty}
 -- a map, and the stamp that the clocks go on from
 pub record Opening : Type 0 where
   pub contents : Contents
-  pub since : ℕ
+  pub base_stamp : ℕ
 
 abbrev pub opening_code : Coded Opening
-opening_code = code_by (Contents × ℕ) (coded× contents_code coded_ℕ) (λ o. (o.contents, o.since)) (λ p. record { contents = p.0; since = p.1 }) (λ _. refl)
+opening_code = code_by (Contents × ℕ) (coded× contents_code coded_ℕ) (λ o. (o.contents, o.base_stamp)) (λ p. record { contents = p.0; base_stamp = p.1 }) (λ _. refl)
 
 -- where a life begins
 abbrev pub no_opening : Opening
-no_opening = record { contents = empty; since = 0 }
+no_opening = record { contents = empty; base_stamp = 0 }
 
 -- the open map
 abbrev pub opens : Opening → Store

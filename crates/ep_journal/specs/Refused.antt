@@ -21,7 +21,7 @@ abbrev pub of_plan : PlanFault → StepFault
 of_plan PlanMemory = Memory
 of_plan (PlanNotCommitted i) = NotCommitted i
 
--- the refusal of the rule book that the fault names; none for want of memory, another version or generation and a full stamp, which the rule book doesn't know
+-- the refusal of the rule book that the fault names; none when out of memory, another version or generation and a full stamp, which the rule book doesn't know
 abbrev pub named : StepFault → Option Refusal
 named Memory = None
 named OutOfRange = Some rules.OutOfRange

@@ -1,26 +1,26 @@
 -- One step of a replica's parts: what the screen lets through, and how what is asked of an instance is done.
 use Rattle.std.specs.Prelude.{◌≡◌, ℕ, List, [], Option, Some, None, Result, Ok, Err}
 use Rattle.ep_base.specs.declared.version.Version.{Version}
-use Rattle.ep_phase.specs.Known.{known_of}
+use Rattle.ep_phase.specs.InstanceViews.{view_of}
 use Rattle.ep_rules.specs.Cells.{Change, Refusal}
 use Rattle.ep_rules.specs.States.{State, changed}
 use Rattle.ep_rules.specs.Steps.{at, acts, screened, sent_from, Executes}
 use Rattle.ep_journal.specs.Holding.{HasRoom}
 use Rattle.ep_journal.specs.Events.{event_of, IsReadable, lacking, AreSpelled}
 use Rattle.ep_journal.specs.Inputs.{outcome_at}
-use Rattle.ep_journal.specs.Parts.{known}
+use Rattle.ep_journal.specs.ReplicaStates.{known}
 use Rattle.ep_journal.specs.Refused.{named}
 use Rattle.ep_journal.specs.Standing.{Standing, stands, Advances, IsRefused}
 use Rattle.ep_journal.specs.declared.entry.Entry.{Entry}
 use Rattle.ep_journal.specs.declared.event.Event.{Event as Happening}
 use Rattle.ep_journal.specs.declared.input.Input.{Input}
 use Rattle.ep_journal.specs.declared.mark.Mark.{Mark}
-use Rattle.ep_journal.specs.declared.parts.Parts.{Parts}
+use Rattle.ep_journal.specs.declared.replica_state.ReplicaState.{ReplicaState}
 use Rattle.ep_journal.specs.declared.step_fault.StepFault.{StepFault}
 use Rattle.ep_journal.specs.declared.taken.Taken.{Taken}
 
 -- the replica that the parts are
-abbrev pub standing_of : Parts → Standing
+abbrev pub standing_of : ReplicaState → Standing
 standing_of p = stands p.me p.space p.lead p.executed.list p.store
 
 -- A step.
@@ -53,8 +53,8 @@ pub record IsLet (s : Standing) (event : Happening) : Type 0 where
 -- What is asked.
 
 -- the instance, and what changes there
-abbrev pub asked_of : Parts → ℕ → Input → Result (ℕ × Change) Refusal
-asked_of p i input = at i (outcome_at (known_of p.me p.space p.lead i) input)
+abbrev pub asked_of : ReplicaState → ℕ → Input → Result (ℕ × Change) Refusal
+asked_of p i input = at i (outcome_at (view_of p.me p.space p.lead i) input)
 
 -- the event is let through, asks this of an instance and executes nothing
 pub record IsAsked (s : Standing) (event : Happening) (r : Result (ℕ × Change) Refusal) : Type 0 where
@@ -69,7 +69,7 @@ Acted (Ok p) v me mark s s' out = (s' ≡ changed s p.0 p.1) × AreSpelled v mar
 Acted (Err e) v me mark s s' out = ⊥
 
 -- a step of the protocol, which executes nothing, and writes these frames
-pub record Moves (r : Result (ℕ × Change) Refusal) (mark : Mark) (p : Parts) (t : Taken) (p' : Parts) : Type 0 where
+pub record Moves (r : Result (ℕ × Change) Refusal) (mark : Mark) (p : ReplicaState) (t : Taken) (p' : ReplicaState) : Type 0 where
   pub me : p'.me ≡ p.me
   pub faults : p'.space.faults ≡ p.space.faults
   pub version : p'.space.version ≡ p.space.version

@@ -10,8 +10,8 @@ ghost use Rattle.ep_journal.specs.Inputs.{handled_at, outcome_at};
 use crate::input::Input;
 use ep_frame::{FrameView, Kind};
 use ep_phase::{
-    Cell, Change, DecisionFault, give_up, on_accept, on_accept_ok, on_commit, on_pre_accept,
-    on_pre_accept_ok, start,
+    Change, DecisionFault, InstanceView, give_up, on_accept, on_accept_ok, on_commit,
+    on_pre_accept, on_pre_accept_ok, start,
 };
 use ep_prepare::{on_nack, on_prepare, on_prepare_ok, recover};
 use std::alloc::Global;
@@ -20,7 +20,7 @@ use std::alloc::Global;
 #[inline(always)]
 pub(crate) fn decide(
     alloc: Global,
-    cell: &Cell<'_>,
+    cell: &InstanceView<'_>,
     input: Input<'_>,
 ) -> Result<Change, DecisionFault>
     ensures ok { IfOk result (λ ch. outcome_at cell.now input.entry ≡ Ok (change_of cell.now ch)) }
@@ -37,19 +37,23 @@ pub(crate) fn decide(
 /// Decides what comes of the frame's message.
 #[inline(always)]
 #[tactic(auto, using(crate::proofs::Handled::handled_ok, crate::proofs::Handled::handled_refused))]
-fn handle(alloc: Global, cell: &Cell<'_>, frame: &FrameView<'_>) -> Result<Change, DecisionFault>
+fn handle(
+    alloc: Global,
+    cell: &InstanceView<'_>,
+    frame: &FrameView<'_>,
+) -> Result<Change, DecisionFault>
     ensures ok { IfOk result (λ ch. handled_at cell.now (sender_at frame.now) (message_at frame.now) ≡ Ok (change_of cell.now ch)) }
     ensures refused { IfErr result (λ e. IsRefused (handled_at cell.now (sender_at frame.now) (message_at frame.now)) e) }
 {
     handle_by(alloc, cell, frame, frame.kind())
 }
 
-/// The same of a frame whose message is of this kind.
+/// Decides what comes of the frame's message, which is of this kind.
 #[inline(always)]
 #[tactic(auto, using(crate::proofs::Handled::rule_ok, crate::proofs::Handled::rule_refused))]
 fn handle_by(
     alloc: Global,
-    cell: &Cell<'_>,
+    cell: &InstanceView<'_>,
     frame: &FrameView<'_>,
     kind: Kind,
 ) -> Result<Change, DecisionFault>
@@ -72,7 +76,7 @@ fn handle_by(
 /// Decides what comes of a PrepareOK.
 fn handle_vote(
     alloc: Global,
-    cell: &Cell<'_>,
+    cell: &InstanceView<'_>,
     frame: &FrameView<'_>,
 ) -> Result<Change, DecisionFault>
     requires { kind_at frame.now ≡ PrepareOk }

@@ -80,7 +80,7 @@ fn do_command(store: &mut Store, command: &Command) -> Result<Answer, AllocError
     if command.is_noop() {
         return Ok(Answer::Lost);
     }
-    Ok(Answer::Told(store.apply(command)?))
+    Ok(Answer::Replied(store.apply(command)?))
 }
 
 /// Does what is committed in one instance on the map, or nothing. Nothing is kept for undoing it, since no later command could run out of

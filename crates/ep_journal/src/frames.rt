@@ -20,8 +20,8 @@ ghost use Rattle.ep_journal.specs.Upgrading.{AreEarlyFrames, IsEarlyFrame, AreUp
 use crate::chosen::Chosen;
 use crate::mark::Mark;
 use ep_base::{ReplicaId, Version};
-use ep_frame::{Frame, Origin, Round, Telling, write_each, write_said};
-use ep_phase::{Cell, Change, Receivers, is_fast};
+use ep_frame::{Frame, InstanceMessage, Origin, Round, write_each, write_said};
+use ep_phase::{Change, InstanceView, Receivers, is_fast};
 use std::alloc::{AllocError, Global};
 use std::marker::Model;
 
@@ -111,7 +111,7 @@ fn upgrade_each(alloc: Global, frames: &mut [Frame]) -> Result<(), AllocError>
 #[inline(always)]
 pub(crate) fn written(
     alloc: Global,
-    cell: &Cell<'_>,
+    cell: &InstanceView<'_>,
     version: Version,
     mark: Mark,
     change: &Change,
@@ -124,7 +124,7 @@ pub(crate) fn written(
     let Some((to, telling)) = change.said(cell) else {
         return Ok(Frames::none(alloc));
     };
-    let told = Told {
+    let told = Multicast {
         version,
         mark,
         to,
@@ -135,7 +135,11 @@ pub(crate) fn written(
 
 /// The frames of what is told, by rising receiver.
 #[inline(always)]
-fn written_of(alloc: Global, cell: &Cell<'_>, told: &Told<'_>) -> Result<Frames, AllocError>
+fn written_of(
+    alloc: Global,
+    cell: &InstanceView<'_>,
+    told: &Multicast<'_>,
+) -> Result<Frames, AllocError>
     requires number { 1 ≤ told.now.mark.number }
     requires fit { AllFit cell.now.me (to_receivers cell.now.faults cell.now.me cell.now.instance told.now.to (says told.now.telling.now.instance told.now.telling.now.said)) }
     requires said { AllSayable told.now.version (to_receivers cell.now.faults cell.now.me cell.now.instance told.now.to (says told.now.telling.now.instance told.now.telling.now.said)) }
@@ -152,8 +156,8 @@ fn written_of(alloc: Global, cell: &Cell<'_>, told: &Told<'_>) -> Result<Frames,
 #[inline(always)]
 fn written_to(
     alloc: Global,
-    cell: &Cell<'_>,
-    told: &Told<'_>,
+    cell: &InstanceView<'_>,
+    told: &Multicast<'_>,
     to: ReplicaId,
 ) -> Result<Frames, AllocError>
     requires number { 1 ≤ told.now.mark.number }
@@ -175,7 +179,11 @@ fn written_to(
 }
 
 /// The frames of what is told to each of several replicas, by rising receiver. They share one run of bytes.
-fn written_to_each(alloc: Global, cell: &Cell<'_>, told: &Told<'_>) -> Result<Frames, AllocError>
+fn written_to_each(
+    alloc: Global,
+    cell: &InstanceView<'_>,
+    told: &Multicast<'_>,
+) -> Result<Frames, AllocError>
     requires number { 1 ≤ told.now.mark.number }
     requires fit { AllFit cell.now.me (to_those (receives cell.now told.now.to) (size cell.now.faults) (says told.now.telling.now.instance told.now.telling.now.said)) }
     requires said { AllSayable told.now.version (to_those (receives cell.now told.now.to) (size cell.now.faults) (says told.now.telling.now.instance told.now.telling.now.said)) }
@@ -196,7 +204,7 @@ fn written_to_each(alloc: Global, cell: &Cell<'_>, told: &Told<'_>) -> Result<Fr
 }
 
 /// The cluster's replicas that are receivers, by rising number.
-fn receivers_of(cell: &Cell<'_>, told: &Told<'_>) -> Chosen
+fn receivers_of(cell: &InstanceView<'_>, told: &Multicast<'_>) -> Chosen
     ensures few { length result ≤ 7 }
     ensures sent { (m : Message) → to_each result m ≡ to_those (receives cell.now told.now.to) (size cell.now.faults) m }
 {
@@ -209,7 +217,7 @@ fn receivers_of(cell: &Cell<'_>, told: &Told<'_>) -> Chosen
 
 /// Adds the replica of this number, if it is one of the receivers.
 #[tactic(auto, using(crate::proofs::Spelling::each_added, crate::proofs::Spelling::each_passed))]
-fn add_if(chosen: &mut Chosen, cell: &Cell<'_>, told: &Told<'_>, r: u8)
+fn add_if(chosen: &mut Chosen, cell: &InstanceView<'_>, told: &Multicast<'_>, r: u8)
     requires replica { r ≤ 6 }
     requires room { length chosen.old ≤ r }
     ensures few { length chosen.new ≤ r + 1 }
@@ -221,7 +229,7 @@ fn add_if(chosen: &mut Chosen, cell: &Cell<'_>, told: &Told<'_>, r: u8)
 }
 
 /// Whether the replica is one of these receivers.
-fn is_receiver(cell: &Cell<'_>, to: Receivers, replica: u8) -> bool
+fn is_receiver(cell: &InstanceView<'_>, to: Receivers, replica: u8) -> bool
     ensures { result ≡ receives cell.now to replica }
 {
     match to {
@@ -231,13 +239,13 @@ fn is_receiver(cell: &Cell<'_>, to: Receivers, replica: u8) -> bool
     }
 }
 
-/// What an entry with this mark tells, in this version, and whom.
+/// A message of the entry with this mark, in this version, and who gets it.
 #[derive(Drop)]
-struct Told<'a> {
+struct Multicast<'a> {
     version: Version,
     mark: Mark,
     to: Receivers,
-    telling: &'a Telling<'a>,
+    telling: &'a InstanceMessage<'a>,
 }
 
 /// The replica of this number.

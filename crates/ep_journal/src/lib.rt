@@ -6,7 +6,7 @@
 //! Start with `event.rt`, `entry.rt` and `state.rt` (`State::step`), then specs/Standing.antt (`Advances`, `IsRefused`). A
 //! `Journal` is a local run by its type, so whoever holds one knows it.
 //!
-//! A step (`parts.rt`) asks whether the replica's version has the event (`versioned.rt`), screens it (`screen.rt`), decides
+//! A step (`replica_state.rt`) asks whether the replica's version has the event (`versioned.rt`), screens it (`screen.rt`), decides
 //! (`deciding.rt`), writes the frames, and then makes the places that the change needs and puts it there: all that may fail
 //! comes first, so nothing has to be put back. A handled message is read off its frame, and never made. Several executions
 //! are tried first, and kept or taken back together. Nothing else is ever undone: keep it so.
@@ -26,8 +26,8 @@ mod journals;
 mod mark;
 mod naming;
 mod opening;
-mod parts;
 mod remainder;
+mod replica_state;
 mod screen;
 mod state;
 mod step_fault;

@@ -14,7 +14,7 @@ use std::marker::Model;
 #[derive(Drop)]
 pub struct Opening {
     contents: Contents,
-    since: u64,
+    base_stamp: u64,
 }
 
 impl Model for Opening {
@@ -27,9 +27,9 @@ impl Model for Opening {
 
     ghost coded = { opening_code };
 
-    ghost view = { λ o. record { contents = o.contents; since = o.since } };
+    ghost view = { λ o. record { contents = o.contents; base_stamp = o.base_stamp } };
 
-    ghost invariant = { λ o. (o.since ≤ 281474976710655) × (length (entries o.contents) ≤ 4000000000) };
+    ghost invariant = { λ o. (o.base_stamp ≤ 281474976710655) × (length (entries o.contents) ≤ 4000000000) };
 }
 
 impl Opening {
@@ -39,21 +39,24 @@ impl Opening {
     {
         Opening {
             contents: Contents::new(alloc),
-            since: 0,
+            base_stamp: 0,
         }
     }
 
     /// This map, with clocks that go on from this stamp; `OutOfRange` if the stamp is above 281,474,976,710,655, or more than 4,000,000,000
     /// keys have a value.
-    pub fn new(contents: Contents, since: u64) -> Result<Opening, OutOfRange>
-        ensures in_range { IsOk result ↔ ((since ≤ 281474976710655) × (length (entries contents) ≤ 4000000000)) }
-        ensures value { IfOk result (λ o. o ≡ record { contents = contents; since = since }) }
+    pub fn new(contents: Contents, base_stamp: u64) -> Result<Opening, OutOfRange>
+        ensures in_range { IsOk result ↔ ((base_stamp ≤ 281474976710655) × (length (entries contents) ≤ 4000000000)) }
+        ensures value { IfOk result (λ o. o ≡ record { contents = contents; base_stamp = base_stamp }) }
     {
         let few = contents.is_within(4_000_000_000);
-        if since > 281_474_976_710_655 || !few {
+        if base_stamp > 281_474_976_710_655 || !few {
             return Err(OutOfRange);
         }
-        Ok(Opening { contents, since })
+        Ok(Opening {
+            contents,
+            base_stamp,
+        })
     }
 
     /// What the keys have.
@@ -75,7 +78,10 @@ impl Opening {
     pub(crate) fn into_contents(self) -> Contents
         ensures { result ≡ self.contents }
     {
-        let Opening { contents, since: _ } = self;
+        let Opening {
+            contents,
+            base_stamp: _,
+        } = self;
         contents
     }
 
@@ -88,26 +94,26 @@ impl Opening {
         let contents = self.contents.hand_on(alloc)?;
         Ok(Opening {
             contents,
-            since: self.since,
+            base_stamp: self.base_stamp,
         })
     }
 
     /// The stamp that the clocks go on from.
-    pub fn since(&self) -> u64
-        ensures value { result ≡ self.now.since }
+    pub fn base_stamp(&self) -> u64
+        ensures value { result ≡ self.now.base_stamp }
         ensures in_range { result ≤ 281474976710655 }
     {
-        self.since
+        self.base_stamp
     }
 
-    /// The same again.
+    /// A copy of the opening.
     pub fn copy(&self, alloc: Global) -> Result<Opening, AllocError>
         ensures { IfOk result (λ o. o ≡ self.now) }
     {
         let contents = self.contents.copy(alloc)?;
         Ok(Opening {
             contents,
-            since: self.since,
+            base_stamp: self.base_stamp,
         })
     }
 
@@ -115,6 +121,6 @@ impl Opening {
     pub fn is_same(&self, other: &Opening) -> bool
         ensures { IsTrue result ↔ (self.now ≡ other.now) }
     {
-        self.since == other.since && self.contents.is_same(&other.contents)
+        self.base_stamp == other.base_stamp && self.contents.is_same(&other.contents)
     }
 }

@@ -2,7 +2,7 @@
 use Rattle.std.proofs.Common.{◌≡◌, ℕ, inl, inr, List, Option, Result, Ok, Err, IfOk, Bool, true, false, refl, subst}
 use Rattle.std.specs.Prelude.{◌↔◌}
 use Rattle.ep_base.specs.Commands.{Tx}
-use Rattle.ep_base.specs.Parts.{is_tx, items_in}
+use Rattle.ep_base.specs.CommandParts.{is_tx, items_in}
 use Rattle.ep_base.specs.declared.command.Command.{Command}
 use Rattle.ep_base.specs.declared.command_fault.CommandFault.{CommandFault}
 use Rattle.ep_base.specs.declared.command_fault.CommandFault.TheVariants.{Memory, OutOfRange}

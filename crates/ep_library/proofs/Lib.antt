@@ -2,3 +2,4 @@ mod Auditing
 mod Bodies
 mod Heirs
 mod Heads
+mod Made

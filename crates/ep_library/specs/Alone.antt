@@ -1,4 +1,4 @@
--- What is told without a replica.
+-- What calls do that need no replica.
 use Rattle.std.specs.Prelude.{◌≡◌, ◌⊎◌, ◌<◌, ◌++◌, ◌∷◌, ℕ, Bool, true, false, List, [], take, length, None, Ok, Err, Result}
 use Rattle.ep_base.specs.Quorums.{size}
 use Rattle.ep_bundle.specs.Journals.{ReadsBundle}
@@ -19,7 +19,7 @@ use Rattle.ep_library.specs.Arguments.{IsSize}
 abbrev pub BeginsWith : List ℕ → List ℕ → Type 0
 BeginsWith bytes out = take (length bytes) out ≡ bytes
 
--- the text is copied, with this status; or the buffer is too short; how long the text is is told in any case
+-- the text is copied, with this status; or the buffer is too short; how long the text is is reported in any case
 abbrev pub Copies : ℕ → ℕ → List ℕ → List ℕ → List ℕ → ℕ → Type 0
 Copies status well text out out' told =
     (told ≡ length text)

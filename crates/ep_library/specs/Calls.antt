@@ -2,7 +2,7 @@
 use Rattle.std.specs.Prelude.{◌≡◌, ◌⊎◌, ℕ, List, Option, None, Result, Ok, Err, true, false}
 use Rattle.std.specs.Option.{MatchOption}
 use Rattle.ep_base.specs.Commands.{Tx}
-use Rattle.ep_base.specs.Parts.{is_tx, items_in, IsInRange}
+use Rattle.ep_base.specs.CommandParts.{is_tx, items_in, IsInRange}
 use Rattle.ep_base.specs.declared.command.Command.{Command}
 use Rattle.ep_base.specs.declared.command_fault.CommandFault.{CommandFault}
 use Rattle.ep_hosted.specs.Hosting.{Hosting}

@@ -1,4 +1,4 @@
--- What an execution tells.
+-- What an execution reports.
 use Rattle.std.specs.Prelude.{◌≡◌, ◌⊎◌, ℕ, Option, Some, None}
 use Rattle.ep_base.specs.Instances.{leader_of, number_of}
 use Rattle.ep_hosted.specs.Hosting.{Hosting}
@@ -25,7 +25,7 @@ abbrev pub named : TakingFault → Instance → Instance
 named Lent other = other
 named (Refused refusal) other = or_other (names refusal) other
 
--- the instance was executed; or it wasn't, as the status says, and what it waits for is told where that is why
+-- the instance was executed; or it wasn't, as the status says, and what it waits for is reported where that is why
 abbrev pub Tries : ℕ → Hosting → ℕ → Instance → Hosting → Instance → Type 0
 Tries status h i other k told =
     ((status ≡ done) × HasTaken h (Execute i) k × (told ≡ other))

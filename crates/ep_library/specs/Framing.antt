@@ -26,7 +26,7 @@ head_of h = record {
   op = h.op;
 }
 
--- the same in version 3, by the places of its fields
+-- what a header of version 3 says, by the places of its fields
 abbrev pub head_at : List ℕ → FrameHead
 head_at bytes = record {
   entry = number_at 8 4 bytes;
@@ -43,11 +43,11 @@ head_at bytes = record {
   op = number_at 34 1 bytes;
 }
 
--- nothing is told
+-- nothing is reported
 abbrev pub IsHeadless : ℕ → FrameHead → FrameHead → Type 0
 IsHeadless status old new = (status ≡ bad_frame) × (new ≡ old)
 
--- what the header says is told, or there is none of version 3
+-- what the header says is reported, or there is none of version 3
 abbrev pub TellsHead : ℕ → List ℕ → FrameHead → FrameHead → Type 0
 TellsHead status bytes old new =
     ((ltb (length bytes) 48 ≡ true) × IsHeadless status old new)

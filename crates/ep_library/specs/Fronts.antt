@@ -45,7 +45,7 @@ has_front bytes = leb (map_place bytes + 4) (length bytes)
 
 abbrev pub head_at : List ℕ → OpeningHead
 head_at bytes = record {
-  since = number_at 10 8 bytes;
+  base_stamp = number_at 10 8 bytes;
   map_at = map_place bytes;
   generation = number_at 6 4 bytes;
   seal_len = seal_len_at bytes;
@@ -54,11 +54,11 @@ head_at bytes = record {
   has_seal = flag (has_seal_at bytes);
 }
 
--- nothing is told, as the status says
+-- nothing is reported, as the status says
 abbrev pub IsFrontless : ℕ → ℕ → OpeningHead → OpeningHead → Type 0
 IsFrontless why status old told = (status ≡ why) × (told ≡ old)
 
--- what they say is told; or more bytes are needed, or they are no opening's
+-- what they say is reported; or more bytes are needed, or they are no opening's
 abbrev pub TellsFront : ℕ → List ℕ → OpeningHead → OpeningHead → Type 0
 TellsFront status bytes old told =
     ((ltb (length bytes) 23 ≡ true) × IsFrontless opening_short status old told)

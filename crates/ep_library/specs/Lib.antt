@@ -4,7 +4,7 @@ pub mod Executing
 pub mod Places
 pub mod Statuses
 pub mod Syncing
-pub mod Telling
+pub mod Answering
 pub mod Alone
 pub mod Opening
 pub mod Patience
@@ -15,3 +15,5 @@ pub mod Fronts
 pub mod Planning
 pub mod Pairs
 pub mod References
+pub mod Logs
+pub mod Openings

@@ -21,11 +21,11 @@ pair_at bytes = record {
   value_len = number_at 1 4 bytes;
 }
 
--- nothing is told
+-- nothing is reported
 abbrev pub IsPairless : ℕ → Pair → Pair → Type 0
 IsPairless status old told = (status ≡ none) × (told ≡ old)
 
--- where they stand is told, or they aren't there
+-- where they stand is reported, or they aren't there
 abbrev pub TellsPair : ℕ → List ℕ → Pair → Pair → Type 0
 TellsPair status bytes old told =
     ((ltb (length bytes) 5 ≡ true) × IsPairless status old told)

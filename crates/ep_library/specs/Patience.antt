@@ -1,4 +1,4 @@
--- What each call does that tells when to wait no longer, by its status.
+-- When to wait no longer: what each call does, by its status.
 use Rattle.std.specs.Prelude.{◌≡◌, ◌≤◌, ◌<◌, ◌⊎◌, ℕ, Bool, List, [], Option, Some, None}
 use Rattle.std.specs.Option.{MatchOption}
 use Rattle.ep_base.specs.Quorums.{size}
@@ -21,10 +21,11 @@ WithPatience status old new P = MatchOption old ((status ≡ no_patience) × (ne
 abbrev pub Stands : ℕ → ℕ → Option HostedPatience → Option HostedPatience → Type 0
 Stands why status old new = (status ≡ why) × (new ≡ old)
 
--- the same of a peer's number, or of an instance
+-- the same, unless no peer has this number
 abbrev pub WithPeer : ℕ → Option HostedPatience → ℕ → Option HostedPatience → (HostedPatience → HostedPatience → Type 0) → Type 0
 WithPeer status old peer new P = ((¬ (peer ≤ 6)) × Stands out_of_range status old new) ⊎ WithPatience status old new P
 
+-- the same, unless there is no such instance
 abbrev pub WithInstance : ℕ → Option HostedPatience → Instance → Option HostedPatience → (HostedPatience → HostedPatience → Type 0) → Type 0
 WithInstance status old i new P = ((¬ IsPlace i) × Stands out_of_range status old new) ⊎ WithPatience status old new P
 
@@ -35,7 +36,7 @@ pub record HasPlace (w : Waits) : Type 0 where
   pub cluster : IsSize w.replicas
   pub me : w.replica < w.replicas
 
--- it is new, of this replica, with these waits and this seed, and has told nothing
+-- it is new, of this replica, with these waits and this seed, and has reported nothing
 pub record IsBegun (w : Waits) (h : HostedPatience) : Type 0 where
   pub faults : ℕ
   pub cluster : size faults ≡ w.replicas
@@ -54,7 +55,7 @@ abbrev pub BeginsPatience : ℕ → Option HostedPatience → Waits → Option H
 BeginsPatience status None w new = Seats status w new
 BeginsPatience status (Some h) w new = Stands has_patience status (Some h) new
 
--- What it is told.
+-- What is reported to it.
 
 abbrev pub Measures : ℕ → HostedPatience → ℕ → ℕ → HostedPatience → Type 0
 Measures status h peer took k = (status ≡ done) × (k ≡ record h { patience = turning.with_measured h.patience peer took })
@@ -68,7 +69,7 @@ Hurries status h k = (status ≡ done) × (k ≡ record h { patience = turning.w
 abbrev pub PutsOff : ℕ → HostedPatience → ℕ → ℕ → ℕ → HostedPatience → Type 0
 PutsOff status h i ballot now k = (status ≡ done) × turning.PutsOff h.patience i ballot now k.patience × (k.told ≡ h.told)
 
--- What it tells.
+-- What it reports.
 
 -- there was a turn, and where what is asked for stands; or there was none, as the status says
 abbrev pub Turns : ℕ → HostedPatience → ℕ → List ℕ → HostedPatience → Lent → Type 0

@@ -58,13 +58,13 @@ fault_number (Older g) = g
 fault_number (Other g) = g
 fault_number (Broken g) = g
 
--- this plan is told; or why there is none, with the generation that this names
+-- this plan is reported; or why there is none, with the generation that this names
 abbrev pub Starts : ℕ → Result Plan StartFault → StartPlan → Place → StartPlan → Place → Type 0
 Starts status (Ok p) old other told place = (status ≡ done) × (told ≡ plan_out p) × (place ≡ other)
 Starts status (Err fault) old other told place =
     (status ≡ fault_status fault) × (told ≡ old) × (place ≡ record { at = fault_number fault; by = 0 })
 
--- nothing is told, as the status says
+-- nothing is reported, as the status says
 abbrev pub IsUnplanned : ℕ → ℕ → StartPlan → Place → StartPlan → Place → Type 0
 IsUnplanned why status old other told place = (status ≡ why) × (told ≡ old) × (place ≡ other)
 
@@ -76,7 +76,7 @@ Plans status held w old other told place =
     ⊎ ((asked : Wish) × (wish_in w ≡ Some asked)
     × Starts status (plans.plan (map folder_of held) asked) old other told place))
 
--- from where on logs are replayed is told; or why not, and by which generation
+-- from where on logs are replayed is reported; or why not, and by which generation
 abbrev pub StartsFrom : ℕ → Result ℕ StartFault → ℕ → Type 0
 StartsFrom status (Ok g) told = (status ≡ done) × (told ≡ g)
 StartsFrom status (Err fault) told = (status ≡ fault_status fault) × (told ≡ fault_number fault)
@@ -85,12 +85,12 @@ abbrev pub TellsFirst : ℕ → List HeldGeneration → ℕ → ℕ → ℕ → 
 TellsFirst status held generation old told =
     ((status ≡ memory) × (told ≡ old)) ⊎ StartsFrom status (plans.first_of generation (map folder_of held)) told
 
--- the greatest generation that is here is told, unless memory was refused
+-- the greatest generation that is here is reported, unless memory was refused
 abbrev pub TellsNewest : ℕ → List HeldGeneration → ℕ → ℕ → Type 0
 TellsNewest status held old told =
     ((status ≡ memory) × (told ≡ old)) ⊎ ((status ≡ done) × (told ≡ plans.newest (map folder_of held)))
 
--- the generation is told, if there is one
+-- the generation is reported, if there is one
 abbrev pub Names : ℕ → Option ℕ → ℕ → ℕ → Type 0
 Names status None old told = (status ≡ none) × (told ≡ old)
 Names status (Some g) old told = (status ≡ done) × (told ≡ g)

@@ -12,7 +12,7 @@ use Rattle.ep_opening.specs.declared.opening_fault.OpeningFault.{OpeningFault}
 abbrev pub read_of : Reference → ReferenceHead
 read_of r = record { length = r.length; generation = r.generation; replicas = size r.faults }
 
--- what it says is told; or it is none, where and why is told; or there was no memory
+-- what it says is reported; or it is none, where and why is reported; or there was no memory
 abbrev pub TellsReference : ℕ → List ℕ → ReferenceHead → Place → ReferenceHead → Place → Type 0
 TellsReference status bytes old other told place =
     ((r : Reference) × (bytes ≡ reference_bytes r) × (status ≡ done) × (told ≡ read_of r) × (place ≡ other))

@@ -76,6 +76,9 @@ refused = 41
 abbrev pub bad_frame : ℕ
 bad_frame = 14
 
+abbrev pub no_header : ℕ
+no_header = 51
+
 abbrev pub opening_short : ℕ
 opening_short = 60
 
@@ -103,7 +106,7 @@ prepare_status prepare.Memory = memory
 prepare_status prepare.Unlent = unsynced
 prepare_status prepare.Untold = 46
 
--- why nothing is told
+-- why nothing is reported
 abbrev pub tell_status : TellFault → ℕ
 tell_status tell.Memory = memory
 tell_status tell.Unsynced = unsynced

@@ -11,8 +11,8 @@ use Rattle.ep_hosted.specs.declared.succeed_fault.SucceedFault.TheVariants.{Memo
 use Rattle.ep_opening.specs.Bytes.{opening_bytes}
 use Rattle.ep_opening.specs.Files.{File}
 use Rattle.ep_opening.specs.Pieces.{longest_field}
-use Rattle.ep_opening.specs.References.{IsReference, least_log, Reference, reference_bytes}
-use Rattle.ep_library.specs.Alone.{Copies}
+use Rattle.ep_opening.specs.References.{binding_bytes, IsReference, least_log, Reference, reference_bytes}
+use Rattle.ep_library.specs.Alone.{Copies, Leaves}
 use Rattle.ep_library.specs.Arguments.{IsSize, log_given}
 use Rattle.ep_library.specs.Places.{succeed_place}
 use Rattle.ep_library.specs.Statuses.{done, memory, out_of_range, none, no_replica, no_checkpoint, has_checkpoint, log_exists, succeed_status}
@@ -41,6 +41,18 @@ abbrev pub NamesLog : ℕ → ClosedLog → List ℕ → ℕ → List ℕ → �
 NamesLog status c old len new len' =
     ((r : Reference) × IsLogNamed c r × ((bytes : List ℕ) × (bytes ≡ reference_bytes r) × Copies status done bytes old new len'))
     ⊎ (((status ≡ memory) × (new ≡ old) × (len' ≡ len)) ⊎ ((status ≡ out_of_range) × (¬ HasLog c) × (new ≡ old) × (len' ≡ len)))
+
+-- both can be digests
+abbrev pub AreDigests : List ℕ → List ℕ → Type 0
+AreDigests one other = (length one ≡ 32) × (length other ≡ 32)
+
+-- what binds the second's file to the first's reference is copied out, if there is room and memory
+abbrev pub Binds : ℕ → List ℕ × List ℕ → List ℕ → ℕ → List ℕ → ℕ → Type 0
+Binds status digests out told out' told' =
+    (AreDigests digests.0 digests.1
+    × (Copies status done (binding_bytes digests.0 digests.1) out out' told'
+    ⊎ Leaves status memory out told out' told'))
+    ⊎ ((¬ AreDigests digests.0 digests.1) × Leaves status out_of_range out told out' told')
 
 -- Who goes on.
 
@@ -95,7 +107,7 @@ abbrev pub Follows : Hosting → Heir → Option (List ℕ) → Result (Hosting 
 Follows h heir log (Ok next) = HasSucceeded h heir log next.1 next.0
 Follows h heir log (Err fault) = IsLost h heir log fault
 
--- It goes on; or it was refused, and is as it was; or it can't go on from the log, and where that is wrong is told, or there was no memory, and it is gone.
+-- It goes on; or it was refused, and is as it was; or it can't go on from the log, and where that is wrong is reported, or there was no memory, and it is gone.
 abbrev pub SucceedsAs : ℕ → Option Place → Hosting → Heir → Option (List ℕ) → Option Hosting → Option HostedCheckpoint → Type 0
 SucceedsAs status told h heir log new kept =
     ((told ≡ None) × ((k : Hosting) × (file : File) × HasSucceeded h heir log file k × KeepsBoth status k file new kept))
@@ -109,7 +121,7 @@ Succeeds status told h s new kept =
     ⊎ (((status ≡ log_exists) × (told ≡ None) × IsSpareLog s × (new ≡ Some h) × (kept ≡ None))
     ⊎ ((heir : Heir) × IsHeir s heir × (¬ IsSpareLog s) × SucceedsAs status told h heir (log_given s.is_new s.log.now) new kept))
 
--- what a place is once this is told, if anything is
+-- what a place is once this is reported, if anything is
 abbrev pub told_over : Place → Option Place → Place
 told_over other None = other
 told_over other (Some place) = place

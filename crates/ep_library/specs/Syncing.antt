@@ -1,4 +1,4 @@
--- What is lent and told, by the status.
+-- What is lent and reported, by the status.
 use Rattle.std.specs.Prelude.{◌≡◌, ◌⊎◌, ℕ, Bool, true, false, List, length, Option, Some, None}
 use Rattle.std.specs.Vec.{vec_ptr}
 use Rattle.ep_hosted.specs.Asking.{HasAsked, IsUnasked}
@@ -20,7 +20,7 @@ flag false = 0
 abbrev pub IsRun : Buffer → Lent → Type 0
 IsRun buffer run = (run.at ≡ vec_ptr buffer) × (run.len ≡ length buffer.items)
 
--- the same, if there are any
+-- where the bytes stand, if there are any
 abbrev pub IsRunOf : Option Buffer → Lent → Type 0
 IsRunOf None run = run.len ≡ 0
 IsRunOf (Some buffer) run = IsRun buffer run
@@ -42,7 +42,7 @@ HasReleased h there k = HasTold h there k
 unfoldable pub IsUnreleased : Hosting → TellFault → Hosting → Type 0
 IsUnreleased h fault k = IsWithheld h fault × (k ≡ h)
 
--- what is to be written is lent, and told; or there was no memory
+-- what is to be written is lent; or there was no memory
 abbrev pub Lends : ℕ → Hosting → Hosting → Lent → ℕ → Type 0
 Lends status h k run anew = ((status ≡ done) × HasMadeReady h k × IsRunOf k.lent run × (anew ≡ flag k.is_anew)) ⊎ ((status ≡ memory) × (k ≡ h))
 
@@ -50,7 +50,7 @@ Lends status h k run anew = ((status ≡ done) × HasMadeReady h k × IsRunOf k.
 abbrev pub Syncs : ℕ → Hosting → ℕ → Hosting → Type 0
 Syncs status h count k = ((status ≡ done) × HasSynced h count k) ⊎ ((fault : SyncFault) × (status ≡ sync_status fault) × IsUnsynced h count fault k)
 
--- what waits was told, and all that there is to tell; or nothing was, as the status says
+-- the answers that wait are lent, and all that there is to report; or nothing is, as the status says
 abbrev pub Answers : ℕ → Hosting → ℕ → ℕ → Hosting → Lent → Type 0
 Answers status h told most k run = ((status ≡ done) × HasAnswered h told most k × IsRun k.answers run) ⊎ ((fault : TellFault) × (status ≡ tell_status fault) × IsUntold h fault × (k ≡ h))
 
@@ -58,18 +58,19 @@ Answers status h told most k run = ((status ≡ done) × HasAnswered h told most
 abbrev pub Prepares : ℕ → Hosting → ℕ → ℕ → Hosting → Type 0
 Prepares status h told most k = ((status ≡ done) × HasPrepared h told most k) ⊎ ((fault : PrepareFault) × (status ≡ prepare_status fault) × IsUnprepared h fault × (k ≡ h))
 
--- the same, and what the entries did
+-- the same as `Answers`, with what the entries did
 abbrev pub TellsAll : ℕ → Hosting → ℕ → ℕ → Hosting → Lent → Type 0
 TellsAll status h told most k run =
     ((status ≡ done) × HasFollowed h told most k × IsRun k.answers run)
     ⊎ ((fault : TellFault) × (status ≡ tell_status fault) × IsUntold h fault × (k ≡ h))
 
+-- the same as `Prepares`, with what the entries did
 abbrev pub PreparesAll : ℕ → Hosting → ℕ → ℕ → Hosting → Type 0
 PreparesAll status h told most k =
     ((status ≡ done) × HasPreparedAll h told most k)
     ⊎ ((fault : PrepareFault) × (status ≡ prepare_status fault) × IsUnprepared h fault × (k ≡ h))
 
--- they are told; or there are none; or they aren't yet, as the status says
+-- the answers that were prepared are lent; or there are none; or they aren't yet, as the status says
 abbrev pub Releases : ℕ → Hosting → Hosting → Lent → Type 0
 Releases status h k run =
     ((status ≡ done) × HasReleased h true k × IsRun k.answers run)

@@ -1,4 +1,4 @@
-//! What is told without a replica.
+//! Calls that need no replica.
 
 ghost use Rattle.std.specs.Prelude.{◌≡◌, ◌++◌, ◌∷◌, [], IfOk};
 ghost use Rattle.ep_bundle.specs.Reading.{map_ok};
@@ -23,9 +23,9 @@ use std::alloc::{AllocError, Global};
 /// Which library this is: EP_VERSION of the header that it was built with. Another number is another set of calls.
 #[unsafe(no_mangle)]
 pub extern "C" fn ep_version() -> u32
-    ensures { result ≡ 8 }
+    ensures { result ≡ 9 }
 {
-    8
+    9
 }
 
 /// Copies the text, if there is room, with this status.
@@ -87,7 +87,7 @@ pub extern "C" fn ep_sum(bytes: &[u8], out: &mut [u8], len: &mut usize) -> u8
     copies(DONE, &hasher.finalize(), out, len)
 }
 
-/// What an audit tells, and its status.
+/// What an audit reports, and its status.
 #[derive(Drop)]
 struct Finding {
     status: u8,
@@ -133,7 +133,7 @@ fn read(alloc: Global, bytes: &[u8]) -> Result<Bundle, BundleFault>
     read_bundle(alloc, &mut source)
 }
 
-/// What is told of bytes that are no bundle.
+/// What is reported of bytes that are no bundle.
 fn refused(alloc: Global, fault: BundleFault) -> Result<Finding, AllocError>
     ensures { IfOk result (λ f. IsOfBytes fault × (f.status ≡ bundle_status fault) × (f.text.items ≡ fault_text fault ++ 10 ∷ [])) }
 {
@@ -145,7 +145,7 @@ fn refused(alloc: Global, fault: BundleFault) -> Result<Finding, AllocError>
     }
 }
 
-/// What an audit of the bytes tells.
+/// What an audit of the bytes reports.
 fn found(alloc: Global, bytes: &[u8]) -> Result<Finding, AllocError>
     ensures { IfOk result (λ f. IsFound bytes.now f.status f.text.items) }
 {

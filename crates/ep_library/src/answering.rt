@@ -2,7 +2,7 @@
 
 ghost use Rattle.std.specs.Prelude.{◌≡◌, ◌≢◌};
 ghost use Rattle.ep_library.specs.Calls.{Unless};
-ghost use Rattle.ep_library.specs.Telling.{phase_number, Closes, ClosesFor, Counts, Leads, Lists, Looks, LooksAt, LooksOn, LooksUp, NextOpens, Shows, ShowsLead};
+ghost use Rattle.ep_library.specs.Answering.{phase_number, Closes, ClosesFor, Counts, AnswersLead, Lists, Looks, LooksAt, LooksOn, LooksUp, NextOpens, Shows, ShowsLead};
 
 use crate::codes::{close_status, command_status, tell_status};
 use crate::instance::Instance;
@@ -33,7 +33,7 @@ fn looks(alloc: Global, hosted: &mut Hosted, key: &Key, value: &mut Lent) -> u8
     }
 }
 
-/// The replica, if there is one, tells what its map has at the key.
+/// The replica, if there is one, says what its map has at the key.
 fn look_up(alloc: Global, handle: &mut Handle, key: &Key, value: &mut Lent) -> u8
     ensures told { Unless result handle.old.value handle.new.value (λ h k. Looks result h key.now k value.new) }
     ensures untold { result ≢ 0 → value.new ≡ value.old }
@@ -94,7 +94,7 @@ pub extern "C" fn ep_contents(alloc: Global, handle: &mut Handle, contents: &mut
     }
 }
 
-/// Tells how many entries of a peer the replica knows of, by its log: the greatest number among the entries whose frames it has handled; 0 if it has handled none. A peer whose log
+/// Says how many entries of a peer the replica knows of, by its log: the greatest number among the entries whose frames it has handled; 0 if it has handled none. A peer whose log
 /// has fewer has lost what it promised, or was put back to an older copy, and must not go on. EP_NO_REPLICA; EP_OUT_OF_RANGE: there is no such replica.
 #[unsafe(no_mangle)]
 pub extern "C" fn ep_handled(alloc: Global, handle: &mut Handle, peer: u8, entries: &mut u32) -> u8
@@ -115,7 +115,7 @@ pub extern "C" fn ep_handled(alloc: Global, handle: &mut Handle, peer: u8, entri
     }
 }
 
-/// Tells an instance, if there is one.
+/// Reports an instance, if there is one.
 fn show(found: Option<InstanceId>, told: &mut Instance) -> u8
     ensures { Shows result found told.old told.new }
 {
@@ -128,7 +128,7 @@ fn show(found: Option<InstanceId>, told: &mut Instance) -> u8
     }
 }
 
-/// The replica tells the least open instance above this one.
+/// The replica reports the least open instance above this one.
 fn next_opens(hosted: &Hosted, above: Option<InstanceId>, told: &mut Instance) -> u8
     ensures { NextOpens result hosted.now above told.old told.new }
 {
@@ -138,7 +138,7 @@ fn next_opens(hosted: &Hosted, above: Option<InstanceId>, told: &mut Instance) -
     }
 }
 
-/// The replica, if there is one, tells the least open instance above this one.
+/// The replica, if there is one, reports the least open instance above this one.
 fn next_open(
     alloc: Global,
     handle: &mut Handle,
@@ -159,7 +159,7 @@ fn next_open(
     }
 }
 
-/// Tells the least instance that the replica knows of and hasn't committed, above this one, or, if its number is 0, of all. EP_NO_REPLICA, EP_UNSYNCED; EP_NONE: there is
+/// Reports the least instance that the replica knows of and hasn't committed, above this one, or, if its number is 0, of all. EP_NO_REPLICA, EP_UNSYNCED; EP_NONE: there is
 /// none; EP_OUT_OF_RANGE: there is no such instance.
 #[unsafe(no_mangle)]
 pub extern "C" fn ep_next_open(
@@ -191,7 +191,7 @@ fn phase_number(phase: LeadPhase) -> u8
     }
 }
 
-/// Tells how far an instance is led, if it is.
+/// Says how far an instance is led, if it is.
 fn show_lead(found: Option<(LeadPhase, u8)>, told: &mut Leading) -> u8
     ensures { ShowsLead result found told.old told.new }
 {
@@ -207,9 +207,9 @@ fn show_lead(found: Option<(LeadPhase, u8)>, told: &mut Leading) -> u8
     }
 }
 
-/// The replica tells how far it leads the instance.
+/// The replica says how far it leads the instance.
 fn leads(hosted: &Hosted, instance: InstanceId, told: &mut Leading) -> u8
-    ensures { Leads result hosted.now instance told.old told.new }
+    ensures { AnswersLead result hosted.now instance told.old told.new }
 {
     match hosted.leads(instance) {
         Ok(found) => show_lead(found, told),
@@ -217,7 +217,7 @@ fn leads(hosted: &Hosted, instance: InstanceId, told: &mut Leading) -> u8
     }
 }
 
-/// Tells how far the replica leads the instance. EP_NO_REPLICA, EP_UNSYNCED; EP_NONE: it doesn't lead it; EP_OUT_OF_RANGE: there is no such instance.
+/// Says how far the replica leads the instance. EP_NO_REPLICA, EP_UNSYNCED; EP_NONE: it doesn't lead it; EP_OUT_OF_RANGE: there is no such instance.
 #[unsafe(no_mangle)]
 pub extern "C" fn ep_leads(
     alloc: Global,
@@ -242,7 +242,7 @@ pub extern "C" fn ep_leads(
     }
 }
 
-/// The replica tells the opening of the next generation.
+/// The replica reports the opening of the next generation.
 fn closes(alloc: Global, hosted: &mut Hosted, next: Size, opening: &mut Lent) -> u8
     ensures told { Closes result hosted.old next hosted.new opening.new }
     ensures untold { result ≢ 0 → opening.new ≡ opening.old }

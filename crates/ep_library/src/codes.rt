@@ -65,7 +65,7 @@ pub(crate) fn prepare_status(fault: PrepareFault) -> u8
     }
 }
 
-/// Why nothing is told.
+/// Why nothing is reported.
 pub(crate) fn tell_status(fault: TellFault) -> u8
     ensures value { result ≡ tell_status fault }
     ensures fault { result ≢ 0 }

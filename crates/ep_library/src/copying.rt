@@ -3,7 +3,7 @@
 ghost use Rattle.std.specs.Prelude.{◌≡◌, ◌<◌, true, false, length};
 ghost use Rattle.ep_library.specs.Alone.{BeginsWith};
 
-/// Copies the bytes to the front of the buffer, if there is room. How many they are is told in any case.
+/// Copies the bytes to the front of the buffer, if there is room. How many they are is reported in any case.
 pub(crate) fn copy_out(bytes: &[u8], out: &mut [u8], len: &mut usize) -> bool
     ensures told { len.new ≡ length bytes.now }
     ensures copied { result ≡ true → BeginsWith bytes.now out.new }

@@ -16,7 +16,7 @@ use std::alloc::Global;
 use std::mem;
 
 /// The replica takes an event.
-pub(crate) fn takes(hosted: &mut Hosted, event: Event) -> u8
+pub(crate) fn take_status(hosted: &mut Hosted, event: Event) -> u8
     ensures { Takes result hosted.old event hosted.new }
 {
     match hosted.take(event) {
@@ -33,7 +33,7 @@ pub(crate) fn take(alloc: Global, handle: &mut Handle, event: Event) -> u8
     match held.into_box(alloc) {
         None => NO_REPLICA,
         Some(mut hosted) => {
-            let status = takes(&mut hosted, event);
+            let status = take_status(&mut hosted, event);
             *handle = Handle::of(hosted);
             status
         }
@@ -41,7 +41,7 @@ pub(crate) fn take(alloc: Global, handle: &mut Handle, event: Event) -> u8
 }
 
 /// The replica handles bytes that came from a peer.
-fn hears(alloc: Global, hosted: &mut Hosted, bytes: &[u8]) -> u8
+fn hear_status(alloc: Global, hosted: &mut Hosted, bytes: &[u8]) -> u8
     ensures { Hears result hosted.old bytes.now hosted.new }
 {
     match hosted.handle(alloc, bytes) {
@@ -50,7 +50,7 @@ fn hears(alloc: Global, hosted: &mut Hosted, bytes: &[u8]) -> u8
     }
 }
 
-/// A frame came from a peer: its bytes, as that one's `ep_answers` told them. EP_NO_REPLICA, EP_LENT, EP_MEMORY; EP_BAD_FRAME; EP_NOT_MINE; EP_OUT_OF_RANGE: a replica
+/// A frame came from a peer: its bytes, as that one's `ep_answers` reported them. EP_NO_REPLICA, EP_LENT, EP_MEMORY; EP_BAD_FRAME; EP_NOT_MINE; EP_OUT_OF_RANGE: a replica
 /// of which it speaks isn't of the cluster; EP_SEQ_EXHAUSTED; EP_STAMP_FULL.
 #[unsafe(no_mangle)]
 pub extern "C" fn ep_handle(alloc: Global, handle: &mut Handle, frame: &[u8]) -> u8
@@ -60,7 +60,7 @@ pub extern "C" fn ep_handle(alloc: Global, handle: &mut Handle, frame: &[u8]) ->
     match held.into_box(alloc) {
         None => NO_REPLICA,
         Some(mut hosted) => {
-            let status = hears(alloc, &mut hosted, frame);
+            let status = hear_status(alloc, &mut hosted, frame);
             *handle = Handle::of(hosted);
             status
         }
@@ -119,7 +119,7 @@ pub extern "C" fn ep_advance(alloc: Global, handle: &mut Handle) -> u8
 }
 
 /// The replica executes all instances that are ready.
-fn sweeps(hosted: &mut Hosted) -> u8
+fn sweep_status(hosted: &mut Hosted) -> u8
     ensures { Sweeps result hosted.old hosted.new }
 {
     match hosted.execute_all() {
@@ -138,7 +138,7 @@ pub extern "C" fn ep_execute_all(alloc: Global, handle: &mut Handle) -> u8
     match held.into_box(alloc) {
         None => NO_REPLICA,
         Some(mut hosted) => {
-            let status = sweeps(&mut hosted);
+            let status = sweep_status(&mut hosted);
             *handle = Handle::of(hosted);
             status
         }

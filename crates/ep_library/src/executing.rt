@@ -16,7 +16,7 @@ use ep_wire::TakeFault;
 use std::alloc::Global;
 use std::mem;
 
-/// Tells the instance that the fault names, if it names one.
+/// Reports the instance that the fault names, if it names one.
 fn tell_named(fault: &TakingFault, waits_for: &mut Instance)
     ensures { waits_for.new ≡ named fault.now waits_for.old }
 {

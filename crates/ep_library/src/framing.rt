@@ -57,7 +57,7 @@ fn head_in(bytes: &[u8]) -> FrameHead
     }
 }
 
-/// Tells what the header of a frame says, by its first 48 bytes. Of these no more is looked at than that the frame is
+/// Says what the header of a frame says, by its first 48 bytes. Of these no more is looked at than that the frame is
 /// of version 3: a host that passes frames on needs to know what goes by, and ep_handle judges them. EP_BAD_FRAME:
 /// there are fewer than 48, or they begin as no frame of version 3 does.
 #[unsafe(no_mangle)]

@@ -1,4 +1,4 @@
-//! What opening files tell before their maps.
+//! What opening files say before their maps.
 
 ghost use Rattle.std.specs.Prelude.{◌≡◌, ◌≤◌, ◌<◌, ◌+◌, ◌^◌, length};
 ghost use Rattle.ep_frame.specs.Fields.{number_at};
@@ -15,7 +15,7 @@ use ep_frame::{u8_at, u32_at, u64_at};
 const LEAST_LEN: usize = 23;
 
 /// Whether a cluster has so many replicas.
-fn is_known_size(count: u8) -> bool
+pub(crate) fn is_known_size(count: u8) -> bool
     ensures { result ≡ is_known_size count }
 {
     count == 3 || count == 5 || count == 7
@@ -102,7 +102,7 @@ fn map_place(bytes: &[u8]) -> usize
     }
 }
 
-/// What the fields tell.
+/// What the fields say.
 fn head_at(bytes: &[u8]) -> OpeningHead
     requires long { 23 ≤ length bytes.now }
     requires whole { map_place bytes.now + 4 ≤ length bytes.now }
@@ -110,7 +110,7 @@ fn head_at(bytes: &[u8]) -> OpeningHead
 {
     let map_at = map_place(bytes);
     OpeningHead {
-        since: u64_at(bytes, 10),
+        base_stamp: u64_at(bytes, 10),
         map_at: map_at as u64,
         generation: u32_at(bytes, 6),
         seal_len: seal_len_at(bytes),
@@ -128,10 +128,10 @@ fn has_front(bytes: &[u8]) -> bool
     map_place(bytes) + 4 <= bytes.len()
 }
 
-/// Tells what an opening file says before its map, by its first bytes: 65,562 are always enough. The digest isn't
-/// looked at, as ep_open does. So a host knows of which generation a file is that it is sent, and whom its seal names,
-/// before it has all of it; and what the first pieces of a checkpoint say. EP_OPENING_SHORT: more bytes are needed;
-/// EP_OPENING_WRONG: no opening begins so.
+/// Reports what an opening file says before its map, by its first bytes: 65,562 are always enough. It doesn't look at
+/// the digest, as ep_open does. So a host knows of which generation a file is that it is sent, and whom its seal
+/// names, before it has all of it; and what the first pieces of a checkpoint say. EP_OPENING_SHORT: more bytes are
+/// needed; EP_OPENING_WRONG: no opening begins so.
 #[unsafe(no_mangle)]
 pub extern "C" fn ep_opening_head(opening: &[u8], head: &mut OpeningHead) -> u8
     ensures { TellsFront result opening.now head.old head.new }

@@ -1,9 +1,10 @@
 //! The core as a C library: one replica behind a handle.
 //!
-//! Each export is a call that `tools/generate` writes into bindings/c/epaxos.h, with the comment that it has here. It is given the handle, and
-//! answers a status of `status.rt`. Calls come in by arguments; answers go out as bytes of docs/FORMATS.md that lie in the replica until its next call.
+//! Each export is a call that `tools/generate` writes into bindings/c/epaxos.h, with the comment that it has here. It answers a
+//! status of `status.rt`; one of a replica is given the handle. Calls come in by arguments; answers go out as bytes of docs/FORMATS.md that lie in the
+//! replica until its next call.
 //!
-//! Nothing here decides anything: a call makes what its arguments say (`making.rt`), has the `Hosted` do it, and tells its fault by a number
+//! Nothing here decides anything: a call makes what its arguments say (`making.rt`), has the `Hosted` do it, and reports its fault by a number
 //! (`codes.rt`, specs/Statuses.antt). No call has a condition: what is wrong with a handle or an argument is a status.
 //!
 //! Start with `life.rt` and specs/Calls.antt.
@@ -27,8 +28,12 @@ mod instance;
 mod leading;
 mod lent;
 mod life;
+mod log_head;
+mod logs;
 mod making;
 mod opening_head;
+mod opening_parts;
+mod openings;
 mod pair;
 mod pairs;
 mod patience;

@@ -33,7 +33,7 @@ fn is_spare(setup: &Setup<'_>) -> bool
     setup.is_new != 0 && !setup.log.is_empty()
 }
 
-/// Puts the replica, if one was begun, behind the handle; else tells why none was.
+/// Puts the replica, if one was begun, behind the handle; else says why none was.
 pub(crate) fn seat(
     alloc: Global,
     handle: &mut Handle,
@@ -74,7 +74,7 @@ fn open_new(alloc: Global, handle: &mut Handle, setup: &Setup<'_>, place: &mut P
 }
 
 /// Opens a replica, if there is none, of version 2 or of a generation: a new one, or one that goes on from its log. The first thing to do then is `ep_ready`, which lends the whole
-/// log, written anew; nothing is taken or told before that is on the disk. `ep_free` ends it. EP_HAS_REPLICA, EP_MEMORY; EP_OUT_OF_RANGE: `replicas` isn't 3, 5 or 7, or `replica` isn't
+/// log, written anew; nothing is taken or reported before that is on the disk. `ep_free` ends it. EP_HAS_REPLICA, EP_MEMORY; EP_OUT_OF_RANGE: `replicas` isn't 3, 5 or 7, or `replica` isn't
 /// below it; and each status from EP_NO_LOG on, by which the log or the opening is refused: `place` becomes the numbers that the status names.
 #[unsafe(no_mangle)]
 pub extern "C" fn ep_open(
@@ -95,7 +95,7 @@ pub extern "C" fn ep_open(
     }
 }
 
-/// Tells what was cut off, if anything.
+/// Says what was cut off, if anything.
 fn show_cut(cut: Option<Cut>, place: &mut Place) -> u8
     ensures { TellsCut result cut place.old place.new }
 {
@@ -111,7 +111,7 @@ fn show_cut(cut: Option<Cut>, place: &mut Place) -> u8
     }
 }
 
-/// Tells what was cut off the log's end as the replica was opened, if a crash had left bytes that are no whole record: from byte `at` on, `by` bytes. Pass it on to whoever
+/// Says what was cut off the log's end as the replica was opened, if a crash had left bytes that are no whole record: from byte `at` on, `by` bytes. Pass it on to whoever
 /// runs the replica. EP_NO_REPLICA; EP_NONE: nothing was cut off.
 #[unsafe(no_mangle)]
 pub extern "C" fn ep_cut(alloc: Global, handle: &mut Handle, place: &mut Place) -> u8

@@ -1,11 +1,11 @@
-//! What an opening file tells before its map.
+//! What an opening file says before its map.
 
-/// What an opening file tells before its map (docs/FORMATS.md, section 12).
+/// What an opening file says before its map (docs/FORMATS.md, section 12).
 #[repr(C)]
 #[derive(Clone, Copy)]
 pub struct OpeningHead {
     /// The stamp that clocks go on from.
-    pub since: u64,
+    pub base_stamp: u64,
     /// At which of the file's bytes its map begins, by how many keys that has (4 bytes).
     pub map_at: u64,
     /// The generation.

@@ -44,7 +44,7 @@ fn pair_at(bytes: &[u8]) -> Pair
     }
 }
 
-/// Tells where the first key and its value stand of the bytes of a map, as ep_contents lends them and opening files
+/// Says where the first key and its value stand of the bytes of a map, as ep_contents lends them and opening files
 /// have them, from behind the 4 bytes on that say how many keys it has; with the bytes behind these, the next one; and
 /// so on. EP_NONE: there isn't a whole one.
 #[unsafe(no_mangle)]

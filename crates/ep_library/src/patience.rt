@@ -60,8 +60,8 @@ fn begin_new(alloc: Global, handle: &mut PatienceHandle, waits: &Waits) -> u8
     }
 }
 
-/// Begins to tell when a replica is to wait no longer, if nothing was begun: any answer is safe, and this one is wise by the time that peers take to
-/// answer, which it is told. All peers are taken to be reached, and nothing is waited for. Times are numbers of a clock of yours, which doesn't turn back; the
+/// Begins to say when a replica is to wait no longer, if nothing was begun: any answer is safe, and this one is wise by the time that peers take to
+/// answer, which you report. All peers are taken to be reached, and nothing is waited for. Times are numbers of a clock of yours, which doesn't turn back; the
 /// first is any. `ep_patience_free` ends it. EP_HAS_PATIENCE, EP_MEMORY; EP_OUT_OF_RANGE: `replicas` isn't 3, 5 or 7, or `replica` isn't below it.
 #[unsafe(no_mangle)]
 pub extern "C" fn ep_patience_begin(
@@ -100,8 +100,8 @@ fn measures(begun: &mut HostedPatience, peer: ReplicaId, took: u32) -> u8
     DONE
 }
 
-/// Tells that an answer of this peer to an own proposal (a frame PreAcceptOK) came so long after the proposal's frame was sent to it, which is after the sync. Not
-/// where that frame was sent twice: it isn't known then which one is answered (Karn's rule). Of a peer that proposals spare, tell now and then how long a message of
+/// Says that an answer of this peer to an own proposal (a frame PreAcceptOK) came so long after the proposal's frame was sent to it, which is after the sync. Not
+/// where that frame was sent twice: it isn't known then which one is answered (Karn's rule). Of a peer that proposals spare, say now and then how long a message of
 /// yours and its answer took: else nothing is known of it, and its time-out stays at `initial`. EP_NO_PATIENCE; EP_OUT_OF_RANGE: `peer` is above 6.
 #[unsafe(no_mangle)]
 pub extern "C" fn ep_patience_measure(
@@ -134,7 +134,7 @@ fn reaches(begun: &mut HostedPatience, peer: ReplicaId, is_reached: bool) -> u8
     DONE
 }
 
-/// Tells that frames to this peer arrive, as far as you know, or, if `is_reached` is 0, that they don't: its connection is lost. Where one is reached again, what was
+/// Says that frames to this peer arrive, as far as you know, or, if `is_reached` is 0, that they don't: its connection is lost. Where one is reached again, what was
 /// asked for is hurried. EP_NO_PATIENCE; EP_OUT_OF_RANGE: `peer` is above 6.
 #[unsafe(no_mangle)]
 pub extern "C" fn ep_patience_reach(
@@ -192,7 +192,7 @@ fn puts_off(begun: &mut HostedPatience, instance: InstanceId, ballot: u16, now: 
     DONE
 }
 
-/// Tells that somebody recovers this instance: a Prepare or an Accept of it was sent or handled here, at a ballot of this counter. Another recovery would be in its way,
+/// Says that somebody recovers this instance: a Prepare or an Accept of it was sent or handled here, at a ballot of this counter. Another recovery would be in its way,
 /// so it is put off, if it is waited for. EP_NO_PATIENCE; EP_OUT_OF_RANGE: there is no such instance.
 #[unsafe(no_mangle)]
 pub extern "C" fn ep_patience_put_off(
@@ -218,7 +218,7 @@ pub extern "C" fn ep_patience_put_off(
     }
 }
 
-/// A turn, of which is told what to ask for.
+/// A turn, and what is to be asked for at it.
 fn turns(
     alloc: Global,
     begun: &mut HostedPatience,
@@ -241,7 +241,7 @@ fn turns(
 
 /// Has a turn at this time, at which just these instances are open, and lends what to ask the replica for. `instances` has ten bytes for each, in rising order: nine as the answer
 /// of kind 9 has them (docs/FORMATS.md, section 10), and the replica that your proposal of it spares (the one just below you where it names none; of another's any); one that
-/// isn't open here, and of which a peer tells that it is committed, has the phase 4. `late` has four bytes for each of at
+/// isn't open here, and of which a peer says that it is committed, has the phase 4. `late` has four bytes for each of at
 /// most 64 events: 3 (give up) or 4 (recover), and the instance, as in a request. EP_NO_PATIENCE, EP_MEMORY; EP_OUT_OF_RANGE: the bytes aren't open instances in rising order.
 #[unsafe(no_mangle)]
 pub extern "C" fn ep_patience_turn(
@@ -278,7 +278,7 @@ fn dues(begun: &HostedPatience, due: &mut u64) -> u8
     }
 }
 
-/// Tells when to have the next turn at the latest, if no instance is opened before. EP_NO_PATIENCE; EP_NONE: nothing is waited for, or too few peers are reached.
+/// Says when to have the next turn at the latest, if no instance is opened before. EP_NO_PATIENCE; EP_NONE: nothing is waited for, or too few peers are reached.
 #[unsafe(no_mangle)]
 pub extern "C" fn ep_patience_due(alloc: Global, patience: &mut PatienceHandle, due: &mut u64) -> u8
     ensures told { WithPatience result patience.old.value patience.new.value (λ h k. Dues result h due.old due.new × (k ≡ h)) }

@@ -154,7 +154,8 @@ pub extern "C" fn ep_plan(
     }
 }
 
-/// Tells the greatest generation that is in the folder, which has an opening or a reference; 0 if none is. EP_MEMORY.
+/// Says which is the greatest generation of which the folder has an opening or a reference; 0 if there is none.
+/// EP_MEMORY.
 #[unsafe(no_mangle)]
 pub extern "C" fn ep_newest(alloc: Global, held: &[HeldGeneration], newest: &mut u32) -> u8
     ensures { TellsNewest result held.now newest.old newest.new }
@@ -184,7 +185,7 @@ fn starts_from(held: &[GenerationFolder], generation: u32, first: &mut u32) -> u
     }
 }
 
-/// Tells from which generation on logs are replayed to open this one: `first` becomes the greatest up to it whose
+/// Says from which generation on logs are replayed to open this one: `first` becomes the greatest up to it whose
 /// opening can be read, where those above it, up to this one, have references. EP_MEMORY; EP_BROKEN: `first` becomes
 /// the generation that has neither.
 #[unsafe(no_mangle)]
@@ -202,7 +203,7 @@ pub extern "C" fn ep_first(
     }
 }
 
-/// Tells which generation the name of a folder spells: in decimal, without a zero in front. EP_NONE: it spells none.
+/// Says which generation the name of a folder spells: in decimal, without a zero in front. EP_NONE: it spells none.
 #[unsafe(no_mangle)]
 pub extern "C" fn ep_generation_in(name: &[u8], generation: &mut u32) -> u8
     ensures { Names result (generation_in name.now) generation.old generation.new }

@@ -2,14 +2,14 @@
 
 ghost use Rattle.std.specs.Prelude.{◌≡◌, Some, IfOk, OnErr};
 ghost use Rattle.ep_base.specs.Commands.{Get, Put, Del, Swap, Cas, Opaque, Seal, Tx};
-ghost use Rattle.ep_base.specs.Parts.{items_in, is_tx};
+ghost use Rattle.ep_base.specs.CommandParts.{items_in, is_tx};
 ghost use Rattle.ep_base.specs.Views.{touched};
 ghost use Rattle.ep_library.specs.Arguments.{named_in, part, touched_in, IsNamed};
 ghost use Rattle.ep_library.specs.Calls.{proposal, Asks, Made, Proposes, ProposesMany};
 
 use crate::call::Call;
 use crate::codes::command_status;
-use crate::events::{take, takes};
+use crate::events::{take, take_status};
 use crate::exchange::Exchange;
 use crate::making::part;
 use crate::status::OUT_OF_RANGE;
@@ -91,7 +91,7 @@ fn asks(hosted: &mut Hosted, call: &Call, command: Command) -> u8
 {
     match named_in(call) {
         Err(_) => OUT_OF_RANGE,
-        Ok(spared) => takes(hosted, proposal(call, command, spared)),
+        Ok(spared) => take_status(hosted, proposal(call, command, spared)),
     }
 }
 
@@ -106,7 +106,7 @@ fn proposes(hosted: &mut Hosted, call: &Call, made: Result<Command, CommandFault
 }
 
 /// The replica takes a client's put.
-fn puts(alloc: Global, hosted: &mut Hosted, call: &Call, key: &[u8], value: &[u8]) -> u8
+fn put_status(alloc: Global, hosted: &mut Hosted, call: &Call, key: &[u8], value: &[u8]) -> u8
     ensures { Proposes result (Some hosted.old) call.now (Put key.now value.now) (Some hosted.new) }
 {
     let made = hosted.put(alloc, key, value);
@@ -128,7 +128,7 @@ pub extern "C" fn ep_propose_put(
     match held.into_box(alloc) {
         None => propose(alloc, handle, call, Command::put(alloc, key, value)),
         Some(mut hosted) => {
-            let status = puts(alloc, &mut hosted, call, key, value);
+            let status = put_status(alloc, &mut hosted, call, key, value);
             *handle = Handle::of(hosted);
             status
         }
@@ -190,7 +190,7 @@ fn touching_of<'a>(touching: &Touching<'a>) -> ep_base::Touching<'a>
     }
 }
 
-/// A client asks for a command of a machine of your own: the core puts it in order by its keys, and `ep_answers` tells when it is executed; what its body says only your
+/// A client asks for a command of a machine of your own: the core puts it in order by its keys, and `ep_answers` says when it is executed; what its body says only your
 /// machine knows. Statuses are those of `ep_propose_get`.
 #[unsafe(no_mangle)]
 pub extern "C" fn ep_propose_opaque(

@@ -48,7 +48,7 @@ pub(crate) const NO_REPLICA: u8 = 32;
 pub(crate) const HAS_REPLICA: u8 = 33;
 /// The whole log is lent, and isn't on the disk yet, so nothing is taken: write it, and say so by ep_synced.
 pub(crate) const LENT: u8 = 34;
-/// Not all that was taken is on the disk, so nothing is told: ep_ready lends it. Or, of ep_prepare, not all of it is lent.
+/// Not all that was taken is on the disk, so nothing is reported: ep_ready lends it. Or, of ep_prepare, not all of it is lent.
 pub(crate) const UNSYNCED: u8 = 35;
 /// Nothing is lent.
 pub(crate) const NOT_LENT: u8 = 36;
@@ -56,7 +56,7 @@ pub(crate) const NOT_LENT: u8 = 36;
 pub(crate) const NOT_ALL: u8 = 37;
 /// There is none: no value, no such instance, nothing that was cut off.
 pub(crate) const NONE: u8 = 38;
-/// The buffer is too short; how many bytes it needs is told.
+/// The buffer is too short; how many bytes it needs is reported.
 pub(crate) const TOO_SHORT: u8 = 39;
 /// The bytes aren't one request: its length is out of range, or isn't that of the bytes.
 pub(crate) const NOT_ONE: u8 = 40;
@@ -66,11 +66,11 @@ pub(crate) const REFUSED: u8 = 41;
 pub(crate) const NOT_SEALED: u8 = 42;
 /// There is no generation after it.
 pub(crate) const LAST_GENERATION: u8 = 43;
-/// Nothing was begun that tells when to wait no longer, it was freed, or another thread is in a call with it.
+/// Nothing was begun that says when to wait no longer, it was freed, or another thread is in a call with it.
 pub(crate) const NO_PATIENCE: u8 = 44;
 /// It was begun already.
 pub(crate) const HAS_PATIENCE: u8 = 45;
-/// What ep_prepare made before wasn't told: ep_told lends it.
+/// What ep_prepare made before wasn't reported: ep_told lends it.
 pub(crate) const UNTOLD: u8 = 46;
 /// There is no file that is given in pieces: none was begun, it was freed, or another thread is in a call with it.
 pub(crate) const NO_CHECKPOINT: u8 = 30;

@@ -2,7 +2,7 @@
 
 ghost use Rattle.std.specs.Prelude.{◌≡◌, ◌≢◌, ◌↔◌, None, IfSome, IsNone, IsTrue, length};
 ghost use Rattle.ep_library.specs.Arguments.{log_given};
-ghost use Rattle.ep_library.specs.Succeeding.{Follows, Gives, GoesOn, HasHeir, HasLog, IsHeir, IsLogNamed, IsSpareLog, Keeps, KeepsBoth, NamesLog, Succeeds, WithCheckpoint};
+ghost use Rattle.ep_library.specs.Succeeding.{Binds, Follows, Gives, GoesOn, HasHeir, HasLog, IsHeir, IsLogNamed, IsSpareLog, Keeps, KeepsBoth, NamesLog, Succeeds, WithCheckpoint};
 
 use crate::closed_log::ClosedLog;
 use crate::codes::succeed_status;
@@ -20,7 +20,7 @@ use crate::syncing::point;
 use ep_base::{Generation, Size};
 use ep_handle::{CheckpointHandle, Handle};
 use ep_hosted::{Heir, Hosted, HostedCheckpoint, SucceedFault};
-use ep_opening::{Checkpoint, OpeningFile, OpeningReference, write_reference};
+use ep_opening::{Checkpoint, OpeningFile, OpeningReference, write_binding, write_reference};
 use std::alloc::Global;
 use std::mem;
 
@@ -87,6 +87,38 @@ pub extern "C" fn ep_reference(
         return OUT_OF_RANGE;
     };
     match write_reference(alloc, &reference) {
+        Ok(bytes) => {
+            if copy_out(&bytes, out, len) {
+                DONE
+            } else {
+                TOO_SHORT
+            }
+        }
+        Err(_) => MEMORY,
+    }
+}
+
+/// Copies what says that the opening file of this digest is the one for which the reference of that digest stood: have
+/// it on the disk once the file is, and then the file is read in the reference's place. It has 69 bytes, and no others
+/// say so; `len` becomes how many it has. EP_TOO_SHORT: nothing was copied; EP_MEMORY; EP_OUT_OF_RANGE: a digest hasn't
+/// 32 bytes.
+#[unsafe(no_mangle)]
+pub extern "C" fn ep_binding(
+    alloc: Global,
+    reference: &[u8],
+    opening: &[u8],
+    out: &mut [u8],
+    len: &mut usize,
+) -> u8
+    ensures { Binds result (reference.now, opening.now) out.old len.old out.new len.new }
+{
+    let Some(reference) = digest_of(reference) else {
+        return OUT_OF_RANGE;
+    };
+    let Some(opening) = digest_of(opening) else {
+        return OUT_OF_RANGE;
+    };
+    match write_binding(alloc, reference, opening) {
         Ok(bytes) => {
             if copy_out(&bytes, out, len) {
                 DONE

@@ -13,14 +13,14 @@ use ep_hosted::Hosted;
 use std::alloc::Global;
 use std::mem;
 
-/// What C is told of whether something is so.
+/// What C has for whether something is so.
 pub(crate) fn flag(is_so: bool) -> u8
     ensures { result ≡ flag is_so }
 {
     if is_so { 1 } else { 0 }
 }
 
-/// Tells where the bytes stand, and how many they are.
+/// Says where the bytes stand, and how many they are.
 pub(crate) fn point(buffer: &Vec<u8>, run: &mut Lent)
     ensures { IsRun buffer.now run.new }
 {
@@ -28,7 +28,7 @@ pub(crate) fn point(buffer: &Vec<u8>, run: &mut Lent)
     run.len = buffer.len();
 }
 
-/// The same, if there are any.
+/// Says where the bytes stand, if there are any.
 fn point_to(buffer: Option<&Vec<u8>>, run: &mut Lent)
     ensures { IsRunOf (option_copied buffer.entry) run.new }
 {
@@ -107,7 +107,7 @@ pub extern "C" fn ep_synced(alloc: Global, handle: &mut Handle, count: usize) ->
     }
 }
 
-/// The replica tells what waits.
+/// The replica lends the answers that wait.
 fn tells(alloc: Global, hosted: &mut Hosted, told: u32, most: u8, bytes: &mut Lent) -> u8
     ensures told { Answers result hosted.old told most hosted.new bytes.new }
     ensures untold { result ≢ 0 → bytes.new ≡ bytes.old }
@@ -123,7 +123,7 @@ fn tells(alloc: Global, hosted: &mut Hosted, told: u32, most: u8, bytes: &mut Le
 
 /// Lends the answers of all that was asked by `ep_ask` since the last time, in that order, and after them one of kind 9: all frames, receipts, commits and executions of the
 /// entries after the first `told`, each once, and at most `most` open instances. It says how many entries there are: hand that in as `told` the next time; at first 0. All that is
-/// told is on the disk. EP_NO_REPLICA; EP_UNSYNCED; EP_MEMORY: what was asked still waits for the next call.
+/// reported is on the disk. EP_NO_REPLICA; EP_UNSYNCED; EP_MEMORY: what was asked still waits for the next call.
 #[unsafe(no_mangle)]
 pub extern "C" fn ep_answers(
     alloc: Global,
@@ -173,7 +173,7 @@ pub extern "C" fn ep_prepare(alloc: Global, handle: &mut Handle, told: u32, most
     }
 }
 
-/// The replica tells what waits, and what its entries did.
+/// The replica lends the answers that wait, with what its entries did.
 fn tells_all(alloc: Global, hosted: &mut Hosted, told: u32, most: u8, bytes: &mut Lent) -> u8
     ensures told { TellsAll result hosted.old told most hosted.new bytes.new }
     ensures untold { result ≢ 0 → bytes.new ≡ bytes.old }
@@ -241,7 +241,7 @@ pub extern "C" fn ep_prepare_all(alloc: Global, handle: &mut Handle, told: u32, 
     }
 }
 
-/// The replica tells what it holds.
+/// The replica lends the answers that it holds.
 #[tactic(auto, unfolding(crate::specs::Syncing::HasReleased, crate::specs::Syncing::IsUnreleased))]
 fn releases(hosted: &mut Hosted, bytes: &mut Lent) -> u8
     ensures told { Releases result hosted.old hosted.new bytes.new }
@@ -257,7 +257,7 @@ fn releases(hosted: &mut Hosted, bytes: &mut Lent) -> u8
     }
 }
 
-/// Lends what `ep_prepare` made, once. All that it tells is on the disk. EP_NO_REPLICA; EP_NONE: it made nothing; EP_UNSYNCED: what was lent then isn't on the disk yet.
+/// Lends what `ep_prepare` made, once. All that it reports is on the disk. EP_NO_REPLICA; EP_NONE: it made nothing; EP_UNSYNCED: what was lent then isn't on the disk yet.
 #[unsafe(no_mangle)]
 pub extern "C" fn ep_told(alloc: Global, handle: &mut Handle, answers: &mut Lent) -> u8
     ensures told { Unless result handle.old.value handle.new.value (λ h k. Releases result h k answers.new) }

@@ -10,7 +10,7 @@ pub struct Waits {
     pub granularity: u32,
     /// The time-out of a peer that was never measured, 1 s in RFC 6298.
     pub initial: u32,
-    /// How long a Commit is waited for of which a peer tells. 1.5 s are a good choice.
+    /// How long to wait for a Commit of which a peer has told. 1.5 s are a good choice.
     pub told: u32,
     /// Waits double up to this one. 20 s are a good choice.
     pub longest: u32,

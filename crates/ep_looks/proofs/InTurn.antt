@@ -5,7 +5,7 @@ use Rattle.ep_base.specs.Commands.{Command}
 use Rattle.ep_base.specs.Places.{place, Has}
 use Rattle.ep_base.specs.Quorums.{size}
 use Rattle.ep_base.specs.declared.reply.Answer.{Answer}
-use Rattle.ep_base.specs.declared.reply.Answer.TheVariants.{Told}
+use Rattle.ep_base.specs.declared.reply.Answer.TheVariants.{Replied}
 use Rattle.ep_rules.specs.Linearizable.{IsLegal, IsLinearizable}
 use Rattle.ep_rules.specs.OneMap.{Store}
 use Rattle.ep_rules.specs.Operations.{instances_of, history_of}
@@ -64,7 +64,7 @@ module _ (base : Store) (f : ℕ) (some : 0 < f) (few : size f ≤ 256) (acts : 
       omega arith
 
   -- what the history has was told a reply
-  was_told : (i : ℕ) (x : Answer) → Has all i → IsLegal base (history_of base f acts) i x → (y : _) × (x ≡ Told y)
+  was_told : (i : ℕ) (x : Answer) → Has all i → IsLegal base (history_of base f acts) i x → (y : _) × (x ≡ Replied y)
   was_told i x k (inl n) = absurd (n.0 k)
   was_told i x k (inr t) = (_, t.1)
 
@@ -109,7 +109,7 @@ module _ (base : Store) (f : ℕ) (some : 0 < f) (few : size f ≤ 256) (acts : 
             let last = at_place (upto r.answered) n (from_once (upto r.answered) (linear_at r.answered).once) (omega (arith, e, most, many)) in
             let x = ((linear_at r.answered).complete last.0).0 last.1 in
             let at = same_place r.answered last.0 last.1 in
-            let lt = linear.real_time last.0 i at.1 k (record { command = d; proposed = t; act = x.0; earlier = stands_before i d t le x.0 x.2; executed = in_has x.0.done last.0 (Told x.1) x.3 }) in
+            let lt = linear.real_time last.0 i at.1 k (record { command = d; proposed = t; act = x.0; earlier = stands_before i d t le x.0 x.2; executed = in_has x.0.done last.0 (Replied x.1) x.3 }) in
             omega (arith, lt, at.0, last.2)
 
     keeps_real_time : KeepsRealTime base f acts r p

@@ -7,7 +7,7 @@ use Rattle.ep_base.specs.Places.{Has}
 use Rattle.ep_base.specs.Quorums.{size}
 use Rattle.ep_base.specs.Sameness.{is_noop}
 use Rattle.ep_base.specs.declared.decree.Decree.{Decree}
-use Rattle.ep_base.specs.declared.reply.Answer.TheVariants.{Told}
+use Rattle.ep_base.specs.declared.reply.Answer.TheVariants.{Replied}
 use Rattle.ep_rules.specs.OneMap.{Store}
 use Rattle.ep_rules.specs.Operations.{instances_of, history_of}
 use Rattle.ep_rules.specs.States.{State, command_of}
@@ -24,7 +24,7 @@ use Rattle.ep_rules.proofs.RunsLinear.{linearizability_holds}
 use Rattle.ep_rules.proofs.Stable.{some_of}
 use Rattle.ep_rules.specs.Counting.{count}
 use Rattle.std.specs.Option.{option_map}
-use Rattle.ep_looks.specs.AheadReads.{Leads}
+use Rattle.ep_looks.specs.AheadReads.{LeadsTo}
 use Rattle.ep_looks.specs.Reads.{found, world_at}
 use Rattle.ep_looks.proofs.Mapped.{mapped_is, mapped_back}
 use Rattle.ep_looks.proofs.Backers.{Kept, committed_kept}
@@ -54,7 +54,7 @@ module _ (base : Store) (f : ℕ) (some : 0 < f) (few : size f ≤ 256) where
   history_committed : (acts : List Act) → IsRun f (opening base) acts → (i : ℕ) → Has (instances_of (history_of base f acts)) i → WasCommitted (ends f (opening base) acts) i
   history_committed acts run i k =
       let t = ((linearizability_holds base f some few acts run).complete i).0 k in
-      was_committed f acts (opening base) run t.0 i t.2 (in_has t.0.done i (Told t.1) t.3)
+      was_committed f acts (opening base) run t.0 i t.2 (in_has t.0.done i (Replied t.1) t.3)
 
   -- a proposed instance isn't 0
   not_zero : (acts : List Act) → IsRun f (opening base) acts → (i r : ℕ) (x : Decree) → Committed (ends f (opening base) acts) r i x → is_noop x.command ≡ false → i ≡ 0 → ⊥
@@ -62,7 +62,7 @@ module _ (base : Store) (f : ℕ) (some : 0 < f) (few : size f ≤ 256) where
 
   -- a command, looks at more than F replicas, each in a state that goes on from the point a, and instances among which all is that they find
   module _ (acts : List Act) (run : IsRun f (opening base) acts) (q : Command) (seen : ℕ → Option State) (a : ℕ) (done : List ℕ) (many : f < count (size f) (λ k. is_some (seen k)))
-      (goes_on : (k : ℕ) (s : State) → seen k ≡ Some s → Leads base f acts a k s) (within : (k i : ℕ) (s : State) → seen k ≡ Some s → Has (found s q) i → Has done i) where
+      (goes_on : (k : ℕ) (s : State) → seen k ≡ Some s → LeadsTo base f acts a k s) (within : (k i : ℕ) (s : State) → seen k ≡ Some s → Has (found s q) i → Has done i) where
     abbrev early : List Act
     early = take a acts
 
@@ -108,7 +108,7 @@ module _ (base : Store) (f : ℕ) (some : 0 < f) (few : size f ≤ 256) where
         let le = count_le (size f) (λ k. is_some (looked k)) (λ k. is_some (seen_at k)) (λ k lt e. mapped_is (λ n. (world_at base f acts n).states k) (looked k) e) in
         omega arith
 
-    pub leads_on : (a : ℕ) → ((k n : ℕ) → looked k ≡ Some n → a ≤ n) → (k : ℕ) (s : State) → seen_at k ≡ Some s → Leads base f acts a k s
+    pub leads_on : (a : ℕ) → ((k n : ℕ) → looked k ≡ Some n → a ≤ n) → (k : ℕ) (s : State) → seen_at k ≡ Some s → LeadsTo base f acts a k s
     leads_on a later k s e =
         let t = mapped_back (λ n. (world_at base f acts n).states k) (looked k) s e in
         let ms = between a t.0 acts (later k t.0 t.1) in (

@@ -4,7 +4,7 @@ use Rattle.std.proofs.lemmas.Bool.{false≢true, cases_Bool}
 use Rattle.std.specs.Prelude.{◌||◌}
 use Rattle.ep_base.specs.Attributes.{same_list}
 use Rattle.ep_base.specs.Commands.{Command}
-use Rattle.ep_base.specs.Interference.{keys_of, is_seal, interfere, Meets, Parts, Interferes}
+use Rattle.ep_base.specs.Interference.{keys_of, is_seal, interfere, Meets, MeetsSeal, Interferes}
 use Rattle.ep_base.specs.Sameness.{is_noop}
 use Rattle.ep_base.proofs.Footprints.{reader_no_seal}
 use Rattle.ep_base.proofs.Interfering.{Decides-has_key, Decides-interfere, Interferes-symmetric, Interferes-noop}
@@ -46,7 +46,7 @@ module _ (c : Command) (r : ReadsOneKey c) where
       let o = one_key c r in
       subst (λ k. Contains (keys_of u) k) (only_one m.0.0 o.key (subst (λ ks. Contains ks m.0.0) o.keys m.0.2)) m.0.1
 
-  seals : (u : Command) → Parts u c → is_seal u ≡ true
+  seals : (u : Command) → MeetsSeal u c → is_seal u ≡ true
   seals u p = elim p.0 [ inl e ↦ e | inr e ↦ absurd (false≢true (sym (one_key c r).no_seal ∙ e)) ]
 
   not_noops : (u v : Command) → interfere u c ≡ true → interfere v c ≡ true → ¬ ((is_noop u ≡ true) ⊎ (is_noop v ≡ true))

@@ -1,4 +1,4 @@
--- A read of any keys is told what one map, or one machine, tells where its reply is taken, if all that is found after that was executed already.
+-- A read of any keys is told what one map, or one machine, says where its reply is taken, if all that is found after that was executed already.
 use Rattle.std.proofs.Common.{◌≡◌, ℕ, ◌<◌, ◌≤◌, Option, List, [], length, take, ap, ◌∙◌, arith, append-nil}
 use Rattle.std.proofs.lemmas.List.{take_all}
 use Rattle.ep_base.specs.Commands.{Command}

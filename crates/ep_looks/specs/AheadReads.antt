@@ -14,8 +14,8 @@ use Rattle.ep_looks.specs.Reads.{ReadsOneKey, found, world_at, history_at, Read,
 use Rattle.ep_looks.specs.WithReads.{Item, IsHistoryWith}
 
 -- some steps, from the world at a point of the run, lead the replica to the state
-abbrev pub Leads : (base : Store) → ℕ → List Act → ℕ → ℕ → State → Type 0
-Leads base f acts n q s = (late : List Act) × IsRun f (world_at base f acts n) late × ((ends f (world_at base f acts n) late).states q ≡ s)
+abbrev pub LeadsTo : (base : Store) → ℕ → List Act → ℕ → ℕ → State → Type 0
+LeadsTo base f acts n q s = (late : List Act) × IsRun f (world_at base f acts n) late × ((ends f (world_at base f acts n) late).states q ≡ s)
 
 -- what a read of one key has to keep to, where `seen` tells the state in which each replica is looked at, if it is
 pub record IsAheadRead (base : Store) (f : ℕ) (acts : List Act) (r : Read) (seen : ℕ → Option State) : Type 0 where
@@ -23,7 +23,7 @@ pub record IsAheadRead (base : Store) (f : ℕ) (acts : List Act) (r : Read) (se
   pub in_order : r.asked ≤ r.answered
   -- more than F replicas are looked at, each in a state that goes on from what it had done in the run when the read was asked
   pub many : f < count (size f) (λ q. is_some (seen q))
-  pub goes_on : (q : ℕ) (s : State) → seen q ≡ Some s → Leads base f acts r.asked q s
+  pub goes_on : (q : ℕ) (s : State) → seen q ≡ Some s → LeadsTo base f acts r.asked q s
   -- all that the looks found is executed in the run at the reader when it answers
   pub executed : (q i : ℕ) (s : State) → seen q ≡ Some s → Has (found s r.command) i → Has ((world_at base f acts r.answered).states r.reader).executed i
 
@@ -44,7 +44,7 @@ HistoriesTakeAheadReads =
 pub record IsAheadWholeRead (base : Store) (f : ℕ) (acts : List Act) (r : Read) (seen : ℕ → Option State) : Type 0 where
   pub only : only_reads r.command ≡ true
   pub many : f < count (size f) (λ k. is_some (seen k))
-  pub goes_on : (k : ℕ) (s : State) → seen k ≡ Some s → Leads base f acts r.asked k s
+  pub goes_on : (k : ℕ) (s : State) → seen k ≡ Some s → LeadsTo base f acts r.asked k s
   pub executed : (k i : ℕ) (s : State) → seen k ≡ Some s → Has (found s r.command) i → Has ((world_at base f acts r.asked).states r.reader).executed i
 
 -- Such a read takes effect where its reply is taken.

@@ -1,7 +1,7 @@
 //! Reads that write nothing: laws of looks at replicas' states.
 //!
 //! A read makes no event and no entry. F + 1 replicas are looked at, and one replica answers by its map once it has executed
-//! all that was found. Start with specs/Reads.antt; docs/SAFETY.md tells how the proof goes.
+//! all that was found. Start with specs/Reads.antt; docs/SAFETY.md says how the proof goes.
 #![tactic(auto)]
 
 mod laws;

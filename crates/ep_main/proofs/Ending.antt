@@ -182,7 +182,7 @@ pub third_not_read :
 third_not_read b r zs place left is found =
     not_made (Does (Upgrade Third)) r (of_bundle b) zs is (λ out silent. stops_more (IsUnread zs) (IsUnupgraded Third zs) (of_bundle b) out (λ x h. inl h) (finds (Reads zs) b place left out found silent))
 
--- want of memory
+-- out of memory
 pub not_upgraded : (target : Target) (e : EngineFault) (zs : List ℕ) (out : Output) → e ≡ Memory → WroteNothing out → Rewrites target (Err e) zs out
 not_upgraded target e zs out is silent = subst (λ y. StopsBy (IsUnupgraded target zs) y out) (sym is) silent
 

@@ -38,7 +38,7 @@ use Rattle.ep_script.specs.Plan.{Plan, RunPlan, script_of, run_of}
 use Rattle.ep_script.specs.declared.script_fault.ScriptFault.{ScriptFault}
 use Rattle.ep_script.specs.declared.script_fault.ScriptFault.TheVariants as script
 
--- want of memory is no device's fault
+-- out of memory is no device's fault
 pub memory_read : (r : Result Made EngineFault) (had has : Bool) → IfErr r (λ e. e ≡ Memory) → has ≡ (false || had) → FailsAsTold is_read r had has
 memory_read (Ok made) had has is flag = flag
 memory_read (Err e) had has is flag = flag ∙ ap (λ (b : Bool). b || had) (sym (ap is_read is))
@@ -109,7 +109,7 @@ emitted_made (Report form) plan played text zs out read replay accepted is wrote
 emitted_made Bundle plan played text zs out read replay accepted is wrote =
     (refl, bundled played text zs out is (record { plan = plan; script = read; replay = replay }) accepted wrote)
 
--- want of memory
+-- out of memory
 pub stops_playing : (emit : Emit) (e : EngineFault) (zs : List ℕ) (out : Output) → e ≡ Memory → WroteNothing out → Does (Replay emit) (Err e) zs out
 stops_playing emit e zs out is silent = subst (λ (x : EngineFault). Does (Replay emit) (Err x) zs out) (sym is) (go emit)
   where

@@ -6,7 +6,7 @@ use Rattle.ep_bundle.specs.declared.bundle_fault.BundleFault.{BundleFault}
 use Rattle.ep_bundle.specs.declared.bundle_fault.BundleFault.TheVariants as bundle
 use Rattle.ep_main.specs.Chains.{ReadsLate, file_line}
 
--- the line of this fault, or want of memory
+-- the line of this fault, or out of memory
 abbrev pub IsRefusal : List ℕ → BundleFault → FilesFault → Type 0
 IsRefusal name fault files.Memory = Unit {0}
 IsRefusal name fault (files.ReadFailed line) = ⊥

@@ -131,7 +131,7 @@ Chains form links Refused out fault = ⊥
 Chains form links OutOfMemory out fault = IsOutOfMemory out fault
 Chains form links Failed out fault = (out.failed ≡ true) × Told fault writing_failed
 
--- the text was written, and that is the status; or the output has failed, which is told
+-- the text was written, and that is the status; or the output has failed, which is reported
 abbrev pub IsWritten : Status → List ℕ → Status → Output → Output → Type 0
 IsWritten status text result out fault =
     ((result ≡ status) × Wrote out text × (out.failed ≡ out.had_failed) × WroteNothing fault × (fault.failed ≡ fault.had_failed))
@@ -144,7 +144,7 @@ pub record AreChained (form : Form) (names : List (List ℕ)) (status : Status) 
   pub read : AreRead links
   pub chains : Chains form links status out fault
 
--- A file isn't one, or memory was refused, which is told, and nothing was written on the output.
+-- A file isn't one, or memory was refused, which is reported, and nothing was written on the output.
 pub record AreStopped (names : List (List ℕ)) (status : Status) (out fault : Output) : Type 0 where
   pub why : FilesFault
   pub of : IsStopped names why
@@ -155,7 +155,7 @@ pub record AreStopped (names : List (List ℕ)) (status : Status) (out fault : O
 abbrev pub ChainsFiles : Form → List (List ℕ) → Status → Output → Output → Type 0
 ChainsFiles form names status out fault = AreChained form names status out fault ⊎ AreStopped names status out fault
 
--- whatever the files hold: the status is that of a failure exactly where the output failed in this run, or a file isn't read, and the line tells which, and why
+-- whatever the files hold: the status is that of a failure exactly where the output failed in this run, or a file isn't read, and the line says which, and why
 abbrev pub EndsOfFiles : Status → Output → Output → Type 0
 EndsOfFiles Done out fault = (out.failed ≡ out.had_failed) × (fault.failed ≡ fault.had_failed)
 EndsOfFiles AuditRefused out fault = (out.failed ≡ out.had_failed) × (fault.failed ≡ fault.had_failed)

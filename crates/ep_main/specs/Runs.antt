@@ -53,7 +53,7 @@ abbrev pub IsRefusedRun : Host → Options → List ℕ → Output → Type 0
 IsRefusedRun Lock options zs out = IsRan options AuditRefused zs out
 IsRefusedRun Ring options zs out = ⊥
 
--- The bytes are no script, as they are read here: their first line at fault is told, and nothing was written on the output.
+-- The bytes are no script, as they are read here: their first line at fault is reported, and nothing was written on the output.
 pub record IsScriptRefused {P : Type 0} (read : Result P ℕ) (out fault : Output) : Type 0 where
   pub line : ℕ
   pub script : read ≡ Err line
@@ -156,7 +156,7 @@ Performs (Upgrade target) status zs reader out fault = Upgrades target status zs
 Performs Version status zs reader out fault = Versions status out fault
 Performs (Help text) status zs reader out fault = Helps status (string_bytes text) out fault
 
--- the words ask for nothing that there is, which is told with what is wrong with them, or memory was refused before they were read
+-- the words ask for nothing that there is, which is reported with what is wrong with them, or memory was refused before they were read
 abbrev pub Declines : Status → Output → Output → Type 0
 Declines Refused out fault = WroteNothing out × ((why : List ℕ) × Told fault (command_line_refused ++ why))
 Declines OutOfMemory out fault = IsOutOfMemory out fault
@@ -165,7 +165,7 @@ Declines AuditRefused out fault = ⊥
 Declines Failed out fault = ⊥
 
 -- Whatever is asked for and is read: the status is that of a failure exactly where the reader or the output failed in this run, and the line
--- tells which of them; and the fault output fails only where a line is told on it.
+-- says which of them; and the fault output fails only where a line is reported on it.
 abbrev pub Ends : Status → Input → Output → Output → Type 0
 Ends Done reader out fault = NoneFailed reader out × (fault.failed ≡ fault.had_failed)
 Ends AuditRefused reader out fault = NoneFailed reader out × (fault.failed ≡ fault.had_failed)
@@ -173,7 +173,7 @@ Ends Refused reader out fault = NoneFailed reader out
 Ends OutOfMemory reader out fault = NoneFailed reader out
 Ends Failed reader out fault = (InputFailed reader out × Told fault reading_failed) ⊎ (OutputFailed reader out × Told fault writing_failed)
 
--- a status that tells no fault
+-- a status that says no fault
 abbrev pub IsVerdict : Status → Type 0
 IsVerdict Done = Unit {0}
 IsVerdict AuditRefused = Unit {0}
@@ -181,7 +181,7 @@ IsVerdict Refused = ⊥
 IsVerdict OutOfMemory = ⊥
 IsVerdict Failed = ⊥
 
--- Before a fault is told: what was written. Which device failed, the fault says itself.
+-- Before a fault is reported: what was written. Which device failed, the fault says itself.
 
 abbrev pub Plays : Form → Result Status EngineFault → List ℕ → Output → Type 0
 Plays form (Ok status) zs out = (status ≡ Done) × IsReplayed form zs out
@@ -249,7 +249,7 @@ Does (Upgrade target) outcome zs out = Rewrites target outcome zs out
 Does Version outcome zs out = Prints outcome version_line out
 Does (Help text) outcome zs out = Prints outcome (string_bytes text) out
 
--- a fault is told, and decides on the status
+-- a fault is reported, and decides on the status
 abbrev pub Concludes : Result Status EngineFault → Status → Output → Type 0
 Concludes (Ok said) status fault = (status ≡ said) × WroteNothing fault × (fault.failed ≡ fault.had_failed)
 Concludes (Err e) status fault = (status ≡ status_of e) × Told fault (line_of e)

@@ -257,7 +257,7 @@ abbrev pub IsChainFound : Form → Job → Option (List Text) → Type 0
 IsChainFound form (Streams asked) found = ⊥
 IsChainFound form (Chain f files) found = (f ≡ form) × (found ≡ Some (map string_bytes files.items))
 
--- these words after the options of `audit` ask for this, to be told in this form
+-- these words after the options of `audit` ask for this, to be reported in this form
 abbrev pub IsAuditIn : Form → Job → AuditWords → Type 0
 IsAuditIn form (Streams asked) words = (asked ≡ Audit form) × IsBundleAudit words
 IsAuditIn form (Chain f files) words = (f ≡ form) × IsChainAudit (map string_bytes files.items) words

@@ -32,7 +32,7 @@ fn placed(alloc: Global, name: &str, fault: BundleFault) -> FilesFault
     }
 }
 
-/// What a fault of the bytes of the file with this name is told as: a slice never fails.
+/// What a fault of the bytes of the file with this name is reported as: a slice never fails.
 fn no_link(alloc: Global, name: &str, fault: BundleFault) -> FilesFault
     ensures { (zs : List ℕ) → IsUnreadLate zs fault → IsNoLink name.now zs result }
 {

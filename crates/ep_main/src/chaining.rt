@@ -38,7 +38,7 @@ pub(crate) fn print_chain<R: Files + AllocGlobal, S, W: Sink, F: Sink>(
     }
 }
 
-/// Writes what the audit of these says, in one go, or tells what stops it.
+/// Writes what the audit of these says, in one go, or says what stops it.
 fn write_chain<S, W: Sink, F: Sink>(
     alloc: Global,
     form: Form,
@@ -58,7 +58,7 @@ fn write_chain<S, W: Sink, F: Sink>(
     }
 }
 
-/// Writes what an audit says, in one go, or tells that it failed.
+/// Writes what an audit says, in one go, or says that it failed.
 fn write_judged<S, W: Sink, F: Sink>(judged: &Made, streams: &mut Streams<S, W, F>) -> Status
     ensures unread { streams.new.reader ≡ streams.old.reader }
     ensures written { IsWritten judged.now.status judged.now.text.items result (became W.held W.has_failed streams.old.writer streams.new.writer) (became F.held F.has_failed streams.old.fault_writer streams.new.fault_writer) }

@@ -42,7 +42,7 @@ Input is standard input: redirect a file to it, or a pipe. On a terminal, epaxos
 
 /// What the help of `replay` says at its end.
 const AFTER_REPLAY: &str = "\
-Standard input, to its end, is a script: lines as in the example; docs/FORMATS.md, section 4, has all of them.
+Standard input, to its end, is a script: lines as in the example; docs/CLI.md, section 4, has all of them.
 Nothing is printed before the end is read. With --emit json the report is one object on one line, for scripts (docs/CLI.md,
 section 5.3); with status 2, 3 and 4 nothing is printed then either.
 
@@ -57,7 +57,7 @@ Exit status:
 
 /// What the help of `run` says at its end.
 const AFTER_RUN: &str = "\
-Standard input, to its end, is a script: lines as in the example; docs/FORMATS.md, section 4, has all of them.
+Standard input, to its end, is a script: lines as in the example; docs/CLI.md, section 4, has all of them.
 In each section every replica has, with --host lock, a thread that submits its lines, and one that hands on its frames;
 with --host ring one thread for both. Nothing is printed before the end is read, and all threads have ended. With --emit json
 the report is one object on one line, for scripts (docs/CLI.md, section 5.3); with status 2, 3 and 4 nothing is printed then
@@ -167,7 +167,7 @@ fn audit_of(alloc: Global, options: &ArgMatches<'_>) -> Result<Job, WordsFault>
     audit_in(alloc, form, options)
 }
 
-/// Which audit is asked for, to be told in this form.
+/// Which audit is asked for, to be reported in this form.
 fn audit_in(alloc: Global, form: Form, options: &ArgMatches<'_>) -> Result<Job, WordsFault>
     ensures audit { IsBundleAudit (audit_words (rows_of (found_of options.now))) → result ≡ Ok (Streams (Audit form)) }
     ensures chain { (names : List Text) → IsChainAudit names (audit_words (rows_of (found_of options.now))) → MatchResult result (IsChainOf form names) (λ d. d ≡ Memory) }
@@ -371,7 +371,7 @@ fn target_named(alloc: Global, name: &str) -> Result<Target, WordsFault>
     }
 }
 
-/// How an audit is to be told.
+/// How an audit is to be reported.
 fn form_of(alloc: Global, options: &ArgMatches<'_>) -> Result<Form, WordsFault>
     ensures named { (form : Form) → NamesForm (first_of (codes "emit") (rows_of (found_of options.now))) form → result ≡ Ok form }
     ensures only { IfOk result (NamesForm (first_of (codes "emit") (rows_of (found_of options.now)))) }

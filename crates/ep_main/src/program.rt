@@ -36,7 +36,7 @@ use std::thread::Threads;
 /// what the audit says in one go; with `--chain` it reads bundles of version 3 from files, each to its end, audits them one after the
 /// other, and writes what the audit of the chain says in one go. `upgrade` reads a bundle to its end and writes it in version 2, or 3,
 /// in one go.
-/// What stops it (a refused script or bundle, want of memory, a reader or a writer that fails) is told by one line on the
+/// What stops it (a refused script or bundle, out of memory, a reader or a writer that fails) is told by one line on the
 /// fault output; a refused command line by one, and what is wrong with it after that. Where telling fails, the status stays.
 pub fn engine<
     R: Files + AllocGlobal + Threads + Wait + Sync,
@@ -157,7 +157,7 @@ fn attempt<R: Threads + Wait + Sync, S: Source, W: Sink, F>(
     }
 }
 
-/// How the program ends. A fault is told on the fault output; where that fails, the status stays.
+/// How the program ends. A fault is reported on the fault output; where that fails, the status stays.
 pub(crate) fn concluded<F: Sink>(
     outcome: Result<Status, EngineFault>,
     fault_writer: &mut F,

@@ -120,7 +120,7 @@ fn third_of(alloc: Global, bundle: &Bundle) -> Result<Vec<u8>, EngineFault>
     respelled(alloc, bundle)
 }
 
-/// The same of a bundle of version 1 or 2.
+/// The bytes of a bundle of version 1 or 2, in version 3.
 fn respelled(alloc: Global, bundle: &Bundle) -> Result<Vec<u8>, EngineFault>
     requires { version_number bundle.now.journals.version ≤ 2 }
     ensures third { IfOk result (λ bytes. IsThird bundle.now.journals bundle.now.receipts.items bytes.items) }

@@ -23,43 +23,43 @@ use Rattle.ep_moving.specs.declared.move_fault.MoveFault.TheVariants.{Waits, Une
 -- Stamps.
 
 -- this is the greatest of the last stamps of the first n replicas
-pub record IsTop (c : Collected) (n since : ℕ) : Type 0 where
-  pub low : (r : ℕ) → r < n → stamp_after c.opening.since (journals_of c r) ≤ since
+pub record IsTop (c : Collected) (n base_stamp : ℕ) : Type 0 where
+  pub low : (r : ℕ) → r < n → stamp_after c.opening.base_stamp (journals_of c r) ≤ base_stamp
   pub of : ℕ
   pub below : of < n
-  pub last : since ≡ stamp_after c.opening.since (journals_of c of)
+  pub last : base_stamp ≡ stamp_after c.opening.base_stamp (journals_of c of)
 
-pub top_one : (c : Collected) (since : ℕ) → since ≡ stamp_after c.opening.since (journals_of c 0) → IsTop c 1 since
-top_one c since is = record {
+pub top_one : (c : Collected) (base_stamp : ℕ) → base_stamp ≡ stamp_after c.opening.base_stamp (journals_of c 0) → IsTop c 1 base_stamp
+top_one c base_stamp is = record {
   low = λ r below.
       let zero : r ≡ 0 = omega arith in
-      subst (λ (q : ℕ). stamp_after c.opening.since (journals_of c q) ≤ since) (sym zero) (let same : stamp_after c.opening.since (journals_of c 0) ≡ since = sym is in omega arith);
+      subst (λ (q : ℕ). stamp_after c.opening.base_stamp (journals_of c q) ≤ base_stamp) (sym zero) (let same : stamp_after c.opening.base_stamp (journals_of c 0) ≡ base_stamp = sym is in omega arith);
   of = 0;
   below = omega arith;
   last = is;
 }
 
-pub top_more : (c : Collected) (n since next new : ℕ) → IsTop c n since → next ≡ stamp_after c.opening.since (journals_of c n) → new ≡ max since next → IsTop c (n + 1) new
-top_more c n since next new h is most =
-    let lower : (r : ℕ) → r < n + 1 → stamp_after c.opening.since (journals_of c r) ≤ new = λ r below.
+pub top_more : (c : Collected) (n base_stamp next new : ℕ) → IsTop c n base_stamp → next ≡ stamp_after c.opening.base_stamp (journals_of c n) → new ≡ max base_stamp next → IsTop c (n + 1) new
+top_more c n base_stamp next new h is most =
+    let lower : (r : ℕ) → r < n + 1 → stamp_after c.opening.base_stamp (journals_of c r) ≤ new = λ r below.
     elim (cases_lt r n) [
-      | inl less ↦ (let low : stamp_after c.opening.since (journals_of c r) ≤ since = h.low r less in omega (arith, most))
+      | inl less ↦ (let low : stamp_after c.opening.base_stamp (journals_of c r) ≤ base_stamp = h.low r less in omega (arith, most))
       | inr ge ↦ (
           let same : n ≡ r = omega arith in
-          subst (λ (q : ℕ). stamp_after c.opening.since (journals_of c q) ≤ new) same (omega (arith, is, most))
+          subst (λ (q : ℕ). stamp_after c.opening.base_stamp (journals_of c q) ≤ new) same (omega (arith, is, most))
           )
     ] in
-    elim (cases_lt since next) [
+    elim (cases_lt base_stamp next) [
       | inl less ↦ (let same : new ≡ next = omega (arith, most) in record { low = lower; of = n; below = omega arith; last = same ∙ is })
-      | inr ge ↦ (let same : new ≡ since = omega (arith, most) in let own : h.of < n = h.below in record { low = lower; of = h.of; below = omega arith; last = same ∙ h.last })
+      | inr ge ↦ (let same : new ≡ base_stamp = omega (arith, most) in let own : h.of < n = h.below in record { low = lower; of = h.of; below = omega arith; last = same ∙ h.last })
     ]
 
-pub top_all : (c : Collected) (n since : ℕ) → AreLocalRuns (opens c.opening) c.faults (journals_of c) → n ≡ size c.faults → IsTop c n since → IsGreatest c since
-top_all c n since runs all h = record {
+pub top_all : (c : Collected) (n base_stamp : ℕ) → AreLocalRuns (opens c.opening) c.faults (journals_of c) → n ≡ size c.faults → IsTop c n base_stamp → IsGreatest c base_stamp
+top_all c n base_stamp runs all h = record {
   late = λ r e stands. elim (cases_lt r n) [
     | inl less ↦ (
-        let low : stamp_after c.opening.since (journals_of c r) ≤ since = h.low r less in
-        let own : e.stamp ≤ stamp_after c.opening.since (journals_of c r) = stamp_reached 1 0 c.opening.since (journals_of c r) e (runs.local r).0 stands in
+        let low : stamp_after c.opening.base_stamp (journals_of c r) ≤ base_stamp = h.low r less in
+        let own : e.stamp ≤ stamp_after c.opening.base_stamp (journals_of c r) = stamp_reached 1 0 c.opening.base_stamp (journals_of c r) e (runs.local r).0 stands in
         omega arith
         )
     | inr ge ↦ absurd (subst (In e) (runs.others r (omega arith)) stands)
@@ -99,8 +99,8 @@ by_found i j found v e is (inr h) = inl h
 
 pub opening_made :
     (c : Collected) (me : ℕ) (v : Verdict) (executed : List ℕ) (o : Opening) (size : ℕ) (file : File) → Accepts c v → executed ≡ commands_in v.committed.items →
-    All (Has (state_of c me).executed) executed → o.contents ≡ left_after (opens c.opening) v → IsGreatest c o.since → size ≡ c.faults →
+    All (Has (state_of c me).executed) executed → o.contents ≡ left_after (opens c.opening) v → IsGreatest c o.base_stamp → size ≡ c.faults →
     file ≡ record { faults = size; generation = 2; opening = o; seal = Some []; executed = executed } → IsOpeningAfter c me file
-opening_made c me v executed o size file accepted all done contents since same is =
+opening_made c me v executed o size file accepted all done contents base_stamp same is =
     subst (IsOpeningAfter c me) (sym is)
-    (record { verdict = v; accepted = accepted; executed = all; done = done; contents = contents; since = since; faults = same; generation = refl; seal = refl })
+    (record { verdict = v; accepted = accepted; executed = all; done = done; contents = contents; base_stamp = base_stamp; faults = same; generation = refl; seal = refl })

@@ -39,13 +39,13 @@ abbrev pub Accepts : Collected → Verdict → Type 0
 Accepts c v = IsAudited (opens c.opening) c.faults (journals_of c) [] v
 
 -- the greatest stamp of all entries; where there is none, the stamp that the clocks go on from
-pub record IsGreatest (c : Collected) (since : ℕ) : Type 0 where
+pub record IsGreatest (c : Collected) (base_stamp : ℕ) : Type 0 where
   -- no entry of a journal is stamped above it
-  pub late : (r : ℕ) (e : Entry) → In e (journals_of c r) → e.stamp ≤ since
+  pub late : (r : ℕ) (e : Entry) → In e (journals_of c r) → e.stamp ≤ base_stamp
   -- and it is the last stamp of a replica
   pub of : ℕ
   pub below : of < size c.faults
-  pub last : since ≡ stamp_after c.opening.since (journals_of c of)
+  pub last : base_stamp ≡ stamp_after c.opening.base_stamp (journals_of c of)
 
 -- the file of generation 2, after all that these journals commit
 pub record IsOpeningAfter (c : Collected) (me : ℕ) (file : File) : Type 0 where
@@ -59,7 +59,7 @@ pub record IsOpeningAfter (c : Collected) (me : ℕ) (file : File) : Type 0 wher
   -- the map is the rule book's, after the history
   pub contents : file.opening.contents ≡ left_after (opens c.opening) verdict
   -- clocks go on from the greatest stamp
-  pub since : IsGreatest c file.opening.since
+  pub base_stamp : IsGreatest c file.opening.base_stamp
   pub faults : file.faults ≡ c.faults
   pub generation : file.generation ≡ 2
   -- no seal began it, and the file tells an empty value
@@ -79,7 +79,7 @@ pub record IsWaiting (c : Collected) (me i j : ℕ) : Type 0 where
   pub reaches : Reaches (graph_in (state_of c me).records) i j
   pub nowhere : All (λ e. e.0 ≢ j) verdict.committed.items
 
--- why the journals give no file: want of memory, or the first of these
+-- why the journals give no file: out of memory, or the first of these
 abbrev pub IsUnended : Collected → ℕ → MoveFault → Type 0
 IsUnended c me (Assemble Memory) = Unit {0}
 IsUnended c me (Assemble (OfLog place fault)) = ⊥

@@ -28,13 +28,13 @@ move_line names (Audit fault) = refused (fault_text (fault_of fault))
 move_line names (Waits i j) = refused (waits_text i j)
 move_line names (Unexecuted i) = refused (instance_text i ++ codes " is committed, and no stamp is left to execute it")
 
--- the text is the file of generation 2 that the logs with these bytes give, and a line is told for each torn end
+-- the text is the file of generation 2 that the logs with these bytes give, and a line is reported for each torn end
 pub record IsUpgraded (names logs : List (List ℕ)) (text lines : List ℕ) : Type 0 where
   pub ends : List End
   pub moved : IsMoved logs text ends
   pub told : lines ≡ torn_lines 0 names ends
 
--- other than want of memory
+-- other than out of memory
 abbrev pub IsOfLogs : MoveFault → Type 0
 IsOfLogs (Assemble fault) = IsOfFiles fault
 IsOfLogs (NotClocked r n) = Unit {0}

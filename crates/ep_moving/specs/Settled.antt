@@ -32,14 +32,14 @@ pub record AreSettled (js ks : List Log) (me : ℕ) : Type 0 where
   pub goes_on : GoesOn last gone
   pub of : gone.me ≡ me
 
--- why the replica of this journal doesn't go on: for want of memory, or by the first entry whose stamp isn't its clock's
+-- why the replica of this journal doesn't go on: when out of memory, or by the first entry whose stamp isn't its clock's
 abbrev pub IsUnresumed : Log → MoveFault → Type 0
 IsUnresumed j (Assemble Memory) = Unit {0}
 IsUnresumed j (Assemble (OfLog place fault)) = ⊥
 IsUnresumed j (Assemble (Collect fault)) = ⊥
 IsUnresumed j (Assemble (Receipts place at)) = ⊥
 IsUnresumed j (Assemble TooManyReceipts) = ⊥
-IsUnresumed j (NotClocked r n) = (r ≡ j.me) × (first_unclocked j.opening.since (entries_of j.entries) ≡ Some n)
+IsUnresumed j (NotClocked r n) = (r ≡ j.me) × (first_unclocked j.opening.base_stamp (entries_of j.entries) ≡ Some n)
 IsUnresumed j (Audit fault) = ⊥
 IsUnresumed j (Waits i k) = ⊥
 IsUnresumed j (Unexecuted i) = ⊥

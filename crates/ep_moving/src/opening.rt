@@ -36,10 +36,10 @@ fn accepted(alloc: Global, journals: &Journals, me: ReplicaId) -> Result<Verdict
 /// The stamp of the last entry of this replica, or the one that its clock goes on from.
 fn last_of(journals: &Journals, index: u8) -> u64
     requires { index < size journals.now.faults }
-    ensures { result ≡ stamp_after journals.now.opening.since (journals_of journals.now index) }
+    ensures { result ≡ stamp_after journals.now.opening.base_stamp (journals_of journals.now index) }
 {
     let _count = journals.size().count();
-    let replica = ReplicaId::known(index);
+    let replica = ReplicaId::from_valid(index);
     journals.get(replica).unwrap().last_stamp()
 }
 
@@ -58,7 +58,7 @@ fn greatest(journals: &Journals) -> u64
 /// The map after the journals' history, with clocks that go on from the greatest of all stamps. Where more than 4,000,000,000 keys have a value, it is refused.
 fn opening_of(alloc: Global, journals: &Journals, verdict: &Verdict) -> Result<Opening, AllocError>
     ensures contents { IfOk result (λ o. o.contents ≡ left_after (opens journals.now.opening) verdict.now) }
-    ensures since { IfOk result (λ o. IsGreatest journals.now o.since) }
+    ensures base_stamp { IfOk result (λ o. IsGreatest journals.now o.base_stamp) }
 {
     let contents = verdict.contents(alloc, journals)?;
     match Opening::new(contents, greatest(journals)) {
@@ -76,7 +76,7 @@ fn file_of(
 ) -> Result<OpeningFile, AllocError>
     ensures { IfOk result (λ f. f ≡ record { faults = size; generation = 2; opening = opening; seal = Some []; executed = executed }) }
 {
-    let seal = Value::known(alloc, b"")?;
+    let seal = Value::from_valid(alloc, b"")?;
     let generation = Generation::new(2).unwrap();
     Ok(OpeningFile::new(size, generation, opening, Some(seal), executed).unwrap())
 }

@@ -29,7 +29,7 @@ fn instance_at(leader: ReplicaId, number: u16) -> InstanceId
     InstanceId::new(leader, number).unwrap()
 }
 
-/// Takes the event, which nobody asks for; where it is refused, the replica stays as it was. `Err` is want of memory.
+/// Takes the event, which nobody asks for; where it is refused, the replica stays as it was. `Err` means out of memory.
 fn take(replica: &mut Replica, event: Event) -> Result<(), AllocError>
     requires { asked_by (event_of event) ≡ [] }
     ensures { OnOk result (GoesOn replica.old replica.new) }
@@ -120,7 +120,7 @@ fn execute_all(replica: &mut Replica) -> Result<(), AllocError>
     ensures { OnOk result (GoesOn replica.old replica.new) }
 {
     for index in 0..7 {
-        execute_led(replica, ReplicaId::known(index))?;
+        execute_led(replica, ReplicaId::from_valid(index))?;
     }
     Ok(())
 }

@@ -33,14 +33,14 @@ module _ (start : Start) (f n : ℕ) (c : Cluster) (k : Kept) (h : IsNode start 
         (subst (λ (g : ℕ). IsEntry g k.me (left g k.me (fresh_state (opened start.map)) (entries_of k.entries)) (entry_of e)) h.faults
         (subst (λ (m : Contents). IsEntry k.faults k.me (left k.faults k.me (fresh_state (opened m)) (entries_of k.entries)) (entry_of e)) h.opening.map a.step));
     number = a.number ∙ ap (λ (m : ℕ). m + 1) (sym count);
-    stamp = subst (λ (es : List rules.Entry). e.stamp ≡ 1 + max (stamp_after (start.since k.me) es) (heard (event_of e.event))) (sym h.journal)
-        (subst (λ (z : Happening). e.stamp ≡ 1 + max (stamp_after (start.since k.me) (entries_of k.entries)) (heard (event_of z))) (sym a.event)
-        (subst (λ (m : ℕ). e.stamp ≡ 1 + max (stamp_after m (entries_of k.entries)) (heard (event_of event))) h.opening.since a.stamp));
+    stamp = subst (λ (es : List rules.Entry). e.stamp ≡ 1 + max (stamp_after (start.base_stamp k.me) es) (heard (event_of e.event))) (sym h.journal)
+        (subst (λ (z : Happening). e.stamp ≡ 1 + max (stamp_after (start.base_stamp k.me) (entries_of k.entries)) (heard (event_of z))) (sym a.event)
+        (subst (λ (m : ℕ). e.stamp ≡ 1 + max (stamp_after m (entries_of k.entries)) (heard (event_of event))) h.opening.base_stamp a.stamp));
     marked = a.marked;
   }
 
   of_entries : (es : List Entry) → StartsFrom start (record k { entries = es })
-  of_entries es = record { map = h.opening.map; since = h.opening.since }
+  of_entries es = record { map = h.opening.map; base_stamp = h.opening.base_stamp }
 
   grown : (e : Entry) → IsNode start f (moved c (Take k.me (entry_of e))) (record k { entries = k.entries ++ e ∷ [] }) n
   grown e = record {
@@ -134,7 +134,7 @@ module _ (start : Start) (f n : ℕ) (c : Cluster) (k : Kept) (h : IsNode start 
 
 pub calls_are_moves_lem : CallsAreMoves
 calls_are_moves_lem = record {
-  begins = λ f me member. record { opening = record { map = refl; since = refl }; faults = refl; member = member; journal = refl; out = omega arith; synced = omega arith };
+  begins = λ f me member. record { opening = record { map = refl; base_stamp = refl }; faults = refl; member = member; journal = refl; out = omega arith; synced = omega arith };
   opens = λ start k opening member none. record { opening = opening; faults = refl; member = member; journal = sym (ap entries_of none); out = omega arith; synced = omega arith };
   takes = λ start f n c k k' event e h among a. takes_lem start f n c k h k' event e among a;
   syncs = λ start f n m c k h more within. syncs_lem start f n c k h m more within;

@@ -53,7 +53,7 @@ module _ (start : Start) (f : ℕ) (before after : Cluster) (kept : Lasts before
   own_after r t own = own_still r t (handed_out after r) (take_begins (after.out r) (after.journal r)) own
 
   agrees : (r : ℕ) (t : Receipt) → IsOwn (opened start.map) f r (after.journal r) t → Agrees (opened start.map) f after.journal t
-  agrees r t own = own_receipts_agree_lem (opened start.map) start.since f after.journal run.clocked r t own
+  agrees r t own = own_receipts_agree_lem (opened start.map) start.base_stamp f after.journal run.clocked r t own
 
   -- the act of the schedule that executed what a receipt tells
   replied : (schedule : List Scheduled) → IsSchedule after.journal schedule → (r : ℕ) (t : Receipt) → IsOwn (opened start.map) f r (after.journal r) t →

@@ -96,11 +96,11 @@ taken_there g h (ComeBack r n) these is = kept_taken h g r n these ∙ ap (λ b.
 abbrev moves_in : ℕ → List LifeMove → List Move
 moves_in g [] = []
 moves_in g (Within h m ∷ ms) = cond (eqb h g) (m ∷ moves_in g ms) (moves_in g ms)
-moves_in g (OpensNext h r q since ∷ ms) = moves_in g ms
+moves_in g (OpensNext h r q base_stamp ∷ ms) = moves_in g ms
 
 cluster_in : (f : ℕ → ℕ) (l : Generations) (ms : List LifeMove) (g : ℕ) → (life_after f l ms).cluster g ≡ cluster_after (l.cluster g) (moves_in g ms)
 cluster_in f l [] g = refl
-cluster_in f l (OpensNext h r q since ∷ ms) g = cluster_in f (after_move f l (OpensNext h r q since)) ms g
+cluster_in f l (OpensNext h r q base_stamp ∷ ms) g = cluster_in f (after_move f l (OpensNext h r q base_stamp)) ms g
 cluster_in f l (Within h m ∷ ms) g = cluster_in f (after_move f l (Within h m)) ms g ∙ go (eqb h g) refl
   where
     go : (b : Bool) → eqb h g ≡ b → cluster_after (cond b (moved (l.cluster h) m) (l.cluster g)) (moves_in g ms) ≡ cluster_after (l.cluster g) (cond b (m ∷ moves_in g ms) (moves_in g ms))
@@ -109,7 +109,7 @@ cluster_in f l (Within h m ∷ ms) g = cluster_in f (after_move f l (Within h m)
 
 standing_in : (g : ℕ) (ms : List LifeMove) (these : List Stood) → taken_in g (standing stand_on these ms) ≡ standing stand_after (taken_in g these) (moves_in g ms)
 standing_in g [] these = refl
-standing_in g (OpensNext h r q since ∷ ms) these =
+standing_in g (OpensNext h r q base_stamp ∷ ms) these =
     standing_in g ms (these ++ (Opened h r q ∷ [])) ∙ ap (λ l. standing stand_after l (moves_in g ms)) (taken_both g these (Opened h r q ∷ []) ∙ append-nil (taken_in g these))
 standing_in g (Within h m ∷ ms) these = standing_in g ms (stand_on (Within h m) these) ∙ go (eqb h g) refl
   where
@@ -160,7 +160,7 @@ has_on : (f : ℕ → ℕ) (l : Generations) (m : LifeMove) (o : ℕ → ℕ →
 has_on f l (Within g (Take r e)) o these is = has_both o these (Took g (record { replica = r; entry = e }) ∷ []) ∙ is
 has_on f l (Within g (HandOut r n)) o these is = is
 has_on f l (Within g (ComeBack r n)) o these is = has_kept g r n o these ∙ is
-has_on f l (OpensNext g r q since) o these is = has_both o these (Opened g r q ∷ []) ∙ ap (λ was. opened_next g r was) is
+has_on f l (OpensNext g r q base_stamp) o these is = has_both o these (Opened g r q ∷ []) ∙ ap (λ was. opened_next g r was) is
 
 pub has_after : (f : ℕ → ℕ) (l : Generations) (ms : List LifeMove) (o : ℕ → ℕ → Bool) (these : List Stood) → has_over o these ≡ l.has_opened → has_over o (standing stand_on these ms) ≡ (life_after f l ms).has_opened
 has_after f l [] o these is = is
@@ -170,18 +170,18 @@ has_after f l (m ∷ ms) o these is = has_after f (after_move f l m) ms o (stand
 pub record Same (l l' : Generations) (g r : ℕ) : Type 0 where
   pub has : l'.has_opened g r ≡ true
   pub map : l'.map g r ≡ l.map g r
-  pub since : l'.since g r ≡ l.since g r
+  pub base_stamp : l'.base_stamp g r ≡ l.base_stamp g r
 
 same_trans : (l l' l'' : Generations) (g r : ℕ) → Same l l' g r → Same l' l'' g r → Same l l'' g r
-same_trans l l' l'' g r s t = record { has = t.has; map = t.map ∙ s.map; since = t.since ∙ s.since }
+same_trans l l' l'' g r s t = record { has = t.has; map = t.map ∙ s.map; base_stamp = t.base_stamp ∙ s.base_stamp }
 
 pub not_both : (b : Bool) → b ≡ true → b ≡ false → ⊥
 not_both true e h = absurd (let c : true ≡ false = h in cc)
 not_both false e h = absurd (let c : false ≡ true = e in cc)
 
 pub same_on : (f : ℕ → ℕ) (l : Generations) (m : LifeMove) → IsLifeMove f l m → (g r : ℕ) → l.has_opened g r ≡ true → Same l (after_move f l m) g r
-same_on f l (Within h m) k g r is = record { has = is; map = refl; since = refl }
-same_on f l (OpensNext h p q since) k g r is = record { has = still_open h p l.has_opened g r is; map = go _ _ (eqb (suc h) g) (eqb p r) refl refl; since = go _ _ (eqb (suc h) g) (eqb p r) refl refl }
+same_on f l (Within h m) k g r is = record { has = is; map = refl; base_stamp = refl }
+same_on f l (OpensNext h p q base_stamp) k g r is = record { has = still_open h p l.has_opened g r is; map = go _ _ (eqb (suc h) g) (eqb p r) refl refl; base_stamp = go _ _ (eqb (suc h) g) (eqb p r) refl refl }
   where
     go : {X : Type 0} (x y : X) (a b : Bool) → eqb (suc h) g ≡ a → eqb p r ≡ b → cond a (cond b x y) y ≡ y
     go x y true true ea eb = absurd (not_both (l.has_opened g r) is
@@ -190,7 +190,7 @@ same_on f l (OpensNext h p q since) k g r is = record { has = still_open h p l.h
     go x y false b ea eb = refl
 
 pub same_after : (f : ℕ → ℕ) (l : Generations) (ms : List LifeMove) → AreLifeMoves f l ms → (g r : ℕ) → l.has_opened g r ≡ true → Same l (life_after f l ms) g r
-same_after f l [] k g r is = record { has = is; map = refl; since = refl }
+same_after f l [] k g r is = record { has = is; map = refl; base_stamp = refl }
 same_after f l (m ∷ ms) k g r is =
     let one : Same l (after_move f l m) g r = same_on f l m k.0 g r is in
     same_trans l (after_move f l m) (life_after f (after_move f l m) ms) g r one (same_after f (after_move f l m) ms k.1 g r one.has)
@@ -198,13 +198,13 @@ same_after f l (m ∷ ms) k g r is =
 map_first : (f : ℕ → ℕ) (l : Generations) (ms : List LifeMove) (r : ℕ) → (life_after f l ms).map 0 r ≡ l.map 0 r
 map_first f l [] r = refl
 map_first f l (Within g m ∷ ms) r = map_first f (after_move f l (Within g m)) ms r
-map_first f l (OpensNext g p q since ∷ ms) r =
-    map_first f (after_move f l (OpensNext g p q since)) ms r
+map_first f l (OpensNext g p q base_stamp ∷ ms) r =
+    map_first f (after_move f l (OpensNext g p q base_stamp)) ms r
     ∙ ap (λ b. cond b (cond (eqb p r) (store_out f l g q).contents (l.map 0 r)) (l.map 0 r)) (ne_eqb (suc g) 0 (λ (e : suc g ≡ 0). omega arith))
 
 -- A generation's moves, where all who have opened it opened it with one map.
 
-other_start : (s t : Start) (f : ℕ) (c : Cluster) (m : Move) → s.map ≡ t.map → s.since (mover m) ≡ t.since (mover m) → IsMove s f c m → IsMove t f c m
+other_start : (s t : Start) (f : ℕ) (c : Cluster) (m : Move) → s.map ≡ t.map → s.base_stamp (mover m) ≡ t.base_stamp (mover m) → IsMove s f c m → IsMove t f c m
 other_start s t f c (Take r e) maps sinces k = (
   k.0,
   record {
@@ -220,24 +220,24 @@ other_start s t f c (ComeBack r n) maps sinces k = k
 
 -- one move, which another start allows
 move_is : (f : ℕ → ℕ) (x : Contents) (g h : ℕ) (l last : Generations) (m : Move) → h ≡ g → IsLifeMove f l (Within h m) → ((r : ℕ) → l.has_opened g r ≡ true → Same l last g r) →
-    ((r : ℕ) → last.has_opened g r ≡ true → last.map g r ≡ x) → IsMove (record { map = x; since = last.since g }) (f g) (l.cluster g) m
+    ((r : ℕ) → last.has_opened g r ≡ true → last.map g r ≡ x) → IsMove (record { map = x; base_stamp = last.base_stamp g }) (f g) (l.cluster g) m
 move_is f x g h l last m is k same one =
     let j : IsLifeMove f l (Within g m) = subst (λ t. IsLifeMove f l (Within t m)) is k in
     let s : Same l last g (mover m) = same (mover m) j.0 in
-    other_start (start_of l g (mover m)) (record { map = x; since = last.since g }) (f g) (l.cluster g) m (sym s.map ∙ one (mover m) s.has) (sym s.since) j.1
+    other_start (start_of l g (mover m)) (record { map = x; base_stamp = last.base_stamp g }) (f g) (l.cluster g) m (sym s.map ∙ one (mover m) s.has) (sym s.base_stamp) j.1
 
 moves_are : (f : ℕ → ℕ) (x : Contents) (g : ℕ) (l : Generations) (ms : List LifeMove) → AreLifeMoves f l ms → ((r : ℕ) → (life_after f l ms).has_opened g r ≡ true → (life_after f l ms).map g r ≡ x) →
-    AreMoves (record { map = x; since = (life_after f l ms).since g }) (f g) (l.cluster g) (moves_in g ms)
+    AreMoves (record { map = x; base_stamp = (life_after f l ms).base_stamp g }) (f g) (l.cluster g) (moves_in g ms)
 moves_are f x g l [] k one = tt
-moves_are f x g l (OpensNext h r q since ∷ ms) k one = moves_are f x g (after_move f l (OpensNext h r q since)) ms k.1 one
+moves_are f x g l (OpensNext h r q base_stamp ∷ ms) k one = moves_are f x g (after_move f l (OpensNext h r q base_stamp)) ms k.1 one
 moves_are f x g l (Within h m ∷ ms) k one = go (eqb h g) refl (moves_are f x g (after_move f l (Within h m)) ms k.1 one)
   where
     go : (b : Bool) → eqb h g ≡ b →
-        AreMoves (record { map = x; since = (life_after f l (Within h m ∷ ms)).since g }) (f g) (cond b (moved (l.cluster h) m) (l.cluster g)) (moves_in g ms) →
-        AreMoves (record { map = x; since = (life_after f l (Within h m ∷ ms)).since g }) (f g) (l.cluster g) (cond b (m ∷ moves_in g ms) (moves_in g ms))
+        AreMoves (record { map = x; base_stamp = (life_after f l (Within h m ∷ ms)).base_stamp g }) (f g) (cond b (moved (l.cluster h) m) (l.cluster g)) (moves_in g ms) →
+        AreMoves (record { map = x; base_stamp = (life_after f l (Within h m ∷ ms)).base_stamp g }) (f g) (l.cluster g) (cond b (m ∷ moves_in g ms) (moves_in g ms))
     go true e rec = (
       move_is f x g h l (life_after f l (Within h m ∷ ms)) m (eqb-true h g e) k.0 (same_after f l (Within h m ∷ ms) k g) one,
-      subst (λ t. AreMoves (record { map = x; since = (life_after f l (Within h m ∷ ms)).since g }) (f g) (moved (l.cluster t) m) (moves_in g ms)) (eqb-true h g e) rec,
+      subst (λ t. AreMoves (record { map = x; base_stamp = (life_after f l (Within h m ∷ ms)).base_stamp g }) (f g) (moved (l.cluster t) m) (moves_in g ms)) (eqb-true h g e) rec,
     )
     go false e rec = rec
 
@@ -251,7 +251,7 @@ record Fits (l : Generations) (these : List Stood) : Type 0 where
 pub numbered_move : (s : Start) (f : ℕ) (c : Cluster) (m : Move) → ((r : ℕ) → AreNumbered 1 0 (c.journal r)) → IsMove s f c m → (r : ℕ) → AreNumbered 1 0 ((moved c m).journal r)
 numbered_move s f c (Take r e) h k =
     at_each (λ q es. AreNumbered 1 0 es) r (c.journal r ++ (e ∷ [])) c.journal
-    (numbered_grow 1 0 (c.journal r) e (h r) (let n = k.1.number in omega arith) (let t = k.1.stamp in let l = stamp_least (s.since r) (c.journal r) in omega arith) k.1.marked) h
+    (numbered_grow 1 0 (c.journal r) e (h r) (let n = k.1.number in omega arith) (let t = k.1.stamp in let l = stamp_least (s.base_stamp r) (c.journal r) in omega arith) k.1.marked) h
 numbered_move s f c (HandOut r n) h k = h
 numbered_move s f c (ComeBack r n) h k = at_each (λ q es. AreNumbered 1 0 es) r (take n (c.journal r)) c.journal (numbered_take n (c.journal r) (h r)) h
 
@@ -262,7 +262,7 @@ within_move s f c (ComeBack r n) h k =
     at_each (λ q es. c.out q ≤ length es) r (take n (c.journal r)) c.journal (let le = k.1.least in omega (arith, length-take-le n (c.journal r) k.1.most)) h
 
 fits_move : (f : ℕ → ℕ) (l : Generations) (these : List Stood) → Fits l these → (m : LifeMove) → IsLifeMove f l m → Fits (after_move f l m) (stand_on m these)
-fits_move f l these h (OpensNext g r q since) k = record {
+fits_move f l these h (OpensNext g r q base_stamp) k = record {
   own = λ j p. ap (of p) (taken_both j these (Opened g r q ∷ []) ∙ append-nil (taken_in j these)) ∙ h.own j p;
   numbered = h.numbered;
   within = h.within;
@@ -279,7 +279,7 @@ fits_move f l these h (Within g m) k = record {
 
 -- What was handed out of only grows.
 pub out_on : (f : ℕ → ℕ) (l : Generations) (m : LifeMove) → IsLifeMove f l m → (g r : ℕ) → (l.cluster g).out r ≤ ((after_move f l m).cluster g).out r
-out_on f l (OpensNext h p q since) k = λ g r. omega arith
+out_on f l (OpensNext h p q base_stamp) k = λ g r. omega arith
 out_on f l (Within h m) k =
     at_gen (λ j c. (r : ℕ) → (l.cluster j).out r ≤ c.out r) h (moved (l.cluster h) m) l.cluster (out_next (start_of l h (mover m)) (f h) (l.cluster h) m k.1) (λ j e r. omega arith)
 
@@ -393,9 +393,9 @@ outs l g r = (l.cluster g).out r
 
 module _ (f : ℕ → ℕ) (o : ℕ → ℕ → Bool) where
   -- the map that was handed on, as the last generations have it
-  shut_now : (l last : Generations) (these : List Stood) (g r q since : ℕ) → Fits l these → IsLifeMove f l (OpensNext g r q since) → Same l last g q →
+  shut_now : (l last : Generations) (these : List Stood) (g r q base_stamp : ℕ) → Fits l these → IsLifeMove f l (OpensNext g r q base_stamp) → Same l last g q →
       last.map (suc g) r ≡ (store_out f l g q).contents → Shut last.map f (outs l) g r q these
-  shut_now l last these g r q since h k same is = record {
+  shut_now l last these g r q base_stamp h k same is = record {
     handed = handed_out (l.cluster g) q;
     begins = subst (λ es. IsBeginning (handed_out (l.cluster g) q) es) (sym (h.own g q)) (take_begins ((l.cluster g).out q) ((l.cluster g).journal q));
     numbered = numbered_take ((l.cluster g).out q) ((l.cluster g).journal q) (h.numbered g q);
@@ -405,8 +405,8 @@ module _ (f : ℕ → ℕ) (o : ℕ → ℕ → Bool) where
   }
 
   -- what was opened now has that map
-  opened_has : (l : Generations) (g r q since : ℕ) → (opened_next g r l.has_opened (suc g) r ≡ true) × ((after_move f l (OpensNext g r q since)).map (suc g) r ≡ (store_out f l g q).contents)
-  opened_has l g r q since = (
+  opened_has : (l : Generations) (g r q base_stamp : ℕ) → (opened_next g r l.has_opened (suc g) r ≡ true) × ((after_move f l (OpensNext g r q base_stamp)).map (suc g) r ≡ (store_out f l g q).contents)
+  opened_has l g r q base_stamp = (
     ap (λ b. cond b (eqb r r || l.has_opened (suc g) r) (l.has_opened (suc g) r)) (eq-eqb (suc g) (suc g) refl) ∙ ap (λ b. b || l.has_opened (suc g) r) (eq-eqb r r refl),
     ap (λ b. cond b (cond (eqb r r) (store_out f l g q).contents (l.map (suc g) r)) (l.map (suc g) r)) (eq-eqb (suc g) (suc g) refl)
         ∙ ap (λ b. cond b (store_out f l g q).contents (l.map (suc g) r)) (eq-eqb r r refl),
@@ -425,14 +425,14 @@ module _ (f : ℕ → ℕ) (o : ℕ → ℕ → Bool) where
       let last : Generations = life_after f l (Within g (ComeBack r n) ∷ ms) in
       ready_later last.map f o (outs l) (outs (after_move f l (Within g (ComeBack r n)))) (out_on f l (Within g (ComeBack r n)) k.0) [] (kept_in g r n these)
       (ready_kept last.map f o g r n (outs l) k.0.1.1.least [] these rec)
-  ready_move l (OpensNext g r q since) ms these k is h rec =
-      let next : Generations = after_move f l (OpensNext g r q since) in
+  ready_move l (OpensNext g r q base_stamp) ms these k is h rec =
+      let next : Generations = after_move f l (OpensNext g r q base_stamp) in
       let last : Generations = life_after f next ms in
-      let has = opened_has l g r q since in
-      let same : Same l last g q = same_after f l (OpensNext g r q since ∷ ms) k g q k.0.1 in
+      let has = opened_has l g r q base_stamp in
+      let same : Same l last g q = same_after f l (OpensNext g r q base_stamp ∷ ms) k g q k.0.1 in
       let later : Same next last (suc g) r = same_after f next ms k.1 (suc g) r has.0 in
       ready_more last.map f o (outs l) [] these (Opened g r q) rec
-      (ap (λ was. was (suc g) r) is ∙ k.0.0, ap (λ was. was g q) is ∙ k.0.1, shut_now l last these g r q since h k.0 same (later.map ∙ has.1))
+      (ap (λ was. was (suc g) r) is ∙ k.0.0, ap (λ was. was g q) is ∙ k.0.1, shut_now l last these g r q base_stamp h k.0 same (later.map ∙ has.1))
 
   record Stays (l last : Generations) (these : List Stood) : Type 0 where
     pub fits : Fits last these
@@ -560,7 +560,7 @@ module _ (start : Start) (f : ℕ → ℕ) (sizes : (g : ℕ) → (0 < f g) × (
   map_at g = opening_map start.map f (turns_of these) g
 
   abbrev start_at : ℕ → Start
-  start_at g = record { map = map_at g; since = last.since g }
+  start_at g = record { map = map_at g; base_stamp = last.base_stamp g }
 
   stays : Stays f first (newborn start) last these
   stays = stays_after f first (newborn start) moves [] k refl (record { own = λ g r. refl; numbered = λ g r. tt; within = λ g r. omega arith }) tt

@@ -66,9 +66,9 @@ clocked_take : (last n : ℕ) (es : List Entry) → AreClocked last es → AreCl
 clocked_take last n es h = clocked_front last (take n es) (drop n es) (subst (AreClocked last) (sym (take-append-drop n es)) h)
 
 -- a clock that goes on from a stamp is never behind one that begins at 0
-pub stamp_least : (since : ℕ) (es : List Entry) → last_stamp es ≤ stamp_after since es
-stamp_least since [] = omega arith
-stamp_least since (e ∷ es) = omega arith
+pub stamp_least : (base_stamp : ℕ) (es : List Entry) → last_stamp es ≤ stamp_after base_stamp es
+stamp_least base_stamp [] = omega arith
+stamp_least base_stamp (e ∷ es) = omega arith
 
 -- Frames.
 
@@ -100,7 +100,7 @@ pub record IsOut (c : Cluster) (m : Frame) : Type 0 where
 -- what holds of a cluster, whatever crashed
 pub record Holds (start : Start) (f : ℕ) (c : Cluster) : Type 0 where
   pub local : (r : ℕ) → IsLocalRun (opened start.map) f r (c.journal r)
-  pub clocked : (r : ℕ) → AreClocked (start.since r) (c.journal r)
+  pub clocked : (r : ℕ) → AreClocked (start.base_stamp r) (c.journal r)
   pub others : (r : ℕ) → size f ≤ r → c.journal r ≡ []
   pub within : (r : ℕ) → c.out r ≤ length (c.journal r)
   pub handled : (r : ℕ) (e : Entry) (m : Frame) → In e (c.journal r) → e.event ≡ Handle m → In m c.given
@@ -166,8 +166,8 @@ module _ (start : Start) (f : ℕ) (c : Cluster) (h : Holds start f c) where
   move_holds (Take r e) k =
       let new : List Entry = c.journal r ++ (e ∷ []) in
       record {
-        local = at_each (IsLocalRun (opened start.map) f) r new c.journal (local_runs_grow_lem (opened start.map) f r (c.journal r) e (h.local r) k.1.entry k.1.number (let s = k.1.stamp in let l = stamp_least (start.since r) (c.journal r) in omega arith) k.1.marked) h.local;
-        clocked = at_each (λ q es. AreClocked (start.since q) es) r new c.journal (clocks_grow_lem (start.since r) (c.journal r) e (h.clocked r) k.1.stamp) h.clocked;
+        local = at_each (IsLocalRun (opened start.map) f) r new c.journal (local_runs_grow_lem (opened start.map) f r (c.journal r) e (h.local r) k.1.entry k.1.number (let s = k.1.stamp in let l = stamp_least (start.base_stamp r) (c.journal r) in omega arith) k.1.marked) h.local;
+        clocked = at_each (λ q es. AreClocked (start.base_stamp q) es) r new c.journal (clocks_grow_lem (start.base_stamp r) (c.journal r) e (h.clocked r) k.1.stamp) h.clocked;
         others = at_each (λ q es. size f ≤ q → es ≡ []) r new c.journal (λ ge. absurd (let lt = k.0 in omega arith)) h.others;
         within = at_each (λ q es. c.out q ≤ length es) r new c.journal (let le = h.within r in omega (arith, length-append (c.journal r) (e ∷ []))) h.within;
         handled = at_each (λ q es. (d : Entry) (m : Frame) → In d es → d.event ≡ Handle m → In m c.given) r new c.journal (taken_handles r e k.2) h.handled;
@@ -188,7 +188,7 @@ module _ (start : Start) (f : ℕ) (c : Cluster) (h : Holds start f c) where
       let kept : List Entry = take n (c.journal r) in
       record {
         local = at_each (IsLocalRun (opened start.map) f) r kept c.journal (run_take start f r n (c.journal r) (h.local r)) h.local;
-        clocked = at_each (λ q es. AreClocked (start.since q) es) r kept c.journal (clocked_take (start.since r) n (c.journal r) (h.clocked r)) h.clocked;
+        clocked = at_each (λ q es. AreClocked (start.base_stamp q) es) r kept c.journal (clocked_take (start.base_stamp r) n (c.journal r) (h.clocked r)) h.clocked;
         others = at_each (λ q es. size f ≤ q → es ≡ []) r kept c.journal (λ ge. absurd (let lt = k.0 in omega arith)) h.others;
         within = at_each (λ q es. c.out q ≤ length es) r kept c.journal (let le = k.1.least in omega (arith, length-take-le n (c.journal r) k.1.most)) h.within;
         handled = at_each (λ q es. (d : Entry) (m : Frame) → In d es → d.event ≡ Handle m → In m c.given) r kept c.journal

@@ -10,7 +10,7 @@ use Rattle.ep_rules.specs.Worlds as worlds
 use Rattle.ep_rules.proofs.JournalsGrow.{left_grows}
 use Rattle.ep_node.specs.Crashes.{Start, IsTaken, Cluster, fresh_cluster, Take, HandOut, IsMove, frames_in, moved, PlayedRunsAreMoves}
 use Rattle.ep_node.proofs.CrashMoves.{at_same}
-use Rattle.ep_node.proofs.CrashTraces.{Leads, leads_on}
+use Rattle.ep_node.proofs.CrashTraces.{LeadsTo, leads_on}
 use Rattle.ep_rules.specs.OneMap.{opened}
 
 -- The entry after these, in a numbered and in a clocked journal.
@@ -39,7 +39,7 @@ record Meets (start : Start) (f : ℕ) (w : World) (frames : List Frame) (c : Cl
   pub given : c.given ≡ frames
   pub out : (r : ℕ) → c.out r ≡ length (c.journal r)
   pub numbered : (r : ℕ) → AreNumbered 1 0 (c.journal r ++ of r these)
-  pub clocked : (r : ℕ) → AreClocked (start.since r) (c.journal r ++ of r these)
+  pub clocked : (r : ℕ) → AreClocked (start.base_stamp r) (c.journal r ++ of r these)
 
 module _ (start : Start) (f : ℕ) (w : World) (frames : List Frame) (c : Cluster) (a : Scheduled) (these : List Scheduled) (m : Meets start f w frames c (a ∷ these)) where
   abbrev r : ℕ
@@ -63,7 +63,7 @@ module _ (start : Start) (f : ℕ) (w : World) (frames : List Frame) (c : Cluste
       record {
         entry = subst (λ s. IsEntry f r s a.entry) (m.states r) step;
         number = (let q = n.number in omega arith);
-        stamp = clocked_next (start.since r) es a.entry (of r these) (subst (λ l. AreClocked (start.since r) (es ++ l)) own (m.clocked r));
+        stamp = clocked_next (start.base_stamp r) es a.entry (of r these) (subst (λ l. AreClocked (start.base_stamp r) (es ++ l)) own (m.clocked r));
         marked = n.marked;
       }
 
@@ -107,7 +107,7 @@ module _ (start : Start) (f : ℕ) (w : World) (frames : List Frame) (c : Cluste
     given = given_next;
     out = out_next;
     numbered = λ q. subst (AreNumbered 1 0) (shifted q) (m.numbered q);
-    clocked = λ q. subst (AreClocked (start.since q)) (shifted q) (m.clocked q);
+    clocked = λ q. subst (AreClocked (start.base_stamp q)) (shifted q) (m.clocked q);
   }
 
   hands : r < Rattle.ep_base.specs.Quorums.size f → IsMove start f taken (HandOut r (length es + 1))
@@ -116,7 +116,7 @@ module _ (start : Start) (f : ℕ) (w : World) (frames : List Frame) (c : Cluste
 -- moves without a crash, and the entries that they lead to
 record Makes (start : Start) (f : ℕ) (c : Cluster) (these : List Scheduled) : Type 0 where
   pub last : Cluster
-  pub leads : Leads start f c last
+  pub leads : LeadsTo start f c last
   pub journal : (r : ℕ) → last.journal r ≡ c.journal r ++ of r these
 
 makes : (start : Start) (f : ℕ) (these : List Scheduled) (w : World) (frames : List Frame) (c : Cluster) → ArePlayed f w frames these → Meets start f w frames c these → Makes start f c these

@@ -54,7 +54,7 @@ module _ (start : Start) (f : ℕ) (some : 0 < f) (few : size f ≤ 256) (c : Cl
   handled_sent r e m stands is = given_sent m (h.handled r e m stands is)
 
   matched : IsMatched c.journal
-  matched = clocked_match_lem start.since c.journal h.clocked handled_sent
+  matched = clocked_match_lem start.base_stamp c.journal h.clocked handled_sent
 
   -- what stands in the journals, the world has sent
   sent_in : (schedule : List Scheduled) → IsSchedule c.journal schedule → (m : Frame) → WasSent c.journal m → In m.sent (ends f (opening (opened start.map)) (acts_of schedule)).sent
@@ -76,7 +76,7 @@ module _ (start : Start) (f : ℕ) (some : 0 < f) (few : size f ≤ 256) (c : Cl
         within = h.within;
         given = λ m k. (given_sent m k, sent_in schedule is m (given_sent m k));
         clocked = h.clocked;
-        accepted = clocked_accepted_lem (opened start.map) start.since f c.journal h.clocked handled_sent;
+        accepted = clocked_accepted_lem (opened start.map) start.base_stamp f c.journal h.clocked handled_sent;
       }
 
 pub crashing_runs_are_runs_lem : CrashingRunsAreRuns

@@ -113,7 +113,7 @@ module _ (start : Start) (f r n : ℕ) (c : Cluster) where
           let m = Rattle.std.proofs.lemmas.List.length-take j (with_at r (take n (c.journal r)) c.journal q) in omega arith
 
 -- moves without a crash that lead from c to d
-pub record Leads (start : Start) (f : ℕ) (c d : Cluster) : Type 0 where
+pub record LeadsTo (start : Start) (f : ℕ) (c d : Cluster) : Type 0 where
   pub moves : List Move
   pub calm : IsCalm moves
   pub are : AreMoves start f c moves
@@ -125,12 +125,12 @@ calm_and (HandOut r n) ms a h = h
 calm_and (ComeBack r n) ms a h = a
 
 -- one move, and then the others
-pub leads_on : (start : Start) (f : ℕ) (c d : Cluster) (m : Move) → IsCalm (m ∷ []) → IsMove start f c m → Leads start f (moved c m) d → Leads start f c d
+pub leads_on : (start : Start) (f : ℕ) (c d : Cluster) (m : Move) → IsCalm (m ∷ []) → IsMove start f c m → LeadsTo start f (moved c m) d → LeadsTo start f c d
 leads_on start f c d m calm k l = record { moves = m ∷ l.moves; calm = calm_and m l.moves calm l.calm; are = (k, l.are); ends = l.ends }
 
 -- A crash at r to n entries after moves can come before them, where they hand no others out: what it takes is left out of them.
 crash_first : (start : Start) (f r n : ℕ) (c : Cluster) (ms : List Move) → IsCalm ms → AreMoves start f c ms → (cluster_after c ms).out r ≤ n →
-    Leads start f (moved c (ComeBack r n)) (moved (cluster_after c ms) (ComeBack r n))
+    LeadsTo start f (moved c (ComeBack r n)) (moved (cluster_after c ms) (ComeBack r n))
 crash_first start f r n c [] calm k le = record { moves = []; calm = tt; are = tt; ends = refl }
 crash_first start f r n c (ComeBack q j ∷ ms) calm k le = absurd calm
 crash_first start f r n c (HandOut q j ∷ ms) calm k le =
@@ -139,30 +139,30 @@ crash_first start f r n c (HandOut q j ∷ ms) calm k le =
     let grown = out_grows start f next ms k.1 r in
     let here : with_at q j c.out r ≡ j = subst (λ p. with_at q j c.out p ≡ j) (sym is) (at_same q j c.out) in omega arith) in
     leads_on start f (moved c (ComeBack r n)) _ (HandOut q j) tt (same_hand start f r n c q j within k.0)
-    (subst (λ d. Leads start f d (moved (cluster_after next ms) (ComeBack r n))) (sym (hand_out start f r n c q j within)) (crash_first start f r n next ms calm k.1 le))
+    (subst (λ d. LeadsTo start f d (moved (cluster_after next ms) (ComeBack r n))) (sym (hand_out start f r n c q j within)) (crash_first start f r n next ms calm k.1 le))
 crash_first start f r n c (Take q e ∷ ms) calm k le =
     let next : Cluster = moved c (Take q e) in
     let last : Cluster = moved (cluster_after next ms) (ComeBack r n) in
-    let rest : Leads start f (moved next (ComeBack r n)) last = crash_first start f r n next ms calm k.1 le in
+    let rest : LeadsTo start f (moved next (ComeBack r n)) last = crash_first start f r n next ms calm k.1 le in
     ⊎_elim
     (λ (is : r ≡ q). at_r q is last k.0 rest)
     (λ (ne : r ≡ q → ⊥).
     leads_on start f (moved c (ComeBack r n)) last (Take q e) tt (same_take start f r n c q e (at_other r q (take n (c.journal r)) c.journal ne) k.0)
-    (subst (λ d. Leads start f d last) (sym (take_other start f r n c q e ne)) rest))
+    (subst (λ d. LeadsTo start f d last) (sym (take_other start f r n c q e ne)) rest))
     (cases_eq r q)
   where
-    at_r : (q : ℕ) → r ≡ q → (last : Cluster) → IsMove start f c (Take q e) → Leads start f (moved (moved c (Take q e)) (ComeBack r n)) last → Leads start f (moved c (ComeBack r n)) last
+    at_r : (q : ℕ) → r ≡ q → (last : Cluster) → IsMove start f c (Take q e) → LeadsTo start f (moved (moved c (Take q e)) (ComeBack r n)) last → LeadsTo start f (moved c (ComeBack r n)) last
     at_r q is last =
-        subst (λ p. IsMove start f c (Take p e) → Leads start f (moved (moved c (Take p e)) (ComeBack r n)) last → Leads start f (moved c (ComeBack r n)) last) is
+        subst (λ p. IsMove start f c (Take p e) → LeadsTo start f (moved (moved c (Take p e)) (ComeBack r n)) last → LeadsTo start f (moved c (ComeBack r n)) last) is
         (λ k rest. ⊎_elim
         (λ (lt : length (c.journal r) < n).
         leads_on start f (moved c (ComeBack r n)) last (Take r e) tt (same_take start f r n c r e (at_same r (take n (c.journal r)) c.journal ∙ take_all n (c.journal r) (omega arith)) k)
-        (subst (λ d. Leads start f d last) (sym (take_kept start f r n c e lt)) rest))
-        (λ (ge : n ≤ length (c.journal r)). subst (λ d. Leads start f d last) (sym (take_lost start f r n c e ge)) rest)
+        (subst (λ d. LeadsTo start f d last) (sym (take_kept start f r n c e lt)) rest))
+        (λ (ge : n ≤ length (c.journal r)). subst (λ d. LeadsTo start f d last) (sym (take_lost start f r n c e ge)) rest)
         (cases_lt (length (c.journal r)) n))
 
 -- one move more
-leads_more : (start : Start) (f : ℕ) (c d : Cluster) (ms : List Move) (m : Move) → IsCalm ms → IsCalm (m ∷ []) → AreMoves start f c ms → cluster_after c ms ≡ d → IsMove start f d m → Leads start f c (moved d m)
+leads_more : (start : Start) (f : ℕ) (c d : Cluster) (ms : List Move) (m : Move) → IsCalm ms → IsCalm (m ∷ []) → AreMoves start f c ms → cluster_after c ms ≡ d → IsMove start f d m → LeadsTo start f c (moved d m)
 leads_more start f c d [] m calm one are ends k = record { moves = m ∷ []; calm = one; are = (subst (λ (z : Cluster). IsMove start f z m) (sym ends) k, tt); ends = ap (λ (z : Cluster). moved z m) ends }
 leads_more start f c d (x ∷ ms) m calm one are ends k = leads_on start f c (moved d m) x (calm_head x ms calm) are.0 (leads_more start f (moved c x) d ms m (calm_tail x ms calm) one are.1 ends k)
   where
@@ -180,15 +180,15 @@ fresh_cut : (r n : ℕ) → moved fresh_cluster (ComeBack r n) ≡ fresh_cluster
 fresh_cut r n = same_cluster _ _ (λ q. 0) [] [] (at_each (λ q es. es ≡ no_entries) r (take n no_entries) (λ q. no_entries) (take_none n) (λ q. refl)) refl
 
 -- From moves without a crash, by any move.
-by_move : (start : Start) (f : ℕ) (c : Cluster) (m : Move) → IsMove start f c m → Leads start f fresh_cluster c → Leads start f fresh_cluster (moved c m)
+by_move : (start : Start) (f : ℕ) (c : Cluster) (m : Move) → IsMove start f c m → LeadsTo start f fresh_cluster c → LeadsTo start f fresh_cluster (moved c m)
 by_move start f c (Take r e) k l = leads_more start f fresh_cluster c l.moves (Take r e) l.calm tt l.are l.ends k
 by_move start f c (HandOut r n) k l = leads_more start f fresh_cluster c l.moves (HandOut r n) l.calm tt l.are l.ends k
 by_move start f c (ComeBack r n) k l =
     let le : (cluster_after fresh_cluster l.moves).out r ≤ n = subst (λ (z : Cluster). z.out r ≤ n) (sym l.ends) k.1.least in
-    subst (λ (z : Cluster). Leads start f fresh_cluster (moved z (ComeBack r n))) l.ends
-    (subst (λ (z : Cluster). Leads start f z (moved (cluster_after fresh_cluster l.moves) (ComeBack r n))) (fresh_cut r n) (crash_first start f r n fresh_cluster l.moves l.calm l.are le))
+    subst (λ (z : Cluster). LeadsTo start f fresh_cluster (moved z (ComeBack r n))) l.ends
+    (subst (λ (z : Cluster). LeadsTo start f z (moved (cluster_after fresh_cluster l.moves) (ComeBack r n))) (fresh_cut r n) (crash_first start f r n fresh_cluster l.moves l.calm l.are le))
 
-by_moves : (start : Start) (f : ℕ) (c : Cluster) (ms : List Move) → AreMoves start f c ms → Leads start f fresh_cluster c → Leads start f fresh_cluster (cluster_after c ms)
+by_moves : (start : Start) (f : ℕ) (c : Cluster) (ms : List Move) → AreMoves start f c ms → LeadsTo start f fresh_cluster c → LeadsTo start f fresh_cluster (cluster_after c ms)
 by_moves start f c [] k l = l
 by_moves start f c (m ∷ ms) k l = by_moves start f (moved c m) ms k.1 (by_move start f c m k.0 l)
 

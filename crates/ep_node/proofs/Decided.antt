@@ -23,8 +23,8 @@ use Rattle.ep_rules.specs.Phases.{Outcome, with_attrs, limited, first_phase, acc
 use Rattle.ep_rules.specs.Recovery.{Choice, CommitIt, AcceptIt, AcceptFast, ProposeIt, ProposeNoop, choose, recover_with, act_on, next_counter, recover, on_prepare, answered_all, count_prepare_ok, use_prepare_ok, on_prepare_ok, on_nack}
 use Rattle.ep_rules.specs.States.{State, cell_in, record_in}
 use Rattle.ep_rules.specs.Steps.{handled}
-use Rattle.ep_rules.specs.declared.led.Led.{Led}
-use Rattle.ep_rules.specs.declared.led.Led.TheVariants.{Proposing, Accepting, Preparing}
+use Rattle.ep_rules.specs.declared.led_instance.LedInstance.{LedInstance}
+use Rattle.ep_rules.specs.declared.led_instance.LedInstance.TheVariants.{Proposing, Accepting, Preparing}
 use Rattle.ep_rules.specs.declared.record.Record.{Record}
 use Rattle.ep_rules.proofs.Keeping.{split}
 use Rattle.ep_rules.proofs.Leading.{usable}
@@ -106,7 +106,7 @@ module _ (f i me : ℕ) (x : Record) (more : 0 < f) where
   told_answered : (from : ℕ) (m : Message) → is_commit_message m ≡ false → Told x (answered from m)
   told_answered from m quiet = sym (ap (λ b. is_committed x.vote || b) quiet ∙ or_false (is_committed x.vote))
 
-  told_kept : (led : Led) → Told x (kept led)
+  told_kept : (led : LedInstance) → Told x (kept led)
   told_kept led = sym (or_false (is_committed x.vote))
 
   -- what is voted isn't a commit, and none stood there
@@ -165,7 +165,7 @@ module _ (f i me : ℕ) (x : Record) (more : 0 < f) where
       (λ e. told_kept (Proposing b s answers)))
       (λ e. split (Told x) (leb f (others f me answers)) _ _ (λ e. told_slow live b answers x.vote) (λ e. told_kept (Proposing b s answers)))
 
-  told_pre_accept_ok : (from b : ℕ) (a : Attrs) (led : Option Led) → Told x (on_pre_accept_ok f i me from b a x led)
+  told_pre_accept_ok : (from b : ℕ) (a : Attrs) (led : Option LedInstance) → Told x (on_pre_accept_ok f i me from b a x led)
   told_pre_accept_ok from b a None = told_nothing
   told_pre_accept_ok from b a (Some (Accepting lb answers)) = told_nothing
   told_pre_accept_ok from b a (Some (Preparing lb answers)) = told_nothing
@@ -173,7 +173,7 @@ module _ (f i me : ℕ) (x : Record) (more : 0 < f) where
       split (λ more. Told x (use_pre_accept_ok f i me b a x more)) (is_some (answer answers from)) _ _ (λ e. told_nothing) (λ e.
       split (Told x) (is_usable b x lb) _ _ (λ u. told_count_pre_accept_ok (usable b x lb u).2 b s a (with_answer answers from a)) (λ u. told_nothing))
 
-  pub told_give_up : (led : Option Led) → ToldOk x (give_up f i me x led)
+  pub told_give_up : (led : Option LedInstance) → ToldOk x (give_up f i me x led)
   told_give_up None = tt
   told_give_up (Some (Accepting b answers)) = tt
   told_give_up (Some (Preparing b answers)) = tt
@@ -186,7 +186,7 @@ module _ (f i me : ℕ) (x : Record) (more : 0 < f) where
   told_commit_own live None = told_nothing
   told_commit_own live (Some v) = told_commit_phase live v.decree
 
-  told_accept_ok : (from b : ℕ) (led : Option Led) → Told x (on_accept_ok f i me from b x led)
+  told_accept_ok : (from b : ℕ) (led : Option LedInstance) → Told x (on_accept_ok f i me from b x led)
   told_accept_ok from b None = told_nothing
   told_accept_ok from b (Some (Proposing lb s answers)) = told_nothing
   told_accept_ok from b (Some (Preparing lb answers)) = told_nothing
@@ -222,7 +222,7 @@ module _ (f i me : ℕ) (x : Record) (more : 0 < f) where
   told_count_prepare_ok live b answers own =
       split (ToldOk x) (leb (f + 1) (answered_all f answers)) _ _ (λ m. told_choice live b own (choose f (leader_of i) (λ q. answer answers q))) (λ m. told_kept (Preparing b answers))
 
-  told_prepare_ok : (from b : ℕ) (v : Option Vote) (own : Command → Attrs) (led : Option Led) → ToldOk x (on_prepare_ok f i me from b v own x led)
+  told_prepare_ok : (from b : ℕ) (v : Option Vote) (own : Command → Attrs) (led : Option LedInstance) → ToldOk x (on_prepare_ok f i me from b v own x led)
   told_prepare_ok from b v own None = told_nothing
   told_prepare_ok from b v own (Some (Proposing lb s answers)) = told_nothing
   told_prepare_ok from b v own (Some (Accepting lb answers)) = told_nothing

@@ -12,7 +12,7 @@ use Rattle.ep_base.specs.declared.vote.VoteStatus.TheVariants.{PreAccepted, Acce
 use Rattle.ep_base.specs.declared.vote.Vote.{Vote}
 use Rattle.ep_base.proofs.Tests.{or_false}
 use Rattle.ep_frame.specs.Meaning.{instance_in, kind_of, message_at, message_of, ballot_in, other_in, attrs_of, decree_of, vote_of}
-use Rattle.ep_frame.specs.Spelling.{Parts, parts_at}
+use Rattle.ep_frame.specs.Spelling.{FrameParts, parts_at}
 use Rattle.ep_frame.specs.declared.kind.Kind.{Kind}
 use Rattle.ep_frame.specs.declared.kind.Kind.TheVariants as kind
 use Rattle.ep_journal.specs.Entries.{entries_of, frames_at}
@@ -38,7 +38,7 @@ use Rattle.ep_node.proofs.Decided.{after_entry, handled_told, is_commit_message,
 
 -- What a frame says.
 
-said_parts : (p : Parts) → committed_as (kind_of p.header.kind) (instance_in p.header) ≡ cond (is_commit_message (message_of p)) (Some (instance_of_message (message_of p))) None
+said_parts : (p : FrameParts) → committed_as (kind_of p.header.kind) (instance_in p.header) ≡ cond (is_commit_message (message_of p)) (Some (instance_of_message (message_of p))) None
 said_parts p = go (p.header.kind == 1) (p.header.kind == 2) (p.header.kind == 3) (p.header.kind == 4) (p.header.kind == 5) (p.header.kind == 6) (p.header.kind == 7)
   where
     i : ℕ

@@ -27,7 +27,7 @@ record From (f : ℕ → ℕ) (l : Generations) (g r : ℕ) : Type 0 where
   pub has : l.has_opened g giver ≡ true
   pub closed : is_closed (store_out f l g giver) ≡ true
   pub map : (store_out f l g giver).contents ≡ l.map (suc g) r
-  pub sealed : HasSealed f l g giver (l.since (suc g) r)
+  pub sealed : HasSealed f l g giver (l.base_stamp (suc g) r)
 
 abbrev AllFrom : (ℕ → ℕ) → Generations → Type 0
 AllFrom f l = (g r : ℕ) → l.has_opened (suc g) r ≡ true → From f l g r
@@ -42,33 +42,33 @@ from_stays f l g r m move opened h =
       has = there.has;
       closed = ap is_closed is ∙ h.closed;
       map = ap (λ (s : Store). s.contents) is ∙ h.map ∙ sym here.map;
-      sealed = subst (λ (x : ℕ). HasSealed f (after_move f l m) g h.giver x) (sym here.since) (sealed_stays f l g h.giver h.has (l.since (suc g) r) h.sealed m move);
+      sealed = subst (λ (x : ℕ). HasSealed f (after_move f l m) g h.giver x) (sym here.base_stamp) (sealed_stays f l g h.giver h.has (l.base_stamp (suc g) r) h.sealed m move);
     }
 
 -- who opens it now
-from_now : (f : ℕ → ℕ) (l : Generations) (g r q since : ℕ) → IsLifeMove f l (OpensNext g r q since) → From f (after_move f l (OpensNext g r q since)) g r
-from_now f l g r q since move =
-    let there : Same l (after_move f l (OpensNext g r q since)) g q = same_on f l (OpensNext g r q since) move g q move.1 in
-    let is = store_stays f l g q move.1 move.2 (OpensNext g r q since) move in
+from_now : (f : ℕ → ℕ) (l : Generations) (g r q base_stamp : ℕ) → IsLifeMove f l (OpensNext g r q base_stamp) → From f (after_move f l (OpensNext g r q base_stamp)) g r
+from_now f l g r q base_stamp move =
+    let there : Same l (after_move f l (OpensNext g r q base_stamp)) g q = same_on f l (OpensNext g r q base_stamp) move g q move.1 in
+    let is = store_stays f l g q move.1 move.2 (OpensNext g r q base_stamp) move in
     record {
       giver = q;
       has = there.has;
       closed = ap is_closed is ∙ move.2;
       map = ap (λ (s : Store). s.contents) is ∙ sym (at_opened g r (store_out f l g q).contents (l.map (suc g) r));
-      sealed = subst (λ (x : ℕ). HasSealed f (after_move f l (OpensNext g r q since)) g q x) (sym (at_opened g r since (l.since (suc g) r)))
-          (sealed_stays f l g q move.1 since move.3 (OpensNext g r q since) move);
+      sealed = subst (λ (x : ℕ). HasSealed f (after_move f l (OpensNext g r q base_stamp)) g q x) (sym (at_opened g r base_stamp (l.base_stamp (suc g) r)))
+          (sealed_stays f l g q move.1 base_stamp move.3 (OpensNext g r q base_stamp) move);
     }
 
 from_on : (f : ℕ → ℕ) (l : Generations) (m : LifeMove) → IsLifeMove f l m → AllFrom f l → AllFrom f (after_move f l m)
 from_on f l (Within h m) move all = λ g r opened. from_stays f l g r (Within h m) move opened (all g r opened)
-from_on f l (OpensNext h p q since) move all = λ g r opened. go g r opened (l.has_opened (suc g) r) refl
+from_on f l (OpensNext h p q base_stamp) move all = λ g r opened. go g r opened (l.has_opened (suc g) r) refl
   where
-    go : (g r : ℕ) → opened_next h p l.has_opened (suc g) r ≡ true → (b : Bool) → l.has_opened (suc g) r ≡ b → From f (after_move f l (OpensNext h p q since)) g r
-    go g r opened true was = from_stays f l g r (OpensNext h p q since) move was (all g r was)
+    go : (g r : ℕ) → opened_next h p l.has_opened (suc g) r ≡ true → (b : Bool) → l.has_opened (suc g) r ≡ b → From f (after_move f l (OpensNext h p q base_stamp)) g r
+    go g r opened true was = from_stays f l g r (OpensNext h p q base_stamp) move was (all g r was)
     go g r opened false was =
         let it = opens_it h p g r l.has_opened was opened in
-        subst (λ (t : ℕ). From f (after_move f l (OpensNext h p q since)) t r) it.0
-        (subst (λ (t : ℕ). From f (after_move f l (OpensNext h p q since)) h t) it.1 (from_now f l h p q since move))
+        subst (λ (t : ℕ). From f (after_move f l (OpensNext h p q base_stamp)) t r) it.0
+        (subst (λ (t : ℕ). From f (after_move f l (OpensNext h p q base_stamp)) h t) it.1 (from_now f l h p q base_stamp move))
 
 from_after : (f : ℕ → ℕ) (l : Generations) (ms : List LifeMove) → AreLifeMoves f l ms → AllFrom f l → AllFrom f (life_after f l ms)
 from_after f l [] k all = all
@@ -82,33 +82,33 @@ from_first start f g r opened = absurd (not_both (eqb (suc g) 0) opened (ne_eqb 
 record Least (l : Generations) (g k : ℕ) : Type 0 where
   pub replica : ℕ
   pub has : l.has_opened g replica ≡ true
-  pub below : (p : ℕ) → p < k → l.has_opened g p ≡ true → l.since g replica ≤ l.since g p
+  pub below : (p : ℕ) → p < k → l.has_opened g p ≡ true → l.base_stamp g replica ≤ l.base_stamp g p
 
 -- one more is looked at
 least_next : (l : Generations) (g k : ℕ) → Least l g k → Least l g (suc k)
 least_next l g k h = go (l.has_opened g k) refl
   where
-    same : (p : ℕ) → (l.has_opened g k ≡ false) ⊎ (l.since g h.replica ≤ l.since g k) → p < suc k → l.has_opened g p ≡ true → l.since g h.replica ≤ l.since g p
+    same : (p : ℕ) → (l.has_opened g k ≡ false) ⊎ (l.base_stamp g h.replica ≤ l.base_stamp g k) → p < suc k → l.has_opened g p ≡ true → l.base_stamp g h.replica ≤ l.base_stamp g p
     same p why lt has = ⊎_elim
         (λ (is : p ≡ k). ⊎_elim
         (λ (none : l.has_opened g k ≡ false). absurd (not_both (l.has_opened g k) (subst (λ (t : ℕ). l.has_opened g t ≡ true) is has) none))
-        (λ (le : l.since g h.replica ≤ l.since g k). subst (λ (t : ℕ). l.since g h.replica ≤ l.since g t) (sym is) le)
+        (λ (le : l.base_stamp g h.replica ≤ l.base_stamp g k). subst (λ (t : ℕ). l.base_stamp g h.replica ≤ l.base_stamp g t) (sym is) le)
         why)
         (λ (ne : p ≡ k → ⊥). h.below p (omega (arith, lt, ne)) has)
         (cases_eq p k)
 
-    lower : l.since g k < l.since g h.replica → (p : ℕ) → p < suc k → l.has_opened g p ≡ true → l.since g k ≤ l.since g p
+    lower : l.base_stamp g k < l.base_stamp g h.replica → (p : ℕ) → p < suc k → l.has_opened g p ≡ true → l.base_stamp g k ≤ l.base_stamp g p
     lower less p lt has = ⊎_elim
-        (λ (is : p ≡ k). subst (λ (t : ℕ). l.since g k ≤ l.since g t) (sym is) (omega arith))
+        (λ (is : p ≡ k). subst (λ (t : ℕ). l.base_stamp g k ≤ l.base_stamp g t) (sym is) (omega arith))
         (λ (ne : p ≡ k → ⊥). let le = h.below p (omega (arith, lt, ne)) has in omega (arith, less, le))
         (cases_eq p k)
 
     go : (b : Bool) → l.has_opened g k ≡ b → Least l g (suc k)
     go false none = record { replica = h.replica; has = h.has; below = λ p lt has. same p (inl none) lt has }
     go true some = ⊎_elim
-        (λ (less : l.since g k < l.since g h.replica). record { replica = k; has = some; below = lower less })
-        (λ (le : l.since g h.replica ≤ l.since g k). record { replica = h.replica; has = h.has; below = λ p lt has. same p (inr le) lt has })
-        (cases_lt (l.since g k) (l.since g h.replica))
+        (λ (less : l.base_stamp g k < l.base_stamp g h.replica). record { replica = k; has = some; below = lower less })
+        (λ (le : l.base_stamp g h.replica ≤ l.base_stamp g k). record { replica = h.replica; has = h.has; below = λ p lt has. same p (inr le) lt has })
+        (cases_lt (l.base_stamp g k) (l.base_stamp g h.replica))
 
 least : (l : Generations) (g r k : ℕ) → l.has_opened g r ≡ true → Least l g k
 least l g r zero has = record { replica = r; has = has; below = λ p lt. absurd (omega (arith, lt)) }
@@ -176,13 +176,13 @@ module _ (start : Start) (f : ℕ → ℕ) (sizes : (g : ℕ) → (0 < f g) × (
       (journals_keep_lem (opened (last.map g q)) (f g) q (handed_out (last.cluster g) q) (begins g q).0 i x c))
 
   -- who has an entry in a generation has opened it, and is one of its replicas
-  above : (g q : ℕ) (e : Entry) → In e (journals g q) → (has : Least last g (size (f g))) → last.since g has.replica < e.stamp
+  above : (g q : ℕ) (e : Entry) → In e (journals g q) → (has : Least last g (size (f g))) → last.base_stamp g has.replica < e.stamp
   above g q e there has = go (last.has_opened g q) refl
     where
-      go : (b : Bool) → last.has_opened g q ≡ b → last.since g has.replica < e.stamp
+      go : (b : Bool) → last.has_opened g q ≡ b → last.base_stamp g has.replica < e.stamp
       go false none = absurd (subst (λ (es : List Entry). In e es) (untouched g q none).0 there)
       go true some = ⊎_elim
-          (λ (lt : q < size (f g)). let le = has.below q lt some in let more = clocked_above (last.since g q) (journals g q) e ((life.runs g).clocked q) there in omega (arith, le, more))
+          (λ (lt : q < size (f g)). let le = has.below q lt some in let more = clocked_above (last.base_stamp g q) (journals g q) e ((life.runs g).clocked q) there in omega (arith, le, more))
           (λ (ge : size (f g) ≤ q). absurd (subst (λ (es : List Entry). In e es) ((life.runs g).merges.local.others q ge) there))
           (cases_lt q (size (f g)))
 
@@ -190,7 +190,7 @@ module _ (start : Start) (f : ℕ → ℕ) (sizes : (g : ℕ) → (0 < f g) × (
   goes_on g r opened_it =
       let first : Least last (suc g) (size (f (suc g))) = least last (suc g) r (size (f (suc g))) opened_it in
       let h : From f last g first.replica = all_from g first.replica first.has in
-      let s : HasSealed f last g h.giver (last.since (suc g) first.replica) = h.sealed in
+      let s : HasSealed f last g h.giver (last.base_stamp (suc g) first.replica) = h.sealed in
       record {
         replica = h.giver;
         entry = s.entry;

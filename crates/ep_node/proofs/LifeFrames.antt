@@ -81,7 +81,7 @@ record Given (l : Generations) : Type 0 where
   pub given : (g : ℕ) → AllGiven (l.cluster g)
 
 given_on : (f : ℕ → ℕ) (l : Generations) (m : LifeMove) → IsLifeMove f l m → Given l → Given (after_move f l m)
-given_on f l (OpensNext g r q since) k h = record { within = h.within; given = h.given }
+given_on f l (OpensNext g r q base_stamp) k h = record { within = h.within; given = h.given }
 given_on f l (Within g m) k h = record {
   within = at_gen (λ j c. AllWithin c) g (moved (l.cluster g) m) l.cluster (within_move (start_of l g (mover m)) (f g) (l.cluster g) m (h.within g) k.1) (λ j e. h.within j);
   given = at_gen (λ j c. AllGiven c) g (moved (l.cluster g) m) l.cluster (given_move (start_of l g (mover m)) (f g) (l.cluster g) m k.1 (h.within g) (h.given g)) (λ j e. h.given j);
@@ -107,7 +107,7 @@ still_given c (HandOut r n) x h = in_left x c.given (frames_in (drop (c.out r) (
 still_given c (ComeBack r n) x h = h
 
 given_still : (f : ℕ → ℕ) (l : Generations) (m : LifeMove) (g : ℕ) (x : Frame) → In x (l.cluster g).given → In x ((after_move f l m).cluster g).given
-given_still f l (OpensNext h r q since) g x = λ there. there
+given_still f l (OpensNext h r q base_stamp) g x = λ there. there
 given_still f l (Within h m) g x =
     at_gen (λ j c. In x (l.cluster j).given → In x c.given) h (moved (l.cluster h) m) l.cluster (still_given (l.cluster h) m x) (λ j e there. there) g
 

@@ -131,13 +131,13 @@ module _ (first : ℕ) (f : ℕ → ℕ) (l : Generations) (g n : ℕ) (k : Kept
 
   others_lem : (m : LifeMove) → IsLifeMove f l m → IsElsewhere g k.me m → IsNodeIn first f (after_move f l m) g k n
   others_lem (Within j m) move other = record { version = h.version; has_opened = h.has_opened; node = other_move m j other }
-  others_lem (OpensNext j p q since) move other =
-      let same : Same l (after_move f l (OpensNext j p q since)) g k.me = same_on f l (OpensNext j p q since) move g k.me h.has_opened in
+  others_lem (OpensNext j p q base_stamp) move other =
+      let same : Same l (after_move f l (OpensNext j p q base_stamp)) g k.me = same_on f l (OpensNext j p q base_stamp) move g k.me h.has_opened in
       record {
         version = h.version;
         has_opened = same.has;
         node = record {
-          opening = record { map = h.node.opening.map ∙ sym same.map; since = h.node.opening.since ∙ sym same.since };
+          opening = record { map = h.node.opening.map ∙ sym same.map; base_stamp = h.node.opening.base_stamp ∙ sym same.base_stamp };
           faults = h.node.faults;
           member = h.node.member;
           journal = h.node.journal;
@@ -167,14 +167,14 @@ module _ (first : ℕ) (f : ℕ → ℕ) (l : Generations) (g : ℕ) (k : Kept) 
       ∙ ap (λ (x : ℕ). (left x k.me (fresh_state (opened k.opening.contents)) (entries_of k.entries)).store) (sym h.node.faults)
 
   -- an entry executed the seal
-  sealed : (start : Start) (since : ℕ) → HasLived start f l → is_closed (store_of k) ≡ true → since ≡ stamp_after k.opening.since (entries_of k.entries) → HasSealed f (after_move f l lent) g k.me since
-  sealed start since lived closed is =
+  sealed : (start : Start) (base_stamp : ℕ) → HasLived start f l → is_closed (store_of k) ≡ true → base_stamp ≡ stamp_after k.opening.base_stamp (entries_of k.entries) → HasSealed f (after_move f l lent) g k.me base_stamp
+  sealed start base_stamp lived closed is =
       let own : is_closed (left (f g) k.me (fresh_state (opened (l.map g k.me))) (handed_out ((after_move f l lent).cluster g) k.me)).store ≡ true = ap is_closed store_is ∙ closed in
       let s : Seals (f g) k.me (fresh_state (opened (l.map g k.me))) (handed_out ((after_move f l lent).cluster g) k.me) =
       sealing (f g) k.me (fresh_state (opened (l.map g k.me))) (handed_out ((after_move f l lent).cluster g) k.me) refl own in
       let rising : AreNumbered 1 0 (entries_of k.entries) = subst (λ (es : List rules.Entry). AreNumbered 1 0 es) h.node.journal (numbered start f l lived g k.me) in
-      let low : s.entry.stamp ≤ stamp_after k.opening.since (entries_of k.entries) =
-      stamp_reached 1 0 k.opening.since (entries_of k.entries) s.entry rising (subst (λ (es : List rules.Entry). In s.entry es) all_out s.stands) in
+      let low : s.entry.stamp ≤ stamp_after k.opening.base_stamp (entries_of k.entries) =
+      stamp_reached 1 0 k.opening.base_stamp (entries_of k.entries) s.entry rising (subst (λ (es : List rules.Entry). In s.entry es) all_out s.stands) in
       record {
         entry = s.entry;
         stands = s.stands;
@@ -193,7 +193,7 @@ module _ (first : ℕ) (f : ℕ → ℕ) (l : Generations) (g : ℕ) (k : Kept) 
     has_opened = h.has_opened;
     closed = ap is_closed store_is ∙ c.closed;
     map = ap (λ (s : Store). s.contents) store_is ∙ sym c.contents;
-    sealed = sealed start file.opening.since lived c.closed c.since;
+    sealed = sealed start file.opening.base_stamp lived c.closed c.base_stamp;
   }
 
 module _ (first : ℕ) (f : ℕ → ℕ) (l : Generations) (g q : ℕ) (file : File) (h : HasHandedOn first f l g q file) where
@@ -207,13 +207,13 @@ module _ (first : ℕ) (f : ℕ → ℕ) (l : Generations) (g q : ℕ) (file : F
         has_opened = same.has;
         closed = ap is_closed is ∙ h.closed;
         map = ap (λ (s : Store). s.contents) is ∙ h.map;
-        sealed = sealed_stays f l g q h.has_opened file.opening.since h.sealed m move;
+        sealed = sealed_stays f l g q h.has_opened file.opening.base_stamp h.sealed m move;
       }
 
 -- Opening the next generation.
 
 opens_lem : (start : Start) (first : ℕ) (f : ℕ → ℕ) (l : Generations) (g q : ℕ) (file : File) (k : Kept) → HasLived start f l → HasHandedOn first f l g q file → OpensWith file k →
-    l.has_opened (suc g) k.me ≡ false → MakesIn first f l (OpensNext g k.me q file.opening.since) (suc g) k 0
+    l.has_opened (suc g) k.me ≡ false → MakesIn first f l (OpensNext g k.me q file.opening.base_stamp) (suc g) k 0
 opens_lem start first f l g q file k lived on w new =
     let none : IsUntouched (l.cluster (suc g)) k.me = untouched start f l lived (suc g) k.me new in
     record {
@@ -224,7 +224,7 @@ opens_lem start first f l g q file k lived on w new =
         node = record {
           opening = record {
             map = ap (λ (o : Opening). o.contents) w.opening ∙ sym on.map ∙ sym (at_opened g k.me (store_out f l g q).contents (l.map (suc g) k.me));
-            since = ap (λ (o : Opening). o.since) w.opening ∙ sym (at_opened g k.me file.opening.since (l.since (suc g) k.me));
+            base_stamp = ap (λ (o : Opening). o.base_stamp) w.opening ∙ sym (at_opened g k.me file.opening.base_stamp (l.base_stamp (suc g) k.me));
           };
           faults = w.faults ∙ on.faults;
           member = subst (λ (n : ℕ). k.me < size n) (w.faults ∙ on.faults) w.member;
@@ -243,7 +243,7 @@ begins_lem start first f k opening version faults member none =
       version = version ∙ ap (λ (n : ℕ). V3 n) same;
       has_opened = refl;
       node = record {
-        opening = record { map = opening.map; since = opening.since };
+        opening = record { map = opening.map; base_stamp = opening.base_stamp };
         faults = faults;
         member = subst (λ (n : ℕ). k.me < size n) faults member;
         journal = sym (ap entries_of none);

@@ -36,7 +36,7 @@ not_opened g r o h p e = go (o h p) refl
     go false is = refl
 
 untouched_on : (f : ℕ → ℕ) (l : Generations) (m : LifeMove) → IsLifeMove f l m → AreUntouched l → AreUntouched (after_move f l m)
-untouched_on f l (OpensNext g r q since) k h = λ j p e. h j p (not_opened g r l.has_opened j p e)
+untouched_on f l (OpensNext g r q base_stamp) k h = λ j p e. h j p (not_opened g r l.has_opened j p e)
 untouched_on f l (Within g m) k h =
     at_gen (λ j c. (r : ℕ) → l.has_opened j r ≡ false → IsUntouched c r) g (moved (l.cluster g) m) l.cluster
     (λ r e.
@@ -57,7 +57,7 @@ abbrev pub AllNumbered : Generations → Type 0
 AllNumbered l = (g r : ℕ) → AreNumbered 1 0 ((l.cluster g).journal r)
 
 numbered_on : (f : ℕ → ℕ) (l : Generations) (m : LifeMove) → IsLifeMove f l m → AllNumbered l → AllNumbered (after_move f l m)
-numbered_on f l (OpensNext g r q since) k h = h
+numbered_on f l (OpensNext g r q base_stamp) k h = h
 numbered_on f l (Within g m) k h =
     at_gen (λ j c. (r : ℕ) → AreNumbered 1 0 (c.journal r)) g (moved (l.cluster g) m) l.cluster (numbered_move (start_of l g (mover m)) (f g) (l.cluster g) m (h g) k.1) (λ j e. h j)
 
@@ -68,7 +68,7 @@ numbered_after f l (m ∷ ms) k h = numbered_after f (after_move f l m) ms k.1 (
 -- What was handed out of only grows.
 
 handed_in : (f : ℕ → ℕ) (l : Generations) (m : LifeMove) → IsLifeMove f l m → (g r : ℕ) → IsBeginning (handed_out (l.cluster g) r) (handed_out ((after_move f l m).cluster g) r)
-handed_in f l (OpensNext h p q since) k g r = begins_refl (handed_out (l.cluster g) r)
+handed_in f l (OpensNext h p q base_stamp) k g r = begins_refl (handed_out (l.cluster g) r)
 handed_in f l (Within h m) k g r =
     at_gen (λ j c. IsBeginning (handed_out (l.cluster j) r) (handed_out c r)) h (moved (l.cluster h) m) l.cluster
     (handed (start_of l h (mover m)) (f h) (l.cluster h) m k.1 r)
@@ -86,8 +86,8 @@ module _ (f : ℕ → ℕ) (l : Generations) (g q : ℕ) (has : l.has_opened g q
       ∙ closed_entries_lem (opened (l.map g q)) (f g) q (handed_out (l.cluster g) q) b.0 closed
 
   -- so does the entry that executed the seal
-  pub sealed_stays : (since : ℕ) → HasSealed f l g q since → (m : LifeMove) → IsLifeMove f l m → HasSealed f (after_move f l m) g q since
-  sealed_stays since h m move =
+  pub sealed_stays : (base_stamp : ℕ) → HasSealed f l g q base_stamp → (m : LifeMove) → IsLifeMove f l m → HasSealed f (after_move f l m) g q base_stamp
+  sealed_stays base_stamp h m move =
       let same : Same l (after_move f l m) g q = same_on f l m move g q has in
       let b : IsBeginning (handed_out (l.cluster g) q) (handed_out ((after_move f l m).cluster g) q) = handed_in f l m move g q in
       record {

@@ -29,7 +29,7 @@ last_told k most turn above told lt none so_far =
     let left : most - turn ≡ suc (most - (turn + 1)) = omega arith in
     subst (λ (xs : List OpenInstance). AreOpen k most None xs) (append-nil told) (so_far [] (subst (λ (n : ℕ). AreOpen k n above []) (sym left) none))
 
--- so many were told
+-- so many were reported
 pub most_told : (k : Kept) (most turn : ℕ) (above : Option ℕ) (told : List OpenInstance) → most ≤ turn → Completes k most turn above told → AreOpen k most None told
 most_told k most turn above told le so_far =
     let left : most - turn ≡ 0 = omega arith in

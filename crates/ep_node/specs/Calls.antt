@@ -14,7 +14,7 @@ use Rattle.ep_node.specs.Crashes.{Cluster, fresh_cluster, Start, no_start, Move,
 -- what the replica opened with is what its cluster starts from
 pub record StartsFrom (start : Start) (k : Kept) : Type 0 where
   pub map : k.opening.contents ≡ start.map
-  pub since : k.opening.since ≡ start.since k.me
+  pub base_stamp : k.opening.base_stamp ≡ start.base_stamp k.me
 
 -- a node of the cluster has this replica, which opened with its start; the first n of its entries are on the disk, and nothing was handed out of the
 -- others

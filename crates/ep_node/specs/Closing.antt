@@ -8,7 +8,7 @@ use Rattle.ep_node.specs.Nodes.{Logged, IsQuiet}
 use Rattle.ep_node.specs.declared.close_fault.CloseFault.{CloseFault}
 use Rattle.ep_node.specs.declared.close_fault.CloseFault.TheVariants.{Memory, NotSealed, LastGeneration, Unsynced, Closed}
 
--- what a journal's fault is told as
+-- what a journal's fault is reported as
 abbrev pub of_closing : ClosingFault → CloseFault
 of_closing closing.Memory = Memory
 of_closing closing.NotSealed = NotSealed

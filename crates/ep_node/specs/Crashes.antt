@@ -20,11 +20,11 @@ use Rattle.ep_rules.specs.OneMap.{Contents, opened, empty}
 -- What nodes open with: a map, and for each the stamp that its clock goes on from.
 pub record Start : Type 0 where
   pub map : Contents
-  pub since : ℕ → ℕ
+  pub base_stamp : ℕ → ℕ
 
 -- where a life begins
 abbrev pub no_start : Start
-no_start = record { map = empty; since = λ r. 0 }
+no_start = record { map = empty; base_stamp = λ r. 0 }
 
 -- One node.
 
@@ -32,7 +32,7 @@ no_start = record { map = empty; since = λ r. 0 }
 pub record IsTaken (start : Start) (f me : ℕ) (es : List Entry) (e : Entry) : Type 0 where
   pub entry : IsEntry f me (left f me (fresh_state (opened start.map)) es) e
   pub number : e.number ≡ length es + 1
-  pub stamp : e.stamp ≡ 1 + max (stamp_after (start.since me) es) (heard e.event)
+  pub stamp : e.stamp ≡ 1 + max (stamp_after (start.base_stamp me) es) (heard e.event)
   pub marked : AreMarked e 0 e.out
 
 -- the first n entries are at least those that were handed out of
@@ -118,7 +118,7 @@ pub record IsOneRun (start : Start) (f : ℕ) (c : Cluster) : Type 0 where
   pub within : (r : ℕ) → c.out r ≤ length (c.journal r)
   pub given : (m : Frame) → In m c.given → WasSent c.journal m × In m.sent (ends f (opening (opened start.map)) (acts_of schedule)).sent
   -- no audit of them finds a fault
-  pub clocked : (r : ℕ) → AreClocked (start.since r) (c.journal r)
+  pub clocked : (r : ℕ) → AreClocked (start.base_stamp r) (c.journal r)
   pub accepted : (receipts : List Receipt) → AreOwn (opened start.map) f c.journal receipts → IsAccepted (opened start.map) f c.journal receipts
 
 -- What is left of a run with crashes is a run without.
@@ -176,7 +176,7 @@ CrashesLeaveNoTrace =
 -- Whatever a world plays by the clock, moves without a crash lead to: the runs with crashes have all runs without.
 abbrev pub PlayedRunsAreMoves : Type 0
 PlayedRunsAreMoves =
-    (start : Start) (f : ℕ) (schedule : List Scheduled) → ArePlayed f (opening (opened start.map)) [] schedule → ((r : ℕ) → AreNumbered 1 0 (of r schedule)) → ((r : ℕ) → AreClocked (start.since r) (of r schedule)) →
+    (start : Start) (f : ℕ) (schedule : List Scheduled) → ArePlayed f (opening (opened start.map)) [] schedule → ((r : ℕ) → AreNumbered 1 0 (of r schedule)) → ((r : ℕ) → AreClocked (start.base_stamp r) (of r schedule)) →
     (moves : List Move) × IsCalm moves × AreMoves start f fresh_cluster moves × ((r : ℕ) → (cluster_after fresh_cluster moves).journal r ≡ of r schedule)
 
 -- What was handed out.

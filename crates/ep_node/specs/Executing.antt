@@ -14,7 +14,7 @@ use Rattle.ep_node.specs.Nodes.{Logged, Takes}
 use Rattle.ep_node.specs.declared.node_fault.NodeFault.{NodeFault}
 use Rattle.ep_node.specs.declared.node_fault.NodeFault.TheVariants.{Refused, Memory, Failed, Closed}
 
--- the fault tells that an execution waits for an instance that isn't committed
+-- the fault says that an execution waits for an instance that isn't committed
 abbrev pub is_uncommitted : StepFault → Bool
 is_uncommitted step.Memory = false
 is_uncommitted step.OtherVersion = false

@@ -49,7 +49,7 @@ pub record HasHandedOn (first : ℕ) (f : ℕ → ℕ) (l : Generations) (g q : 
   pub has_opened : l.has_opened g q ≡ true
   pub closed : is_closed (store_out f l g q) ≡ true
   pub map : (store_out f l g q).contents ≡ file.opening.contents
-  pub sealed : HasSealed f l g q file.opening.since
+  pub sealed : HasSealed f l g q file.opening.base_stamp
 
 -- the replica, which has no entries, opened with the file
 pub record OpensWith (file : File) (k : Kept) : Type 0 where
@@ -74,7 +74,7 @@ WasHandedOut first l (Execute i) = Unit {0}
 -- it is no move of the replica in the generation
 abbrev pub IsElsewhere : ℕ → ℕ → LifeMove → Type 0
 IsElsewhere g r (Within h m) = h ≡ g → mover m ≢ r
-IsElsewhere g r (OpensNext h p q since) = Unit {0}
+IsElsewhere g r (OpensNext h p q base_stamp) = Unit {0}
 
 -- What the calls of nodes do, through generations, are the moves of the law on lives.
 pub record LifeCallsAreMoves : Type 0 where
@@ -116,7 +116,7 @@ pub record LifeCallsAreMoves : Type 0 where
   -- whoever hasn't opened the next generation may open it with such a file, which is an `OpensNext`
   pub opens :
       (start : Start) (first : ℕ) (f : ℕ → ℕ) (l : Generations) (g q : ℕ) (file : File) (k : Kept) → HasLived start f l → HasHandedOn first f l g q file → OpensWith file k →
-      l.has_opened (suc g) k.me ≡ false → MakesIn first f l (OpensNext g k.me q file.opening.since) (suc g) k 0
+      l.has_opened (suc g) k.me ≡ false → MakesIn first f l (OpensNext g k.me q file.opening.base_stamp) (suc g) k 0
   -- what others do, and what the replica itself does in other generations, changes nothing of a node
   pub others :
       (first : ℕ) (f : ℕ → ℕ) (l : Generations) (g n : ℕ) (k : Kept) (m : LifeMove) → IsNodeIn first f l g k n → IsLifeMove f l m → IsElsewhere g k.me m → IsNodeIn first f (after_move f l m) g k n

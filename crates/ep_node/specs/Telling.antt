@@ -141,7 +141,7 @@ pub record Knows (es : List Entry) (seen : ℕ) (about commits : List (Option �
   pub first_about : AreFirst about_by (take seen es) about
   pub first_learnt : AreFirst learnt_by (take seen es) commits
 
--- Why nothing is told: want of memory; not all that was taken is on the disk; or the device failed before.
+-- Why nothing is reported: out of memory; not all that was taken is on the disk; or the device failed before.
 abbrev pub IsUntold : {D : Type 0} → Logged D → ReadyFault → Type 0
 IsUntold n Memory = IsQuiet n
 IsUntold n Unsynced = (n.closed ≡ false) × (n.synced < length n.replica.entries)

@@ -18,7 +18,7 @@ pub(crate) fn is_outstanding(replica: &Replica, instance: InstanceId) -> bool
     replica.committed(instance).is_some() && !replica.has_executed(instance)
 }
 
-/// Whether the fault tells that an execution waits for an instance that isn't committed.
+/// Whether the fault says that an execution waits for an instance that isn't committed.
 fn is_uncommitted(fault: &StepFault) -> bool
     ensures { result ≡ is_uncommitted fault.now }
 {
@@ -28,7 +28,7 @@ fn is_uncommitted(fault: &StepFault) -> bool
     }
 }
 
-/// The same of a node's fault.
+/// Whether a node's fault says that an execution waits for an instance that isn't committed.
 fn is_waiting(fault: &NodeFault) -> bool
     ensures { result ≡ is_waiting fault.now }
 {

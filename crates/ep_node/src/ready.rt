@@ -8,7 +8,7 @@ use ep_rules::Receipt;
 /// What a node has to tell of its entries from one on, all of which are on the disk.
 #[derive(Drop)]
 pub struct Ready {
-    /// How many entries there are, all of which were told with this: what to hand in with the next call.
+    /// How many entries there are, all of which were reported with this: what to hand in with the next call.
     pub entries: u32,
     /// The frames that the entries send, in their order; each names its receiver. They share the entries' bytes.
     pub frames: Vec<Frame>,

@@ -1,4 +1,4 @@
-//! Why a node tells nothing.
+//! Why a node says nothing.
 
 ghost use Rattle.std.specs.Prelude.{◌≡◌};
 ghost use Rattle.ep_node.specs.declared.ready_fault.ReadyFault.TheVariants.{Memory as NoMemory};
@@ -6,7 +6,7 @@ ghost use Rattle.ep_node.specs.declared.ready_fault.ReadyFault.TheVariants.{Memo
 use std::alloc::AllocError;
 use thiserror::Error;
 
-/// Why a node tells nothing. It is as it was.
+/// Why a node says nothing. It is as it was.
 #[derive(Clone, Copy, Debug, PartialEq, Eq, Error)]
 pub enum ReadyFault {
     /// Memory was refused.

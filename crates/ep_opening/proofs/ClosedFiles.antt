@@ -7,7 +7,7 @@ use Rattle.ep_base.specs.Places.{Has}
 use Rattle.ep_base.specs.Sameness.{is_noop}
 use Rattle.ep_base.specs.Versions.{generation_of}
 use Rattle.ep_base.specs.declared.reply.Answer.{Answer}
-use Rattle.ep_base.specs.declared.reply.Answer.TheVariants.{Told}
+use Rattle.ep_base.specs.declared.reply.Answer.TheVariants.{Replied}
 use Rattle.ep_base.specs.declared.reply.Reply.{Reply}
 use Rattle.ep_base.proofs.Members.{same_members}
 use Rattle.ep_journal.specs.Entries.{Log, entries_of}
@@ -126,16 +126,16 @@ module _ (m : Contents) (f : ℕ) (journal : Journals) (schedule : List Schedule
     settled : (q : ℕ) (i : ℕ) → WasAnswered (journal q) i → WasAnswered (journal r) i
     settled q i a =
         let b = of_in q a.0 schedule (subst (λ es. In a.0 es) (sym (given.scheduled.0 q)) a.2) in
-        let there : In (i, Told a.1) b.0.entry.done = subst (λ (e : Entry). In (i, Told a.1) e.done) (sym b.3) a.3 in
+        let there : In (i, Replied a.1) b.0.entry.done = subst (λ (e : Entry). In (i, Replied a.1) e.done) (sym b.3) a.3 in
         let has = one_settling_lem m f given.some given.few acts [] (is_run_nil (opened m) f journal schedule given) r closed_there (act_of b.0) i a.1 (in_left (act_of b.0) acts [] (in_acts_of b.0 schedule b.1)) there a.4 in
         let own = entry_for r i has in
         let x = has_in own.0.done i own.2 in
         let d = of_in r own.0 schedule (subst (λ es. In own.0 es) (sym (given.scheduled.0 r)) own.1) in
         let here : In (i, x.0) d.0.entry.done = subst (λ (e : Entry). In (i, x.0) e.done) (sym d.3) x.1 in
-        let same : x.0 ≡ Told a.1 = one_answer i a.1 x.0 (each_reply_lem (opened m) f journal schedule given b.0 i (Told a.1) b.1 there) (each_reply_lem (opened m) f journal schedule given d.0 i x.0 d.1 here) in
+        let same : x.0 ≡ Replied a.1 = one_answer i a.1 x.0 (each_reply_lem (opened m) f journal schedule given b.0 i (Replied a.1) b.1 there) (each_reply_lem (opened m) f journal schedule given d.0 i x.0 d.1 here) in
         (own.0, a.1, own.1, subst (λ (y : Answer). In (i, y) own.0.done) same x.1, a.4)
       where
-        one_answer : (i : ℕ) (told : Reply) (x : Answer) → IsReply (opened m) c (history_of c schedule) i (Told told) → IsReply (opened m) c (history_of c schedule) i x → x ≡ Told told
+        one_answer : (i : ℕ) (told : Reply) (x : Answer) → IsReply (opened m) c (history_of c schedule) i (Replied told) → IsReply (opened m) c (history_of c schedule) i x → x ≡ Replied told
         one_answer i told x (inl lost) other = told_lost told lost.1
         one_answer i told x (inr p) (inl lost) = not_real c i lost.0 (has_filter (is_real c) (merged_of [] schedule) i p.0).1
         one_answer i told x (inr p) (inr k) = k.1 ∙ sym p.1
@@ -154,8 +154,8 @@ shut_is m f journal j one closed = subst (λ (s : Store). is_closed s ≡ true) 
 
 pub closings_go_on_lem : ClosingsGoOn
 closings_go_on_lem m f journal schedule given j next file one is =
-    subst (GoesOn m f journal j.me) (sym (is.since ∙ ap (stamp_after j.opening.since) one.entries))
-    (goes_on m f journal schedule given j.me (shut_is m f journal j one is.closed) j.opening.since)
+    subst (GoesOn m f journal j.me) (sym (is.base_stamp ∙ ap (stamp_after j.opening.base_stamp) one.entries))
+    (goes_on m f journal schedule given j.me (shut_is m f journal j one is.closed) j.opening.base_stamp)
 
 -- what the one journal did, the other did
 done_alike : (m : Contents) (f : ℕ) (journal : Journals) (schedule : List Scheduled) → Merges (opened m) f journal schedule → (j k : Log) → IsOneOf m f journal j → IsOneOf m f journal k → is_closed (store_of k) ≡ true → (i : ℕ) →
@@ -173,9 +173,9 @@ stores_alike m f journal schedule given j k one other closed shut =
 
 -- files of one store
 same_but_since : (x y : File) → y.faults ≡ x.faults → y.generation ≡ x.generation → y.opening.contents ≡ x.opening.contents → y.seal ≡ x.seal → y.executed ≡ x.executed →
-    y ≡ record x { opening = record { contents = x.opening.contents; since = y.opening.since } }
+    y ≡ record x { opening = record { contents = x.opening.contents; base_stamp = y.opening.base_stamp } }
 same_but_since x y faults generation contents seal executed =
-    λ t. record { faults = faults t; generation = generation t; opening = record { contents = contents t; since = y.opening.since }; seal = seal t; executed = executed t }
+    λ t. record { faults = faults t; generation = generation t; opening = record { contents = contents t; base_stamp = y.opening.base_stamp }; seal = seal t; executed = executed t }
 
 pub closings_agree_lem : ClosingsAgree
 closings_agree_lem m f journal schedule given j k next x y one other versions is as_well x_is y_is =
@@ -195,6 +195,6 @@ closing_is_one_lem j next x y is as_well x_is y_is =
     let faults : y.faults ≡ x.faults = as_well.faults ∙ sym is.faults in
     let generation : y.generation ≡ x.generation = as_well.generation ∙ sym is.generation in
     let contents : y.opening.contents ≡ x.opening.contents = as_well.contents ∙ sym is.contents in
-    let since : y.opening.since ≡ x.opening.since = as_well.since ∙ sym is.since in
+    let base_stamp : y.opening.base_stamp ≡ x.opening.base_stamp = as_well.base_stamp ∙ sym is.base_stamp in
     let seal : y.seal ≡ x.seal = as_well.seal ∙ sym is.seal in
-    λ t. record { faults = faults t; generation = generation t; opening = record { contents = contents t; since = since t }; seal = seal t; executed = executed t }
+    λ t. record { faults = faults t; generation = generation t; opening = record { contents = contents t; base_stamp = base_stamp t }; seal = seal t; executed = executed t }

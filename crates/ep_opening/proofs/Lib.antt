@@ -1,4 +1,4 @@
-pub mod Tellings
+pub mod FileReadings
 pub mod Above
 pub mod ReadFiles
 pub mod WrittenFiles

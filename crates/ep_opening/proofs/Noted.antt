@@ -4,7 +4,7 @@ use Rattle.std.proofs.lemmas.List.{take_more}
 use Rattle.ep_base.specs.Instances.{IsInstance}
 use Rattle.ep_base.specs.Places.{Has}
 use Rattle.ep_base.specs.declared.reply.Answer.{Answer}
-use Rattle.ep_base.specs.declared.reply.Answer.TheVariants.{Told}
+use Rattle.ep_base.specs.declared.reply.Answer.TheVariants.{Replied}
 use Rattle.ep_exec.proofs.Counts.{single_has}
 use Rattle.ep_journal.specs.Entries.{entries_of, entry_of}
 use Rattle.ep_journal.specs.declared.entry.Entry.{Entry}
@@ -64,7 +64,7 @@ gains_one old mid new j known same fresh there = record {
 -- executions
 
 answered_there : (done : List (ℕ × Answer)) (j : ℕ) (x : Answer) (i : ℕ) → WasAnsweredIn (done ++ (j, x) ∷ []) i → WasAnsweredIn done i ⊎ ((i ≡ j) × WasDone x)
-answered_there done j x i a = elim (in_split (i, Told a.0) done ((j, x) ∷ []) a.1) [
+answered_there done j x i a = elim (in_split (i, Replied a.0) done ((j, x) ∷ []) a.1) [
   | inl h ↦ inl (a.0, h, a.2)
   | inr h ↦ elim h [
     | inl e ↦ inr (sym (ap (λ (p : ℕ × Answer). p.0) e), (a.0, ap (λ (p : ℕ × Answer). p.1) e, a.2))
@@ -73,12 +73,12 @@ answered_there done j x i a = elim (in_split (i, Told a.0) done ((j, x) ∷ []) 
 ]
 
 answered_before : (done : List (ℕ × Answer)) (j : ℕ) (x : Answer) (i : ℕ) → WasAnsweredIn done i → WasAnsweredIn (done ++ (j, x) ∷ []) i
-answered_before done j x i a = (a.0, in_left (i, Told a.0) done ((j, x) ∷ []) a.1, a.2)
+answered_before done j x i a = (a.0, in_left (i, Replied a.0) done ((j, x) ∷ []) a.1, a.2)
 
 answered_last : (done : List (ℕ × Answer)) (j : ℕ) (x : Answer) (i : ℕ) → i ≡ j → WasDone x → WasAnsweredIn (done ++ (j, x) ∷ []) i
 answered_last done j x i is d =
-    let e : (j, x) ≡ (i, Told d.0) = ap₂ (λ (m : ℕ) (y : Answer). (m, y)) (sym is) d.1 in
-    (d.0, in_right (i, Told d.0) done ((j, x) ∷ []) (inl e), d.2)
+    let e : (j, x) ≡ (i, Replied d.0) = ap₂ (λ (m : ℕ) (y : Answer). (m, y)) (sym is) d.1 in
+    (d.0, in_right (i, Replied d.0) done ((j, x) ∷ []) (inl e), d.2)
 
 answered_push : (done : List (ℕ × Answer)) (j : ℕ) (x : Answer) (i : ℕ) → WasAnsweredIn (done ++ (j, x) ∷ []) i ↔ (WasAnsweredIn done i ⊎ ((i ≡ j) × WasDone x))
 answered_push done j x i = (answered_there done j x i, λ h. elim h [ inl a ↦ answered_before done j x i a | inr p ↦ answered_last done j x i p.0 p.1 ])
@@ -96,7 +96,7 @@ entry_there : (es : List rules.Entry) (e : rules.Entry) (i : ℕ) → WasAnswere
 entry_there es e i a = elim (in_split a.0 es (e ∷ []) a.2) [
   | inl h ↦ inl (a.0, a.1, h, a.3, a.4)
   | inr h ↦ elim h [
-    | inl same ↦ inr (a.1, subst (λ (z : rules.Entry). In (i, Told a.1) z.done) (sym same) a.3, a.4)
+    | inl same ↦ inr (a.1, subst (λ (z : rules.Entry). In (i, Replied a.1) z.done) (sym same) a.3, a.4)
     | inr none ↦ absurd none
   ]
 ]

@@ -24,11 +24,11 @@ use Rattle.ep_bundle.proofs.ReadNumbers.{Gives, Comes, Ranges, done, step, last,
 use Rattle.ep_bundle.proofs.ReadParts.{instance_gives}
 use Rattle.ep_opening.specs.Bytes.{body_bytes, executed_bytes, front_bytes, lead_bytes, magic, opening_bytes, seal_bytes}
 use Rattle.ep_opening.specs.Files.{File}
-use Rattle.ep_opening.specs.Reading.{Telling, above, and_told, body_in, executed, executed_field, file, file_of, front, front_field, last_of, lead, lead_field, most_of, parts, rising, seal, seal_value, telling}
+use Rattle.ep_opening.specs.Reading.{FileReading, above, and_told, body_in, executed, executed_field, file, file_of, front, front_field, last_of, lead, lead_field, most_of, parts, rising, seal, seal_value, file_reading}
 use Rattle.ep_opening.specs.declared.front.Front.{Front}
 use Rattle.ep_opening.specs.declared.opening_fault.OpeningFault.TheVariants.{CutShort, Damaged}
 use Rattle.ep_opening.specs.declared.opening_field.OpeningField.TheVariants.{Map, Rest}
-use Rattle.ep_opening.proofs.Tellings.{told_then, telling_read}
+use Rattle.ep_opening.proofs.FileReadings.{told_then, telling_read}
 
 pub the_same : (n x : ℕ) → Ranges n n x → x ≡ n
 the_same n x p = let a : n ≤ x = p.least in let b : x ≤ n = p.most in omega arith
@@ -69,18 +69,18 @@ seal_gives g l h = seal_gives_as (eqb g 1) l h
 -- the front
 
 abbrev pub front_spelled : Front → List ℕ
-front_spelled h = number_bytes 1 (size h.size) ++ number_bytes 4 h.generation ++ number_bytes 8 h.since ++ seal_bytes h.seal
+front_spelled h = number_bytes 1 (size h.size) ++ number_bytes 4 h.generation ++ number_bytes 8 h.base_stamp ++ seal_bytes h.seal
 
 abbrev pub made_front : ℕ → ℕ → ℕ → Option (List ℕ) → Front
-made_front f g since s = record { size = f; generation = g; since = since; seal = s }
+made_front f g base_stamp s = record { size = f; generation = g; base_stamp = base_stamp; seal = s }
 
 front_gives : (l : Left) → AreBytes l.bytes → Gives front_spelled (λ h. Unit {0}) l (front l)
 front_gives l h =
-    whole (step (cluster l) (λ f l. and_then (field 4 1 4294967295 l) (λ g l. and_then (field 8 0 281474976710655 l) (λ since l. and_then (seal g l) (λ s l. Ok (made_front f g since s, l))))) h (cluster_gives l h)
-    (λ f l p h. step (field 4 1 4294967295 l) (λ g l. and_then (field 8 0 281474976710655 l) (λ since l. and_then (seal g l) (λ s l. Ok (made_front f g since s, l)))) h (field_gives 4 wide4 1 4294967295 l h)
-    (λ g l q h. step (field 8 0 281474976710655 l) (λ since l. and_then (seal g l) (λ s l. Ok (made_front f g since s, l))) h (field_gives 8 wide8 0 281474976710655 l h)
-    (λ since l r h. step (seal g l) (λ s l. Ok (made_front f g since s, l)) h (seal_gives g l h)
-    (λ s l u h. done (made_front f g since s) (group (number_bytes 1 (size f)) (number_bytes 4 g) (number_bytes 8 since) (seal_bytes s), tt))))))
+    whole (step (cluster l) (λ f l. and_then (field 4 1 4294967295 l) (λ g l. and_then (field 8 0 281474976710655 l) (λ base_stamp l. and_then (seal g l) (λ s l. Ok (made_front f g base_stamp s, l))))) h (cluster_gives l h)
+    (λ f l p h. step (field 4 1 4294967295 l) (λ g l. and_then (field 8 0 281474976710655 l) (λ base_stamp l. and_then (seal g l) (λ s l. Ok (made_front f g base_stamp s, l)))) h (field_gives 4 wide4 1 4294967295 l h)
+    (λ g l q h. step (field 8 0 281474976710655 l) (λ base_stamp l. and_then (seal g l) (λ s l. Ok (made_front f g base_stamp s, l))) h (field_gives 8 wide8 0 281474976710655 l h)
+    (λ base_stamp l r h. step (seal g l) (λ s l. Ok (made_front f g base_stamp s, l)) h (seal_gives g l h)
+    (λ s l u h. done (made_front f g base_stamp s) (group (number_bytes 1 (size f)) (number_bytes 4 g) (number_bytes 8 base_stamp) (seal_bytes s), tt))))))
   where
     group : (a b c d : List ℕ) → a ++ (b ++ (c ++ (d ++ []))) ≡ a ++ b ++ c ++ d
     group a b c d = ap (λ (x : List ℕ). a ++ (b ++ (c ++ x))) (append-nil d) ∙ four a b c d
@@ -119,20 +119,20 @@ executed_gives g l h =
 
 -- all that stands behind the lead
 
-abbrev pub after_executed : Front → Contents → List ℕ → Left → Telling File
-after_executed h m is l = and_told (telling (λ at. Rest) (ended l)) (λ x l. Ok (file_of h m is, l))
+abbrev pub after_executed : Front → Contents → List ℕ → Left → FileReading File
+after_executed h m is l = and_told (file_reading (λ at. Rest) (ended l)) (λ x l. Ok (file_of h m is, l))
 
-abbrev pub after_map : Front → Contents → Left → Telling File
-after_map h m l = and_told (telling (executed_field l.at) (executed h.generation l)) (after_executed h m)
+abbrev pub after_map : Front → Contents → Left → FileReading File
+after_map h m l = and_told (file_reading (executed_field l.at) (executed h.generation l)) (after_executed h m)
 
-abbrev pub after_front : Front → Left → Telling File
-after_front h l = and_told (telling (λ at. Map) (map_in (V3 h.generation) l)) (after_map h)
+abbrev pub after_front : Front → Left → FileReading File
+after_front h l = and_told (file_reading (λ at. Map) (map_in (V3 h.generation) l)) (after_map h)
 
 pub nothing_after : (bs : List ℕ) (l m : Left) (x : Unit {0}) → none_in bs l ≡ Ok (x, m) → bs ≡ []
 nothing_after [] l m x h = refl
 nothing_after (b ∷ bs) l m x h = absurd (cc)
 
-abbrev told_file : File → Left → Telling File
+abbrev told_file : File → Left → FileReading File
 told_file f l = Ok (f, l)
 
 same_file : (f f' : File) (l l' : Left) → told_file f l ≡ told_file f' l' → f ≡ f'
@@ -140,15 +140,15 @@ same_file f f' l l' h = let t : (f, l) ≡ (f', l') = (cc) in ap (λ (p : File �
 
 parts_are : (l l' : Left) (f : File) → AreBytes l.bytes → parts l ≡ Ok (f, l') → l.bytes ≡ front_bytes f ++ contents_bytes f.opening.contents ++ executed_bytes f.executed
 parts_are l l' f h e =
-    let a = told_then (telling front_field (front l)) after_front f l' e in
+    let a = told_then (file_reading front_field (front l)) after_front f l' e in
     let ta = (front_gives l h).took a.0 a.1 (telling_read front_field (front l) a.0 a.1 a.2) in
     let ha = rest_bytes (front_spelled a.0) l a.1 h ta.1 in
-    let b = told_then (telling (λ at. Map) (map_in (V3 a.0.generation) a.1)) (after_map a.0) f l' a.3 in
+    let b = told_then (file_reading (λ at. Map) (map_in (V3 a.0.generation) a.1)) (after_map a.0) f l' a.3 in
     let tb = (map_gives (V3 a.0.generation) a.1 ha).took b.0 b.1 (telling_read (λ at. Map) (map_in (V3 a.0.generation) a.1) b.0 b.1 b.2) in
     let hb = rest_bytes (contents_bytes b.0) a.1 b.1 ha tb.1 in
-    let c = told_then (telling (executed_field b.1.at) (executed a.0.generation b.1)) (after_executed a.0 b.0) f l' b.3 in
+    let c = told_then (file_reading (executed_field b.1.at) (executed a.0.generation b.1)) (after_executed a.0 b.0) f l' b.3 in
     let tc = (executed_gives a.0.generation b.1 hb).took c.0 c.1 (telling_read (executed_field b.1.at) (executed a.0.generation b.1) c.0 c.1 c.2) in
-    let d = told_then (telling (λ at. Rest) (ended c.1)) (λ x l. Ok (file_of a.0 b.0 c.0, l)) f l' c.3 in
+    let d = told_then (file_reading (λ at. Rest) (ended c.1)) (λ x l. Ok (file_of a.0 b.0 c.0, l)) f l' c.3 in
     let none = nothing_after c.1.bytes c.1 d.1 d.0 (telling_read (λ at. Rest) (ended c.1) d.0 d.1 d.2) in
     joined l.bytes a.1.bytes b.1.bytes c.1.bytes (front_spelled a.0) (contents_bytes b.0) (executed_bytes c.0) ta.1.bytes tb.1.bytes tc.1.bytes none
     ∙ ap (λ (x : File). front_bytes x ++ contents_bytes x.opening.contents ++ executed_bytes x.executed) (same_file (file_of a.0 b.0 c.0) f d.1 l' d.3)
@@ -162,7 +162,7 @@ parts_are l l' f h e =
 body_is : (bs digest : List ℕ) (f : File) (l : Left) → AreBytes bs → body_in bs digest ≡ Ok (f, l) → bs ++ digest ≡ opening_bytes f
 body_is bs digest f l h e =
     let start : Left = record { at = 0; bytes = bs } in
-    let a = told_then (telling lead_field (lead start)) (λ x m. cond (same_list (sha256 bs) digest) (parts m) (Err (Damaged (length bs)))) f l e in
+    let a = told_then (file_reading lead_field (lead start)) (λ x m. cond (same_list (sha256 bs) digest) (parts m) (Err (Damaged (length bs)))) f l e in
     let t = (lead_gives start h).took a.0 a.1 (telling_read lead_field (lead start) a.0 a.1 a.2) in
     go (same_list (sha256 bs) digest) a.1 refl t.1.bytes (rest_bytes lead_bytes start a.1 h t.1) a.3
   where

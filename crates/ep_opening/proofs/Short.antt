@@ -53,9 +53,9 @@ front_len : (f : File) → length (front_bytes f) ≡ 13 + length (seal_bytes f.
 front_len f =
     let a = number_bytes 1 (size f.faults) in
     let b = number_bytes 4 f.generation in
-    let c = number_bytes 8 f.opening.since in
+    let c = number_bytes 8 f.opening.base_stamp in
     let s = seal_bytes f.seal in
-    omega (arith, length-append (a ++ b ++ c) s, length-append (a ++ b) c, length-append a b, length-number_bytes 1 (size f.faults), length-number_bytes 4 f.generation, length-number_bytes 8 f.opening.since)
+    omega (arith, length-append (a ++ b ++ c) s, length-append (a ++ b) c, length-append a b, length-number_bytes 1 (size f.faults), length-number_bytes 4 f.generation, length-number_bytes 8 f.opening.base_stamp)
 
 pub head_short : (f : File) (piece : List ℕ) → piece ≡ head_bytes f → SealFits f.seal → (most : ℕ) → IsShort most piece
 head_short f piece is fits =

@@ -14,10 +14,10 @@ use Rattle.ep_bundle.specs.Stages.{instance}
 use Rattle.ep_bundle.specs.declared.bundle_fault.BundleFault.{BundleFault}
 use Rattle.ep_bundle.proofs.Readings.{same_reading}
 use Rattle.ep_opening.specs.Files.{File}
-use Rattle.ep_opening.specs.Reading.{IsTold, Telling, Tells, and_told, body_in, file, lead, lead_field, marked, parts, some_value, telling}
+use Rattle.ep_opening.specs.Reading.{IsReadAs, FileReading, ReadsAs, and_told, body_in, file, lead, lead_field, marked, parts, some_value, file_reading}
 use Rattle.ep_opening.specs.declared.opening_fault.OpeningFault.{OpeningFault}
 use Rattle.ep_opening.specs.declared.opening_fault.OpeningFault.TheVariants.{CutShort, Damaged}
-use Rattle.ep_opening.proofs.Tellings.{fails_told, goes_on_told, is_told}
+use Rattle.ep_opening.proofs.FileReadings.{fails_told, goes_on_told, is_told}
 
 -- the seal
 
@@ -45,32 +45,32 @@ not_so b e h p = absurd (let t : true ≡ false = sym (h.1 p) ∙ e in cc)
 
 -- the whole
 
-abbrev pub after_lead : List ℕ → List ℕ → ℕ → Left → Telling File
+abbrev pub after_lead : List ℕ → List ℕ → ℕ → Left → FileReading File
 after_lead bs digest x l = cond (same_list (sha256 bs) digest) (parts l) (Err (Damaged (length bs)))
 
 abbrev pub start : List ℕ → Left
 start bs = record { at = 0; bytes = bs }
 
 -- the lead is at fault
-pub lead_fails : (bs digest : List ℕ) (e : OpeningFault) (r : Result File OpeningFault) (p : ℕ) (left : Option (List ℕ)) → Tells {A = ℕ} (telling lead_field (lead (start bs))) (Err e) p left → IsErrAnd r (λ x. x ≡ e) → IsTold (body_in bs digest) r
-lead_fails bs digest e r p left h is = is_told (body_in bs digest) r p left (fails_told (telling lead_field (lead (start bs))) (after_lead bs digest) e r p p left left h is)
+pub lead_fails : (bs digest : List ℕ) (e : OpeningFault) (r : Result File OpeningFault) (p : ℕ) (left : Option (List ℕ)) → ReadsAs {A = ℕ} (file_reading lead_field (lead (start bs))) (Err e) p left → IsErrAnd r (λ x. x ≡ e) → IsReadAs (body_in bs digest) r
+lead_fails bs digest e r p left h is = is_told (body_in bs digest) r p left (fails_told (file_reading lead_field (lead (start bs))) (after_lead bs digest) e r p p left left h is)
 
 -- the digest is another
-pub unsealed : (bs digest : List ℕ) (x p : ℕ) (left : Option (List ℕ)) → Tells (telling lead_field (lead (start bs))) (Ok x) p left → same_list (sha256 bs) digest ≡ false → body_in bs digest ≡ Err (Damaged (length bs))
+pub unsealed : (bs digest : List ℕ) (x p : ℕ) (left : Option (List ℕ)) → ReadsAs (file_reading lead_field (lead (start bs))) (Ok x) p left → same_list (sha256 bs) digest ≡ false → body_in bs digest ≡ Err (Damaged (length bs))
 unsealed bs digest x p left h e =
-    ap (λ (o : Telling ℕ). and_told o (after_lead bs digest)) h.2 ∙ ap (λ (b : Bool). cond {A = Telling File} b (parts (record { at = p; bytes = h.0 })) (Err (Damaged (length bs)))) e
+    ap (λ (o : FileReading ℕ). and_told o (after_lead bs digest)) h.2 ∙ ap (λ (b : Bool). cond {A = FileReading File} b (parts (record { at = p; bytes = h.0 })) (Err (Damaged (length bs)))) e
 
 -- the other fields say what the whole is
-pub sealed : (bs digest : List ℕ) (x p : ℕ) (left : Option (List ℕ)) (r : Result File OpeningFault) (q : ℕ) (left' : Option (List ℕ)) → Tells (telling lead_field (lead (start bs))) (Ok x) p left → same_list (sha256 bs) digest ≡ true
-    → ((ys : List ℕ) → left ≡ Some ys → Tells (parts (record { at = p; bytes = ys })) r q left') → IsTold (body_in bs digest) r
+pub sealed : (bs digest : List ℕ) (x p : ℕ) (left : Option (List ℕ)) (r : Result File OpeningFault) (q : ℕ) (left' : Option (List ℕ)) → ReadsAs (file_reading lead_field (lead (start bs))) (Ok x) p left → same_list (sha256 bs) digest ≡ true
+    → ((ys : List ℕ) → left ≡ Some ys → ReadsAs (parts (record { at = p; bytes = ys })) r q left') → IsReadAs (body_in bs digest) r
 sealed bs digest x p left r q left' h e next = is_told (body_in bs digest) r q left'
-    (goes_on_told (telling lead_field (lead (start bs))) (after_lead bs digest) x p left r q left' h
-    (λ ys k. subst (λ (b : Bool). Tells {A = File} (cond b (parts (record { at = p; bytes = ys })) (Err (Damaged (length bs)))) r q left') (sym e) (next ys k)))
+    (goes_on_told (file_reading lead_field (lead (start bs))) (after_lead bs digest) x p left r q left' h
+    (λ ys k. subst (λ (b : Bool). ReadsAs {A = File} (cond b (parts (record { at = p; bytes = ys })) (Err (Damaged (length bs)))) r q left') (sym e) (next ys k)))
 
 -- the length of the whole
 
-pub long_enough : (bs front back : List ℕ) (r : Result File OpeningFault) → 59 ≤ length bs → front ≡ take (length bs - 32) bs → back ≡ drop (length bs - 32) bs → IsTold (body_in front back) r → IsTold (file bs) r
-long_enough bs front back r le is at h = subst (λ (o : Telling File). IsTold o r) (sym whole) (subst (λ (xs : List ℕ). IsTold (body_in xs (drop (length bs - 32) bs)) r) is (subst (λ (ys : List ℕ). IsTold (body_in front ys) r) at h))
+pub long_enough : (bs front back : List ℕ) (r : Result File OpeningFault) → 59 ≤ length bs → front ≡ take (length bs - 32) bs → back ≡ drop (length bs - 32) bs → IsReadAs (body_in front back) r → IsReadAs (file bs) r
+long_enough bs front back r le is at h = subst (λ (o : FileReading File). IsReadAs o r) (sym whole) (subst (λ (xs : List ℕ). IsReadAs (body_in xs (drop (length bs - 32) bs)) r) is (subst (λ (ys : List ℕ). IsReadAs (body_in front ys) r) at h))
   where
     whole : file bs ≡ body_in (take (length bs - 32) bs) (drop (length bs - 32) bs)
-    whole = ap (λ (b : Bool). cond {A = Telling File} b (Err (CutShort (length bs))) (body_in (take (length bs - 32) bs) (drop (length bs - 32) bs))) (le-ltb (length bs) 59 le)
+    whole = ap (λ (b : Bool). cond {A = FileReading File} b (Err (CutShort (length bs))) (body_in (take (length bs - 32) bs) (drop (length bs - 32) bs))) (le-ltb (length bs) 59 le)

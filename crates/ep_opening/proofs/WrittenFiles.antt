@@ -28,7 +28,7 @@ use Rattle.ep_bundle.proofs.WrittenStages.{Gives, respelled, then_gives, made_of
 use Rattle.ep_rules.specs.OneMap.{Contents}
 use Rattle.ep_opening.specs.Bytes.{body_bytes, executed_bytes, front_bytes, lead_bytes, magic, seal_bytes}
 use Rattle.ep_opening.specs.Files.{File, HasItsPast, HasItsSeal, IsFile, SealFits}
-use Rattle.ep_opening.specs.Reading.{FilesAreReadBack, Telling, above, and_told, body_in, executed, executed_field, file, front, front_field, last_of, lead, lead_field, most_of, parts, rising, seal, seal_value, telling}
+use Rattle.ep_opening.specs.Reading.{FilesAreReadBack, FileReading, above, and_told, body_in, executed, executed_field, file, front, front_field, last_of, lead, lead_field, most_of, parts, rising, seal, seal_value, file_reading}
 use Rattle.ep_opening.specs.declared.front.Front.{Front}
 use Rattle.ep_opening.specs.declared.opening_fault.OpeningFault.TheVariants.{CutShort, Damaged}
 use Rattle.ep_opening.specs.declared.opening_field.OpeningField.TheVariants.{Map}
@@ -57,22 +57,22 @@ seal_given g (Some v) two fits =
 -- the front
 
 abbrev front_in : File → Front
-front_in f = made_front f.faults f.generation f.opening.since f.seal
+front_in f = made_front f.faults f.generation f.opening.base_stamp f.seal
 
 front_given : (f : File) → IsFile f → Gives front (front_bytes f) (front_in f)
 front_given f h =
     let a = number_bytes 1 (size f.faults) in
     let b = number_bytes 4 f.generation in
-    let c = number_bytes 8 f.opening.since in
+    let c = number_bytes 8 f.opening.base_stamp in
     let d = seal_bytes f.seal in
     let low : 1 ≤ f.generation = h.generation.0 in
     let high : f.generation ≤ 4294967295 = h.generation.1 in
-    let since : f.opening.since ≤ 281474976710655 = h.fits.1 in
+    let base_stamp : f.opening.base_stamp ≤ 281474976710655 = h.fits.1 in
     respelled front (a ++ (b ++ (c ++ d))) (front_bytes f) (front_in f) (group a b c d)
     (then_gives cluster (λ s l. and_then (field 4 1 4294967295 l) (λ g l. and_then (field 8 0 281474976710655 l) (λ t l. and_then (seal g l) (λ v l. Ok (made_front s g t v, l))))) a (b ++ (c ++ d)) f.faults (front_in f) (clustered f.faults h.least h.most)
     (then_gives (field 4 1 4294967295) (λ g l. and_then (field 8 0 281474976710655 l) (λ t l. and_then (seal g l) (λ v l. Ok (made_front f.faults g t v, l)))) b (c ++ d) f.generation (front_in f) (fielded 4 1 4294967295 f.generation (omega arith) low high)
-    (then_gives (field 8 0 281474976710655) (λ t l. and_then (seal f.generation l) (λ v l. Ok (made_front f.faults f.generation t v, l))) c d f.opening.since (front_in f) (fielded 8 0 281474976710655 f.opening.since (omega arith) (omega arith) since)
-    (made_of (seal f.generation) (λ v l. Ok (made_front f.faults f.generation f.opening.since v, l)) d f.seal (front_in f) (seal_given f.generation f.seal h.seal h.short) (λ l. refl)))))
+    (then_gives (field 8 0 281474976710655) (λ t l. and_then (seal f.generation l) (λ v l. Ok (made_front f.faults f.generation t v, l))) c d f.opening.base_stamp (front_in f) (fielded 8 0 281474976710655 f.opening.base_stamp (omega arith) (omega arith) base_stamp)
+    (made_of (seal f.generation) (λ v l. Ok (made_front f.faults f.generation f.opening.base_stamp v, l)) d f.seal (front_in f) (seal_given f.generation f.seal h.seal h.short) (λ l. refl)))))
   where
     group : (a b c d : List ℕ) → a ++ (b ++ (c ++ d)) ≡ a ++ b ++ c ++ d
     group a b c d = simp append_assoc
@@ -129,15 +129,15 @@ parts_given f h at =
     let r = executed_given f.generation f.executed h.deps h.past q.0 [] in (
       r.0,
       ap (λ (zs : List ℕ). parts (record { at = at; bytes = zs })) (append_assoc a b c)
-          ∙ ap (λ (o : Reading Front). and_told (telling front_field o) after_front) p.1
-          ∙ ap (λ (o : Reading Contents). and_told (telling (λ at. Map) o) (after_map x)) q.1
+          ∙ ap (λ (o : Reading Front). and_told (file_reading front_field o) after_front) p.1
+          ∙ ap (λ (o : Reading Contents). and_told (file_reading (λ at. Map) o) (after_map x)) q.1
           ∙ ap (λ (zs : List ℕ). after_map x f.opening.contents (record { at = q.0; bytes = zs })) (sym (append-nil c))
-          ∙ ap (λ (o : Reading (List ℕ)). and_told (telling (executed_field q.0) o) (after_executed x f.opening.contents)) r.1,
+          ∙ ap (λ (o : Reading (List ℕ)). and_told (file_reading (executed_field q.0) o) (after_executed x f.opening.contents)) r.1,
     )
 
 -- the whole
 
-abbrev sealed : List ℕ → ℕ → Left → Telling File
+abbrev sealed : List ℕ → ℕ → Left → FileReading File
 sealed bs x l = cond (same_list (sha256 bs) (sha256 bs)) (parts l) (Err (Damaged (length bs)))
 
 body_given : (f : File) → IsFile f → (next : ℕ) × (body_in (body_bytes f) (sha256 (body_bytes f)) ≡ Ok (f, record { at = next; bytes = [] }))
@@ -147,8 +147,8 @@ body_given f h =
     let p = lead_given 0 tail in
     let q = parts_given f h p.0 in (
       q.0,
-      ap (λ (zs : List ℕ). and_told (telling lead_field (lead (record { at = 0; bytes = zs }))) (sealed bs)) (group lead_bytes (front_bytes f) (contents_bytes f.opening.contents) (executed_bytes f.executed))
-          ∙ ap (λ (o : Reading ℕ). and_told (telling lead_field o) (sealed bs)) p.1
+      ap (λ (zs : List ℕ). and_told (file_reading lead_field (lead (record { at = 0; bytes = zs }))) (sealed bs)) (group lead_bytes (front_bytes f) (contents_bytes f.opening.contents) (executed_bytes f.executed))
+          ∙ ap (λ (o : Reading ℕ). and_told (file_reading lead_field o) (sealed bs)) p.1
           ∙ ap (λ (b : Bool). cond b (parts (record { at = p.0; bytes = tail })) (Err (Damaged (length bs)))) ((Decides-same_list (sha256 bs) (sha256 bs)).1 refl)
           ∙ q.1,
     )
@@ -177,10 +177,10 @@ long_body f =
     let lead_is = length-append (number_bytes 4 magic) (number_bytes 1 3) in
     let four = length-number_bytes 4 magic in
     let one = length-number_bytes 1 3 in
-    let front_is = long4 (number_bytes 1 (size f.faults)) (number_bytes 4 f.generation) (number_bytes 8 f.opening.since) (seal_bytes f.seal) in
+    let front_is = long4 (number_bytes 1 (size f.faults)) (number_bytes 4 f.generation) (number_bytes 8 f.opening.base_stamp) (seal_bytes f.seal) in
     let a = length-number_bytes 1 (size f.faults) in
     let b = length-number_bytes 4 f.generation in
-    let c = length-number_bytes 8 f.opening.since in
+    let c = length-number_bytes 8 f.opening.base_stamp in
     let d = long_seal f.seal in
     let e = long_map f.opening.contents in
     let k = long_counted (length f.executed) (flat_map dep_bytes f.executed) in

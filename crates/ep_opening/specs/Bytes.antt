@@ -22,7 +22,7 @@ lead_bytes = number_bytes 4 magic ++ number_bytes 1 3
 
 -- what stands behind, before the map
 abbrev pub front_bytes : File → List ℕ
-front_bytes f = number_bytes 1 (size f.faults) ++ number_bytes 4 f.generation ++ number_bytes 8 f.opening.since ++ seal_bytes f.seal
+front_bytes f = number_bytes 1 (size f.faults) ++ number_bytes 4 f.generation ++ number_bytes 8 f.opening.base_stamp ++ seal_bytes f.seal
 
 -- how many there are, and each in three bytes
 abbrev pub executed_bytes : List ℕ → List ℕ

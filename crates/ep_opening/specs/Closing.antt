@@ -2,7 +2,7 @@
 use Rattle.std.specs.Prelude.{◌≡◌, ◌≢◌, ◌≤◌, ◌↔◌, ℕ, suc, true, false, List}
 use Rattle.ep_base.specs.Places.{Has}
 use Rattle.ep_base.specs.Versions.{generation_of, version_number}
-use Rattle.ep_base.specs.declared.reply.Answer.TheVariants.{Told}
+use Rattle.ep_base.specs.declared.reply.Answer.TheVariants.{Replied}
 use Rattle.ep_base.specs.declared.reply.Reply.{Reply}
 use Rattle.ep_base.specs.declared.reply.Reply.TheVariants.{Closed}
 use Rattle.ep_base.specs.declared.version_kind.VersionKind.TheVariants.{V3}
@@ -18,7 +18,7 @@ use Rattle.ep_rules.specs.Worlds.{In}
 
 -- some entry answers the instance with a reply, and not that the map is closed: its command was done
 abbrev pub WasAnswered : List Entry → ℕ → Type 0
-WasAnswered es i = (e : Entry) × (told : Reply) × In e es × In (i, Told told) e.done × (told ≢ Closed)
+WasAnswered es i = (e : Entry) × (told : Reply) × In e es × In (i, Replied told) e.done × (told ≢ Closed)
 
 -- the map that the journal leaves
 abbrev pub store_of : Log → Store
@@ -26,7 +26,7 @@ store_of j = (standing j).state.store
 
 -- the map that the journal leaves, with clocks that go on from its last stamp
 abbrev pub IsLeft : Log → Opening → Type 0
-IsLeft j o = o ≡ record { contents = (store_of j).contents; since = stamp_after j.opening.since (entries_of j.entries) }
+IsLeft j o = o ≡ record { contents = (store_of j).contents; base_stamp = stamp_after j.opening.base_stamp (entries_of j.entries) }
 
 -- the file of the generation after the journal's, of which `next` replicas may fail
 pub record IsClosing (j : Log) (next : ℕ) (f : File) : Type 0 where
@@ -39,7 +39,7 @@ pub record IsClosing (j : Log) (next : ℕ) (f : File) : Type 0 where
   pub contents : f.opening.contents ≡ (store_of j).contents
   pub seal : f.seal ≡ (store_of j).seal
   -- the replica's clock never goes back
-  pub since : f.opening.since ≡ stamp_after j.opening.since (entries_of j.entries)
+  pub base_stamp : f.opening.base_stamp ≡ stamp_after j.opening.base_stamp (entries_of j.entries)
   -- all that was done up to the seal, with it
   pub executed : (i : ℕ) → Has f.executed i ↔ WasAnswered (entries_of j.entries) i
 
@@ -50,7 +50,7 @@ pub record IsNext (j : Log) (g : ℕ) : Type 0 where
   pub later : 2 ≤ g
   pub closed : is_closed (store_of j) ≡ true
 
--- why there is no such file: for want of memory; no seal was executed; or no generation is left
+-- why there is no such file: when out of memory; no seal was executed; or no generation is left
 abbrev pub IsUnclosed : Log → ClosingFault → Type 0
 IsUnclosed j Memory = Unit {0}
 IsUnclosed j NotSealed = is_closed (store_of j) ≡ false

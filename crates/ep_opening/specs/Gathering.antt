@@ -4,18 +4,18 @@ use Rattle.ep_base.specs.Deps.{IsRising}
 use Rattle.ep_base.specs.Instances.{IsInstance}
 use Rattle.ep_base.specs.Places.{Has}
 use Rattle.ep_base.specs.declared.reply.Answer.{Answer}
-use Rattle.ep_base.specs.declared.reply.Answer.TheVariants.{Told}
+use Rattle.ep_base.specs.declared.reply.Answer.TheVariants.{Replied}
 use Rattle.ep_base.specs.declared.reply.Reply.{Reply}
 use Rattle.ep_base.specs.declared.reply.Reply.TheVariants.{Closed}
 use Rattle.ep_rules.specs.Worlds.{In}
 
 -- it is a reply, and not that the map is closed
 abbrev pub WasDone : Answer → Type 0
-WasDone x = (told : Reply) × (x ≡ Told told) × (told ≢ Closed)
+WasDone x = (told : Reply) × (x ≡ Replied told) × (told ≢ Closed)
 
 -- one of the executions answers the instance so
 abbrev pub WasAnsweredIn : List (ℕ × Answer) → ℕ → Type 0
-WasAnsweredIn done i = (told : Reply) × In (i, Told told) done × (told ≢ Closed)
+WasAnsweredIn done i = (told : Reply) × In (i, Replied told) done × (told ≢ Closed)
 
 -- the set has what it had, and those of which P holds, each an instance
 pub record Gains (P : ℕ → Type 0) (old new : List ℕ) : Type 0 where

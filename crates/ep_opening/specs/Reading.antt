@@ -45,8 +45,8 @@ seal g l = and_then (field 1 (mark_of g) (mark_of g) l) (λ x l. marked g l)
 
 abbrev pub front : Left → Reading Front
 front l =
-    and_then (cluster l) (λ f l. and_then (field 4 1 4294967295 l) (λ g l. and_then (field 8 0 281474976710655 l) (λ since l. and_then (seal g l)
-    (λ s l. Ok (record { size = f; generation = g; since = since; seal = s }, l)))))
+    and_then (cluster l) (λ f l. and_then (field 4 1 4294967295 l) (λ g l. and_then (field 8 0 281474976710655 l) (λ base_stamp l. and_then (seal g l)
+    (λ s l. Ok (record { size = f; generation = g; base_stamp = base_stamp; seal = s }, l)))))
 
 -- the last of these; 0, which no instance is, where there are none
 abbrev pub last_of : ℕ → List ℕ → ℕ
@@ -83,8 +83,8 @@ executed_field from at = cond (eqb at from) Count Instance
 -- The whole.
 
 -- what was read and what is left then, or why not
-abbrev pub Telling : Type 0 → Type 0
-Telling A = Result (A × Left) OpeningFault
+abbrev pub FileReading : Type 0 → Type 0
+FileReading A = Result (A × Left) OpeningFault
 
 -- where the field at fault begins
 abbrev pub place_of : BundleFault → ℕ
@@ -95,48 +95,48 @@ place_of bundle.ReadFailed = 0
 place_of (NotARun replica entry) = 0
 
 -- a fault told by the name of its field
-abbrev pub telling : {A : Type 0} → (ℕ → OpeningField) → Reading A → Telling A
-telling name (Ok p) = Ok p
-telling name (Err e) = Err (Wrong (place_of e) (name (place_of e)))
+abbrev pub file_reading : {A : Type 0} → (ℕ → OpeningField) → Reading A → FileReading A
+file_reading name (Ok p) = Ok p
+file_reading name (Err e) = Err (Wrong (place_of e) (name (place_of e)))
 
-abbrev pub and_told : {A B : Type 0} → Telling A → (A → Left → Telling B) → Telling B
+abbrev pub and_told : {A B : Type 0} → FileReading A → (A → Left → FileReading B) → FileReading B
 and_told (Ok p) k = k p.0 p.1
 and_told (Err e) k = Err e
 
 abbrev pub file_of : Front → Contents → List ℕ → File
-file_of h m is = record { faults = h.size; generation = h.generation; opening = record { contents = m; since = h.since }; seal = h.seal; executed = is }
+file_of h m is = record { faults = h.size; generation = h.generation; opening = record { contents = m; base_stamp = h.base_stamp }; seal = h.seal; executed = is }
 
 -- all that stands behind the lead
-abbrev pub parts : Left → Telling File
+abbrev pub parts : Left → FileReading File
 parts l =
-    and_told (telling front_field (front l)) (λ h l. and_told (telling (λ at. Map) (map_in (V3 h.generation) l)) (λ m l. and_told (telling (executed_field l.at) (executed h.generation l))
-    (λ is l. and_told (telling (λ at. Rest) (ended l)) (λ x l. Ok (file_of h m is, l)))))
+    and_told (file_reading front_field (front l)) (λ h l. and_told (file_reading (λ at. Map) (map_in (V3 h.generation) l)) (λ m l. and_told (file_reading (executed_field l.at) (executed h.generation l))
+    (λ is l. and_told (file_reading (λ at. Rest) (ended l)) (λ x l. Ok (file_of h m is, l)))))
 
 -- the file whose bytes before the digest are these: what it is, then the digest, then all other fields
-abbrev pub body_in : List ℕ → List ℕ → Telling File
-body_in bs digest = and_told (telling lead_field (lead (record { at = 0; bytes = bs }))) (λ x l. cond (same_list (sha256 bs) digest) (parts l) (Err (Damaged (length bs))))
+abbrev pub body_in : List ℕ → List ℕ → FileReading File
+body_in bs digest = and_told (file_reading lead_field (lead (record { at = 0; bytes = bs }))) (λ x l. cond (same_list (sha256 bs) digest) (parts l) (Err (Damaged (length bs))))
 
 -- the shortest file has 59 bytes, of which the last 32 are the digest
-abbrev pub file : List ℕ → Telling File
+abbrev pub file : List ℕ → FileReading File
 file bs = cond (ltb (length bs) 59) (Err (CutShort (length bs))) (body_in (take (length bs - 32) bs) (drop (length bs - 32) bs))
 
 -- What calls answer.
 
 -- it is what was to be read, which leaves off at this place with these bytes left, unless memory was refused
-abbrev pub Tells : {A : Type 0} → Telling A → Result A OpeningFault → ℕ → Option (List ℕ) → Type 0
-Tells o (Ok a) place left = (bytes : List ℕ) × (left ≡ Some bytes) × (o ≡ Ok (a, record { at = place; bytes = bytes }))
-Tells o (Err Memory) place left = Unit {0}
-Tells o (Err (CutShort at)) place left = o ≡ Err (CutShort at)
-Tells o (Err (Damaged at)) place left = o ≡ Err (Damaged at)
-Tells o (Err (Wrong at name)) place left = o ≡ Err (Wrong at name)
+abbrev pub ReadsAs : {A : Type 0} → FileReading A → Result A OpeningFault → ℕ → Option (List ℕ) → Type 0
+ReadsAs o (Ok a) place left = (bytes : List ℕ) × (left ≡ Some bytes) × (o ≡ Ok (a, record { at = place; bytes = bytes }))
+ReadsAs o (Err Memory) place left = Unit {0}
+ReadsAs o (Err (CutShort at)) place left = o ≡ Err (CutShort at)
+ReadsAs o (Err (Damaged at)) place left = o ≡ Err (Damaged at)
+ReadsAs o (Err (Wrong at name)) place left = o ≡ Err (Wrong at name)
 
 -- the same, wherever it leaves off
-abbrev pub IsTold : {A : Type 0} → Telling A → Result A OpeningFault → Type 0
-IsTold o (Ok a) = (l : Left) × (o ≡ Ok (a, l))
-IsTold o (Err Memory) = Unit {0}
-IsTold o (Err (CutShort at)) = o ≡ Err (CutShort at)
-IsTold o (Err (Damaged at)) = o ≡ Err (Damaged at)
-IsTold o (Err (Wrong at name)) = o ≡ Err (Wrong at name)
+abbrev pub IsReadAs : {A : Type 0} → FileReading A → Result A OpeningFault → Type 0
+IsReadAs o (Ok a) = (l : Left) × (o ≡ Ok (a, l))
+IsReadAs o (Err Memory) = Unit {0}
+IsReadAs o (Err (CutShort at)) = o ≡ Err (CutShort at)
+IsReadAs o (Err (Damaged at)) = o ≡ Err (Damaged at)
+IsReadAs o (Err (Wrong at name)) = o ≡ Err (Wrong at name)
 
 -- no file has these bytes
 abbrev pub IsNone : List ℕ → Type 0

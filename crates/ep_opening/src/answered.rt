@@ -33,7 +33,7 @@ fn was_done(answer: &Answer) -> bool
 {
     match answer {
         Answer::Lost => false,
-        Answer::Told(reply) => !says_closed(reply),
+        Answer::Replied(reply) => !says_closed(reply),
     }
 }
 
@@ -115,7 +115,7 @@ fn in_order(alloc: Global, set: &Executed) -> Result<Deps, AllocError>
 {
     let mut list = RisingList::with_room(alloc, set.as_slice().len())?;
     for index in 0..7 {
-        push_led(&mut list, set, ReplicaId::known(index))?;
+        push_led(&mut list, set, ReplicaId::from_valid(index))?;
     }
     Ok(list.into_deps())
 }

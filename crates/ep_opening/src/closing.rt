@@ -55,7 +55,7 @@ fn next_after(journal: &Journal) -> Result<Generation, ClosingFault>
     }
 }
 
-/// The generation after the journal's, where a seal was executed. It is no want of memory that refuses it.
+/// The generation after the journal's, where a seal was executed. It isn't refused because memory ran out.
 #[tactic(auto, using(crate::proofs::FileParts::open_now, crate::proofs::FileParts::closed_now))]
 pub fn next_generation(journal: &Journal) -> Result<Generation, ClosingFault>
     ensures ok { IfOk result (λ g. IsNext journal.now g) }
@@ -96,10 +96,10 @@ fn past_of(alloc: Global, journal: &Journal) -> Result<Past, ClosingFault>
 }
 
 /// These contents, with clocks that go on from this stamp. Where more than 4,000,000,000 keys have a value, it is refused.
-fn opening_with(contents: Contents, since: u64) -> Result<Opening, AllocError>
-    ensures { IfOk result (λ o. o ≡ record { contents = contents; since = since }) }
+fn opening_with(contents: Contents, base_stamp: u64) -> Result<Opening, AllocError>
+    ensures { IfOk result (λ o. o ≡ record { contents = contents; base_stamp = base_stamp }) }
 {
-    match Opening::new(contents, since) {
+    match Opening::new(contents, base_stamp) {
         Ok(opening) => Ok(opening),
         Err(_) => Err(AllocError),
     }
@@ -119,13 +119,13 @@ fn opening_of(journal: &Journal) -> Result<Opening, AllocError>
 fn opening_from(journal: Journal) -> Result<(Opening, Remainder), AllocError>
     ensures { IfOk result (λ o. IsLeft journal o.0) }
 {
-    let since = journal.last_stamp();
+    let base_stamp = journal.last_stamp();
     let (contents, left) = journal.into_contents();
     let Ok(contents) = contents else {
         drop(left);
         return Err(AllocError);
     };
-    match opening_with(contents, since) {
+    match opening_with(contents, base_stamp) {
         Ok(opening) => Ok((opening, left)),
         Err(fault) => {
             drop(left);

@@ -7,6 +7,6 @@ use ep_base::{Generation, Size, Value};
 pub(crate) struct Front {
     pub(crate) size: Size,
     pub(crate) generation: Generation,
-    pub(crate) since: u64,
+    pub(crate) base_stamp: u64,
     pub(crate) seal: Option<Value>,
 }

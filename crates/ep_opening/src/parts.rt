@@ -6,7 +6,7 @@ ghost use Rattle.ep_bundle.specs.Journals.{ended};
 ghost use Rattle.ep_bundle.specs.Reading.{Reads};
 ghost use Rattle.ep_bundle.specs.declared.bundle_fault.BundleFault.TheVariants.{Memory, ReadFailed};
 ghost use Rattle.ep_base.specs.declared.version_kind.VersionKind.TheVariants.{V3};
-ghost use Rattle.ep_opening.specs.Reading.{executed, executed_field, front, front_field, lead, lead_field, place_of, telling, Tells};
+ghost use Rattle.ep_opening.specs.Reading.{executed, executed_field, front, front_field, lead, lead_field, place_of, file_reading, ReadsAs};
 ghost use Rattle.ep_opening.specs.declared.opening_field.OpeningField.TheVariants.{Map, Rest};
 
 use crate::front::Front;
@@ -72,7 +72,7 @@ fn executed_field(from: u64, at: u64) -> OpeningField
 
 /// What says that this is an opening file, of version 3.
 pub(crate) fn tell_lead<S: Source>(source: &mut S, place: &mut u64) -> Result<u8, OpeningFault>
-    ensures { (zs : List ℕ) → S.left source.old ≡ Some zs → Tells (telling lead_field (lead (record { at = place.old; bytes = zs }))) result place.new (S.left source.new) }
+    ensures { (zs : List ℕ) → S.left source.old ≡ Some zs → ReadsAs (file_reading lead_field (lead (record { at = place.old; bytes = zs }))) result place.new (S.left source.new) }
 {
     match read_lead(source, place) {
         Ok(version) => Ok(version),
@@ -89,7 +89,7 @@ pub(crate) fn tell_front<S: Source>(
     source: &mut S,
     place: &mut u64,
 ) -> Result<Front, OpeningFault>
-    ensures { (zs : List ℕ) → S.left source.old ≡ Some zs → Tells (telling front_field (front (record { at = place.old; bytes = zs }))) result place.new (S.left source.new) }
+    ensures { (zs : List ℕ) → S.left source.old ≡ Some zs → ReadsAs (file_reading front_field (front (record { at = place.old; bytes = zs }))) result place.new (S.left source.new) }
 {
     match read_front(alloc, source, place) {
         Ok(front) => Ok(front),
@@ -120,7 +120,7 @@ pub(crate) fn tell_map<S: Source>(
     place: &mut u64,
     generation: Generation,
 ) -> Result<Contents, OpeningFault>
-    ensures { (zs : List ℕ) → S.left source.old ≡ Some zs → Tells (telling (λ at. Map) (map_in (V3 generation) (record { at = place.old; bytes = zs }))) result place.new (S.left source.new) }
+    ensures { (zs : List ℕ) → S.left source.old ≡ Some zs → ReadsAs (file_reading (λ at. Map) (map_in (V3 generation) (record { at = place.old; bytes = zs }))) result place.new (S.left source.new) }
 {
     match read_contents(alloc, source, place, generation) {
         Ok(contents) => Ok(contents),
@@ -138,7 +138,7 @@ pub(crate) fn tell_executed<S: Source>(
     place: &mut u64,
     generation: Generation,
 ) -> Result<Deps, OpeningFault>
-    ensures { (zs : List ℕ) → S.left source.old ≡ Some zs → Tells (telling (executed_field place.old) (executed generation (record { at = place.old; bytes = zs }))) result place.new (S.left source.new) }
+    ensures { (zs : List ℕ) → S.left source.old ≡ Some zs → ReadsAs (file_reading (executed_field place.old) (executed generation (record { at = place.old; bytes = zs }))) result place.new (S.left source.new) }
 {
     let from = *place;
     match read_executed(alloc, source, place, generation) {
@@ -152,7 +152,7 @@ pub(crate) fn tell_executed<S: Source>(
 
 /// That nothing is left.
 pub(crate) fn tell_end<S: Source>(source: &mut S, place: &mut u64) -> Result<(), OpeningFault>
-    ensures { (zs : List ℕ) → S.left source.old ≡ Some zs → Tells (telling (λ at. Rest) (ended (record { at = place.old; bytes = zs }))) result place.new (S.left source.new) }
+    ensures { (zs : List ℕ) → S.left source.old ≡ Some zs → ReadsAs (file_reading (λ at. Rest) (ended (record { at = place.old; bytes = zs }))) result place.new (S.left source.new) }
 {
     match read_end(source, place) {
         Ok(()) => Ok(()),

@@ -5,7 +5,7 @@ ghost use Rattle.ep_base.specs.Attributes.{same_list};
 ghost use Rattle.ep_frame.specs.Spelling.{AreBytes};
 ghost use Rattle.sha2.specs.Sha256.{sha256};
 ghost use Rattle.ep_opening.specs.Bytes.{opening_bytes};
-ghost use Rattle.ep_opening.specs.Reading.{body_in, file, file_of, parts, IsRefused, IsTold, Tells};
+ghost use Rattle.ep_opening.specs.Reading.{body_in, file, file_of, parts, IsRefused, IsReadAs, ReadsAs};
 ghost use Rattle.ep_opening.specs.declared.opening_fault.OpeningFault.TheVariants.{Memory};
 
 use crate::digest::{DIGEST_LEN, digest_of};
@@ -34,10 +34,10 @@ fn made(front: Front, contents: Contents, executed: Deps) -> Result<OpeningFile,
     let Front {
         size,
         generation,
-        since,
+        base_stamp,
         seal,
     } = front;
-    let Ok(opening) = Opening::new(contents, since) else {
+    let Ok(opening) = Opening::new(contents, base_stamp) else {
         return Err(OpeningFault::Memory);
     };
     match OpeningFile::new(size, generation, opening, seal, executed) {
@@ -52,7 +52,7 @@ fn read_parts<S: Source>(
     source: &mut S,
     place: &mut u64,
 ) -> Result<OpeningFile, OpeningFault>
-    ensures { (zs : List ℕ) → S.left source.old ≡ Some zs → Tells (parts (record { at = place.old; bytes = zs })) result place.new (S.left source.new) }
+    ensures { (zs : List ℕ) → S.left source.old ≡ Some zs → ReadsAs (parts (record { at = place.old; bytes = zs })) result place.new (S.left source.new) }
 {
     let front = tell_front(alloc, source, place)?;
     let contents = tell_map(alloc, source, place, front.generation)?;
@@ -70,7 +70,7 @@ pub(crate) fn is_sealed(body: &[u8], digest: &[u8]) -> bool
 
 /// The file whose bytes these are, with this digest behind them.
 fn read_body(alloc: Global, body: &[u8], digest: &[u8]) -> Result<OpeningFile, OpeningFault>
-    ensures { IsTold (body_in body.now digest.now) result }
+    ensures { IsReadAs (body_in body.now digest.now) result }
 {
     let mut source = Noted::new(body);
     let mut place = 0;
@@ -93,7 +93,7 @@ pub fn read_opening(alloc: Global, bytes: &[u8]) -> Result<OpeningFile, OpeningF
 
 /// Reads a file.
 fn read_told(alloc: Global, bytes: &[u8]) -> Result<OpeningFile, OpeningFault>
-    ensures { IsTold (file bytes.now) result }
+    ensures { IsReadAs (file bytes.now) result }
 {
     if bytes.len() < LEAST_LEN {
         return Err(OpeningFault::CutShort(bytes.len() as u64));

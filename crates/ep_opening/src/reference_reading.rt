@@ -2,7 +2,7 @@
 
 ghost use Rattle.std.specs.Prelude.{◌≡◌, ℕ, List, Some, IfOk, IfErr};
 ghost use Rattle.ep_bundle.specs.Reading.{field, run, Reads};
-ghost use Rattle.ep_opening.specs.Reading.{lead_field, telling, IsTold, Tells};
+ghost use Rattle.ep_opening.specs.Reading.{lead_field, file_reading, IsReadAs, ReadsAs};
 ghost use Rattle.ep_opening.specs.References.{reference_bytes};
 ghost use Rattle.ep_opening.specs.ReferenceReading.{body_in, lead, name, name_field, parts, reference, IsRefused};
 
@@ -80,7 +80,7 @@ fn name_field(at: u64) -> OpeningField
 
 /// What says that this is a reference, of version 3.
 fn tell_lead<S: Source>(source: &mut S, place: &mut u64) -> Result<u8, OpeningFault>
-    ensures { (zs : List ℕ) → S.left source.old ≡ Some zs → Tells (telling lead_field (lead (record { at = place.old; bytes = zs }))) result place.new (S.left source.new) }
+    ensures { (zs : List ℕ) → S.left source.old ≡ Some zs → ReadsAs (file_reading lead_field (lead (record { at = place.old; bytes = zs }))) result place.new (S.left source.new) }
 {
     match read_lead(source, place) {
         Ok(version) => Ok(version),
@@ -97,7 +97,7 @@ fn tell_name<S: Source>(
     source: &mut S,
     place: &mut u64,
 ) -> Result<OpeningReference, OpeningFault>
-    ensures { (zs : List ℕ) → S.left source.old ≡ Some zs → Tells (telling name_field (name (record { at = place.old; bytes = zs }))) result place.new (S.left source.new) }
+    ensures { (zs : List ℕ) → S.left source.old ≡ Some zs → ReadsAs (file_reading name_field (name (record { at = place.old; bytes = zs }))) result place.new (S.left source.new) }
 {
     match read_name(alloc, source, place) {
         Ok(reference) => Ok(reference),
@@ -114,7 +114,7 @@ fn read_parts<S: Source>(
     source: &mut S,
     place: &mut u64,
 ) -> Result<OpeningReference, OpeningFault>
-    ensures { (zs : List ℕ) → S.left source.old ≡ Some zs → Tells (parts (record { at = place.old; bytes = zs })) result place.new (S.left source.new) }
+    ensures { (zs : List ℕ) → S.left source.old ≡ Some zs → ReadsAs (parts (record { at = place.old; bytes = zs })) result place.new (S.left source.new) }
 {
     let reference = tell_name(alloc, source, place)?;
     tell_end(source, place)?;
@@ -123,7 +123,7 @@ fn read_parts<S: Source>(
 
 /// The reference whose bytes these are, with this digest behind them.
 fn read_body(alloc: Global, body: &[u8], digest: &[u8]) -> Result<OpeningReference, OpeningFault>
-    ensures { IsTold (body_in body.now digest.now) result }
+    ensures { IsReadAs (body_in body.now digest.now) result }
 {
     let mut source = Noted::new(body);
     let mut place = 0;
@@ -136,7 +136,7 @@ fn read_body(alloc: Global, body: &[u8], digest: &[u8]) -> Result<OpeningReferen
 
 /// Reads a reference.
 fn read_told(alloc: Global, bytes: &[u8]) -> Result<OpeningReference, OpeningFault>
-    ensures { IsTold (reference bytes.now) result }
+    ensures { IsReadAs (reference bytes.now) result }
 {
     if bytes.len() < REFERENCE_LEN {
         return Err(OpeningFault::CutShort(bytes.len() as u64));

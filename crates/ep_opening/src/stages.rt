@@ -122,12 +122,12 @@ pub(crate) fn read_front<S: Source>(
 {
     let size = read_cluster(source, place)?;
     let generation = read_generation(source, place)?;
-    let since = field_u64(source, place, 0, 281_474_976_710_655)?;
+    let base_stamp = field_u64(source, place, 0, 281_474_976_710_655)?;
     let seal = read_seal(alloc, source, place, generation)?;
     Ok(Front {
         size,
         generation,
-        since,
+        base_stamp,
         seal,
     })
 }

@@ -48,7 +48,7 @@ pub(crate) fn put_front<K: Sink>(sink: &mut K, file: &OpeningFile) -> Result<(),
 {
     put_u8(sink, file.size().count())?;
     put_u32(sink, file.generation().number())?;
-    put_u64(sink, file.opening().since())?;
+    put_u64(sink, file.opening().base_stamp())?;
     put_seal(sink, file)
 }
 

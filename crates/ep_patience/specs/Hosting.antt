@@ -6,7 +6,7 @@ use Rattle.ep_patience.specs.declared.patience.Patience.{Patience}
 use Rattle.ep_patience.specs.declared.remedy.Remedy.{Remedy}
 use Rattle.ep_patience.specs.declared.seen.Seen.{Seen}
 
--- the bytes are open instances, with which there was a turn, and what it asks for is told
+-- the bytes are open instances, with which there was a turn, and what it asks for is reported
 pub record HasTold (p : Patience) (now : ℕ) (open_bytes : List ℕ) (q : Patience) (told : List ℕ) : Type 0 where
   pub seen : List Seen
   pub asked : List Remedy

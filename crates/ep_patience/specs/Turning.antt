@@ -119,7 +119,7 @@ pub record HasTurned (p : Patience) (now : ℕ) (seen : List Seen) (q : Patience
   pub turns : Turns p (time_at p now) seen q.all.entries q.first asked
   pub same : q ≡ record p { all = q.all; first = q.first; turned = now; away = now - time_at p now; is_hurried = false }
 
--- What else is told.
+-- What else is reported.
 
 -- when to turn next
 abbrev pub due_next : Patience → Option ℕ → Option ℕ

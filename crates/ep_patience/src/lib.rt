@@ -1,7 +1,7 @@
 //! When to wait no longer.
 //!
 //! Whether an instance is given up or recovered, and when, is a question of time, of which the protocol knows nothing: any answer is safe. `Patience`
-//! is one that is wise: it is handed the time, how long peers take to answer, and what is open, and tells what to ask for. It has no clock, no IO and no
+//! is one that is wise: it is handed the time, how long peers take to answer, and what is open, and says what to ask for. It has no clock, no IO and no
 //! source of chance but its seed.
 //!
 //! Start with `patience.rt` and specs/Turning.antt; then `trip.rt` and specs/Trips.antt (RFC 6298), `outlook.rt` and `choosing.rt`.

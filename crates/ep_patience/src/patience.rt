@@ -1,4 +1,4 @@
-//! A machine that tells when to wait no longer.
+//! A machine that says when to wait no longer.
 
 ghost use Rattle.std.specs.Prelude.{◌≡◌, ◌++◌, ℕ, Some, None, cond, length, ltb, nat_eq, option_to_list, OnOk, OnErr};
 ghost use Rattle.ep_patience.specs.Turning.{earlier, waiting_for};
@@ -277,7 +277,7 @@ impl Patience {
 
     /// A turn at this time, at which just these instances are open, in rising order: what to ask the replica for, at most 64 events. One that is seen for the
     /// first time is waited for; one whose wait is over is asked for, and waited for again, twice as long each time up to the longest wait; one that isn't open
-    /// any more is forgotten. Want of memory leaves all as it was.
+    /// any more is forgotten. Running out of memory leaves all as it was.
     pub fn turn(
         &mut self,
         alloc: Global,

@@ -32,7 +32,7 @@ fn instance_of(leader: u8, number: u16) -> Option<InstanceId>
     if leader > 6 || number == 0 || number > InstanceId::HIGHEST_NUMBER {
         return None;
     }
-    let leader = ReplicaId::known(leader);
+    let leader = ReplicaId::from_valid(leader);
     InstanceId::new(leader, number).ok()
 }
 
@@ -52,11 +52,11 @@ fn seen_at(bytes: &[u8]) -> Option<Seen>
         instance,
         leads: leads_of(phase, bytes[8]),
         is_told: phase == 4,
-        spared: ReplicaId::known(spared),
+        spared: ReplicaId::from_valid(spared),
     })
 }
 
-/// The same, if it is above that of this place.
+/// What is seen there, if its number is above this one.
 fn next_seen(last: u32, bytes: &[u8]) -> Option<Seen>
     requires { 10 ≤ length bytes.now }
     ensures { result ≡ above last (seen_at bytes.now) }

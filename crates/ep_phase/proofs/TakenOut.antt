@@ -4,7 +4,7 @@ use Rattle.std.specs.Prelude.{OnOk, OnErr}
 use Rattle.std.specs.declared.alloc.AllocError.{AllocError}
 use Rattle.ep_rules.specs.Maps.{Map, get, remove}
 use Rattle.ep_rules.specs.States.{with_held, with_led}
-use Rattle.ep_rules.specs.declared.led.Led.{Led}
+use Rattle.ep_rules.specs.declared.led_instance.LedInstance.{LedInstance}
 use Rattle.ep_space.specs.Held.{Held}
 use Rattle.ep_space.proofs.Settling.{with_held-again}
 use Rattle.ep_space.proofs.Twice.{with_held-after_remove}
@@ -13,12 +13,12 @@ use Rattle.ep_phase.specs.Changes.{or_as_before}
 back : {X : Type 0} (m : Map X) (i : ℕ) → with_held (remove m i) i (get m i) ≡ m
 back m i = with_held-after_remove m i (get m i) ∙ with_held-again m i (get m i) refl
 
-changed : (m : Map Led) (i : ℕ) (w : Option (Option Led)) → with_held (remove m i) i (or_as_before (get m i) w) ≡ with_led m i w
+changed : (m : Map LedInstance) (i : ℕ) (w : Option (Option LedInstance)) → with_held (remove m i) i (or_as_before (get m i) w) ≡ with_led m i w
 changed m i None = back m i
 changed m i (Some o) = with_held-after_remove m i o
 
 -- the table after what is led was taken out, and put back as this makes it
-module _ (w : Option Led → Option (Option Led)) (r : Result (Unit {0}) AllocError) (old out new : Held Led) (i : ℕ) (was led : Option Led)
+module _ (w : Option LedInstance → Option (Option LedInstance)) (r : Result (Unit {0}) AllocError) (old out new : Held LedInstance) (i : ℕ) (was led : Option LedInstance)
     (is : was ≡ get old.held i) (taken : out ≡ record { held = remove old.held i; places = old.places })
     (written : new ≡ record { held = with_held out.held i led; places = out.places }) where
   pub added : OnOk r (led ≡ or_as_before was (w was)) → OnOk r (new ≡ record { held = with_led old.held i (w (get old.held i)); places = old.places })

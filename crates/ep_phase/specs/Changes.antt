@@ -14,16 +14,16 @@ use Rattle.ep_rules.specs.Cells as rules
 use Rattle.ep_rules.specs.Cells.{voted}
 use Rattle.ep_rules.specs.Counting.{to_those, is_other}
 use Rattle.ep_rules.specs.Phases.{Outcome, limited, with_attrs, with_commit}
-use Rattle.ep_rules.specs.declared.led.Led.{Led}
-use Rattle.ep_rules.specs.declared.led.Led.TheVariants.{Proposing, Accepting, Preparing}
+use Rattle.ep_rules.specs.declared.led_instance.LedInstance.{LedInstance}
+use Rattle.ep_rules.specs.declared.led_instance.LedInstance.TheVariants.{Proposing, Accepting, Preparing}
 use Rattle.ep_rules.specs.declared.record.Record.{Record}
 use Rattle.ep_space.specs.Held.{Places, HasPlace}
 use Rattle.ep_space.specs.Records.{Records, IsReady}
 use Rattle.ep_space.specs.Settled.{settled}
-use Rattle.ep_phase.specs.Known.{Known, record_of}
+use Rattle.ep_phase.specs.InstanceViews.{InstanceView, record_of}
 use Rattle.ep_phase.specs.declared.change.Change.{Change}
-use Rattle.ep_phase.specs.declared.leading.Leading.{Leading}
-use Rattle.ep_phase.specs.declared.leading.Leading.TheVariants as leading
+use Rattle.ep_phase.specs.declared.lead_change.LeadChange.{LeadChange}
+use Rattle.ep_phase.specs.declared.lead_change.LeadChange.TheVariants as leading
 use Rattle.ep_phase.specs.declared.recorded.Recorded.{Recorded}
 use Rattle.ep_phase.specs.declared.recorded.Recorded.TheVariants as recorded
 use Rattle.ep_phase.specs.declared.receivers.Receivers.{Receivers}
@@ -44,7 +44,7 @@ entry_of i r (recorded.Commits x) = Some (with_commit i r x)
 entry_of i r recorded.Settles = settled i r r.vote
 
 -- an answer more is kept, which is all that changes then: nothing is recorded
-abbrev pub adds_answer : Leading → Bool
+abbrev pub adds_answer : LeadChange → Bool
 adds_answer leading.Stays = false
 adds_answer (leading.Leads l) = false
 adds_answer (leading.PreAccepted q a) = true
@@ -54,26 +54,26 @@ adds_answer leading.Ends = false
 -- What is led.
 
 -- one more pre-accepted; none where what is led stays, since it isn't phase 1
-abbrev pub with_pre_accepted : ℕ → Attrs → Option Led → Option (Option Led)
+abbrev pub with_pre_accepted : ℕ → Attrs → Option LedInstance → Option (Option LedInstance)
 with_pre_accepted q a None = None
 with_pre_accepted q a (Some (Proposing b s answers)) = Some (Some (Proposing b s (with_answer answers q a)))
 with_pre_accepted q a (Some (Accepting b answers)) = None
 with_pre_accepted q a (Some (Preparing b answers)) = None
 
 -- one more accepted; none where what is led stays, since it isn't the accept phase
-abbrev pub with_accepted : ℕ → Option Led → Option (Option Led)
+abbrev pub with_accepted : ℕ → Option LedInstance → Option (Option LedInstance)
 with_accepted q None = None
 with_accepted q (Some (Proposing b s answers)) = None
 with_accepted q (Some (Accepting b answers)) = Some (Some (Accepting b (with_answer answers q tt)))
 with_accepted q (Some (Preparing b answers)) = None
 
 -- what is led then, where that was led before
-abbrev pub or_as_before : Option Led → Option (Option Led) → Option Led
+abbrev pub or_as_before : Option LedInstance → Option (Option LedInstance) → Option LedInstance
 or_as_before l None = l
 or_as_before l (Some new) = new
 
 -- what is led from now on, where l is what is led before; none where it stays
-abbrev pub led_of : Option Led → Leading → Option (Option Led)
+abbrev pub led_of : Option LedInstance → LeadChange → Option (Option LedInstance)
 led_of l leading.Stays = None
 led_of l (leading.Leads new) = Some (Some new)
 led_of l (leading.PreAccepted q a) = with_pre_accepted q a l
@@ -120,12 +120,12 @@ abbrev pub sent_to : ℕ → ℕ → ℕ → Receivers → Option Message → Li
 sent_to f me i to None = []
 sent_to f me i to (Some m) = to_receivers f me i to m
 
-abbrev pub sends_of : Known → Recorded → Option Sending → List (ℕ × Message)
+abbrev pub sends_of : InstanceView → Recorded → Option Sending → List (ℕ × Message)
 sends_of k e None = []
 sends_of k e (Some s) = sent_to k.faults k.me k.instance s.to (message_in k.instance (record_of k).vote (decree_in (record_of k).vote e) s.what)
 
 -- what the change sends
-abbrev pub sends : Known → Change → List (ℕ × Message)
+abbrev pub sends : InstanceView → Change → List (ℕ × Message)
 sends k ch = sends_of k ch.entry ch.out
 
 -- the new record of i, where r is the one before; none where it stays
@@ -133,7 +133,7 @@ abbrev pub new_record : ℕ → Record → Change → Option Record
 new_record i r ch = cond (adds_answer ch.led) None (entry_of i r ch.entry)
 
 -- the rule's change
-abbrev pub change_of : Known → Change → rules.Change
+abbrev pub change_of : InstanceView → Change → rules.Change
 change_of k ch = record { entry = new_record k.instance (record_of k) ch; led = led_of k.led ch.led; told = ch.told; out = sends k ch }
 
 -- The places that a change needs: i has one for what is written, and a vote has room in the index.
@@ -146,7 +146,7 @@ HasRecordPlace (recorded.Accepts b x) s i = IsReady s i x.command
 HasRecordPlace (recorded.Commits x) s i = IsReady s i x.command
 HasRecordPlace recorded.Settles s i = HasPlace s.places i
 
-abbrev pub HasLeadPlace : Leading → Places → ℕ → Type 0
+abbrev pub HasLeadPlace : LeadChange → Places → ℕ → Type 0
 HasLeadPlace leading.Stays p i = Unit {0}
 HasLeadPlace (leading.Leads l) p i = HasPlace p i
 HasLeadPlace (leading.PreAccepted q a) p i = HasPlace p i

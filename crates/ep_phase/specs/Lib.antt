@@ -1,5 +1,5 @@
 pub mod Leads
-pub mod Known
+pub mod InstanceViews
 pub mod Changes
 pub mod Refused
 pub mod Progress

@@ -1,4 +1,4 @@
--- Why a rule refuses, by the names that the code gives it. Want of memory is no reason of a rule's.
+-- Why a rule refuses, by the names that the code gives it. Out of memory is no reason of a rule's.
 use Rattle.std.specs.Prelude.{◌≡◌, Err}
 use Rattle.ep_rules.specs.Cells.{SeqExhausted as Exhausted, NotLeading as Unled, TooFewAnswers as Few, AlreadyCommitted as Committed, BallotsExhausted as Spent}
 use Rattle.ep_rules.specs.Phases.{Outcome}

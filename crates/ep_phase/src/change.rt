@@ -9,18 +9,18 @@ ghost use Rattle.ep_rules.specs.States.{with_entry, with_led};
 ghost use Rattle.ep_space.specs.Held.{HasPlace};
 ghost use Rattle.ep_space.specs.Records.{record_at};
 ghost use Rattle.ep_phase.specs.Changes.{adds_answer, change_of, decree_in, entry_of, led_of, message_in, new_record, sends, to_receivers, voted_decree, HasRecordPlace, HasLeadPlace, HasToldPlace};
-ghost use Rattle.ep_phase.specs.Known.{Known, record_of};
+ghost use Rattle.ep_phase.specs.InstanceViews.{InstanceView, record_of};
 ghost use Rattle.ep_base.specs.Messages.{says};
 
-use crate::cell::Cell;
+use crate::instance_view::InstanceView;
 use crate::lead::Lead;
-use crate::leading::Leading;
+use crate::lead_change::LeadChange;
 use crate::receivers::Receivers;
 use crate::recorded::Recorded;
 use crate::sending::{Sending, What};
-use ep_base::{Ballot, Decree, InstanceId, ReplicaId, Said};
-use ep_frame::Telling;
-use ep_rules::Led;
+use ep_base::{Ballot, Decree, InstanceId, MessageView, ReplicaId};
+use ep_frame::InstanceMessage;
+use ep_rules::LedInstance;
 use ep_space::Space;
 use std::alloc::AllocError;
 
@@ -29,7 +29,7 @@ use std::alloc::AllocError;
 #[derive(Drop)]
 pub struct Change {
     pub entry: Recorded,
-    pub led: Leading,
+    pub led: LeadChange,
     /// The counter that is told from now on; none where that stays.
     pub told: Option<u16>,
     pub out: Option<Sending>,
@@ -38,32 +38,32 @@ pub struct Change {
 impl Change {
     /// Nothing changes, and nothing is sent.
     pub fn nothing() -> Change
-        ensures { (k : Known) → change_of k result ≡ rules.nothing }
+        ensures { (k : InstanceView) → change_of k result ≡ rules.nothing }
     {
-        Change::of(Recorded::Stays, Leading::Stays, None)
+        Change::of(Recorded::Stays, LeadChange::Stays, None)
     }
 
     /// Nothing changes, and this replica is told that the first ballot is refused, since the second one is promised.
     pub fn refused(from: ReplicaId, ballot: Ballot, promised: Ballot) -> Change
-        ensures { (k : Known) → change_of k result ≡ rules.answered from (Nack k.instance ballot promised) }
+        ensures { (k : InstanceView) → change_of k result ≡ rules.answered from (Nack k.instance ballot promised) }
     {
         let out = Sending {
             to: Receivers::One(from),
             what: What::Nack(ballot, promised),
         };
-        Change::of(Recorded::Stays, Leading::Stays, Some(out))
+        Change::of(Recorded::Stays, LeadChange::Stays, Some(out))
     }
 
     /// This is led from now on.
-    pub fn kept(led: Led) -> Change
-        ensures { (k : Known) → change_of k result ≡ rules.kept led }
+    pub fn kept(led: LedInstance) -> Change
+        ensures { (k : InstanceView) → change_of k result ≡ rules.kept led }
     {
-        Change::of(Recorded::Stays, Leading::Leads(led), None)
+        Change::of(Recorded::Stays, LeadChange::Leads(led), None)
     }
 
     /// This is recorded, led and sent; the counter told stays.
     #[inline(always)]
-    pub fn of(entry: Recorded, led: Leading, out: Option<Sending>) -> Change
+    pub fn of(entry: Recorded, led: LeadChange, out: Option<Sending>) -> Change
         ensures { result ≡ record { entry = entry; led = led; told = None; out = out } }
     {
         Change {
@@ -75,7 +75,7 @@ impl Change {
     }
 
     /// What is sent, and to whom; its parts are the change's, or those of the replica's last vote.
-    pub fn said<'a>(&'a self, cell: &Cell<'a>) -> Option<(Receivers, Telling<'a>)>
+    pub fn said<'a>(&'a self, cell: &InstanceView<'a>) -> Option<(Receivers, InstanceMessage<'a>)>
         ensures some { IfSome result (λ t. sends cell.now self.now ≡ to_receivers cell.now.faults cell.now.me cell.now.instance t.0 (says t.1.instance t.1.said)) }
         ensures none { IfNone result (sends cell.now self.now ≡ []) }
     {
@@ -85,13 +85,13 @@ impl Change {
                 None => None,
                 Some(said) => {
                     let instance = cell.id();
-                    Some((sending.to, Telling { instance, said }))
+                    Some((sending.to, InstanceMessage { instance, said }))
                 }
             },
         }
     }
 
-    /// Makes the places that the change needs, and the room in the index. Nothing else has changed then, at want of memory either.
+    /// Makes the places that the change needs, and the room in the index. Nothing else has changed then, when out of memory either.
     pub fn reserve(
         &self,
         space: &mut Space,
@@ -109,7 +109,7 @@ impl Change {
         reserve_told(&self.told, lead, id)
     }
 
-    /// Puts the change in place. It takes no memory, but for an answer more, which is all that changes then: at want of memory nothing has
+    /// Puts the change in place. It takes no memory, but for an answer more, which is all that changes then: when out of memory, nothing has
     /// changed.
     #[inline(always)]
     pub fn install(
@@ -142,27 +142,27 @@ impl Change {
 }
 
 /// What a message says, where it needs no decree or there is one.
-fn said_of<'a>(entry: &'a Recorded, cell: &Cell<'a>, what: What) -> Option<Said<'a>>
+fn said_of<'a>(entry: &'a Recorded, cell: &InstanceView<'a>, what: What) -> Option<MessageView<'a>>
     ensures some { IfSome result (λ s. message_in cell.now.instance (record_of cell.now).vote (decree_in (record_of cell.now).vote entry.now) what ≡ Some (says cell.now.instance s)) }
     ensures none { IfNone result (message_in cell.now.instance (record_of cell.now).vote (decree_in (record_of cell.now).vote entry.now) what ≡ None) }
 {
     match what {
-        What::PreAccept(ballot) => Some(Said::PreAccept(ballot, decree_of(entry, cell)?)),
+        What::PreAccept(ballot) => Some(MessageView::PreAccept(ballot, decree_of(entry, cell)?)),
         What::PreAcceptOk(ballot) => {
             let decree = decree_of(entry, cell)?;
-            Some(Said::PreAcceptOk(ballot, &decree.attrs))
+            Some(MessageView::PreAcceptOk(ballot, &decree.attrs))
         }
-        What::Accept(ballot) => Some(Said::Accept(ballot, decree_of(entry, cell)?)),
-        What::AcceptOk(ballot) => Some(Said::AcceptOk(ballot)),
-        What::Commit => Some(Said::Commit(decree_of(entry, cell)?)),
-        What::Prepare(ballot) => Some(Said::Prepare(ballot)),
-        What::PrepareOk(ballot) => Some(Said::PrepareOk(ballot, cell.vote())),
-        What::Nack(ballot, promised) => Some(Said::Nack(ballot, promised)),
+        What::Accept(ballot) => Some(MessageView::Accept(ballot, decree_of(entry, cell)?)),
+        What::AcceptOk(ballot) => Some(MessageView::AcceptOk(ballot)),
+        What::Commit => Some(MessageView::Commit(decree_of(entry, cell)?)),
+        What::Prepare(ballot) => Some(MessageView::Prepare(ballot)),
+        What::PrepareOk(ballot) => Some(MessageView::PrepareOk(ballot, cell.vote())),
+        What::Nack(ballot, promised) => Some(MessageView::Nack(ballot, promised)),
     }
 }
 
 /// The decree that a message is about: the one that is voted for, or else that of the last vote.
-fn decree_of<'a>(entry: &'a Recorded, cell: &Cell<'a>) -> Option<&'a Decree>
+fn decree_of<'a>(entry: &'a Recorded, cell: &InstanceView<'a>) -> Option<&'a Decree>
     ensures { option_copied result ≡ decree_in (record_of cell.now).vote entry.now }
 {
     match entry {
@@ -175,7 +175,7 @@ fn decree_of<'a>(entry: &'a Recorded, cell: &Cell<'a>) -> Option<&'a Decree>
     }
 }
 
-fn voted_decree<'a>(cell: &Cell<'a>) -> Option<&'a Decree>
+fn voted_decree<'a>(cell: &InstanceView<'a>) -> Option<&'a Decree>
     ensures { option_copied result ≡ voted_decree (record_of cell.now).vote }
 {
     match cell.vote() {
@@ -198,13 +198,13 @@ fn reserve_record(entry: &Recorded, space: &mut Space, id: InstanceId) -> Result
     }
 }
 
-fn reserve_led(led: &Leading, lead: &mut Lead, id: InstanceId) -> Result<(), AllocError>
+fn reserve_led(led: &LeadChange, lead: &mut Lead, id: InstanceId) -> Result<(), AllocError>
     ensures place { OnOk result (HasLeadPlace led.now lead.new.places id) }
     ensures same { lead.new ≡ record lead.old { places = lead.new.places } }
 {
     match led {
-        Leading::Stays => Ok(()),
-        Leading::Ends => Ok(()),
+        LeadChange::Stays => Ok(()),
+        LeadChange::Ends => Ok(()),
         _ => lead.reserve(id),
     }
 }
@@ -226,7 +226,7 @@ fn write(
     lead: &mut Lead,
     id: InstanceId,
     entry: Recorded,
-    led: Leading,
+    led: LeadChange,
 ) -> Result<(), AllocError>
     requires record { HasRecordPlace entry space.old id }
     requires led { HasLeadPlace led lead.old.places id }
@@ -237,18 +237,18 @@ fn write(
     ensures succeeds { adds_answer led ≡ false → IsOk result }
 {
     match led {
-        Leading::Stays => {
+        LeadChange::Stays => {
             write_record(space, id, entry);
             Ok(())
         }
-        Leading::Leads(led) => {
+        LeadChange::Leads(led) => {
             write_record(space, id, entry);
             lead.lead(id, led);
             Ok(())
         }
-        Leading::PreAccepted(from, attrs) => lead.add_pre_accepted(id, from, attrs),
-        Leading::Accepted(from) => lead.add_accepted(id, from),
-        Leading::Ends => {
+        LeadChange::PreAccepted(from, attrs) => lead.add_pre_accepted(id, from, attrs),
+        LeadChange::Accepted(from) => lead.add_accepted(id, from),
+        LeadChange::Ends => {
             write_record(space, id, entry);
             lead.end(id);
             Ok(())

@@ -11,7 +11,7 @@ ghost use Rattle.ep_phase.specs.Changes.{or_as_before, with_pre_accepted, with_a
 ghost use Rattle.ep_phase.specs.Leads.{with_lead, with_told};
 
 use ep_base::{Attrs, InstanceId, ReplicaId};
-use ep_rules::Led;
+use ep_rules::LedInstance;
 use ep_space::Table;
 use std::alloc::{AllocError, Global};
 use std::marker::Model;
@@ -20,7 +20,7 @@ use std::marker::Model;
 /// An instance first gets a place for the one, or for the other, which takes memory; both are then written without. An answer more may
 /// take memory.
 pub struct Lead {
-    leads: Table<Led>,
+    leads: Table<LedInstance>,
     told: Table<u16>,
 }
 
@@ -34,9 +34,9 @@ impl Drop for Lead {
 }
 
 impl Model for Lead {
-    ghost use Rattle.ep_phase.specs.Leads.{Leads, leads_code};
+    ghost use Rattle.ep_phase.specs.Leads.{Lead, leads_code};
 
-    ghost Value = { Leads };
+    ghost Value = { Lead };
 
     ghost coded = { leads_code };
 
@@ -44,7 +44,7 @@ impl Model for Lead {
 }
 
 impl Lead {
-    /// Nothing is led, and no counter was told.
+    /// Nothing is led, and no counter was reported.
     pub fn new(alloc: Global) -> Lead
         ensures { result ≡ record { leads = none; told = none; places = set.empty; told_places = set.empty } }
     {
@@ -84,14 +84,14 @@ impl Lead {
     // What is led.
 
     /// What is led in the instance, if something is.
-    pub fn get(&self, id: InstanceId) -> Option<&Led>
+    pub fn get(&self, id: InstanceId) -> Option<&LedInstance>
         ensures { option_copied result ≡ get self.now.leads id }
     {
         self.leads.get(id)
     }
 
-    /// The same again: what a later `put_back` may put back.
-    pub fn copy(&self, alloc: Global, id: InstanceId) -> Result<Option<Led>, AllocError>
+    /// A copy of what is led in the instance: what a later `put_back` may put back.
+    pub fn copy(&self, alloc: Global, id: InstanceId) -> Result<Option<LedInstance>, AllocError>
         ensures { IfOk result (λ o. o ≡ get self.now.leads id) }
     {
         match self.get(id) {
@@ -101,7 +101,7 @@ impl Lead {
     }
 
     /// Puts back what was led earlier, or that nothing was, and gives what is led now. It takes no memory.
-    pub fn put_back(&mut self, id: InstanceId, earlier: Option<Led>) -> Option<Led>
+    pub fn put_back(&mut self, id: InstanceId, earlier: Option<LedInstance>) -> Option<LedInstance>
         requires { HasPlace self.old.places id }
         ensures old { result ≡ get self.old.leads id }
         ensures new { self.new ≡ with_lead self.old id earlier }
@@ -110,14 +110,14 @@ impl Lead {
     }
 
     /// Leads this from now on. It takes no memory.
-    pub fn lead(&mut self, id: InstanceId, led: Led)
+    pub fn lead(&mut self, id: InstanceId, led: LedInstance)
         requires { HasPlace self.old.places id }
         ensures { self.new ≡ with_lead self.old id (Some led) }
     {
         self.leads.write(id, Some(led));
     }
 
-    /// One more replica pre-accepted with these attributes, if this is phase 1. At want of memory nothing has changed.
+    /// One more replica pre-accepted with these attributes, if this is phase 1. When out of memory, nothing has changed.
     #[inline(always)]
     pub fn add_pre_accepted(
         &mut self,
@@ -132,7 +132,7 @@ impl Lead {
         add_pre_accepted(&mut self.leads, id, from, attrs)
     }
 
-    /// One more replica accepted, if this is the accept phase. At want of memory nothing has changed.
+    /// One more replica accepted, if this is the accept phase. When out of memory, nothing has changed.
     pub fn add_accepted(&mut self, id: InstanceId, from: ReplicaId) -> Result<(), AllocError>
         requires { HasPlace self.old.places id }
         ensures ok { OnOk result (self.new ≡ record self.old { leads = with_led self.old.leads id (with_accepted from (get self.old.leads id)) }) }
@@ -161,7 +161,7 @@ impl Lead {
         }
     }
 
-    /// The same, none where no Nack told one: what a later `put_back_told` may put back.
+    /// That counter, or none where no Nack told one: what a later `put_back_told` may put back.
     pub fn earlier_told(&self, id: InstanceId) -> Option<u16>
         ensures { result ≡ get self.now.told id }
     {
@@ -188,7 +188,7 @@ impl Lead {
 // What is led is taken out, and put back with the answer, or as it was.
 #[inline(always)]
 fn add_pre_accepted(
-    leads: &mut Table<Led>,
+    leads: &mut Table<LedInstance>,
     id: InstanceId,
     from: ReplicaId,
     attrs: Attrs,
@@ -204,7 +204,7 @@ fn add_pre_accepted(
 }
 
 fn count_pre_accepted(
-    led: &mut Option<Led>,
+    led: &mut Option<LedInstance>,
     from: ReplicaId,
     attrs: Attrs,
 ) -> Result<(), AllocError>
@@ -212,12 +212,16 @@ fn count_pre_accepted(
     ensures err { OnErr result (led.new ≡ led.old) }
 {
     match led {
-        Some(Led::Proposing(_, _, answers)) => answers.add(from, attrs),
+        Some(LedInstance::Proposing(_, _, answers)) => answers.add(from, attrs),
         _ => Ok(()),
     }
 }
 
-fn add_accepted(leads: &mut Table<Led>, id: InstanceId, from: ReplicaId) -> Result<(), AllocError>
+fn add_accepted(
+    leads: &mut Table<LedInstance>,
+    id: InstanceId,
+    from: ReplicaId,
+) -> Result<(), AllocError>
     requires { HasPlace leads.old.places id }
     ensures ok { OnOk result (leads.new ≡ record { held = with_led leads.old.held id (with_accepted from (get leads.old.held id)); places = leads.old.places }) }
     ensures err { OnErr result (leads.new ≡ leads.old) }
@@ -228,12 +232,12 @@ fn add_accepted(leads: &mut Table<Led>, id: InstanceId, from: ReplicaId) -> Resu
     outcome
 }
 
-fn count_accepted(led: &mut Option<Led>, from: ReplicaId) -> Result<(), AllocError>
+fn count_accepted(led: &mut Option<LedInstance>, from: ReplicaId) -> Result<(), AllocError>
     ensures ok { OnOk result (led.new ≡ or_as_before led.old (with_accepted from led.old)) }
     ensures err { OnErr result (led.new ≡ led.old) }
 {
     match led {
-        Some(Led::Accepting(_, answers)) => answers.add(from, ()),
+        Some(LedInstance::Accepting(_, answers)) => answers.add(from, ()),
         _ => Ok(()),
     }
 }

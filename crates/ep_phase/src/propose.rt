@@ -4,7 +4,7 @@ ghost use Rattle.std.specs.Prelude.{◌≡◌, ◌≤◌, ◌<◌, ℕ, ◌+◌,
 ghost use Rattle.ep_base.specs.Instances.{instance_of};
 ghost use Rattle.ep_base.specs.declared.message.Message.TheVariants.{PreAccept};
 ghost use Rattle.ep_base.specs.declared.vote.VoteStatus.TheVariants.{PreAccepted};
-ghost use Rattle.ep_rules.specs.declared.led.Led.TheVariants.{Proposing};
+ghost use Rattle.ep_rules.specs.declared.led_instance.LedInstance.TheVariants.{Proposing};
 ghost use Rattle.ep_rules.specs.Answers.{with_answer};
 ghost use Rattle.ep_rules.specs.Cells as cells;
 ghost use Rattle.ep_rules.specs.Cells.{voted};
@@ -14,25 +14,25 @@ ghost use Rattle.ep_rules.specs.Recovery.{recover_with};
 ghost use Rattle.ep_base.specs.Versions.{highest_in};
 ghost use Rattle.ep_rules.specs.States.{free_number};
 ghost use Rattle.ep_phase.specs.Changes.{change_of, pre_accepted, to_receivers};
-ghost use Rattle.ep_phase.specs.Known.{Known, record_of};
+ghost use Rattle.ep_phase.specs.InstanceViews.{InstanceView, record_of};
 ghost use Rattle.ep_phase.specs.Refused.{IsRefused};
 ghost use Rattle.ep_frame.specs.Meaning.{kind_at, sender_at, ballot_at, attrs_at, decree_at};
 ghost use Rattle.ep_phase.specs.declared.decision_fault.DecisionFault.TheVariants.{Memory};
 ghost use Rattle.ep_frame.specs.declared.kind.Kind.TheVariants as kind;
 
 use crate::accept::begin_accept;
-use crate::cell::Cell;
 use crate::change::Change;
 use crate::commit::{begin_commit, commit_own};
 use crate::counting::{all_equal, fast_answered, joined, joined_with, others, others_with};
 use crate::decision_fault::DecisionFault;
-use crate::leading::Leading;
+use crate::instance_view::InstanceView;
+use crate::lead_change::LeadChange;
 use crate::receivers::Receivers;
 use crate::recorded::Recorded;
 use crate::sending::{Sending, What};
 use ep_base::{Attrs, Ballot, Command, Decree, InstanceId, ReplicaId};
 use ep_frame::FrameView;
-use ep_rules::{Answers, Led};
+use ep_rules::{Answers, LedInstance};
 use ep_space::{Space, SpaceFull};
 use std::alloc::{AllocError, Global};
 
@@ -51,7 +51,7 @@ pub fn next_instance(space: &Space, me: ReplicaId) -> Result<InstanceId, SpaceFu
 /// `SeqExhausted` where the sequence number would pass 1,000,000.
 pub fn start(
     alloc: Global,
-    cell: &Cell<'_>,
+    cell: &InstanceView<'_>,
     spared: ReplicaId,
     command: &Command,
 ) -> Result<Change, DecisionFault>
@@ -69,7 +69,7 @@ pub fn start(
 /// `SeqExhausted` where the sequence number would pass 1,000,000.
 pub fn start_at(
     alloc: Global,
-    cell: &Cell<'_>,
+    cell: &InstanceView<'_>,
     ballot: Ballot,
     command: Command,
 ) -> Result<Change, DecisionFault>
@@ -89,16 +89,16 @@ fn first_phase(
     spared: ReplicaId,
     decree: Decree,
 ) -> Change
-    ensures { (k : Known) → change_of k result ≡ record { entry = Some (voted ballot PreAccepted decree); led = Some (Some (Proposing ballot spared [])); told = None; out = to_receivers k.faults k.me k.instance to (PreAccept k.instance ballot decree) } }
+    ensures { (k : InstanceView) → change_of k result ≡ record { entry = Some (voted ballot PreAccepted decree); led = Some (Some (Proposing ballot spared [])); told = None; out = to_receivers k.faults k.me k.instance to (PreAccept k.instance ballot decree) } }
 {
     let out = Sending {
         to,
         what: What::PreAccept(ballot),
     };
-    let led = Led::Proposing(ballot, spared, Answers::new(alloc));
+    let led = LedInstance::Proposing(ballot, spared, Answers::new(alloc));
     Change::of(
         Recorded::PreAccepts(ballot, decree),
-        Leading::Leads(led),
+        LeadChange::Leads(led),
         Some(out),
     )
 }
@@ -108,7 +108,7 @@ fn first_phase(
 /// `SeqExhausted` where the sequence number of that set would pass 1,000,000.
 pub fn on_pre_accept(
     alloc: Global,
-    cell: &Cell<'_>,
+    cell: &InstanceView<'_>,
     frame: &FrameView<'_>,
 ) -> Result<Change, DecisionFault>
     requires kind { kind_at frame.now ≡ kind.PreAccept }
@@ -130,7 +130,7 @@ pub fn on_pre_accept(
 #[inline(always)]
 fn pre_accept(
     alloc: Global,
-    cell: &Cell<'_>,
+    cell: &InstanceView<'_>,
     frame: &FrameView<'_>,
 ) -> Result<Change, DecisionFault>
     requires kind { kind_at frame.now ≡ kind.PreAccept }
@@ -147,7 +147,7 @@ fn pre_accept(
     };
     Ok(Change::of(
         Recorded::PreAccepts(ballot, Decree { command, attrs }),
-        Leading::Stays,
+        LeadChange::Stays,
         Some(out),
     ))
 }
@@ -157,14 +157,14 @@ fn pre_accept(
 /// at a recovery ballot it does so once as many others have answered as may fail.
 pub fn on_pre_accept_ok(
     alloc: Global,
-    cell: &Cell<'_>,
+    cell: &InstanceView<'_>,
     frame: &FrameView<'_>,
 ) -> Result<Change, DecisionFault>
     requires kind { kind_at frame.now ≡ kind.PreAcceptOk }
     ensures ok { IfOk result (λ ch. change_of cell.now ch ≡ rules.on_pre_accept_ok cell.now.faults cell.now.instance cell.now.me (sender_at frame.now) (ballot_at frame.now) (attrs_at frame.now) (record_of cell.now) cell.now.led) }
     ensures refused { IfErr result (λ e. e ≡ Memory) }
 {
-    let Some(Led::Proposing(led, spared, answers)) = cell.led() else {
+    let Some(LedInstance::Proposing(led, spared, answers)) = cell.led() else {
         return Ok(Change::nothing());
     };
     if answers.get(frame.from().index()).is_some() {
@@ -178,11 +178,11 @@ pub fn on_pre_accept_ok(
 
 /// Gives up waiting for the fast quorum: with as many answers of others as may fail, the leader begins the accept phase at the default ballot.
 /// `NotLeading` where this replica does not lead that ballot in phase 1, has promised another ballot or has committed; `TooFewAnswers` with fewer answers.
-pub fn give_up(alloc: Global, cell: &Cell<'_>) -> Result<Change, DecisionFault>
+pub fn give_up(alloc: Global, cell: &InstanceView<'_>) -> Result<Change, DecisionFault>
     ensures ok { IfOk result (λ ch. rules.give_up cell.now.faults cell.now.instance cell.now.me (record_of cell.now) cell.now.led ≡ Ok (change_of cell.now ch)) }
     ensures refused { IfErr result (λ e. IsRefused (rules.give_up cell.now.faults cell.now.instance cell.now.me (record_of cell.now) cell.now.led) e) }
 {
-    let Some(Led::Proposing(ballot, _, answers)) = cell.led() else {
+    let Some(LedInstance::Proposing(ballot, _, answers)) = cell.led() else {
         return Err(DecisionFault::NotLeading);
     };
     if !is_usable(cell, Ballot::default_of(cell.id().replica()), *ballot) {
@@ -197,7 +197,7 @@ pub fn give_up(alloc: Global, cell: &Cell<'_>) -> Result<Change, DecisionFault>
 
 /// Whether the leader of this ballot, who leads that one, may still use an answer: both are one ballot, it has promised no other,
 /// and has not committed.
-pub fn is_usable(cell: &Cell<'_>, ballot: Ballot, led: Ballot) -> bool
+pub fn is_usable(cell: &InstanceView<'_>, ballot: Ballot, led: Ballot) -> bool
     ensures { result ≡ rules.is_usable ballot (record_of cell.now) led }
 {
     led == ballot && cell.promised() == ballot && !cell.is_committed()
@@ -205,7 +205,11 @@ pub fn is_usable(cell: &Cell<'_>, ballot: Ballot, led: Ballot) -> bool
 
 /// The attributes that the command's interference set gives it; a refusal is that of every rule that they limit.
 #[inline(always)]
-fn own_attrs(alloc: Global, cell: &Cell<'_>, command: &Command) -> Result<Attrs, DecisionFault>
+fn own_attrs(
+    alloc: Global,
+    cell: &InstanceView<'_>,
+    command: &Command,
+) -> Result<Attrs, DecisionFault>
     ensures ok { IfOk result (λ a. (a ≡ interference cell.now.records cell.now.instance command.now) × ((ch : cells.Change) → rules.limited a ch ≡ Ok ch)) }
     ensures refused { IfErr result (λ e. (ch : cells.Change) → IsRefused (rules.limited (interference cell.now.records cell.now.instance command.now) ch) e) }
 {
@@ -218,7 +222,7 @@ fn own_attrs(alloc: Global, cell: &Cell<'_>, command: &Command) -> Result<Attrs,
 #[inline(always)]
 fn count_pre_accept_ok(
     alloc: Global,
-    cell: &Cell<'_>,
+    cell: &InstanceView<'_>,
     frame: &FrameView<'_>,
     spared: ReplicaId,
     answers: &Answers<Attrs>,
@@ -249,7 +253,7 @@ fn count_pre_accept_ok(
 #[inline(always)]
 fn one_more(
     alloc: Global,
-    cell: &Cell<'_>,
+    cell: &InstanceView<'_>,
     frame: &FrameView<'_>,
     spared: ReplicaId,
     answers: &Answers<Attrs>,
@@ -262,14 +266,18 @@ fn one_more(
     let attrs = frame.to_attrs(alloc)?;
     Ok(Change::of(
         Recorded::Stays,
-        Leading::PreAccepted(frame.from(), attrs),
+        LeadChange::PreAccepted(frame.from(), attrs),
         None,
     ))
 }
 
 /// Commits the leader's own command with the frame's attributes, which are those of all answers.
 #[inline(always)]
-fn fast_path(alloc: Global, cell: &Cell<'_>, frame: &FrameView<'_>) -> Result<Change, DecisionFault>
+fn fast_path(
+    alloc: Global,
+    cell: &InstanceView<'_>,
+    frame: &FrameView<'_>,
+) -> Result<Change, DecisionFault>
     requires kind { kind_at frame.now ≡ kind.PreAcceptOk }
     ensures ok { IfOk result (λ ch. change_of cell.now ch ≡ rules.fast_path cell.now.faults cell.now.instance cell.now.me (attrs_at frame.now) (record_of cell.now) (record_of cell.now).vote) }
     ensures refused { IfErr result (λ e. e ≡ Memory) }
@@ -288,7 +296,7 @@ fn fast_path(alloc: Global, cell: &Cell<'_>, frame: &FrameView<'_>) -> Result<Ch
 /// Begins the accept phase with the leader's own decree, joined with all answers.
 fn slow_path(
     alloc: Global,
-    cell: &Cell<'_>,
+    cell: &InstanceView<'_>,
     ballot: Ballot,
     answers: &Answers<Attrs>,
 ) -> Result<Change, AllocError>
@@ -304,7 +312,7 @@ fn slow_path(
 /// The same with all answers, the frame's among them.
 fn slow_path_with(
     alloc: Global,
-    cell: &Cell<'_>,
+    cell: &InstanceView<'_>,
     frame: &FrameView<'_>,
     answers: &Answers<Attrs>,
 ) -> Result<Change, DecisionFault>

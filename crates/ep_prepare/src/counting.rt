@@ -6,15 +6,17 @@ ghost use Rattle.ep_rules.specs.Answers.{answer};
 ghost use Rattle.ep_rules.specs.InterferenceSet.{interference};
 ghost use Rattle.ep_rules.specs.Recovery as rules;
 ghost use Rattle.ep_phase.specs.Changes.{change_of};
-ghost use Rattle.ep_phase.specs.Known.{record_of};
+ghost use Rattle.ep_phase.specs.InstanceViews.{record_of};
 ghost use Rattle.ep_phase.specs.Refused.{IsRefused};
 ghost use Rattle.ep_prepare.specs.Chosen.{chosen};
 
 use crate::choice::Choice;
 use crate::choosing::choose;
 use ep_base::{Ballot, Command, ReplicaId, Size, Vote};
-use ep_phase::{Cell, Change, DecisionFault, begin_accept, begin_commit, is_usable, start_at};
-use ep_rules::{Answers, Led};
+use ep_phase::{
+    Change, DecisionFault, InstanceView, begin_accept, begin_commit, is_usable, start_at,
+};
+use ep_rules::{Answers, LedInstance};
 use std::alloc::{AllocError, Global};
 
 /// Handles a PrepareOK: it counts while this replica leads the ballot in explicit prepare, has promised no other ballot and has not committed,
@@ -22,7 +24,7 @@ use std::alloc::{AllocError, Global};
 /// `SeqExhausted` where the sequence number of a phase 1 would pass 1,000,000.
 pub fn on_prepare_ok(
     alloc: Global,
-    cell: &Cell<'_>,
+    cell: &InstanceView<'_>,
     from: ReplicaId,
     ballot: Ballot,
     vote: Option<Vote>,
@@ -43,14 +45,14 @@ pub fn on_prepare_ok(
 /// The ballot led in explicit prepare, and its answers with this one, if this replica has not answered yet.
 fn more_preparing(
     alloc: Global,
-    cell: &Cell<'_>,
+    cell: &InstanceView<'_>,
     from: ReplicaId,
     vote: Option<Vote>,
 ) -> Result<Option<(Ballot, Answers<Option<Vote>>)>, AllocError>
     ensures { IfOk result (λ o. o ≡ rules.more_preparing from vote cell.now.led) }
 {
     match cell.led() {
-        Some(Led::Preparing(ballot, answers)) => {
+        Some(LedInstance::Preparing(ballot, answers)) => {
             if answers.get(from.index()).is_some() {
                 return Ok(None);
             }
@@ -63,7 +65,7 @@ fn more_preparing(
 
 fn count_prepare_ok(
     alloc: Global,
-    cell: &Cell<'_>,
+    cell: &InstanceView<'_>,
     ballot: Ballot,
     answers: Answers<Option<Vote>>,
 ) -> Result<Change, DecisionFault>
@@ -74,13 +76,13 @@ fn count_prepare_ok(
     if size.faults() + 1 <= answered_all(size, &answers) {
         return act_by(alloc, cell, ballot, &answers);
     }
-    Ok(Change::kept(Led::Preparing(ballot, answers)))
+    Ok(Change::kept(LedInstance::Preparing(ballot, answers)))
 }
 
 /// Chooses among the answers, and begins the phase that the choice asks for.
 fn act_by(
     alloc: Global,
-    cell: &Cell<'_>,
+    cell: &InstanceView<'_>,
     ballot: Ballot,
     answers: &Answers<Option<Vote>>,
 ) -> Result<Change, DecisionFault>
@@ -92,7 +94,7 @@ fn act_by(
 }
 
 /// The choice among the answers.
-fn choice_of<'a>(answers: &'a Answers<Option<Vote>>, cell: &Cell<'_>) -> Choice<'a>
+fn choice_of<'a>(answers: &'a Answers<Option<Vote>>, cell: &InstanceView<'_>) -> Choice<'a>
     ensures { chosen result ≡ rules.choose cell.now.faults (leader_of cell.now.instance) (λ q. answer answers.now q) }
 {
     choose(answers.as_slice(), cell.id().replica(), cell.size())
@@ -114,7 +116,7 @@ fn answered_all(size: Size, answers: &Answers<Option<Vote>>) -> u8
 /// Begins the phase that the choice asks for.
 fn act_on(
     alloc: Global,
-    cell: &Cell<'_>,
+    cell: &InstanceView<'_>,
     ballot: Ballot,
     choice: Choice<'_>,
 ) -> Result<Change, DecisionFault>

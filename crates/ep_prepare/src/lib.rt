@@ -7,7 +7,7 @@
 //! specs/Recovery.antt, says.
 //!
 //! Start with `choosing.rt`, the five cases of the choice, on which safety turns: a case that is tested a little otherwise
-//! breaks agreement, and docs/SAFETY.md tells why. Then `recovering.rt`, `preparing.rt` and `counting.rt`.
+//! breaks agreement, and docs/SAFETY.md says why. Then `recovering.rt`, `preparing.rt` and `counting.rt`.
 #![tactic(auto)]
 
 mod choice;

@@ -3,14 +3,14 @@
 ghost use Rattle.std.specs.Prelude.{◌≡◌};
 ghost use Rattle.ep_rules.specs.Recovery as rules;
 ghost use Rattle.ep_phase.specs.Changes.{change_of};
-ghost use Rattle.ep_phase.specs.Known.{record_of};
+ghost use Rattle.ep_phase.specs.InstanceViews.{record_of};
 
 use ep_base::{Ballot, ReplicaId};
-use ep_phase::{Cell, Change, Leading, Receivers, Recorded, Sending, What};
+use ep_phase::{Change, InstanceView, LeadChange, Receivers, Recorded, Sending, What};
 
 /// Handles a Prepare: below the promised ballot it is refused; at that ballot nothing happens; else the replica joins the ballot,
 /// and answers its last vote. A replica that has committed answers, too. It takes no memory.
-pub fn on_prepare(cell: &Cell<'_>, from: ReplicaId, ballot: Ballot) -> Change
+pub fn on_prepare(cell: &InstanceView<'_>, from: ReplicaId, ballot: Ballot) -> Change
     ensures { change_of cell.now result ≡ rules.on_prepare cell.now.instance from ballot (record_of cell.now) }
 {
     let promised = cell.promised();
@@ -24,16 +24,16 @@ pub fn on_prepare(cell: &Cell<'_>, from: ReplicaId, ballot: Ballot) -> Change
         to: Receivers::One(from),
         what: What::PrepareOk(ballot),
     };
-    Change::of(Recorded::Joins(ballot), Leading::Stays, Some(out))
+    Change::of(Recorded::Joins(ballot), LeadChange::Stays, Some(out))
 }
 
 /// Handles a Nack: the greatest counter told of the instance is kept. It takes no memory.
-pub fn on_nack(cell: &Cell<'_>, promised: Ballot) -> Change
+pub fn on_nack(cell: &InstanceView<'_>, promised: Ballot) -> Change
     ensures { change_of cell.now result ≡ rules.on_nack promised cell.now.told }
 {
     Change {
         entry: Recorded::Stays,
-        led: Leading::Stays,
+        led: LeadChange::Stays,
         told: Some(cell.told().max(promised.counter())),
         out: None,
     }

@@ -4,19 +4,21 @@ ghost use Rattle.std.specs.Prelude.{◌≡◌, ◌+◌, ◌<◌, ◌≤◌, max,
 ghost use Rattle.ep_base.specs.Ballots.{ballot_of, counter_of, highest_counter};
 ghost use Rattle.ep_rules.specs.Recovery as rules;
 ghost use Rattle.ep_phase.specs.Changes.{change_of};
-ghost use Rattle.ep_phase.specs.Known.{record_of};
+ghost use Rattle.ep_phase.specs.InstanceViews.{record_of};
 ghost use Rattle.ep_phase.specs.Refused.{IsRefused};
 
 use crate::own_vote::own_vote;
 use ep_base::{Ballot, ReplicaId};
-use ep_phase::{Cell, Change, DecisionFault, Leading, Receivers, Recorded, Sending, What};
-use ep_rules::{Answers, Led};
+use ep_phase::{
+    Change, DecisionFault, InstanceView, LeadChange, Receivers, Recorded, Sending, What,
+};
+use ep_rules::{Answers, LedInstance};
 use std::alloc::Global;
 
 /// Begins to recover the instance: the replica joins a ballot of its own above what it promised and all that it was told of,
 /// takes its own last vote as the first answer, and asks all others for theirs. `AlreadyCommitted` where it has committed,
 /// `BallotsExhausted` where the ballot's counter would pass 60,000.
-pub fn recover(alloc: Global, cell: &Cell<'_>) -> Result<Change, DecisionFault>
+pub fn recover(alloc: Global, cell: &InstanceView<'_>) -> Result<Change, DecisionFault>
     ensures ok { IfOk result (λ ch. rules.recover cell.now.faults cell.now.instance cell.now.me (record_of cell.now) cell.now.told ≡ Ok (change_of cell.now ch)) }
     ensures refused { IfErr result (λ e. IsRefused (rules.recover cell.now.faults cell.now.instance cell.now.me (record_of cell.now) cell.now.told) e) }
 {
@@ -35,7 +37,7 @@ pub fn recover(alloc: Global, cell: &Cell<'_>) -> Result<Change, DecisionFault>
     };
     Ok(Change::of(
         Recorded::Joins(ballot),
-        Leading::Leads(Led::Preparing(ballot, answers)),
+        LeadChange::Leads(LedInstance::Preparing(ballot, answers)),
         Some(out),
     ))
 }

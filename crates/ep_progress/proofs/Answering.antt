@@ -24,8 +24,8 @@ use Rattle.ep_rules.specs.Phases.{first_phase}
 use Rattle.ep_rules.specs.States.{State, cell_in, record_in, committed_in, attrs_of, graph_in, is_free, free_number, fresh_state, or_zero}
 use Rattle.ep_rules.specs.Steps.{Execute, may_ask, at, proposed, acts, changed_by, IsTaken}
 use Rattle.ep_rules.specs.Worlds.{World, opening, In, Act, Happens, moved, IsRun, ends}
-use Rattle.ep_rules.specs.declared.led.Led.{Led}
-use Rattle.ep_rules.specs.declared.led.Led.TheVariants.{Proposing, Accepting, Preparing}
+use Rattle.ep_rules.specs.declared.led_instance.LedInstance.{LedInstance}
+use Rattle.ep_rules.specs.declared.led_instance.LedInstance.TheVariants.{Proposing, Accepting, Preparing}
 use Rattle.ep_rules.specs.declared.record.Record.{Record}
 use Rattle.ep_rules.proofs.Counting.{least_none}
 use Rattle.ep_rules.proofs.Keeping.{record_of, sent_to_those}
@@ -255,7 +255,7 @@ module _ (f : ℕ) (two : 0 < f) (few : size f ≤ 256) (live : ℕ → Bool) (e
 
     -- by the command itself
 
-    any_lead : (r : ℕ) → r ≢ q → (o : Option Led) → LeadFor c i q r o
+    any_lead : (r : ℕ) → r ≢ q → (o : Option LedInstance) → LeadFor c i q r o
     any_lead r ne None = tt
     any_lead r ne (Some (Proposing b s answers)) = tt
     any_lead r ne (Some (Accepting b answers)) = tt

@@ -21,8 +21,8 @@ use Rattle.ep_rules.specs.Recovery.{answered_all, votes, did_commit, choose, act
 use Rattle.ep_rules.specs.States.{State, cell_in, record_in}
 use Rattle.ep_rules.specs.Steps.{Sent, handled, sent_from}
 use Rattle.ep_rules.specs.Worlds.{World, In}
-use Rattle.ep_rules.specs.declared.led.Led.{Led}
-use Rattle.ep_rules.specs.declared.led.Led.TheVariants.{Proposing, Accepting, Preparing}
+use Rattle.ep_rules.specs.declared.led_instance.LedInstance.{LedInstance}
+use Rattle.ep_rules.specs.declared.led_instance.LedInstance.TheVariants.{Proposing, Accepting, Preparing}
 use Rattle.ep_rules.specs.declared.record.Record.{Record}
 use Rattle.ep_rules.proofs.Counting.{count_without, count_le}
 use Rattle.ep_rules.proofs.Keeping.{applied, record_of}
@@ -96,7 +96,7 @@ module _ (f : ℕ) (two : 0 < f) (few : size f ≤ 256) (live : ℕ → Bool) (q
   Opened = Open f live q i b
 
   -- The leader keeps an answer.
-  record Kept (w w' : World) (l : Led) : Type 0 where
+  record Kept (w w' : World) (l : LedInstance) : Type 0 where
     mine : recd w' q ≡ recd w q
     led : get (w'.states q).leads i ≡ Some l
     apart : (k : ℕ) → k ≢ q → recd w' k ≡ recd w k
@@ -104,7 +104,7 @@ module _ (f : ℕ) (two : 0 < f) (few : size f ≤ 256) (live : ℕ → Bool) (q
     only : (s : Sent) → In s w'.sent → In s w.sent
     sound : WorldSound f w'
 
-  kept_by : (w w' : World) (l : Led) (ch : Change) → Change0 w w' q ch → ch ≡ kept l → Kept w w' l
+  kept_by : (w w' : World) (l : LedInstance) (ch : Change) → Change0 w w' q ch → ch ≡ kept l → Kept w w' l
   kept_by w w' l ch c is = record {
     mine = ap (record_of i) c.here ∙ ap (λ e. record_of i (applied (cell_in (w.states q) i) e)) is;
     led = ap (λ (x : Cell). x.led) c.here ∙ ap (λ e. (applied (cell_in (w.states q) i) e).led) is;
@@ -115,7 +115,7 @@ module _ (f : ℕ) (two : 0 < f) (few : size f ≤ 256) (live : ℕ → Bool) (q
   }
 
   -- The leader begins a phase.
-  record Begun (w w' : World) (y : Record) (l : Led) (m : Message) : Type 0 where
+  record Begun (w w' : World) (y : Record) (l : LedInstance) (m : Message) : Type 0 where
     mine : recd w' q ≡ y
     led : get (w'.states q).leads i ≡ Some l
     apart : (k : ℕ) → k ≢ q → recd w' k ≡ recd w k
@@ -124,10 +124,10 @@ module _ (f : ℕ) (two : 0 < f) (few : size f ≤ 256) (live : ℕ → Bool) (q
     only : (s : Sent) → In s w'.sent → In s w.sent ⊎ ((x : ℕ) × (x ≢ q) × (down x m ≡ s))
     sound : WorldSound f w'
 
-  abbrev begins : Record → Led → Message → Change
+  abbrev begins : Record → LedInstance → Message → Change
   begins y l m = record { entry = Some y; led = Some (Some l); told = None; out = to_those (is_other q) (size f) m }
 
-  begun_by : (w w' : World) (y : Record) (l : Led) (m : Message) (ch : Change) → Change0 w w' q ch → ch ≡ begins y l m → Begun w w' y l m
+  begun_by : (w w' : World) (y : Record) (l : LedInstance) (m : Message) (ch : Change) → Change0 w w' q ch → ch ≡ begins y l m → Begun w w' y l m
   begun_by w w' y l m ch c is = record {
     mine = ap (record_of i) c.here ∙ ap (λ e. record_of i (applied (cell_in (w.states q) i) e)) is;
     led = ap (λ (x : Cell). x.led) c.here ∙ ap (λ e. (applied (cell_in (w.states q) i) e).led) is;
@@ -141,7 +141,7 @@ module _ (f : ℕ) (two : 0 < f) (few : size f ≤ 256) (live : ℕ → Bool) (q
     sound = c.sound;
   }
 
-  base_kept : (k : ℕ) (done : List Sent) (w w' : World) (l : Led) (s : Sent) → Kept w w' l → In s w.sent → Base f live q i b k done w → Base f live q i b k (s ∷ done) w'
+  base_kept : (k : ℕ) (done : List Sent) (w w' : World) (l : LedInstance) (s : Sent) → Kept w w' l → In s w.sent → Base f live q i b k done w → Base f live q i b k (s ∷ done) w'
   base_kept k done w w' l s c there g = record {
     sound = c.sound;
     low = λ x lt lx ne. subst (λ (r : Record). r.promised ≤ b) (sym (c.apart x ne)) (g.low x lt lx ne);
@@ -149,7 +149,7 @@ module _ (f : ℕ) (two : 0 < f) (few : size f ≤ 256) (live : ℕ → Bool) (q
     heard = λ t h. elim h [ inl e ↦ c.before t (subst (λ u. In u w.sent) e there) | inr old ↦ c.before t (g.heard t old) ];
   }
 
-  base_begun : (k j : ℕ) (done : List Sent) (w w' : World) (y : Record) (l : Led) (m : Message) (s : Sent) → k ≤ j → Begun w w' y l m → ((x : ℕ) → x ≢ q → Said f live q i b j (down x m)) → In s w.sent → Base f live q i b k done w → Base f live q i b j (s ∷ done) w'
+  base_begun : (k j : ℕ) (done : List Sent) (w w' : World) (y : Record) (l : LedInstance) (m : Message) (s : Sent) → k ≤ j → Begun w w' y l m → ((x : ℕ) → x ≢ q → Said f live q i b j (down x m)) → In s w.sent → Base f live q i b k done w → Base f live q i b j (s ∷ done) w'
   base_begun k j done w w' y l m s le c said there g = record {
     sound = c.sound;
     low = λ x lt lx ne. subst (λ (r : Record). r.promised ≤ b) (sym (c.apart x ne)) (g.low x lt lx ne);
@@ -309,7 +309,7 @@ module _ (f : ℕ) (two : 0 < f) (few : size f ≤ 256) (live : ℕ → Bool) (q
     abbrev own : Command → Attrs
     own = interference (w.states q).records i
 
-    abbrev lead_q : Option Led
+    abbrev lead_q : Option LedInstance
     lead_q = get (w.states q).leads i
 
     prep_at : (recd w q).promised ≡ b

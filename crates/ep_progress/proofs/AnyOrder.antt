@@ -17,7 +17,7 @@ use Rattle.ep_rules.specs.Recovery.{answered_all}
 use Rattle.ep_rules.specs.States.{State, cell_in, record_in}
 use Rattle.ep_rules.specs.Steps.{Sent, sent_from}
 use Rattle.ep_rules.specs.Worlds.{World, In, Committed as IsCommitted}
-use Rattle.ep_rules.specs.declared.led.Led.TheVariants.{Proposing, Accepting, Preparing}
+use Rattle.ep_rules.specs.declared.led_instance.LedInstance.TheVariants.{Proposing, Accepting, Preparing}
 use Rattle.ep_rules.specs.declared.record.Record.{Record}
 use Rattle.ep_rules.proofs.Keeping.{applied, record_of}
 use Rattle.ep_progress.proofs.Sound.{WorldSound}

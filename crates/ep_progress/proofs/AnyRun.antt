@@ -18,7 +18,7 @@ use Rattle.ep_rules.specs.Recovery.{next_counter, prepare_phase, recover, answer
 use Rattle.ep_rules.specs.States.{State, cell_in, record_in}
 use Rattle.ep_rules.specs.Steps.{Sent, Frame, Event, Propose, Handle, GiveUp, Recover, Execute, handled, at, acts, sent_from}
 use Rattle.ep_rules.specs.Worlds.{World, opening, In, Act, Happens, moved, IsRun, ends, Committed}
-use Rattle.ep_rules.specs.declared.led.Led.TheVariants.{Preparing}
+use Rattle.ep_rules.specs.declared.led_instance.LedInstance.TheVariants.{Preparing}
 use Rattle.ep_rules.specs.declared.record.Record.{Record}
 use Rattle.ep_rules.proofs.Counting.{count_le}
 use Rattle.ep_rules.proofs.Keeping.{record_of, applied}

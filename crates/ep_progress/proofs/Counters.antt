@@ -16,8 +16,8 @@ use Rattle.ep_rules.specs.Counting.{is_other}
 use Rattle.ep_rules.specs.Phases.{Outcome, limited, accept_phase, first_phase, commit_phase, slow_path, fast_path, fast_answered, all_equal, others, count_pre_accept_ok, use_pre_accept_ok, on_pre_accept_ok, on_pre_accept, on_accept, on_commit, commit_own, use_accept_ok, on_accept_ok, is_usable}
 use Rattle.ep_rules.specs.Recovery.{Choice, CommitIt, AcceptIt, AcceptFast, ProposeIt, ProposeNoop, choose, act_on, answered_all, count_prepare_ok, use_prepare_ok, on_prepare_ok, on_prepare}
 use Rattle.ep_rules.specs.Steps.{Sent}
-use Rattle.ep_rules.specs.declared.led.Led.{Led}
-use Rattle.ep_rules.specs.declared.led.Led.TheVariants.{Proposing, Accepting, Preparing}
+use Rattle.ep_rules.specs.declared.led_instance.LedInstance.{LedInstance}
+use Rattle.ep_rules.specs.declared.led_instance.LedInstance.TheVariants.{Proposing, Accepting, Preparing}
 use Rattle.ep_rules.specs.declared.record.Record.{Record}
 use Rattle.ep_rules.proofs.Keeping.{AllSent, sent_to_those, split, newer}
 use Rattle.ep_progress.proofs.AnyOrder.{from_q, to_q}
@@ -95,7 +95,7 @@ module _ (f : ℕ) (live : ℕ → Bool) (q i b : ℕ) where
     leader_nothing : LeaderFine r nothing
     leader_nothing = record { at = λ h. h; told = refl; out = tt }
 
-    leader_kept : (l : Led) → LeaderFine r (kept l)
+    leader_kept : (l : LedInstance) → LeaderFine r (kept l)
     leader_kept l = record { at = λ h. h; told = refl; out = tt }
 
     leader_accept : (d : Decree) → LeaderFine r (accept_phase f i q b d)
@@ -123,7 +123,7 @@ module _ (f : ℕ) (live : ℕ → Bool) (q i b : ℕ) where
         (λ e. leader_kept (Proposing b s answers)))
         (λ e. split (LeaderFine r) (leb f (others f q answers)) _ _ (λ e. leader_slow answers r.vote) (λ e. leader_kept (Proposing b s answers)))
 
-    pub leader_pre_accept_ok : (from : ℕ) (a : Attrs) (led : Option Led) → LeaderFine r (on_pre_accept_ok f i q from b a r led)
+    pub leader_pre_accept_ok : (from : ℕ) (a : Attrs) (led : Option LedInstance) → LeaderFine r (on_pre_accept_ok f i q from b a r led)
     leader_pre_accept_ok from a None = leader_nothing
     leader_pre_accept_ok from a (Some (Accepting lb answers)) = leader_nothing
     leader_pre_accept_ok from a (Some (Preparing lb answers)) = leader_nothing
@@ -135,7 +135,7 @@ module _ (f : ℕ) (live : ℕ → Bool) (q i b : ℕ) where
     leader_own None = leader_nothing
     leader_own (Some v) = leader_commit v.decree
 
-    pub leader_accept_ok : (from : ℕ) (led : Option Led) → LeaderFine r (on_accept_ok f i q from b r led)
+    pub leader_accept_ok : (from : ℕ) (led : Option LedInstance) → LeaderFine r (on_accept_ok f i q from b r led)
     leader_accept_ok from None = leader_nothing
     leader_accept_ok from (Some (Proposing lb s answers)) = leader_nothing
     leader_accept_ok from (Some (Preparing lb answers)) = leader_nothing
@@ -159,7 +159,7 @@ module _ (f : ℕ) (live : ℕ → Bool) (q i b : ℕ) where
     leader_count_prepare own answers =
         split (LeaderOk r) (leb (f + 1) (answered_all f answers)) _ _ (λ m. leader_choice own (choose f (leader_of i) (λ k. answer answers k))) (λ m. leader_kept (Preparing b answers))
 
-    pub leader_prepare_ok : (from : ℕ) (v : Option Vote) (own : Command → Attrs) (led : Option Led) → LeaderOk r (on_prepare_ok f i q from b v own r led)
+    pub leader_prepare_ok : (from : ℕ) (v : Option Vote) (own : Command → Attrs) (led : Option LedInstance) → LeaderOk r (on_prepare_ok f i q from b v own r led)
     leader_prepare_ok from v own None = leader_nothing
     leader_prepare_ok from v own (Some (Proposing lb s answers)) = leader_nothing
     leader_prepare_ok from v own (Some (Accepting lb answers)) = leader_nothing

@@ -25,7 +25,7 @@ use Rattle.ep_progress.specs.Alone.{silenced, HasRoom, Ending, SameRun, CanEnd}
 use Rattle.ep_progress.specs.Quiet.{recovering}
 use Rattle.ep_progress.proofs.Acting.{others_there, Done, recover_done}
 use Rattle.ep_progress.proofs.Entries.{fewer_seq}
-use Rattle.ep_progress.proofs.Leading.{Leads, at_once, then_act}
+use Rattle.ep_progress.proofs.Leading.{LeadsTo, at_once, then_act}
 use Rattle.ep_progress.proofs.Rounds.{Ground, ground_kept, exchange, prepare_all}
 use Rattle.ep_progress.proofs.Rules.{prepare_refused, recovers_at}
 use Rattle.ep_progress.proofs.Same.{same_run}
@@ -61,7 +61,7 @@ module _ (f : ℕ) (two : 0 < f) (few : size f ≤ 256) (live : ℕ → Bool) (q
   pub record Known (w : World) (x : ℕ) : Type 0 where
     pub low : counter_of (record_in (w.states x) i).promised ≤ max (counter_of (mine w).promised) (told w)
 
-  second : (w : World) → OnGround w → is_committed (mine w).vote ≡ false → counter_of (mine w).promised < 59999 → told w < 59998 → ((x : ℕ) → x < t → p x ≡ true → Known w x) → Leads f live q i 1 w Goal
+  second : (w : World) → OnGround w → is_committed (mine w).vote ≡ false → counter_of (mine w).promised < 59999 → told w < 59998 → ((x : ℕ) → x < t → p x ≡ true → Known w x) → LeadsTo f live q i 1 w Goal
   second w g unended low low' known =
       let n : ℕ = next_counter (mine w) (told w) in
       let b : ℕ = ballot_of n q in
@@ -110,7 +110,7 @@ module _ (f : ℕ) (two : 0 < f) (few : size f ≤ 256) (live : ℕ → Bool) (q
     known = λ x le lt px. elim (below x m le) [ inl is ↦ subst (λ k. Known w k) (sym is) (here (subst (λ k. p k ≡ true) is px)) | inr more ↦ a.known x more lt px ];
   }
 
-  ask_told : (b m : ℕ) (w : World) → counter_of b < 59999 → m < t → p m ≡ true → (a : Asks b (suc m) w) → b < (record_in (w.states m) i).promised → ((w' : World) → Asks b m w' → Leads f live q i 1 w' Goal) → Leads f live q i 1 w Goal
+  ask_told : (b m : ℕ) (w : World) → counter_of b < 59999 → m < t → p m ≡ true → (a : Asks b (suc m) w) → b < (record_in (w.states m) i).promised → ((w' : World) → Asks b m w' → LeadsTo f live q i 1 w' Goal) → LeadsTo f live q i 1 w Goal
   ask_told b m w low lt e a higher rec =
       let r : Record = record_in (w.states m) i in
       exchange f two few live q i q_low lead p t t_low all q_live p_live p_other 1 w Goal a.ground m (omega arith) (p_live m e) (p_other m e) (Prepare i b) (Nack i b r.promised) refl refl (a.asked m (omega arith) e)
@@ -138,18 +138,18 @@ module _ (f : ℕ) (two : 0 < f) (few : size f ≤ 256) (live : ℕ → Bool) (q
         ];
       }))
 
-  ask_all : (b m : ℕ) (w : World) → counter_of b < 59999 → m ≤ t → Asks b m w → Leads f live q i 1 w Goal
+  ask_all : (b m : ℕ) (w : World) → counter_of b < 59999 → m ≤ t → Asks b m w → LeadsTo f live q i 1 w Goal
   ask_all b zero w low le a = second w a.ground a.unended (let e = ap counter_of a.at in omega arith) a.few_told (λ x lt px. a.known x (omega arith) lt px)
   ask_all b (suc m) w low le a = go (p m) refl (ask_all b m)
     where
-      go : (u : Bool) → p m ≡ u → ((w' : World) → counter_of b < 59999 → m ≤ t → Asks b m w' → Leads f live q i 1 w' Goal) → Leads f live q i 1 w Goal
+      go : (u : Bool) → p m ≡ u → ((w' : World) → counter_of b < 59999 → m ≤ t → Asks b m w' → LeadsTo f live q i 1 w' Goal) → LeadsTo f live q i 1 w Goal
       go false e rec = rec w low (omega arith) (ask_known b m w a (λ px. absurd (false≢true (sym e ∙ px))))
       go true e rec = elim (order b (record_in (w.states m) i).promised) [
         | inl higher ↦ ask_told b m w low (omega arith) e a higher (λ w' n. rec w' low (omega arith) n)
         | inr fine ↦ rec w low (omega arith) (ask_known b m w a (λ px. record { low = (let at : counter_of (mine w).promised ≡ counter_of b = ap counter_of a.at in omega arith) }))
       ]
 
-  first : (w : World) → OnGround w → is_committed (mine w).vote ≡ false → counter_of (mine w).promised < 59998 → told w < 59998 → ((x : ℕ) → x < t → p x ≡ true → counter_of (record_in (w.states x) i).promised < 59998) → Leads f live q i 2 w Goal
+  first : (w : World) → OnGround w → is_committed (mine w).vote ≡ false → counter_of (mine w).promised < 59998 → told w < 59998 → ((x : ℕ) → x < t → p x ≡ true → counter_of (record_in (w.states x) i).promised < 59998) → LeadsTo f live q i 2 w Goal
   first w g unended low low' room =
       let n : ℕ = next_counter (mine w) (told w) in
       let b : ℕ = ballot_of n q in
@@ -190,7 +190,7 @@ module _ (f : ℕ) (two : 0 < f) (few : size f ≤ 256) (live : ℕ → Bool) (e
       let b = fewer_seq (touches c i) (entries (w.states x).records) in
       omega arith
 
-  lead_there : Leads f live q i 2 silent (λ v. (d : Decree) × IsCommitted v q i d)
+  lead_there : LeadsTo f live q i 2 silent (λ v. (d : Decree) × IsCommitted v q i d)
   lead_there = elim (committed_or (record_in (w.states q) i).vote) [
     | inl done ↦ at_once f live q i 2 silent (λ v. (d : Decree) × IsCommitted v q i d) done
     | inr unended ↦ first f two few live q i q_low lead p here.bound here.low here.many q_live p_live p_other silent

@@ -51,7 +51,7 @@ module _ (f : ℕ) (live : ℕ → Bool) (q i b : ℕ) where
   abbrev told : World → ℕ
   told w = (cell_in (w.states q) i).told
 
-  -- x has promised b at most, or more, and tells so where it is asked
+  -- x has promised b at most, or more, and says so where it is asked
   abbrev Each : List Sent → World → ℕ → Type 0
   Each done w x = ((recd w x).promised ≤ b) ⊎ ((b < (recd w x).promised) × (In (down x (Prepare i b)) done → In (up x (Nack i b (recd w x).promised)) w.sent))
 

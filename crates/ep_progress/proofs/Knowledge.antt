@@ -16,18 +16,18 @@ use Rattle.ep_rules.specs.Cells.{Change, nothing, answered, recorded, kept, vote
 use Rattle.ep_rules.specs.Counting.{least, is_other}
 use Rattle.ep_rules.specs.Phases.{Outcome, limited, first_phase, accept_phase, commit_phase, with_attrs, on_pre_accept, on_accept, on_commit, is_usable, others, fast_answered, all_equal, join_some, join_all, joined, slow_path, fast_path, count_pre_accept_ok, use_pre_accept_ok, on_pre_accept_ok, commit_own, use_accept_ok, on_accept_ok}
 use Rattle.ep_rules.specs.Recovery.{Choice, CommitIt, AcceptIt, AcceptFast, ProposeIt, ProposeNoop, votes, did_commit, did_accept_at, did_preaccept_at, is_fast_witness, top_ballot, with_vote_of, choose_at, choose, act_on, next_counter, recover, on_prepare, answered_all, count_prepare_ok, use_prepare_ok, on_prepare_ok}
-use Rattle.ep_rules.specs.declared.led.Led.{Led}
-use Rattle.ep_rules.specs.declared.led.Led.TheVariants.{Proposing, Accepting, Preparing}
+use Rattle.ep_rules.specs.declared.led_instance.LedInstance.{LedInstance}
+use Rattle.ep_rules.specs.declared.led_instance.LedInstance.TheVariants.{Proposing, Accepting, Preparing}
 use Rattle.ep_rules.specs.declared.record.Record.{Record}
 use Rattle.ep_rules.proofs.Keeping.{AllSent, sent_to_those, split}
 use Rattle.ep_rules.proofs.Lookups.{answer_back}
 use Rattle.ep_progress.specs.Known.{VoteHas, LedHas}
 
-abbrev pub LeadHas : (Attrs → Type 0) → Option Led → Type 0
+abbrev pub LeadHas : (Attrs → Type 0) → Option LedInstance → Type 0
 LeadHas P None = Unit {0}
 LeadHas P (Some l) = LedHas P l
 
-abbrev pub NewLeadHas : (Attrs → Type 0) → Option (Option Led) → Type 0
+abbrev pub NewLeadHas : (Attrs → Type 0) → Option (Option LedInstance) → Type 0
 NewLeadHas P None = Unit {0}
 NewLeadHas P (Some l) = LeadHas P l
 
@@ -111,7 +111,7 @@ module _ (P : Attrs → Type 0) (joins : (a b : Attrs) → P a → P b → P (jo
   has_recorded : (y : Record) (from : ℕ) (m : Message) → VoteHas P y.vote → MessageHas P m → ChangeHas P (recorded y from m)
   has_recorded y from m r w = record { entry = r; led = tt; out = (w, tt) }
 
-  has_kept : (led : Led) → LedHas P led → ChangeHas P (kept led)
+  has_kept : (led : LedInstance) → LedHas P led → ChangeHas P (kept led)
   has_kept led l = record { entry = tt; led = l; out = tt }
 
   has_first_phase : (asked : ℕ → Bool) (b s : ℕ) (d : Decree) → P d.attrs → ChangeHas P (first_phase asked f i b s d)
@@ -160,7 +160,7 @@ module _ (P : Attrs → Type 0) (joins : (a b : Attrs) → P a → P b → P (jo
       (λ e. has_kept (Proposing b s answers) each))
       (λ e. split (ChangeHas P) (leb f (others f me answers)) _ _ (λ e. has_slow b answers each x.vote ok) (λ e. has_kept (Proposing b s answers) each))
 
-  pub has_pre_accept_ok : (from b : ℕ) (a : Attrs) (led : Option Led) → P a → LeadHas P led → ChangeHas P (on_pre_accept_ok f i me from b a x led)
+  pub has_pre_accept_ok : (from b : ℕ) (a : Attrs) (led : Option LedInstance) → P a → LeadHas P led → ChangeHas P (on_pre_accept_ok f i me from b a x led)
   has_pre_accept_ok from b a None w l = has_nothing
   has_pre_accept_ok from b a (Some (Accepting lb answers)) w l = has_nothing
   has_pre_accept_ok from b a (Some (Preparing lb answers)) w l = has_nothing
@@ -172,7 +172,7 @@ module _ (P : Attrs → Type 0) (joins : (a b : Attrs) → P a → P b → P (jo
   has_commit_own None w = has_nothing
   has_commit_own (Some v) w = has_commit_phase v.decree w
 
-  pub has_accept_ok : (from b : ℕ) (led : Option Led) → ChangeHas P (on_accept_ok f i me from b x led)
+  pub has_accept_ok : (from b : ℕ) (led : Option LedInstance) → ChangeHas P (on_accept_ok f i me from b x led)
   has_accept_ok from b None = has_nothing
   has_accept_ok from b (Some (Proposing lb s answers)) = has_nothing
   has_accept_ok from b (Some (Preparing lb answers)) = has_nothing
@@ -214,7 +214,7 @@ module _ (P : Attrs → Type 0) (joins : (a b : Attrs) → P a → P b → P (jo
         (λ m. has_choice b (choose f (leader_of i) (λ q. answer answers q)) (choose_has P f (leader_of i) (λ q. answer answers q) each))
         (λ m. has_kept (Preparing b answers) each)
 
-    pub has_prepare_ok : (from b : ℕ) (v : Option Vote) (led : Option Led) → VoteHas P v → LeadHas P led → OutcomeHas P (on_prepare_ok f i me from b v own x led)
+    pub has_prepare_ok : (from b : ℕ) (v : Option Vote) (led : Option LedInstance) → VoteHas P v → LeadHas P led → OutcomeHas P (on_prepare_ok f i me from b v own x led)
     has_prepare_ok from b v None w l = has_nothing
     has_prepare_ok from b v (Some (Proposing lb s answers)) w l = has_nothing
     has_prepare_ok from b v (Some (Accepting lb answers)) w l = has_nothing

@@ -4,7 +4,7 @@ use Rattle.ep_rules.specs.Worlds.{World, Act, Happens, moved, IsRun, ends}
 use Rattle.ep_progress.specs.Alone.{Serves, AllServe, recovers, recoveries}
 
 -- k recoveries at most
-pub record Leads (f : ℕ) (live : ℕ → Bool) (q i k : ℕ) (w : World) (P : World → Type 0) : Type 0 where
+pub record LeadsTo (f : ℕ) (live : ℕ → Bool) (q i k : ℕ) (w : World) (P : World → Type 0) : Type 0 where
   pub acts : List Act
   pub run : IsRun f w acts
   pub serve : AllServe live q i acts
@@ -12,10 +12,10 @@ pub record Leads (f : ℕ) (live : ℕ → Bool) (q i k : ℕ) (w : World) (P : 
   pub end : P (ends f w acts)
 
 module _ (f : ℕ) (live : ℕ → Bool) (q i : ℕ) where
-  pub at_once : (k : ℕ) (w : World) (P : World → Type 0) → P w → Leads f live q i k w P
+  pub at_once : (k : ℕ) (w : World) (P : World → Type 0) → P w → LeadsTo f live q i k w P
   at_once k w P p = record { acts = []; run = tt; serve = tt; few = (omega arith); end = p }
 
-  pub then_act : (n k : ℕ) (w : World) (a : Act) (P : World → Type 0) → Happens f w a → live a.replica ≡ true → Serves q i a.replica a.event → recovers a.event + k ≤ n → Leads f live q i k (moved f w a) P → Leads f live q i n w P
+  pub then_act : (n k : ℕ) (w : World) (a : Act) (P : World → Type 0) → Happens f w a → live a.replica ≡ true → Serves q i a.replica a.event → recovers a.event + k ≤ n → LeadsTo f live q i k (moved f w a) P → LeadsTo f live q i n w P
   then_act n k w a P h l s c t = record { acts = a ∷ t.acts; run = (h, t.run); serve = (l, s, t.serve); few = (let few = t.few in omega arith); end = t.end }
 
   pub join : (xs ys : List Act) (w : World) → IsRun f w xs → IsRun f (ends f w xs) ys → IsRun f w (xs ++ ys)
@@ -34,7 +34,7 @@ module _ (f : ℕ) (live : ℕ → Bool) (q i : ℕ) where
   sum_join [] ys = omega arith
   sum_join (x ∷ xs) ys = let ih = sum_join xs ys in omega arith
 
-  pub and_then : (k j : ℕ) (w : World) (P Q : World → Type 0) → Leads f live q i k w P → ((w' : World) → P w' → Leads f live q i j w' Q) → Leads f live q i (k + j) w Q
+  pub and_then : (k j : ℕ) (w : World) (P Q : World → Type 0) → LeadsTo f live q i k w P → ((w' : World) → P w' → LeadsTo f live q i j w' Q) → LeadsTo f live q i (k + j) w Q
   and_then k j w P Q a go =
       let b = go (ends f w a.acts) a.end in
       record {

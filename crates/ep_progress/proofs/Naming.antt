@@ -14,8 +14,8 @@ use Rattle.ep_rules.specs.Maps.{entries}
 use Rattle.ep_rules.specs.States.{State}
 use Rattle.ep_rules.specs.Steps.{are_within, vote_within}
 use Rattle.ep_rules.specs.Worlds.{World, opening, ends}
-use Rattle.ep_rules.specs.declared.led.Led.{Led}
-use Rattle.ep_rules.specs.declared.led.Led.TheVariants.{Proposing, Accepting, Preparing}
+use Rattle.ep_rules.specs.declared.led_instance.LedInstance.{LedInstance}
+use Rattle.ep_rules.specs.declared.led_instance.LedInstance.TheVariants.{Proposing, Accepting, Preparing}
 use Rattle.ep_rules.specs.declared.record.Record.{Record}
 use Rattle.ep_rules.proofs.Places.{has_cons, has_tail, has_left, has_right, has_filter, filter_has}
 use Rattle.ep_progress.specs.Finishing.{CanSurvey}
@@ -67,7 +67,7 @@ answers_bound P one (y ∷ answers) =
     changed (λ is m. P is m y.1 × Each (P is m) answers) (λ is m. Each (P is m) (y ∷ answers)) (λ is m h. each_one (P is m) y answers h.0 h.1)
     (both (λ is m. P is m y.1) (λ is m. Each (P is m) answers) (one y.1) (answers_bound P one answers))
 
-led_bound : (l : Led) → Bound (λ is m. LedHas (Within is m) l)
+led_bound : (l : LedInstance) → Bound (λ is m. LedHas (Within is m) l)
 led_bound (Proposing b s answers) = answers_bound (λ is m a. Within is m a) attrs_bound answers
 led_bound (Accepting b answers) = always _ (λ is m. tt)
 led_bound (Preparing b answers) = answers_bound (λ is m v. VoteHas (Within is m) v) vote_bound answers
@@ -83,11 +83,11 @@ entry_bound : (j : ℕ) (x : Record) → Bound (λ is m. EntryWithin is m j x)
 entry_bound j x = both (λ is m. Has is j) (λ is m. VoteHas (Within is m) x.vote) (named_bound j) (vote_bound x.vote)
 
 abbrev StateWithin : List ℕ → ℕ → State → Type 0
-StateWithin is m s = AllEntries (EntryWithin is m) (entries s.records) × AllEntries (λ (j : ℕ) (l : Led). LedHas (Within is m) l) (entries s.leads)
+StateWithin is m s = AllEntries (EntryWithin is m) (entries s.records) × AllEntries (λ (j : ℕ) (l : LedInstance). LedHas (Within is m) l) (entries s.leads)
 
 state_bound : (s : State) → Bound (λ is m. StateWithin is m s)
 state_bound s =
-    both (λ is m. AllEntries (EntryWithin is m) (entries s.records)) (λ is m. AllEntries (λ (j : ℕ) (l : Led). LedHas (Within is m) l) (entries s.leads))
+    both (λ is m. AllEntries (EntryWithin is m) (entries s.records)) (λ is m. AllEntries (λ (j : ℕ) (l : LedInstance). LedHas (Within is m) l) (entries s.leads))
     (entries_bound (λ is m j x. EntryWithin is m j x) entry_bound (entries s.records))
     (entries_bound (λ is m j l. LedHas (Within is m) l) (λ j l. led_bound l) (entries s.leads))
 
@@ -128,7 +128,7 @@ module _ (n root : ℕ) (is : List ℕ) (m : ℕ) where
   vote_in None w h = tt
   vote_in (Some v) w h = in_cluster v.decree.attrs (and_parts (ltb (owner_of v.ballot) n) _ w).1 h
 
-  led_in : (l : Led) → LedSound n l → LedHas (Within is m) l → LedHas (Within of_cluster m) l
+  led_in : (l : LedInstance) → LedSound n l → LedHas (Within is m) l → LedHas (Within of_cluster m) l
   led_in (Proposing b s answers) w h = λ r a e. in_cluster a (w r a e) (h r a e)
   led_in (Accepting b answers) w h = tt
   led_in (Preparing b answers) w h = λ r v e. vote_in v (w r v e) (h r v e)
@@ -140,7 +140,7 @@ module _ (n root : ℕ) (is : List ℕ) (m : ℕ) where
   state_in : (s : State) → StateSound n s → StateWithin is m s → KnowsWithin of_cluster m s
   state_in s ok h = record {
     recorded = in_all (EntryWithin of_cluster m) (entries s.records) (entries_in (entries s.records) ok.ranged ok.records h.0);
-    led = λ j l e. led_in l (ok.leads j l e) (all_get (λ (k : ℕ) (y : Led). LedHas (Within is m) y) s.leads j l h.1 e);
+    led = λ j l e. led_in l (ok.leads j l e) (all_get (λ (k : ℕ) (y : LedInstance). LedHas (Within is m) y) s.leads j l h.1 e);
   }
 
 pub can_survey_lem : CanSurvey

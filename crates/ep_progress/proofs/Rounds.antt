@@ -22,11 +22,11 @@ use Rattle.ep_rules.specs.Recovery.{choose, act_on, answered_all, votes, did_com
 use Rattle.ep_rules.specs.States.{State, cell_in, record_in}
 use Rattle.ep_rules.specs.Steps.{Sent, handled, sent_from}
 use Rattle.ep_rules.specs.Worlds.{World, In, Act, moved, Committed as IsCommitted}
-use Rattle.ep_rules.specs.declared.led.Led.TheVariants.{Proposing, Accepting, Preparing}
+use Rattle.ep_rules.specs.declared.led_instance.LedInstance.TheVariants.{Proposing, Accepting, Preparing}
 use Rattle.ep_rules.specs.declared.record.Record.{Record}
 use Rattle.ep_rules.proofs.Keeping.{applied, record_of}
 use Rattle.ep_progress.proofs.Acting.{others_there, Done, handling, handle_done}
-use Rattle.ep_progress.proofs.Leading.{Leads, at_once, then_act}
+use Rattle.ep_progress.proofs.Leading.{LeadsTo, at_once, then_act}
 use Rattle.ep_progress.proofs.Rules.{not_done, done_settled, prepare_answered, prepare_waits, prepare_chooses, Acted, commits, accepts, proposes, acted, chooses, vote_open, pre_accept_answered, pre_accept_waits, pre_accept_accepts, accept_answered, accept_waits, accept_commits}
 use Rattle.ep_progress.proofs.Sound.{WorldSound, record_sound}
 use Rattle.ep_progress.proofs.Tally.{count_here, count_skip, answer_here, answer_there, all_more, others_more, no_others, count_has}
@@ -52,7 +52,7 @@ module _ (f : ℕ) (two : 0 < f) (few : size f ≤ 256) (live : ℕ → Bool) (q
 
   pub exchange : (k : ℕ) (w : World) (P : World → Type 0) → Ground w → (x : ℕ) → x < size f → live x ≡ true → x ≢ q → (ask reply : Message) → instance_of_message ask ≡ i → instance_of_message reply ≡ i →
       In (record { from = q; to = x; message = ask }) w.sent → (chx : Change) → handled f x q (w.states x) ask ≡ Ok chx → chx.out ≡ (q, reply) ∷ [] → (chq : Change) → handled f q x (w.states q) reply ≡ Ok chq →
-      ((w' : World) → Exchange w x chx chq w' → Leads f live q i k w' P) → Leads f live q i k w P
+      ((w' : World) → Exchange w x chx chq w' → LeadsTo f live q i k w' P) → LeadsTo f live q i k w P
   exchange k w P g x lt l ne ask reply about about' there chx ex out chq eq go =
       let s : Sent = record { from = q; to = x; message = ask } in
       let a : Done f i w (handling s) chx = handle_done f few w g.sound i s q_low lt about there chx ex in
@@ -159,30 +159,30 @@ module _ (f : ℕ) (two : 0 < f) (few : size f ≤ 256) (live : ℕ → Bool) (q
           let total : others f q a.answers + count (suc m) p ≡ f = a.many in
           omega arith
 
-      accept_step : (chq : Change) → handled f q m (w.states q) (AcceptOk i b) ≡ Ok chq → ((w' : World) → Exchange w m accept_change chq w' → Leads f live q i 0 w' Ended) → Leads f live q i 0 w Ended
+      accept_step : (chq : Change) → handled f q m (w.states q) (AcceptOk i b) ≡ Ok chq → ((w' : World) → Exchange w m accept_change chq w' → LeadsTo f live q i 0 w' Ended) → LeadsTo f live q i 0 w Ended
       accept_step chq =
           let here = a.waiting m (omega arith) e in
           exchange 0 w Ended a.ground m (omega arith) (p_live m e) (p_other m e) (Accept i b a.decree) (AcceptOk i b) refl refl (a.asked m (omega arith) e) accept_change
           (ap (λ (ch : Change). Ok ch) (accept_answered i q b a.decree (record_in (w.states m) i) here.0 here.1)) refl chq
 
-      accept_next : 1 ≤ count m p → ((w' : World) → Accepts m w' → Leads f live q i 0 w' Ended) → Leads f live q i 0 w Ended
+      accept_next : 1 ≤ count m p → ((w' : World) → Accepts m w' → LeadsTo f live q i 0 w' Ended) → LeadsTo f live q i 0 w Ended
       accept_next some rec =
           accept_step (kept (Accepting b acceptances))
           (ap (λ (ch : Change). Ok ch) (accept_waits f i q m b acceptor (get (w.states q).leads i) a.answers a.led accept_fresh accept_at accept_unended (lt-leb f (others f q acceptances) (let c = accept_count in omega arith))))
           (λ w' x. rec w' (accepts_more m w w' low e a accept_change x))
 
-      accept_last : count m p ≡ 0 → Leads f live q i 0 w Ended
+      accept_last : count m p ≡ 0 → LeadsTo f live q i 0 w Ended
       accept_last none =
           accept_step (commit_phase f i q a.decree acceptor)
           (ap (λ (ch : Change). Ok ch) (accept_commits f i q m b acceptor (get (w.states q).leads i) a.answers a.led accept_fresh accept_at accept_unended (le-leb f (others f q acceptances) (let c = accept_count in omega arith))
           (record { status = Accepted; ballot = b; decree = a.decree }) (ap (λ (r : Record). r.vote) a.mine)))
           (λ w' x. at_once f live q i 0 w' Ended (a.decree, ap (λ c. committed_decree (record_of i c).vote) x.told))
 
-    accept_all : (m : ℕ) (w : World) → m ≤ t → 1 ≤ count m p → Accepts m w → Leads f live q i 0 w Ended
+    accept_all : (m : ℕ) (w : World) → m ≤ t → 1 ≤ count m p → Accepts m w → LeadsTo f live q i 0 w Ended
     accept_all zero w low some a = absurd (omega arith)
     accept_all (suc m) w low some a = go (p m) refl (accept_all m)
       where
-        go : (u : Bool) → p m ≡ u → ((w' : World) → m ≤ t → 1 ≤ count m p → Accepts m w' → Leads f live q i 0 w' Ended) → Leads f live q i 0 w Ended
+        go : (u : Bool) → p m ≡ u → ((w' : World) → m ≤ t → 1 ≤ count m p → Accepts m w' → LeadsTo f live q i 0 w' Ended) → LeadsTo f live q i 0 w Ended
         go false e rec = rec w (omega arith) (let c = count_skip m p e in omega arith) (accepts_skip m w e a)
         go true e rec = elim (none_or (count m p)) [
           | inl none ↦ accept_last m w (omega arith) e a none
@@ -249,7 +249,7 @@ module _ (f : ℕ) (two : 0 < f) (few : size f ≤ 256) (live : ℕ → Bool) (q
           let total : others f q a.answers + count (suc m) p ≡ f = a.many in
           omega arith
 
-      pre_step : (chq : Change) → handled f q m (w.states q) (PreAcceptOk i b joint) ≡ Ok chq → ((w' : World) → Exchange w m pre_change chq w' → Leads f live q i 0 w' Ended) → Leads f live q i 0 w Ended
+      pre_step : (chq : Change) → handled f q m (w.states q) (PreAcceptOk i b joint) ≡ Ok chq → ((w' : World) → Exchange w m pre_change chq w' → LeadsTo f live q i 0 w' Ended) → LeadsTo f live q i 0 w Ended
       pre_step chq =
           let here = a.waiting m (omega arith) e in
           exchange 0 w Ended a.ground m (omega arith) (p_live m e) (p_other m e) (PreAccept i b a.decree) (PreAcceptOk i b joint) refl refl (a.asked m (omega arith) e) pre_change
@@ -263,7 +263,7 @@ module _ (f : ℕ) (two : 0 < f) (few : size f ≤ 256) (live : ℕ → Bool) (q
         | inr more ↦ subst (λ (s : State). ((record_in s i).promised ≡ b) × (is_settled_at b (record_in s i).vote ≡ false)) (sym (ex.apart x (λ is. absurd (omega arith)) (p_other x px))) (a.answered x more lt px)
       ]
 
-      pre_next : 1 ≤ count m p → ((w' : World) → Proposes m w' → Leads f live q i 0 w' Ended) → Leads f live q i 0 w Ended
+      pre_next : 1 ≤ count m p → ((w' : World) → Proposes m w' → LeadsTo f live q i 0 w' Ended) → LeadsTo f live q i 0 w Ended
       pre_next some rec =
           pre_step (kept (Proposing b q pre_answers))
           (ap (λ (ch : Change). Ok ch) (pre_accept_waits f i q m b q joint proposer (get (w.states q).leads i) a.answers a.led pre_fresh pre_at pre_unended above (lt-leb f (others f q pre_answers) (let c = pre_count in omega arith))))
@@ -280,7 +280,7 @@ module _ (f : ℕ) (two : 0 < f) (few : size f ≤ 256) (live : ℕ → Bool) (q
             answered = pre_accepting (kept (Proposing b q pre_answers)) w' x;
           }))
 
-      pre_last : count m p ≡ 0 → Leads f live q i 0 w Ended
+      pre_last : count m p ≡ 0 → LeadsTo f live q i 0 w Ended
       pre_last none =
           let d : Decree = joined f pre_answers a.decree in
           let chq : Change = accept_phase f i q b d in
@@ -302,11 +302,11 @@ module _ (f : ℕ) (two : 0 < f) (few : size f ≤ 256) (live : ℕ → Bool) (q
             ];
           }))
 
-    propose_all : (m : ℕ) (w : World) → m ≤ t → 1 ≤ count m p → Proposes m w → Leads f live q i 0 w Ended
+    propose_all : (m : ℕ) (w : World) → m ≤ t → 1 ≤ count m p → Proposes m w → LeadsTo f live q i 0 w Ended
     propose_all zero w low some a = absurd (omega arith)
     propose_all (suc m) w low some a = go (p m) refl (propose_all m)
       where
-        go : (u : Bool) → p m ≡ u → ((w' : World) → m ≤ t → 1 ≤ count m p → Proposes m w' → Leads f live q i 0 w' Ended) → Leads f live q i 0 w Ended
+        go : (u : Bool) → p m ≡ u → ((w' : World) → m ≤ t → 1 ≤ count m p → Proposes m w' → LeadsTo f live q i 0 w' Ended) → LeadsTo f live q i 0 w Ended
         go false e rec = rec w (omega arith) (let c = count_skip m p e in omega arith) (proposes_skip m w e a)
         go true e rec = elim (none_or (count m p)) [
           | inl none ↦ pre_last m w (omega arith) e a none
@@ -381,7 +381,7 @@ module _ (f : ℕ) (two : 0 < f) (few : size f ≤ 256) (live : ℕ → Bool) (q
           let total : answered_all f a.answers + count (suc m) p ≡ f + 1 = a.many in
           omega arith
 
-      prepare_step : (chq : Change) → handled f q m (w.states q) (PrepareOk i b report) ≡ Ok chq → ((w' : World) → Exchange w m prepare_change chq w' → Leads f live q i 0 w' Ended) → Leads f live q i 0 w Ended
+      prepare_step : (chq : Change) → handled f q m (w.states q) (PrepareOk i b report) ≡ Ok chq → ((w' : World) → Exchange w m prepare_change chq w' → LeadsTo f live q i 0 w' Ended) → LeadsTo f live q i 0 w Ended
       prepare_step chq =
           exchange 0 w Ended a.ground m (omega arith) (p_live m e) (p_other m e) (Prepare i b) (PrepareOk i b report) refl refl (a.asked m (omega arith) e) prepare_change
           (ap (λ (ch : Change). Ok ch) (prepare_answered i q b asked_record (a.waiting m (omega arith) e))) refl chq
@@ -400,7 +400,7 @@ module _ (f : ℕ) (two : 0 < f) (few : size f ≤ 256) (live : ℕ → Bool) (q
             (record { at = old.at; known = answer_there a.answers m report x (λ is. absurd (omega arith)) ∙ old.known; below = old.below }))
       ]
 
-      prepare_next : 1 ≤ count m p → ((w' : World) → Prepares m w' → Leads f live q i 0 w' Ended) → Leads f live q i 0 w Ended
+      prepare_next : 1 ≤ count m p → ((w' : World) → Prepares m w' → LeadsTo f live q i 0 w' Ended) → LeadsTo f live q i 0 w Ended
       prepare_next some rec =
           prepare_step (kept (Preparing b reports_now))
           (prepare_waits f i q m b report (interference (w.states q).records i) preparer (get (w.states q).leads i) a.answers a.led prepare_fresh prepare_at prepare_unended (lt-leb (f + 1) (answered_all f reports_now) (let c = prepare_count in omega arith)))
@@ -431,12 +431,12 @@ module _ (f : ℕ) (two : 0 < f) (few : size f ≤ 256) (live : ℕ → Bool) (q
             (old.at, not_done i b (record_in (w'.states x) i).vote (vote_open (answer reports_now x) (record_in (w'.states x) i).vote (nobody x (omega arith)) old.known) old.below))
       ]
 
-      prepare_commits : (d : Decree) → handled f q m (w.states q) (PrepareOk i b report) ≡ Ok (commit_phase f i q d preparer) → Leads f live q i 0 w Ended
+      prepare_commits : (d : Decree) → handled f q m (w.states q) (PrepareOk i b report) ≡ Ok (commit_phase f i q d preparer) → LeadsTo f live q i 0 w Ended
       prepare_commits d is =
           prepare_step (commit_phase f i q d preparer) is
           (λ w' x. at_once f live q i 0 w' Ended (d, ap (λ c. committed_decree (record_of i c).vote) x.told))
 
-      prepare_did : count m p ≡ 0 → NobodyEnded → Acted f i q b preparer (handled f q m (w.states q) (PrepareOk i b report)) → Leads f live q i 0 w Ended
+      prepare_did : count m p ≡ 0 → NobodyEnded → Acted f i q b preparer (handled f q m (w.states q) (PrepareOk i b report)) → LeadsTo f live q i 0 w Ended
       prepare_did none nobody (commits d is) = prepare_commits d is
       prepare_did none nobody (accepts d is) =
           prepare_step (accept_phase f i q b d) is
@@ -466,7 +466,7 @@ module _ (f : ℕ) (two : 0 < f) (few : size f ≤ 256) (live : ℕ → Bool) (q
             answered = λ k le lt pk. absurd (omega arith);
           }))
 
-      prepare_last : count m p ≡ 0 → Leads f live q i 0 w Ended
+      prepare_last : count m p ≡ 0 → LeadsTo f live q i 0 w Ended
       prepare_last none =
           let own : Command → Attrs = interference (w.states q).records i in
           let choice = choose f (leader_of i) (λ k. answer reports_now k) in
@@ -477,11 +477,11 @@ module _ (f : ℕ) (two : 0 < f) (few : size f ≤ 256) (live : ℕ → Bool) (q
             | inr nobody ↦ prepare_did none nobody (subst (λ o. Acted f i q b preparer o) (sym is) (acted f i q b own preparer ((a.ground).room q q_low q_live) choice))
           ]
 
-    pub prepare_all : (m : ℕ) (w : World) → m ≤ t → 1 ≤ count m p → Prepares m w → Leads f live q i 0 w Ended
+    pub prepare_all : (m : ℕ) (w : World) → m ≤ t → 1 ≤ count m p → Prepares m w → LeadsTo f live q i 0 w Ended
     prepare_all zero w low some a = absurd (omega arith)
     prepare_all (suc m) w low some a = go (p m) refl (prepare_all m)
       where
-        go : (u : Bool) → p m ≡ u → ((w' : World) → m ≤ t → 1 ≤ count m p → Prepares m w' → Leads f live q i 0 w' Ended) → Leads f live q i 0 w Ended
+        go : (u : Bool) → p m ≡ u → ((w' : World) → m ≤ t → 1 ≤ count m p → Prepares m w' → LeadsTo f live q i 0 w' Ended) → LeadsTo f live q i 0 w Ended
         go false e rec = rec w (omega arith) (let c = count_skip m p e in omega arith) (prepares_skip m w e a)
         go true e rec = elim (none_or (count m p)) [
           | inl none ↦ prepare_last m w (omega arith) e a none

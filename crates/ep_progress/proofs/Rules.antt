@@ -16,8 +16,8 @@ use Rattle.ep_rules.specs.Cells.{Change, nothing, answered, recorded, kept, vote
 use Rattle.ep_rules.specs.Counting.{least, is_other}
 use Rattle.ep_rules.specs.Phases.{Outcome, limited, first_phase, accept_phase, commit_phase, with_attrs, on_pre_accept, on_accept, is_usable, others, joined, slow_path, count_pre_accept_ok, use_pre_accept_ok, on_pre_accept_ok, commit_own, use_accept_ok, on_accept_ok, fast_answered, all_equal, fast_path}
 use Rattle.ep_rules.specs.Recovery.{Choice, CommitIt, AcceptIt, AcceptFast, ProposeIt, ProposeNoop, votes, did_commit, did_accept_at, did_preaccept_at, is_fast_witness, top_ballot, with_vote_of, choose_at, choose, act_on, next_counter, prepare_phase, recover, on_prepare, answered_all, count_prepare_ok, use_prepare_ok, on_prepare_ok}
-use Rattle.ep_rules.specs.declared.led.Led.{Led}
-use Rattle.ep_rules.specs.declared.led.Led.TheVariants.{Proposing, Accepting, Preparing}
+use Rattle.ep_rules.specs.declared.led_instance.LedInstance.{LedInstance}
+use Rattle.ep_rules.specs.declared.led_instance.LedInstance.TheVariants.{Proposing, Accepting, Preparing}
 use Rattle.ep_rules.specs.declared.record.Record.{Record}
 use Rattle.ep_rules.proofs.Counting.{least_some, least_none}
 
@@ -57,7 +57,7 @@ pub prepare_refused : (i from b : ℕ) (r : Record) → b < r.promised → on_pr
 prepare_refused i from b r above =
     ap (λ t. cond t (answered from (Nack i b r.promised)) (cond (eqb b r.promised) nothing (recorded (record { promised = b; vote = r.vote }) from (PrepareOk i b r.vote)))) (lt-ltb b r.promised above)
 
-module _ (f i q x b : ℕ) (v : Option Vote) (own : Command → Attrs) (r : Record) (led : Option Led) (answers : Answers (Option Vote)) (leads : led ≡ Some (Preparing b answers)) (fresh : answer answers x ≡ None) (at : r.promised ≡ b) (unended : is_committed r.vote ≡ false) where
+module _ (f i q x b : ℕ) (v : Option Vote) (own : Command → Attrs) (r : Record) (led : Option LedInstance) (answers : Answers (Option Vote)) (leads : led ≡ Some (Preparing b answers)) (fresh : answer answers x ≡ None) (at : r.promised ≡ b) (unended : is_committed r.vote ≡ false) where
   abbrev more : Answers (Option Vote)
   more = with_answer answers x v
 
@@ -129,7 +129,7 @@ pre_accept_answered i from b d own r at undone room =
     ap (λ t. cond t (Ok (answered from (Nack i b r.promised))) (cond (is_done_at b r.vote) (Ok nothing) (limited own yes))) (not_below b r.promised (omega arith)) ∙
     ap (λ t. cond t (Ok nothing) (limited own yes)) undone ∙ within_limit own yes room
 
-module _ (f i q x b s : ℕ) (a : Attrs) (r : Record) (led : Option Led) (answers : Answers Attrs) (leads : led ≡ Some (Proposing b s answers)) (fresh : answer answers x ≡ None) (at : r.promised ≡ b) (unended : is_committed r.vote ≡ false) (above : leader_of i < b) where
+module _ (f i q x b s : ℕ) (a : Attrs) (r : Record) (led : Option LedInstance) (answers : Answers Attrs) (leads : led ≡ Some (Proposing b s answers)) (fresh : answer answers x ≡ None) (at : r.promised ≡ b) (unended : is_committed r.vote ≡ false) (above : leader_of i < b) where
   abbrev more_attrs : Answers Attrs
   more_attrs = with_answer answers x a
 
@@ -154,7 +154,7 @@ accept_answered i from b d r at unsettled =
     let yes : Change = recorded (voted b Accepted d) from (AcceptOk i b) in
     ap (λ t. cond t (answered from (Nack i b r.promised)) (cond (is_settled_at b r.vote) nothing yes)) (not_below b r.promised (omega arith)) ∙ ap (λ t. cond t nothing yes) unsettled
 
-module _ (f i q x b : ℕ) (r : Record) (led : Option Led) (answers : Answers (Unit {0})) (leads : led ≡ Some (Accepting b answers)) (fresh : answer answers x ≡ None) (at : r.promised ≡ b) (unended : is_committed r.vote ≡ false) where
+module _ (f i q x b : ℕ) (r : Record) (led : Option LedInstance) (answers : Answers (Unit {0})) (leads : led ≡ Some (Accepting b answers)) (fresh : answer answers x ≡ None) (at : r.promised ≡ b) (unended : is_committed r.vote ≡ false) where
   abbrev more_units : Answers (Unit {0})
   more_units = with_answer answers x tt
 
@@ -214,15 +214,15 @@ accept_cases i from b d r low =
     go false is e = inr (is, e)
 
 -- an answer that came before, or that is for another phase
-pub prepare_known : (f i q x b : ℕ) (v u : Option Vote) (own : Command → Attrs) (r : Record) (led : Option Led) (answers : Answers (Option Vote)) → led ≡ Some (Preparing b answers) → answer answers x ≡ Some u → on_prepare_ok f i q x b v own r led ≡ Ok nothing
+pub prepare_known : (f i q x b : ℕ) (v u : Option Vote) (own : Command → Attrs) (r : Record) (led : Option LedInstance) (answers : Answers (Option Vote)) → led ≡ Some (Preparing b answers) → answer answers x ≡ Some u → on_prepare_ok f i q x b v own r led ≡ Ok nothing
 prepare_known f i q x b v u own r led answers leads known =
     ap (λ l. on_prepare_ok f i q x b v own r l) leads ∙ ap (λ o. use_prepare_ok f i q b own r (cond (is_some o) None (Some (b, with_answer answers x v)))) known
 
-pub pre_accept_known : (f i q x b s : ℕ) (a u : Attrs) (r : Record) (led : Option Led) (answers : Answers Attrs) → led ≡ Some (Proposing b s answers) → answer answers x ≡ Some u → on_pre_accept_ok f i q x b a r led ≡ nothing
+pub pre_accept_known : (f i q x b s : ℕ) (a u : Attrs) (r : Record) (led : Option LedInstance) (answers : Answers Attrs) → led ≡ Some (Proposing b s answers) → answer answers x ≡ Some u → on_pre_accept_ok f i q x b a r led ≡ nothing
 pre_accept_known f i q x b s a u r led answers leads known =
     ap (λ l. on_pre_accept_ok f i q x b a r l) leads ∙ ap (λ o. use_pre_accept_ok f i q b a r (cond (is_some o) None (Some (b, s, with_answer answers x a)))) known
 
-pub accept_known : (f i q x b : ℕ) (u : Unit {0}) (r : Record) (led : Option Led) (answers : Answers (Unit {0})) → led ≡ Some (Accepting b answers) → answer answers x ≡ Some u → on_accept_ok f i q x b r led ≡ nothing
+pub accept_known : (f i q x b : ℕ) (u : Unit {0}) (r : Record) (led : Option LedInstance) (answers : Answers (Unit {0})) → led ≡ Some (Accepting b answers) → answer answers x ≡ Some u → on_accept_ok f i q x b r led ≡ nothing
 accept_known f i q x b u r led answers leads known =
     ap (λ l. on_accept_ok f i q x b r l) leads ∙ ap (λ o. use_accept_ok f i q b r (cond (is_some o) None (Some (b, with_answer answers x tt)))) known
 

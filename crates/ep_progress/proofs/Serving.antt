@@ -23,8 +23,8 @@ use Rattle.ep_rules.specs.Recovery.{Choice, CommitIt, AcceptIt, AcceptFast, Prop
 use Rattle.ep_rules.specs.States.{State, cell_in, record_in}
 use Rattle.ep_rules.specs.Steps.{Sent, Event, Propose, Handle, GiveUp, Recover, Execute, is_for, handled, at, acts, sent_from}
 use Rattle.ep_rules.specs.Worlds.{World, In, Act, IsThere, Happens, moved, IsRun, ends}
-use Rattle.ep_rules.specs.declared.led.Led.{Led}
-use Rattle.ep_rules.specs.declared.led.Led.TheVariants.{Proposing, Accepting, Preparing}
+use Rattle.ep_rules.specs.declared.led_instance.LedInstance.{LedInstance}
+use Rattle.ep_rules.specs.declared.led_instance.LedInstance.TheVariants.{Proposing, Accepting, Preparing}
 use Rattle.ep_rules.specs.declared.record.Record.{Record}
 use Rattle.ep_rules.proofs.Keeping.{AllSent, sent_to_those, split, newer, newer_entry, applied, record_of}
 use Rattle.ep_rules.proofs.Lookups.{answer_back}
@@ -56,16 +56,16 @@ module _ (c : Command) (i q : ℕ) where
     pub vote : VoteFor c x.vote
     pub own : me ≡ q → VotedAbove l x
 
-  abbrev pub LedFor : ℕ → Led → Type 0
+  abbrev pub LedFor : ℕ → LedInstance → Type 0
   LedFor me (Proposing b s answers) = Unit {0}
   LedFor me (Accepting b answers) = Unit {0}
   LedFor me (Preparing b answers) = me ≡ q → ((k : ℕ) (v : Option Vote) → answer answers k ≡ Some v → VoteFor c v) × AnsweredAbove l me answers
 
-  abbrev pub LeadFor : ℕ → Option Led → Type 0
+  abbrev pub LeadFor : ℕ → Option LedInstance → Type 0
   LeadFor me None = Unit {0}
   LeadFor me (Some led) = LedFor me led
 
-  abbrev pub NewLeadFor : ℕ → Option (Option Led) → Type 0
+  abbrev pub NewLeadFor : ℕ → Option (Option LedInstance) → Type 0
   NewLeadFor me None = Unit {0}
   NewLeadFor me (Some led) = LeadFor me led
 
@@ -100,7 +100,7 @@ module _ (c : Command) (i q : ℕ) where
     for_nack : (from b : ℕ) → ChangeFor me (answered from (Nack i b x.promised))
     for_nack from b = record { entry = tt; led = tt; out = (tt, tt) }
 
-    for_kept : (led : Led) → LedFor me led → ChangeFor me (kept led)
+    for_kept : (led : LedInstance) → LedFor me led → ChangeFor me (kept led)
     for_kept led h = record { entry = tt; led = h; out = tt }
 
     -- the default ballot is not above what q has promised
@@ -176,7 +176,7 @@ module _ (c : Command) (i q : ℕ) where
         (λ e. for_kept (Proposing b s answers) tt))
         (λ e. split (ChangeFor me) (leb f (others f me answers)) _ _ (λ e. for_slow b answers le x.vote ok.vote) (λ e. for_kept (Proposing b s answers) tt))
 
-    for_pre_accept_ok : (from b : ℕ) (a : Attrs) (led : Option Led) → ChangeFor me (on_pre_accept_ok f i me from b a x led)
+    for_pre_accept_ok : (from b : ℕ) (a : Attrs) (led : Option LedInstance) → ChangeFor me (on_pre_accept_ok f i me from b a x led)
     for_pre_accept_ok from b a None = for_nothing
     for_pre_accept_ok from b a (Some (Accepting lb answers)) = for_nothing
     for_pre_accept_ok from b a (Some (Preparing lb answers)) = for_nothing
@@ -188,7 +188,7 @@ module _ (c : Command) (i q : ℕ) where
     for_commit_own None w = for_nothing
     for_commit_own (Some v) w = for_commit_phase v.decree w
 
-    for_accept_ok : (from b : ℕ) (led : Option Led) → ChangeFor me (on_accept_ok f i me from b x led)
+    for_accept_ok : (from b : ℕ) (led : Option LedInstance) → ChangeFor me (on_accept_ok f i me from b x led)
     for_accept_ok from b None = for_nothing
     for_accept_ok from b (Some (Proposing lb s answers)) = for_nothing
     for_accept_ok from b (Some (Preparing lb answers)) = for_nothing
@@ -242,7 +242,7 @@ module _ (c : Command) (i q : ℕ) where
         go true e = absurd (let same : answer answers from ≡ Some (Some a.last) = ap (λ k. answer answers k) (eqb-true from me e) ∙ a.is in false≢true (sym new ∙ ap (λ o. is_some o) same))
         go false e = a.is
 
-    for_prepare_ok : (from b : ℕ) (v : Option Vote) (own : Command → Attrs) (led : Option Led) → me ≡ q → VoteFor c v → LeadFor me led → OutcomeFor me (on_prepare_ok f i me from b v own x led)
+    for_prepare_ok : (from b : ℕ) (v : Option Vote) (own : Command → Attrs) (led : Option LedInstance) → me ≡ q → VoteFor c v → LeadFor me led → OutcomeFor me (on_prepare_ok f i me from b v own x led)
     for_prepare_ok from b v own None is w h = for_nothing
     for_prepare_ok from b v own (Some (Proposing lb s answers)) is w h = for_nothing
     for_prepare_ok from b v own (Some (Accepting lb answers)) is w h = for_nothing
@@ -302,7 +302,7 @@ module _ (c : Command) (i q : ℕ) where
   newer_record me old None ok h = ok
   newer_record me old (Some x) ok h = h
 
-  newer_lead : (me : ℕ) (old : Option Led) (new : Option (Option Led)) → LeadFor me old → NewLeadFor me new → LeadFor me (newer new old)
+  newer_lead : (me : ℕ) (old : Option LedInstance) (new : Option (Option LedInstance)) → LeadFor me old → NewLeadFor me new → LeadFor me (newer new old)
   newer_lead me old None ok h = ok
   newer_lead me old (Some l) ok h = h
 

@@ -29,8 +29,8 @@ use Rattle.ep_rules.specs.OneMap.{Store}
 use Rattle.ep_rules.specs.States.{State, fresh_state, cell_in, record_in, with_entry, with_led, free_number}
 use Rattle.ep_rules.specs.Steps.{Sent, Event, Propose, Handle, GiveUp, Recover, Execute, are_within, vote_within, message_within, is_within, handled, at, proposed, acts, changed_by, leaves, sent_from, sent_by, sends}
 use Rattle.ep_rules.specs.Worlds.{World, opening, In, Act, Happens, moved, IsRun, ends}
-use Rattle.ep_rules.specs.declared.led.Led.{Led}
-use Rattle.ep_rules.specs.declared.led.Led.TheVariants.{Proposing, Accepting, Preparing}
+use Rattle.ep_rules.specs.declared.led_instance.LedInstance.{LedInstance}
+use Rattle.ep_rules.specs.declared.led_instance.LedInstance.TheVariants.{Proposing, Accepting, Preparing}
 use Rattle.ep_rules.specs.declared.record.Record.{Record}
 use Rattle.ep_rules.proofs.Keeping.{AllSent, sent_to_those, split}
 use Rattle.ep_rules.proofs.Lookups.{answer_back, insert_same, insert_other, remove_same, remove_other, none_there}
@@ -50,7 +50,7 @@ AnswersWithin n answers = (k : ℕ) (a : Attrs) → answer answers k ≡ Some a 
 abbrev pub VotesWithin : ℕ → Answers (Option Vote) → Type 0
 VotesWithin n answers = (k : ℕ) (v : Option Vote) → answer answers k ≡ Some v → vote_within n v ≡ true
 
-abbrev pub LedSound : ℕ → Led → Type 0
+abbrev pub LedSound : ℕ → LedInstance → Type 0
 LedSound n (Proposing b s answers) = AnswersWithin n answers
 LedSound n (Accepting b answers) = Unit {0}
 LedSound n (Preparing b answers) = VotesWithin n answers
@@ -59,11 +59,11 @@ abbrev pub EntrySound : ℕ → ℕ → Option Record → Type 0
 EntrySound n i None = Unit {0}
 EntrySound n i (Some x) = RecordSound n i x
 
-abbrev pub LeadSound : ℕ → Option Led → Type 0
+abbrev pub LeadSound : ℕ → Option LedInstance → Type 0
 LeadSound n None = Unit {0}
 LeadSound n (Some l) = LedSound n l
 
-abbrev pub NewLeadSound : ℕ → Option (Option Led) → Type 0
+abbrev pub NewLeadSound : ℕ → Option (Option LedInstance) → Type 0
 NewLeadSound n None = Unit {0}
 NewLeadSound n (Some l) = LeadSound n l
 
@@ -168,7 +168,7 @@ module _ (f i me : ℕ) (few : size f ≤ 256) (here : me < size f) (lead : lead
   sound_recorded : (y : Record) (from : ℕ) (m : Message) → RecordSound n i y → message_within n m ≡ true → ChangeSound n i (recorded y from m)
   sound_recorded y from m r w = record { entry = r; led = tt; out = (w, tt) }
 
-  sound_kept : (led : Led) → LedSound n led → ChangeSound n i (kept led)
+  sound_kept : (led : LedInstance) → LedSound n led → ChangeSound n i (kept led)
   sound_kept led l = record { entry = tt; led = l; out = tt }
 
   sound_voted : (b : ℕ) (s : VoteStatus) (d : Decree) → Owned b → are_within n d.attrs.deps ≡ true → RecordSound n i (voted b s d)
@@ -244,7 +244,7 @@ module _ (f i me : ℕ) (few : size f ≤ 256) (here : me < size f) (lead : lead
       (λ e. sound_kept (Proposing b s answers) each))
       (λ e. split (ChangeSound n i) (leb f (others f me answers)) _ _ (λ e. sound_slow b answers owned each x.vote ok.vote) (λ e. sound_kept (Proposing b s answers) each))
 
-  pub sound_pre_accept_ok : (from b : ℕ) (a : Attrs) (led : Option Led) → Owned b → are_within n a.deps ≡ true → LeadSound n led → ChangeSound n i (on_pre_accept_ok f i me from b a x led)
+  pub sound_pre_accept_ok : (from b : ℕ) (a : Attrs) (led : Option LedInstance) → Owned b → are_within n a.deps ≡ true → LeadSound n led → ChangeSound n i (on_pre_accept_ok f i me from b a x led)
   sound_pre_accept_ok from b a None owned w l = sound_nothing
   sound_pre_accept_ok from b a (Some (Accepting lb answers)) owned w l = sound_nothing
   sound_pre_accept_ok from b a (Some (Preparing lb answers)) owned w l = sound_nothing
@@ -252,7 +252,7 @@ module _ (f i me : ℕ) (few : size f ≤ 256) (here : me < size f) (lead : lead
       split (λ more. ChangeSound n i (use_pre_accept_ok f i me b a x more)) (is_some (answer answers from)) _ _ (λ e. sound_nothing) (λ e.
       split (ChangeSound n i) (is_usable b x lb) _ _ (λ u. sound_count_pre_accept_ok b s a (with_answer answers from a) owned w (more_within n answers from a l w)) (λ u. sound_nothing))
 
-  pub sound_give_up : (led : Option Led) → LeadSound n led → OutcomeSound n i (give_up f i me x led)
+  pub sound_give_up : (led : Option LedInstance) → LeadSound n led → OutcomeSound n i (give_up f i me x led)
   sound_give_up None l = tt
   sound_give_up (Some (Accepting b answers)) l = tt
   sound_give_up (Some (Preparing b answers)) l = tt
@@ -267,7 +267,7 @@ module _ (f i me : ℕ) (few : size f ≤ 256) (here : me < size f) (lead : lead
   sound_commit_own None w = sound_nothing
   sound_commit_own (Some v) w = sound_commit_phase v.decree (vote_deps v w)
 
-  pub sound_accept_ok : (from b : ℕ) (led : Option Led) → ChangeSound n i (on_accept_ok f i me from b x led)
+  pub sound_accept_ok : (from b : ℕ) (led : Option LedInstance) → ChangeSound n i (on_accept_ok f i me from b x led)
   sound_accept_ok from b None = sound_nothing
   sound_accept_ok from b (Some (Proposing lb s answers)) = sound_nothing
   sound_accept_ok from b (Some (Preparing lb answers)) = sound_nothing
@@ -312,7 +312,7 @@ module _ (f i me : ℕ) (few : size f ≤ 256) (here : me < size f) (lead : lead
         (λ m. sound_choice b (choose f (leader_of i) (λ q. answer answers q)) owned (choose_sound n f (leader_of i) (λ q. answer answers q) each))
         (λ m. sound_kept (Preparing b answers) each)
 
-    pub sound_prepare_ok : (from b : ℕ) (v : Option Vote) (led : Option Led) → Owned b → vote_within n v ≡ true → LeadSound n led → OutcomeSound n i (on_prepare_ok f i me from b v own x led)
+    pub sound_prepare_ok : (from b : ℕ) (v : Option Vote) (led : Option LedInstance) → Owned b → vote_within n v ≡ true → LeadSound n led → OutcomeSound n i (on_prepare_ok f i me from b v own x led)
     sound_prepare_ok from b v None owned w l = sound_nothing
     sound_prepare_ok from b v (Some (Proposing lb s answers)) owned w l = sound_nothing
     sound_prepare_ok from b v (Some (Accepting lb answers)) owned w l = sound_nothing
@@ -325,7 +325,7 @@ module _ (f i me : ℕ) (few : size f ≤ 256) (here : me < size f) (lead : lead
 pub record StateSound (n : ℕ) (s : State) : Type 0 where
   pub ranged : AllEntries (λ (j : ℕ) (x : Record). leader_of j < n) (entries s.records)
   pub records : AllEntries (λ (j : ℕ) (x : Record). RecordSound n j x) (entries s.records)
-  pub leads : (j : ℕ) (l : Led) → get s.leads j ≡ Some l → LedSound n l
+  pub leads : (j : ℕ) (l : LedInstance) → get s.leads j ≡ Some l → LedSound n l
 
 module _ (n : ℕ) (few : n ≤ 256) (s : State) (ok : StateSound n s) (i : ℕ) where
   pub record_sound : leader_of i < n → RecordSound n i (record_in s i)
@@ -335,7 +335,7 @@ module _ (n : ℕ) (few : n ≤ 256) (s : State) (ok : StateSound n s) (i : ℕ)
       go None e = fresh_sound n i few lead
       go (Some x) e = all_get (λ (j : ℕ) (x : Record). RecordSound n j x) s.records i x ok.records e
 
-  pub lead_sound : (o : Option Led) → get s.leads i ≡ o → LeadSound n o
+  pub lead_sound : (o : Option LedInstance) → get s.leads i ≡ o → LeadSound n o
   lead_sound None e = tt
   lead_sound (Some l) e = ok.leads i l e
 
@@ -410,7 +410,7 @@ new_entry : (n i : ℕ) (o : Option Record) → EntrySound n i o → (x : Record
 new_entry n i None p x e = absurd (cc)
 new_entry n i (Some y) p x e = let same : y ≡ x = cc in subst (λ z. RecordSound n i z) same p
 
-pub leads_kept : (Q : Led → Type 0) (m : Map Led) (i : ℕ) (o : Option (Option Led)) → ((l : Led) → o ≡ Some (Some l) → Q l) → ((j : ℕ) (l : Led) → get m j ≡ Some l → Q l) → (j : ℕ) (l : Led) → get (with_led m i o) j ≡ Some l → Q l
+pub leads_kept : (Q : LedInstance → Type 0) (m : Map LedInstance) (i : ℕ) (o : Option (Option LedInstance)) → ((l : LedInstance) → o ≡ Some (Some l) → Q l) → ((j : ℕ) (l : LedInstance) → get m j ≡ Some l → Q l) → (j : ℕ) (l : LedInstance) → get (with_led m i o) j ≡ Some l → Q l
 leads_kept Q m i None p all j l e = all j l e
 leads_kept Q m i (Some None) p all j l e = elim (cases_eq j i) [
   | inl is ↦ absurd (let t : None ≡ Some l = sym (ap (get (with_led m i (Some None))) is ∙ remove_same m i) ∙ e in cc)
@@ -421,7 +421,7 @@ leads_kept Q m i (Some (Some k)) p all j l e = elim (cases_eq j i) [
   | inr ne ↦ all j l (sym (insert_other m i k j ne) ∙ e)
 ]
 
-new_lead : (n : ℕ) (o : Option (Option Led)) → NewLeadSound n o → (l : Led) → o ≡ Some (Some l) → LedSound n l
+new_lead : (n : ℕ) (o : Option (Option LedInstance)) → NewLeadSound n o → (l : LedInstance) → o ≡ Some (Some l) → LedSound n l
 new_lead n None p l e = absurd (cc)
 new_lead n (Some None) p l e = absurd (let t : None ≡ Some l = cc in cc)
 new_lead n (Some (Some k)) p l e = let t : Some k ≡ Some l = cc in let same : k ≡ l = cc in subst (λ z. LedSound n z) same p

@@ -19,8 +19,8 @@ use Rattle.ep_rules.specs.Phases.{Outcome}
 use Rattle.ep_rules.specs.States.{State, cell_in, record_in, with_entry}
 use Rattle.ep_rules.specs.Steps.{Sent, Event, Propose, Handle, GiveUp, Recover, Execute, handled, at, acts, changed_by, leaves, sent_from, sent_by, sends}
 use Rattle.ep_rules.specs.Worlds.{World, In, Act, IsThere, Happens, moved, IsRun, ends}
-use Rattle.ep_rules.specs.declared.led.Led.{Led}
-use Rattle.ep_rules.specs.declared.led.Led.TheVariants.{Proposing, Accepting, Preparing}
+use Rattle.ep_rules.specs.declared.led_instance.LedInstance.{LedInstance}
+use Rattle.ep_rules.specs.declared.led_instance.LedInstance.TheVariants.{Proposing, Accepting, Preparing}
 use Rattle.ep_rules.specs.declared.record.Record.{Record}
 use Rattle.ep_rules.proofs.Keeping.{AllSent, split}
 use Rattle.ep_rules.proofs.Moves.{moves, taken_of}
@@ -70,7 +70,7 @@ these_apart f live q is (a ∷ acts) w run serve r j not =
 module _ (f : ℕ) (live : ℕ → Bool) (q i : ℕ) (is : List ℕ) (has : Has is i) (P : Attrs → Type 0) (joins : (a b : Attrs) → P a → P b → P (join a b)) where
   pub record StateHas (s : State) : Type 0 where
     pub recorded : AllEntries (λ (j : ℕ) (x : Record). Has is j × VoteHas P x.vote) (entries s.records)
-    pub leads : (j : ℕ) (l : Led) → get s.leads j ≡ Some l → LedHas P l
+    pub leads : (j : ℕ) (l : LedInstance) → get s.leads j ≡ Some l → LedHas P l
     pub own : (c : Command) → P (interference s.records i c)
 
   pub record WorldHas (w : World) : Type 0 where
@@ -85,7 +85,7 @@ module _ (f : ℕ) (live : ℕ → Bool) (q i : ℕ) (is : List ℕ) (has : Has 
         go None e = tt
         go (Some x) e = (all_get (λ (k : ℕ) (y : Record). Has is k × VoteHas P y.vote) s.records j x ok.recorded e).1
 
-    lead_has : (j : ℕ) (o : Option Led) → get s.leads j ≡ o → LeadHas P o
+    lead_has : (j : ℕ) (o : Option LedInstance) → get s.leads j ≡ o → LeadHas P o
     lead_has j None e = tt
     lead_has j (Some l) e = ok.leads j l e
 
@@ -121,7 +121,7 @@ module _ (f : ℕ) (live : ℕ → Bool) (q i : ℕ) (is : List ℕ) (has : Has 
     new_entry j None e h x is' = absurd (cc)
     new_entry j (Some y) e h x is' = let same : y ≡ x = cc in (subst (λ k. Has is k) (sym e) has, subst (λ (z : Record). VoteHas P z.vote) same h)
 
-    new_lead : (o : Option (Option Led)) → NewLeadHas P o → (l : Led) → o ≡ Some (Some l) → LedHas P l
+    new_lead : (o : Option (Option LedInstance)) → NewLeadHas P o → (l : LedInstance) → o ≡ Some (Some l) → LedHas P l
     new_lead None h l e = absurd (cc)
     new_lead (Some None) h l e = absurd (let t : None ≡ Some l = cc in cc)
     new_lead (Some (Some k)) h l e = let t : Some k ≡ Some l = cc in let same : k ≡ l = cc in subst (λ z. LedHas P z) same h
@@ -180,7 +180,7 @@ module _ (is js : List ℕ) (m n : ℕ) (up : (j : ℕ) → Has is j → Has js 
   wider_vote None h = tt
   wider_vote (Some v) h = wider v.decree.attrs h
 
-  wider_led : (l : Led) → LedHas (Within is m) l → LedHas (Within js n) l
+  wider_led : (l : LedInstance) → LedHas (Within is m) l → LedHas (Within js n) l
   wider_led (Proposing b s answers) h = λ r a e. wider a (h r a e)
   wider_led (Accepting b answers) h = tt
   wider_led (Preparing b answers) h = λ r v e. wider_vote v (h r v e)

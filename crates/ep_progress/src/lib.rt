@@ -6,7 +6,7 @@
 //!
 //! Start with specs/Alone.antt (what live replicas can do), specs/Quiet.antt (rounds, whatever the order of messages),
 //! specs/Finishing.antt (all that a command leads to, and its execution) and specs/Serving.antt (new commands, and
-//! seals). docs/SAFETY.md tells how the proof goes.
+//! seals). docs/SAFETY.md says how the proof goes.
 #![tactic(auto)]
 
 pub mod laws;

@@ -1,11 +1,11 @@
 -- One message more is given, and those that never were.
-use Rattle.std.proofs.Common.{◌≡◌, ◌≢◌, ◌↔◌, inl, inr, ℕ, zero, suc, ◌+◌, ◌-◌, ◌<◌, ◌≤◌, Bool, true, false, eqb, ltb, List, [], ◌∷◌, ◌++◌, length, get_or, set, refl, sym, subst, ◌∙◌, arith}
+use Rattle.std.proofs.Common.{◌≡◌, ◌≢◌, ◌↔◌, inl, inr, ℕ, zero, suc, ◌+◌, ◌-◌, ◌<◌, ◌≤◌, Bool, true, false, eqb, ltb, min, List, [], ◌∷◌, ◌++◌, length, get_or, set, refl, sym, subst, ◌∙◌, arith}
 use Rattle.std.proofs.lemmas.Bool.{eqb-true, eqb-false, ltb-true, ltb-false}
-use Rattle.std.proofs.lemmas.List.{get_or-set_same, get_or-set_other}
+use Rattle.std.proofs.lemmas.List.{get_or-set_same, get_or-set_other, get_or_past}
 use Rattle.ep_base.specs.Deps.{IsRising}
 use Rattle.ep_rules.specs.Worlds.{In}
 use Rattle.ep_rules.proofs.Merged.{in_left, in_right, in_split}
-use Rattle.ep_replay.specs.Replays.{AreUngiven}
+use Rattle.ep_replay.specs.Replays.{AreUngiven, above}
 use Rattle.ep_replay.specs.Tables.{AreFlagged}
 use Rattle.ep_replay.specs.declared.given.Given.{Given}
 
@@ -95,3 +95,42 @@ same_ungiven flags given n ms are is_set was = record { rising = was.rising; the
     from : (m : ℕ) (b : Bool) → eqb (n + 1) m ≡ b → (1 ≤ m) × (m ≤ n + 1) × ¬ In m given → In m ms
     from m true test h = let is : n + 1 ≡ m = eqb-true (n + 1) m test in absurd (h.2 (subst (λ k. In k given) (let s : suc n ≡ m = omega arith in s) ((are.flag n).0 is_set)))
     from m false test h = let apart : n + 1 ≢ m = eqb-false (n + 1) m test in let le : m ≤ n + 1 = h.1 in (was.these m).1 (h.0, omega arith, h.2)
+
+-- none of those up to the floor
+none_ungiven : (flags : Given) (given : List ℕ) (n : ℕ) → n ≤ flags.floor → AreFlagged flags given
+    → AreUngiven given n []
+none_ungiven flags given n low are = record {
+  rising = tt;
+  these = (λ m. ((λ h. absurd h), (λ h. absurd (h.2 (was m h.0 h.1)))));
+}
+  where
+    was : (m : ℕ) → 1 ≤ m → m ≤ n → In m given
+    was m one le = are.floor m one (omega arith)
+
+-- all of those above it, where no flag stands behind it
+above_ungiven : (flags : Given) (given : List ℕ) (k : ℕ) → length flags.flags.items ≤ flags.floor
+    → AreFlagged flags given → AreUngiven given (flags.floor + k) (above flags.floor k)
+above_ungiven flags given zero last are = none_ungiven flags given (flags.floor + zero) (omega arith) are
+above_ungiven flags given (suc k) last are =
+    let n : flags.floor + k + 1 ≡ flags.floor + suc k = omega arith in
+    let unset = get_or_past flags.flags.items (flags.floor + k) false (omega arith) in
+    let before = above_ungiven flags given k last are in
+    subst (λ n. AreUngiven given n (above flags.floor (suc k))) n
+    (one_ungiven flags given (flags.floor + k) (above flags.floor k) are unset before)
+
+pub all_above_ungiven : (flags : Given) (given : List ℕ) (sent from : ℕ) → length flags.flags.items ≤ flags.floor
+    → from ≡ min flags.floor sent → AreFlagged flags given → AreUngiven given sent (above from (sent - from))
+all_above_ungiven flags given sent from last is are = go (ltb flags.floor sent) refl
+  where
+    go : (b : Bool) → ltb flags.floor sent ≡ b → AreUngiven given sent (above from (sent - from))
+    go true test =
+        let lt : flags.floor < sent = ltb-true flags.floor sent test in
+        let at : flags.floor ≡ from = omega arith in
+        let all : flags.floor + (sent - flags.floor) ≡ sent = omega arith in
+        subst (λ n. AreUngiven given sent (above n (sent - n))) at
+        (subst (λ n. AreUngiven given n (above flags.floor (sent - flags.floor))) all
+        (above_ungiven flags given (sent - flags.floor) last are))
+    go false test =
+        let le : sent ≤ flags.floor = ltb-false flags.floor sent test in
+        let none : 0 ≡ sent - from = omega arith in
+        subst (λ k. AreUngiven given sent (above from k)) none (none_ungiven flags given sent le are)

@@ -22,8 +22,8 @@ use Rattle.ep_world.specs.declared.world_event.WorldEvent.TheVariants as event
 use Rattle.ep_replay.specs.Causes.{cause_of}
 use Rattle.ep_replay.specs.Clients.{times, greatest}
 use Rattle.ep_replay.specs.Outcome.{HasEnded, IsReplay}
-use Rattle.ep_replay.specs.Replays.{Replay, one_tried, refusal, refusals, IsOpening, Tries, Gives, Plays, PlayAll, AreUngiven, with_given, was_sent, with_proposer, proposal}
-use Rattle.ep_replay.specs.Tables.{AreCounted, AreFlagged, AreOwn, Behind, Tells, nothing, told, Leads, HasPlayed}
+use Rattle.ep_replay.specs.Replays.{Replay, one_tried, refusal, refusals, IsOpening, Tries, Gives, Plays, PlayAll, AreUngiven, above, with_given, was_sent, with_proposer, proposal}
+use Rattle.ep_replay.specs.Tables.{AreCounted, AreFlagged, AreOwn, Behind, IsPlayerOf, nothing, told, LeadsTo, HasPlayed}
 use Rattle.ep_replay.specs.declared.clients.Client.{Client}
 use Rattle.ep_replay.specs.declared.clients.Clients.{Clients}
 use Rattle.ep_replay.specs.declared.ended.Ended.{Ended}
@@ -48,7 +48,7 @@ pub took : (s s' : Player) (line : ℕ) (event : WorldEvent) (h : Happens s.worl
     → (s.keeps ≡ true → s'.tried.items ≡ s.tried.items ++ one_tried line event (Took h.replica h.entry.number (length s.world.messages + 1)) ∷ [])
     → ((ps : List ℕ) → AreCounted s.clients ps s.receipts.items → AreCounted s'.clients ps s'.receipts.items)
     → (AreOwn s'.world s.receipts.items → AreOwn s'.world s'.receipts.items)
-    → Leads (λ p q. Tries p line event q) s s'
+    → LeadsTo (λ p q. Tries p line event q) s s'
 took s s' line event h receipts refused given keeps kept counted own b t =
     let one : Tried = one_tried line event (Took h.replica h.entry.number (length s.world.messages + 1)) in
     let more : refusals (b.tried ++ one ∷ []) ≡ refusals b.tried = refusals_more b.tried one ∙ append-nil (refusals b.tried) in
@@ -86,7 +86,7 @@ pub listed : (s s' : Player) (line : ℕ) (event : WorldEvent) (cause : Refusal)
     → s'.refused.items ≡ s.refused.items ++ (line, cause_of cause) ∷ []
     → s'.world ≡ s.world → s'.clients ≡ s.clients → s'.receipts.items ≡ s.receipts.items → s'.given ≡ s.given → s'.keeps ≡ s.keeps
     → (s.keeps ≡ true → s'.tried.items ≡ s.tried.items ++ one_tried line event (Refused (cause_of cause)) ∷ [])
-    → Leads (λ p q. Tries p line event q) s s'
+    → LeadsTo (λ p q. Tries p line event q) s s'
 listed s s' line event cause why is refused world clients receipts given keeps kept b t =
     let one : Tried = one_tried line event (Refused (cause_of cause)) in
     record {
@@ -110,8 +110,8 @@ pub proposed : (s s' : Player) (cs : Clients) (k : Client) (line replica client 
     → ((ps : List ℕ) (ts : List Receipt) → AreCounted s.clients ps ts → k.seen ≡ greatest client ts)
     → ((ps : List ℕ) (ts : List Receipt) → AreCounted s.clients ps ts → AreCounted cs (ps ++ client ∷ []) ts)
     → copied ≡ command
-    → Leads (λ p q. Tries p line (event.Propose replica client k.requests copied k.seen named) q) (record s { clients = cs }) s'
-    → Leads (λ p q. Tries (with_proposer p client) line (proposal p replica client command named) q) s s'
+    → LeadsTo (λ p q. Tries p line (event.Propose replica client k.requests copied k.seen named) q) (record s { clients = cs }) s'
+    → LeadsTo (λ p q. Tries (with_proposer p client) line (proposal p replica client command named) q) s s'
 proposed s s' cs k line replica client command copied named requests seen counted same leads b t =
     let r = leads (record { proposers = b.proposers ++ client ∷ []; given = b.given; tried = b.tried }) (record { clients = counted b.proposers s.receipts.items t.clients; flags = t.flags; own = t.own; refused = t.refused; log = t.log }) in
     let is : event.Propose replica client k.requests copied k.seen named ≡ event.Propose replica client (times client b.proposers + 1) command (greatest client s.receipts.items) named =
@@ -126,7 +126,7 @@ proposed s s' cs k line replica client command copied named requests seen counte
 -- Messages.
 
 -- there is such a message, and it was noted
-pub sent_noted : (s : Player) (g : Given) (m : ℕ) → was_sent s.world m ≡ true → ((gs : List ℕ) → AreFlagged s.given gs → AreFlagged g (gs ++ m ∷ [])) → Leads (λ p q. q ≡ with_given p m) s (record s { given = g })
+pub sent_noted : (s : Player) (g : Given) (m : ℕ) → was_sent s.world m ≡ true → ((gs : List ℕ) → AreFlagged s.given gs → AreFlagged g (gs ++ m ∷ [])) → LeadsTo (λ p q. q ≡ with_given p m) s (record s { given = g })
 sent_noted s g m sent flags b t = record {
   behind = record { proposers = b.proposers; given = b.given ++ m ∷ []; tried = b.tried };
   related = ap (λ (x : Bool). record { world = s.world; proposers = b.proposers; given = cond x (b.given ++ m ∷ []) b.given; receipts = s.receipts.items; tried = b.tried }) (sym sent);
@@ -135,7 +135,7 @@ sent_noted s g m sent flags b t = record {
 }
 
 -- there is no such message
-pub unsent_noted : (s : Player) (m : ℕ) → was_sent s.world m ≡ false → Leads (λ p q. q ≡ with_given p m) s s
+pub unsent_noted : (s : Player) (m : ℕ) → was_sent s.world m ≡ false → LeadsTo (λ p q. q ≡ with_given p m) s s
 unsent_noted s m unsent b t = record {
   behind = b;
   related = ap (λ (x : Bool). record { world = s.world; proposers = b.proposers; given = cond x (b.given ++ m ∷ []) b.given; receipts = s.receipts.items; tried = b.tried }) (sym unsent);
@@ -144,7 +144,7 @@ unsent_noted s m unsent b t = record {
 }
 
 -- a message was noted, and then its delivery tried
-pub gave : (s next s' : Player) (line m : ℕ) → Leads (λ p q. q ≡ with_given p m) s next → Leads (λ p q. Tries p line (event.Deliver m) q) next s' → Leads (λ p q. Tries (with_given p m) line (event.Deliver m) q) s s'
+pub gave : (s next s' : Player) (line m : ℕ) → LeadsTo (λ p q. q ≡ with_given p m) s next → LeadsTo (λ p q. Tries p line (event.Deliver m) q) next s' → LeadsTo (λ p q. Tries (with_given p m) line (event.Deliver m) q) s s'
 gave s next s' line m noted tried b t =
     let a = noted b t in
     let c = tried a.behind a.tells in
@@ -157,7 +157,7 @@ gave s next s' line m noted tried b t =
 
 -- what was never given was given
 pub flushed : (s s' : Player) (g : Given) (line sent : ℕ) (ms : List ℕ) → sent ≡ length s.world.messages → ((gs : List ℕ) → AreFlagged s.given gs → AreFlagged g gs) → ((gs : List ℕ) → AreFlagged s.given gs → AreUngiven gs sent ms)
-    → Leads (λ p q. Gives p line ms q) (record s { given = g }) s' → Leads (λ p q. Plays p line asked.Flush q) s s'
+    → LeadsTo (λ p q. Gives p line ms q) (record s { given = g }) s' → LeadsTo (λ p q. Plays p line asked.Flush q) s s'
 flushed s s' g line sent ms all flags these leads b t =
     let r = leads b (record { clients = t.clients; flags = flags b.given t.flags; own = t.own; refused = t.refused; log = t.log }) in
     record {
@@ -167,17 +167,64 @@ flushed s s' g line sent ms all flags these leads b t =
       keeps = r.keeps;
     }
 
+-- the flags say the same as before
+pub readied : (R : Replay → Replay → Type 0) (s s' : Player) (g : Given)
+    → ((gs : List ℕ) → AreFlagged s.given gs → AreFlagged g gs) → LeadsTo R (record s { given = g }) s' → LeadsTo R s s'
+readied R s s' g flags leads b t =
+    let r = leads b (record {
+      clients = t.clients;
+      flags = flags b.given t.flags;
+      own = t.own;
+      refused = t.refused;
+      log = t.log;
+    }) in
+    record { behind = r.behind; related = r.related; tells = r.tells; keeps = r.keeps }
+
+-- none was given yet
+pub above_begins : (line n k : ℕ) (s : Player) → k ≡ 0 → LeadsTo (λ p q. Gives p line (above n k) q) s s
+above_begins line n k s none b t = record {
+  behind = b;
+  related = subst (λ j. Gives (told s b) line (above n j) (told s b)) (sym none) refl;
+  tells = t;
+  keeps = refl;
+}
+
+gives_one : (line m : ℕ) (ms : List ℕ) (p q end : Replay) → Gives p line ms q
+    → Tries (with_given q m) line (event.Deliver m) end → Gives p line (ms ++ m ∷ []) end
+gives_one line m [] p q end is step =
+    (end, subst (λ (z : Replay). Tries (with_given z m) line (event.Deliver m) end) is step, refl)
+gives_one line m (k ∷ ms) p q end g step = (g.0, g.1, gives_one line m ms g.0 q end g.2 step)
+
+-- one more of them was given
+pub above_goes_on : (line n k j m : ℕ) (s next s' : Player) → j ≡ k + 1 → m ≡ n + k + 1
+    → LeadsTo (λ p q. Gives p line (above n k) q) s next
+    → LeadsTo (λ p q. Tries (with_given p m) line (event.Deliver m) q) next s'
+    → LeadsTo (λ p q. Gives p line (above n j) q) s s'
+above_goes_on line n k j m s next s' one at done leads b t =
+    let a = done b t in
+    let c = leads a.behind a.tells in
+    let this : suc k ≡ j = omega arith in
+    let p : Replay = told next a.behind in
+    let step = subst (λ i. Tries (with_given p i) line (event.Deliver i) (told s' c.behind)) at c.related in
+    record {
+      behind = c.behind;
+      related = subst (λ i. Gives (told s b) line (above n i) (told s' c.behind)) this
+          (gives_one line (n + k + 1) (above n k) (told s b) p (told s' c.behind) a.related step);
+      tells = c.tells;
+      keeps = c.keeps ∙ a.keeps;
+    }
+
 -- One after another.
 
 -- whatever completes the rest of xs completes all of it
 abbrev pub Completes : {X : Type 0} → (Replay → List X → Replay → Type 0) → List X → ℕ → Player → Player → Type 0
-Completes G xs i s s' = Leads (λ p q. (end : Replay) → G q (drop i xs) end → G p xs end) s s'
+Completes G xs i s s' = LeadsTo (λ p q. (end : Replay) → G q (drop i xs) end → G p xs end) s s'
 
 pub starts : {X : Type 0} (G : Replay → List X → Replay → Type 0) (xs : List X) (s : Player) → Completes G xs 0 s s
 starts G xs s b t = record { behind = b; related = (λ end h. h); tells = t; keeps = refl }
 
 goes_on : {X : Type 0} (G : Replay → List X → Replay → Type 0) (Each : Replay → X → Replay → Type 0) → ((p q end : Replay) (x : X) (xs : List X) → Each p x q → G q xs end → G p (x ∷ xs) end)
-    → (xs : List X) (i : ℕ) (x d : X) (s next s' : Player) → i < length xs → x ≡ get_or xs i d → Completes G xs i s next → Leads (λ p q. Each p x q) next s' → Completes G xs (i + 1) s s'
+    → (xs : List X) (i : ℕ) (x d : X) (s next s' : Player) → i < length xs → x ≡ get_or xs i d → Completes G xs i s next → LeadsTo (λ p q. Each p x q) next s' → Completes G xs (i + 1) s s'
 goes_on {X} G Each more xs i x d s next s' lt is done leads b t =
     let a = done b t in
     let c = leads a.behind a.tells in
@@ -191,7 +238,7 @@ goes_on {X} G Each more xs i x d s next s' lt is done leads b t =
       keeps = c.keeps ∙ a.keeps;
     }
 
-ends : {X : Type 0} (G : Replay → List X → Replay → Type 0) → ((p : Replay) → G p [] p) → (xs : List X) (i : ℕ) (s s' : Player) → length xs ≤ i → Completes G xs i s s' → Leads (λ p q. G p xs q) s s'
+ends : {X : Type 0} (G : Replay → List X → Replay → Type 0) → ((p : Replay) → G p [] p) → (xs : List X) (i : ℕ) (s s' : Player) → length xs ≤ i → Completes G xs i s s' → LeadsTo (λ p q. G p xs q) s s'
 ends {X} G none xs i s s' over done b t =
     let a = done b t in
     record {
@@ -204,21 +251,21 @@ ends {X} G none xs i s s' over done b t =
 abbrev pub gives : ℕ → Replay → List ℕ → Replay → Type 0
 gives line p ms q = Gives p line ms q
 
-pub gave_more : (line : ℕ) (ms : List ℕ) (i m : ℕ) (s next s' : Player) → i < length ms → m ≡ get_or ms i 0 → Completes (gives line) ms i s next → Leads (λ p q. Tries (with_given p m) line (event.Deliver m) q) next s' → Completes (gives line) ms (i + 1) s s'
+pub gave_more : (line : ℕ) (ms : List ℕ) (i m : ℕ) (s next s' : Player) → i < length ms → m ≡ get_or ms i 0 → Completes (gives line) ms i s next → LeadsTo (λ p q. Tries (with_given p m) line (event.Deliver m) q) next s' → Completes (gives line) ms (i + 1) s s'
 gave_more line ms i m s next s' lt is done leads = goes_on (gives line) (λ p k q. Tries (with_given p k) line (event.Deliver k) q) (λ p q end k ks step rest. (q, step, rest)) ms i m 0 s next s' lt is done leads
 
-pub gave_all : (line : ℕ) (ms : List ℕ) (i : ℕ) (s s' : Player) → length ms ≤ i → Completes (gives line) ms i s s' → Leads (λ p q. Gives p line ms q) s s'
+pub gave_all : (line : ℕ) (ms : List ℕ) (i : ℕ) (s s' : Player) → length ms ≤ i → Completes (gives line) ms i s s' → LeadsTo (λ p q. Gives p line ms q) s s'
 gave_all line ms i s s' over done = ends (gives line) (λ p. refl) ms i s s' over done
 
-pub played_more : (ls : List (ℕ × Line)) (i : ℕ) (l : ℕ × Line) (s next s' : Player) → i < length ls → l ≡ get_or ls i l → Completes PlayAll ls i s next → Leads (λ p q. Plays p l.0 l.1 q) next s' → Completes PlayAll ls (i + 1) s s'
+pub played_more : (ls : List (ℕ × Line)) (i : ℕ) (l : ℕ × Line) (s next s' : Player) → i < length ls → l ≡ get_or ls i l → Completes PlayAll ls i s next → LeadsTo (λ p q. Plays p l.0 l.1 q) next s' → Completes PlayAll ls (i + 1) s s'
 played_more ls i l s next s' lt is done leads = goes_on PlayAll (λ p k q. Plays p k.0 k.1 q) (λ p q end k ks step rest. (q, step, rest)) ls i l l s next s' lt is done leads
 
-pub played_all : (ls : List (ℕ × Line)) (i : ℕ) (s s' : Player) → length ls ≤ i → Completes PlayAll ls i s s' → Leads (λ p q. PlayAll p ls q) s s'
+pub played_all : (ls : List (ℕ × Line)) (i : ℕ) (s s' : Player) → length ls ≤ i → Completes PlayAll ls i s s' → LeadsTo (λ p q. PlayAll p ls q) s s'
 played_all ls i s s' over done = ends PlayAll (λ p. refl) ls i s s' over done
 
 -- All lines.
 
-pub have_played : (plan : Plan) (s s' : Player) (keeps : Bool) (head : Head) (lines : List (ℕ × Line)) → head ≡ plan.head → lines ≡ plan.lines → IsOpening head (told s nothing) → Tells s nothing → s.keeps ≡ keeps → Leads (λ p q. PlayAll p lines q) s s' → HasPlayed plan keeps s'
+pub have_played : (plan : Plan) (s s' : Player) (keeps : Bool) (head : Head) (lines : List (ℕ × Line)) → head ≡ plan.head → lines ≡ plan.lines → IsOpening head (told s nothing) → IsPlayerOf s nothing → s.keeps ≡ keeps → LeadsTo (λ p q. PlayAll p lines q) s s' → HasPlayed plan keeps s'
 have_played plan s s' keeps head lines same_head same_lines opening t kept leads =
     let r = leads nothing t in
     record {

@@ -1,5 +1,5 @@
 -- A replay of a script: what its lines do in a world, one after another.
-use Rattle.std.specs.Prelude.{◌≡◌, ◌≢◌, ◌⊎◌, ◌↔◌, ℕ, ◌+◌, ◌≤◌, ◌&&◌, nat_le, Bool, cond, List, [], ◌∷◌, ◌++◌, length, Option}
+use Rattle.std.specs.Prelude.{◌≡◌, ◌≢◌, ◌⊎◌, ◌↔◌, ℕ, zero, suc, ◌+◌, ◌≤◌, ◌&&◌, nat_le, Bool, cond, List, [], ◌∷◌, ◌++◌, length, Option}
 use Rattle.ep_base.specs.Deps.{IsRising}
 use Rattle.ep_base.specs.Commands.{Command}
 use Rattle.ep_rules.specs.Worlds.{In}
@@ -76,7 +76,7 @@ pub record Takes (p : Replay) (line : ℕ) (event : WorldEvent) (p' : Replay) : 
     tried = p.tried ++ one_tried line event (Took happens.replica happens.entry.number (length p.world.messages + 1)) ∷ [];
   }
 
--- the event isn't enabled, for this cause; want of memory is no cause
+-- the event isn't enabled, for this cause; out of memory is no cause
 pub record IsListed (p : Replay) (line : ℕ) (event : WorldEvent) (p' : Replay) : Type 0 where
   pub cause : Refusal
   pub refused : IsNotEnabled p.world event cause
@@ -108,6 +108,11 @@ with_given p message = record p { given = cond (was_sent p.world message) (p.giv
 abbrev pub Gives : Replay → ℕ → List ℕ → Replay → Type 0
 Gives p line [] p' = p' ≡ p
 Gives p line (m ∷ ms) p' = (next : Replay) × Tries (with_given p m) line (event.Deliver m) next × Gives next line ms p'
+
+-- the k numbers above n, in rising order
+abbrev pub above : ℕ → ℕ → List ℕ
+above n zero = []
+above n (suc k) = above n k ++ (n + k + 1) ∷ []
 
 -- of the messages numbered from 1 up to `sent`, those that aren't in `given`, in rising number
 pub record AreUngiven (given : List ℕ) (sent : ℕ) (ms : List ℕ) : Type 0 where

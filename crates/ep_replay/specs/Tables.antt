@@ -26,7 +26,7 @@ or_new (Some client) = client
 abbrev pub known : Clients → ℕ → Client
 known clients c = or_new (get nat_eq clients.table c)
 
--- the table tells how often each client has proposed, and the greatest stamp that it has seen
+-- the table says how often each client has proposed, and the greatest stamp that it has seen
 abbrev pub AreCounted : Clients → List ℕ → List Receipt → Type 0
 AreCounted clients proposers receipts = (c : ℕ) → known clients c ≡ record { requests = times c proposers; seen = greatest c receipts }
 
@@ -58,7 +58,7 @@ nothing = record { proposers = []; given = []; tried = [] }
 abbrev pub told : Player → Behind → Replay
 told s b = record { world = s.world; proposers = b.proposers; given = b.given; receipts = s.receipts.items; tried = b.tried }
 
-pub record Tells (s : Player) (b : Behind) : Type 0 where
+pub record IsPlayerOf (s : Player) (b : Behind) : Type 0 where
   pub clients : AreCounted s.clients b.proposers s.receipts.items
   pub flags : AreFlagged s.given b.given
   pub own : AreOwn s.world s.receipts.items
@@ -66,19 +66,19 @@ pub record Tells (s : Player) (b : Behind) : Type 0 where
   pub log : s.keeps ≡ true → s.tried.items ≡ b.tried
 
 -- the player tells of a replay that R holds of, and keeps each event, or not, as the one before
-pub record Led (R : Replay → Type 0) (s s' : Player) : Type 0 where
+pub record LedTo (R : Replay → Type 0) (s s' : Player) : Type 0 where
   pub behind : Behind
   pub related : R (told s' behind)
-  pub tells : Tells s' behind
+  pub tells : IsPlayerOf s' behind
   pub keeps : s'.keeps ≡ s.keeps
 
 -- whatever replay the one player tells of, the other tells of one to which R leads
-abbrev pub Leads : (Replay → Replay → Type 0) → Player → Player → Type 0
-Leads R s s' = (b : Behind) → Tells s b → Led (R (told s b)) s s'
+abbrev pub LeadsTo : (Replay → Replay → Type 0) → Player → Player → Type 0
+LeadsTo R s s' = (b : Behind) → IsPlayerOf s b → LedTo (R (told s b)) s s'
 
 -- the player has played all lines of the script
 pub record HasPlayed (script : Plan) (kept : Bool) (s : Player) : Type 0 where
   pub behind : Behind
   pub at_end : EndsAt script (told s behind)
-  pub tells : Tells s behind
+  pub tells : IsPlayerOf s behind
   pub keeps : s.keeps ≡ kept

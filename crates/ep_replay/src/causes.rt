@@ -31,7 +31,7 @@ pub fn step_cause(fault: StepFault) -> EventFault
     }
 }
 
-/// The cause as a report names it; want of memory is none.
+/// The cause as a report names it; out of memory is none.
 fn cause(refusal: Refusal) -> Result<EventFault, AllocError>
     ensures value { IfOk result (λ cause. cause ≡ cause_of refusal) }
     ensures told { OnOk result (refusal ≢ Step Memory) }

@@ -1,7 +1,7 @@
 //! Which messages were given.
 
-ghost use Rattle.std.specs.Prelude.{◌≡◌, ℕ, ◌≤◌, ◌++◌, ◌∷◌, [], List, false, length, OnOk, IfOk, slice_index_or as get_or};
-ghost use Rattle.ep_replay.specs.Replays.{AreUngiven};
+ghost use Rattle.std.specs.Prelude.{◌≡◌, ℕ, ◌≤◌, ◌-◌, ◌++◌, ◌∷◌, [], List, false, length, OnOk, IfOk, IfSome, slice_index_or as get_or};
+ghost use Rattle.ep_replay.specs.Replays.{AreUngiven, above};
 ghost use Rattle.ep_replay.specs.Tables.{AreFlagged};
 
 use std::alloc::{AllocError, Global};
@@ -58,6 +58,20 @@ impl Given {
         while self.floor < self.flags.len() && self.flags[self.floor] {
             self.floor += 1;
         }
+    }
+
+    /// How many messages come before those up to this number that were never given, if no later one was given.
+    pub(crate) fn prefix(&mut self, sent: usize) -> Option<usize>
+        ensures flags { (given : List ℕ) → AreFlagged self.old given → AreFlagged self.new given }
+        ensures within { IfSome result (λ from. from ≤ sent) }
+        ensures value { IfSome result (λ from. (given : List ℕ) → AreFlagged self.old given →
+            AreUngiven given sent (above from (sent - from))) }
+    {
+        self.advance();
+        if self.floor < self.flags.len() {
+            return None;
+        }
+        Some(self.floor.min(sent))
     }
 
     /// The messages up to this number that were never given, in rising number.

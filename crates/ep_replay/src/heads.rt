@@ -54,7 +54,7 @@ pub fn opening_of(alloc: Global, said: &Said) -> Result<Opening, AllocError>
     ensures { IfOk result (λ o. o ≡ opening_of said.now) }
 {
     let contents = contents(alloc, said.entries())?;
-    match Opening::new(contents, said.since()) {
+    match Opening::new(contents, said.base_stamp()) {
         Ok(opening) => Ok(opening),
         Err(_) => Err(AllocError),
     }

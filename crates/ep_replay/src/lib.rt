@@ -7,7 +7,7 @@
 //! Start with `player.rt`, then specs/Replays.antt (what each line plays), specs/Clients.antt, and `heads.rt` (what a script's
 //! head makes of a world before any line).
 //!
-//! All of it is the meaning of a script, as docs/FORMATS.md, sections 4.3 and 4.4, tells it; the protocol is in `ep_world`
+//! All of it is the meaning of a script, as docs/CLI.md, sections 4.3 and 4.4, tells it; the protocol is in `ep_world`
 //! and below.
 #![tactic(auto)]
 

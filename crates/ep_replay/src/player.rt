@@ -144,20 +144,20 @@ pub(crate) struct Player {
 }
 
 impl Player {
-    ghost use Rattle.std.specs.Prelude.{◌≡◌, ℕ, List, false, length, OnOk, IfOk};
+    ghost use Rattle.std.specs.Prelude.{◌≡◌, ◌≤◌, ◌-◌, ℕ, List, false, length, OnOk, IfOk};
     ghost use Rattle.ep_rules.specs.Audits.{IsAccepted};
     ghost use Rattle.ep_journal.specs.Entries.{journals_of};
     ghost use Rattle.ep_journal.specs.Openings.{opens};
     ghost use Rattle.ep_world.specs.Played.{collected};
     ghost use Rattle.ep_script.specs.declared.line.Line.TheVariants as asked;
     ghost use Rattle.ep_world.specs.declared.world_event.WorldEvent.TheVariants as event;
-    ghost use Rattle.ep_replay.specs.Replays.{Asks, IsOpening, Tries, Gives, Plays, PlayAll, AreUngiven, proposal, with_proposer, with_given};
-    ghost use Rattle.ep_replay.specs.Tables.{AreFlagged, AreOwn, Tells, nothing, told, Leads};
+    ghost use Rattle.ep_replay.specs.Replays.{Asks, IsOpening, Tries, Gives, Plays, PlayAll, AreUngiven, above, proposal, with_proposer, with_given};
+    ghost use Rattle.ep_replay.specs.Tables.{AreFlagged, AreOwn, IsPlayerOf, nothing, told, LeadsTo};
 
     /// A player before any line, with the world of this head, that keeps each event that it tries, or doesn't.
     fn new(alloc: Global, head: &Head, keeps: bool) -> Result<Player, AllocError>
         ensures opening { IfOk result (λ s. IsOpening head.now (told s nothing)) }
-        ensures tells { IfOk result (λ s. Tells s nothing) }
+        ensures tells { IfOk result (λ s. IsPlayerOf s nothing) }
         ensures keeps { IfOk result (λ s. s.keeps ≡ keeps) }
     {
         let world = begun(alloc, head)?;
@@ -175,7 +175,7 @@ impl Player {
 
     /// Tries an event of this line, and keeps it with what comes of it.
     fn attempt_kept(&mut self, line: u32, event: WorldEvent) -> Result<(), AllocError>
-        ensures { OnOk result (Leads (λ p q. Tries p line event q) self.old self.new) }
+        ensures { OnOk result (LeadsTo (λ p q. Tries p line event q) self.old self.new) }
     {
         let first = next_message(&self.world);
         let copy = event.copy(self.alloc)?;
@@ -202,7 +202,7 @@ impl Player {
     /// Tries an event of this line, and keeps nothing of it but its refusal.
     fn attempt_alone(&mut self, line: u32, event: WorldEvent) -> Result<(), AllocError>
         requires { self.old.keeps ≡ false }
-        ensures { OnOk result (Leads (λ p q. Tries p line event q) self.old self.new) }
+        ensures { OnOk result (LeadsTo (λ p q. Tries p line event q) self.old self.new) }
     {
         match self.world.step(event) {
             Ok(()) => {
@@ -224,7 +224,7 @@ impl Player {
     /// Tries an event of this line.
     #[inline(always)]
     fn attempt(&mut self, line: u32, event: WorldEvent) -> Result<(), AllocError>
-        ensures { OnOk result (Leads (λ p q. Tries p line event q) self.old self.new) }
+        ensures { OnOk result (LeadsTo (λ p q. Tries p line event q) self.old self.new) }
     {
         if self.keeps {
             self.attempt_kept(line, event)
@@ -242,7 +242,7 @@ impl Player {
         command: &Command,
         spared: Option<ReplicaId>,
     ) -> Result<(), AllocError>
-        ensures { OnOk result (Leads (λ p q. Tries (with_proposer p client) line (proposal p replica client command.now spared) q) self.old self.new) }
+        ensures { OnOk result (LeadsTo (λ p q. Tries (with_proposer p client) line (proposal p replica client command.now spared) q) self.old self.new) }
     {
         let command = command.copy(self.alloc)?;
         let known = self.clients.count(client)?;
@@ -261,7 +261,7 @@ impl Player {
     /// Notes that the message was given, if there is one of this number.
     #[inline(always)]
     fn note(&mut self, message: u64) -> Result<(), AllocError>
-        ensures { OnOk result (Leads (λ p q. q ≡ with_given p message) self.old self.new) }
+        ensures { OnOk result (LeadsTo (λ p q. q ≡ with_given p message) self.old self.new) }
     {
         if !was_sent(&self.world, message) {
             return Ok(());
@@ -273,7 +273,7 @@ impl Player {
     /// Gives the message of this number.
     #[inline(always)]
     fn give(&mut self, line: u32, message: u64) -> Result<(), AllocError>
-        ensures { OnOk result (Leads (λ p q. Tries (with_given p message) line (event.Deliver message) q) self.old self.new) }
+        ensures { OnOk result (LeadsTo (λ p q. Tries (with_given p message) line (event.Deliver message) q) self.old self.new) }
     {
         self.note(message)?;
         self.hand_over(line, message)?;
@@ -283,13 +283,21 @@ impl Player {
     /// Tries to give the message of this number to its receiver.
     #[inline(always)]
     fn hand_over(&mut self, line: u32, message: u64) -> Result<(), AllocError>
-        ensures { OnOk result (Leads (λ p q. Tries p line (event.Deliver message) q) self.old self.new) }
+        ensures { OnOk result (LeadsTo (λ p q. Tries p line (event.Deliver message) q) self.old self.new) }
     {
         if self.keeps {
-            self.attempt_kept(line, WorldEvent::Deliver(message))
+            self.hand_over_kept(line, message)
         } else {
             self.hand_over_alone(line, message)
         }
+    }
+
+    /// Tries to give the message of this number to its receiver, and keeps the event with what comes of it.
+    #[inline(never)]
+    fn hand_over_kept(&mut self, line: u32, message: u64) -> Result<(), AllocError>
+        ensures { OnOk result (LeadsTo (λ p q. Tries p line (event.Deliver message) q) self.old self.new) }
+    {
+        self.attempt_kept(line, WorldEvent::Deliver(message))
     }
 
     /// Tries to give the message of this number to its receiver, and keeps nothing of it but its refusal. A delivery executes nothing, so it
@@ -297,7 +305,7 @@ impl Player {
     #[inline(always)]
     fn hand_over_alone(&mut self, line: u32, message: u64) -> Result<(), AllocError>
         requires { self.old.keeps ≡ false }
-        ensures { OnOk result (Leads (λ p q. Tries p line (event.Deliver message) q) self.old self.new) }
+        ensures { OnOk result (LeadsTo (λ p q. Tries p line (event.Deliver message) q) self.old self.new) }
     {
         match self.world.deliver(message) {
             Ok(()) => Ok(()),
@@ -310,7 +318,7 @@ impl Player {
 
     /// Gives these messages, in their order.
     fn deliver(&mut self, line: u32, messages: &Messages) -> Result<(), AllocError>
-        ensures { OnOk result (Leads (λ p q. Gives p line messages.now q) self.old self.new) }
+        ensures { OnOk result (LeadsTo (λ p q. Gives p line messages.now q) self.old self.new) }
     {
         for message in messages.as_slice() {
             self.give(line, u64::from(*message))?;
@@ -320,7 +328,7 @@ impl Player {
 
     /// Gives the messages of these numbers, in their order.
     fn give_all(&mut self, line: u32, messages: &[u64]) -> Result<(), AllocError>
-        ensures { OnOk result (Leads (λ p q. Gives p line messages.now q) self.old self.new) }
+        ensures { OnOk result (LeadsTo (λ p q. Gives p line messages.now q) self.old self.new) }
     {
         for message in messages {
             self.give(line, *message)?;
@@ -328,19 +336,47 @@ impl Player {
         Ok(())
     }
 
-    /// Gives each message that was sent and never given.
-    fn flush(&mut self, line: u32) -> Result<(), AllocError>
-        ensures { OnOk result (Leads (λ p q. Plays p line asked.Flush q) self.old self.new) }
+    /// Gives the messages that are numbered from above `from` up to `sent`, in their order.
+    fn give_above(&mut self, line: u32, from: usize, sent: usize) -> Result<(), AllocError>
+        requires { from ≤ sent }
+        ensures { OnOk result (LeadsTo (λ p q. Gives p line (above from (sent - from)) q) self.old self.new) }
     {
-        let sent = self.world.messages().len();
+        for place in from..sent {
+            self.give(line, place as u64 + 1)?;
+        }
+        Ok(())
+    }
+
+    /// Gives each of the messages up to this number that was never given, where others were given behind it.
+    fn give_left(&mut self, line: u32, sent: usize) -> Result<(), AllocError>
+        requires { sent ≡ length self.old.world.messages }
+        ensures { OnOk result (LeadsTo (λ p q. Plays p line asked.Flush q) self.old self.new) }
+    {
         let messages = self.given.ungiven(self.alloc, sent)?;
         self.give_all(line, messages.as_slice())?;
         Ok(())
     }
 
+    /// Gives each message that was sent and never given.
+    fn flush(&mut self, line: u32) -> Result<(), AllocError>
+        ensures { OnOk result (LeadsTo (λ p q. Plays p line asked.Flush q) self.old self.new) }
+    {
+        let sent = self.world.messages().len();
+        match self.given.prefix(sent) {
+            Some(from) => {
+                self.give_above(line, from, sent)?;
+                Ok(())
+            }
+            None => {
+                self.give_left(line, sent)?;
+                Ok(())
+            }
+        }
+    }
+
     /// Has a replica do what an agenda would have it do.
     fn ask(&mut self, line: u32, asked: &AgendaLine) -> Result<(), AllocError>
-        ensures { OnOk result (Leads (λ p q. Asks p line asked.now q) self.old self.new) }
+        ensures { OnOk result (LeadsTo (λ p q. Asks p line asked.now q) self.old self.new) }
     {
         match asked {
             AgendaLine::Propose {
@@ -368,7 +404,7 @@ impl Player {
 
     /// Plays one line.
     fn play(&mut self, line: u32, what: &Line) -> Result<(), AllocError>
-        ensures { OnOk result (Leads (λ p q. Plays p line what.now q) self.old self.new) }
+        ensures { OnOk result (LeadsTo (λ p q. Plays p line what.now q) self.old self.new) }
     {
         match what {
             Line::Agenda(asked) => self.ask(line, asked),
@@ -386,7 +422,7 @@ impl Player {
 
     /// Plays lines, in order.
     fn play_all(&mut self, lines: &[(u32, Line)]) -> Result<(), AllocError>
-        ensures { OnOk result (Leads (λ p q. PlayAll p lines.now q) self.old self.new) }
+        ensures { OnOk result (LeadsTo (λ p q. PlayAll p lines.now q) self.old self.new) }
     {
         for (line, what) in lines {
             self.play(*line, what)?;
@@ -457,7 +493,7 @@ fn played(alloc: Global, script: &Script, keeps: bool) -> Result<Player, AllocEr
 }
 
 /// Plays the script in a world of its size and version, which opens as its head says. An event that is refused changes nothing, and the
-/// script goes on; want of memory ends the replay.
+/// script goes on; running out of memory ends the replay.
 ///
 /// A client's requests are numbered from 1 in the script's order, refused ones included. What it has seen is the
 /// greatest stamp of its receipts so far. After each event the replica that took it gives its receipts.

@@ -10,19 +10,19 @@ use Rattle.ep_journal.specs.Entries.{Log, entry_of, entries_of}
 use Rattle.ep_journal.specs.declared.entry.Entry.{Entry}
 use Rattle.ep_journal.specs.declared.event.Event.{Event as Happening}
 use Rattle.ep_replica.specs.Applied.{Applied}
-use Rattle.ep_replica.specs.Firsts.{or_spot, first_among, first_done, spot_at, AreFirsts, told_done, told_in, told_at}
+use Rattle.ep_replica.specs.FirstExecutions.{or_spot, first_among, first_done, spot_at, AreFirsts, told_done, told_in, told_at}
 use Rattle.ep_replica.specs.Kept.{Kept}
 use Rattle.ep_replica.specs.Outcomes.{receipt, or_this, told_among, told_by}
 use Rattle.ep_replica.specs.Receipts.{proposal_of, own_proposal, outcome_of}
 use Rattle.ep_replica.specs.declared.proposal.Proposal.{Proposal}
-use Rattle.ep_replica.specs.declared.spot.Spot.{Spot}
+use Rattle.ep_replica.specs.declared.execution_place.ExecutionPlace.{ExecutionPlace}
 use Rattle.ep_replica.proofs.Outcomes.{told_first}
 
-or_none : (s : Option Spot) → or_spot s None ≡ s
+or_none : (s : Option ExecutionPlace) → or_spot s None ≡ s
 or_none None = refl
 or_none (Some s) = refl
 
-or_assoc : (a b c : Option Spot) → or_spot (or_spot a b) c ≡ or_spot a (or_spot b c)
+or_assoc : (a b c : Option ExecutionPlace) → or_spot (or_spot a b) c ≡ or_spot a (or_spot b c)
 or_assoc None b c = refl
 or_assoc (Some s) b c = refl
 
@@ -37,7 +37,7 @@ done_grows n (x ∷ es) e i =
     ap (or_spot (first_among n 0 x.done i)) (done_grows (suc n) es e i ∙ ap (λ m. or_spot (first_done (suc n) es i) (first_among m 0 e.done i)) at)
     ∙ sym (or_assoc (first_among n 0 x.done i) (first_done (suc n) es i) (first_among (n + suc (length es)) 0 e.done i))
 
-pub firsts_more : (me n : ℕ) (es : List Entry) (e : Entry) (old new : List (Option Spot)) → length es ≡ n → AreFirsts me es old
+pub firsts_more : (me n : ℕ) (es : List Entry) (e : Entry) (old new : List (Option ExecutionPlace)) → length es ≡ n → AreFirsts me es old
     → ((number : ℕ) → number ≤ highest_number → spot_at new number ≡ or_spot (spot_at old number) (first_among n 0 e.done (instance_of me number)))
     → AreFirsts me (es ++ e ∷ []) new
 firsts_more me n es e old new count firsts noted number low =
@@ -46,7 +46,7 @@ firsts_more me n es e old new count firsts noted number low =
     ∙ ap (λ m. or_spot (first_done 0 es (instance_of me number)) (first_among m 0 e.done (instance_of me number))) at
     ∙ sym (done_grows 0 es e (instance_of me number))
 
-pub firsts_next : (j j' : Log) (event : Happening) (r : Entry) (me n : ℕ) (old mid new : List (Option Spot)) → Applied j event r j' → me ≡ j'.me → n ≡ length j.entries → AreFirsts j.me j.entries old
+pub firsts_next : (j j' : Log) (event : Happening) (r : Entry) (me n : ℕ) (old mid new : List (Option ExecutionPlace)) → Applied j event r j' → me ≡ j'.me → n ≡ length j.entries → AreFirsts j.me j.entries old
     → ((number : ℕ) → spot_at mid number ≡ spot_at old number) → ((es : List Entry) → length es ≡ n → AreFirsts me es mid → AreFirsts me (es ++ r ∷ []) new) → AreFirsts j'.me j'.entries new
 firsts_next j j' event r me n old mid new a is count h same marked =
     let em : j'.me ≡ j.me = ap (λ (k : Kept). k.me) a.appended in
@@ -73,7 +73,7 @@ among_none me i n k p e (d ∷ ds) is = go (eqb d.0 i) is (among_none me i n (su
     go true is rest = absurd (cc)
     go false is rest = rest is
 
-among_some : (me i n k : ℕ) (p : Proposal) (e : Entry) (ds : List (ℕ × Answer)) (s : Spot) → first_among n k ds i ≡ Some s → ToldAmong me i p e k ds s.place × (s.entry ≡ n)
+among_some : (me i n k : ℕ) (p : Proposal) (e : Entry) (ds : List (ℕ × Answer)) (s : ExecutionPlace) → first_among n k ds i ≡ Some s → ToldAmong me i p e k ds s.place × (s.entry ≡ n)
 among_some me i n k p e [] s is = absurd (cc)
 among_some me i n k p e (d ∷ ds) s is = go (eqb d.0 i) refl is (among_some me i n (suc k) p e ds s)
   where
@@ -81,8 +81,8 @@ among_some me i n k p e (d ∷ ds) s is = go (eqb d.0 i) refl is (among_some me 
         → (first_among n (suc k) ds i ≡ Some s → ToldAmong me i p e (suc k) ds s.place × (s.entry ≡ n)) → ToldAmong me i p e k (d ∷ ds) s.place × (s.entry ≡ n)
     go true test is rest =
         let this : record { entry = n; place = k } ≡ s = same_Some (record { entry = n; place = k }) s is in
-        let at : k ≡ s.place = ap (λ (z : Spot). z.place) this in
-        (record { steps = 0; counted = omega (arith, at); done = d; at = refl; told = ap (λ b. cond b (Some (receipt me i p (entry_of e) d.1)) (told_among me i p (entry_of e) ds)) test }, sym (ap (λ (z : Spot). z.entry) this))
+        let at : k ≡ s.place = ap (λ (z : ExecutionPlace). z.place) this in
+        (record { steps = 0; counted = omega (arith, at); done = d; at = refl; told = ap (λ b. cond b (Some (receipt me i p (entry_of e) d.1)) (told_among me i p (entry_of e) ds)) test }, sym (ap (λ (z : ExecutionPlace). z.entry) this))
     go false test is rest =
         let r = rest is in
         let at : s.place ≡ suc k + r.0.steps = r.0.counted in
@@ -92,31 +92,31 @@ pub told_none : (me i n : ℕ) (p : Proposal) (es : List Entry) → first_done n
 told_none me i n p [] is = refl
 told_none me i n p (e ∷ es) is = go (first_among n 0 e.done i) refl is (told_none me i (suc n) p es)
   where
-    go : (o : Option Spot) → first_among n 0 e.done i ≡ o → or_spot o (first_done (suc n) es i) ≡ None → (first_done (suc n) es i ≡ None → told_by me i p (entries_of es) ≡ None) → told_by me i p (entries_of (e ∷ es)) ≡ None
+    go : (o : Option ExecutionPlace) → first_among n 0 e.done i ≡ o → or_spot o (first_done (suc n) es i) ≡ None → (first_done (suc n) es i ≡ None → told_by me i p (entries_of es) ≡ None) → told_by me i p (entries_of (e ∷ es)) ≡ None
     go None none is rest = ap (λ t. or_this t (told_by me i p (entries_of es))) (among_none me i n 0 p e e.done none) ∙ rest is
     go (Some t) some is rest = absurd (cc)
 
 -- the entry at the place, counted from the n-th, is the one that tells
-record ToldBy (me i : ℕ) (p : Proposal) (n : ℕ) (es : List Entry) (s : Spot) : Type 0 where
+record ToldBy (me i : ℕ) (p : Proposal) (n : ℕ) (es : List Entry) (s : ExecutionPlace) : Type 0 where
   steps : ℕ
   counted : s.entry ≡ n + steps
   told : told_by me i p (entries_of es) ≡ told_in me i p (slice_get es steps) s.place
 
-told_some : (me i n : ℕ) (p : Proposal) (es : List Entry) (s : Spot) → first_done n es i ≡ Some s → ToldBy me i p n es s
+told_some : (me i n : ℕ) (p : Proposal) (es : List Entry) (s : ExecutionPlace) → first_done n es i ≡ Some s → ToldBy me i p n es s
 told_some me i n p [] s is = absurd (cc)
 told_some me i n p (e ∷ es) s is = go (first_among n 0 e.done i) refl is (told_some me i (suc n) p es s)
   where
     rest : Option Receipt
     rest = told_by me i p (entries_of es)
 
-    go : (o : Option Spot) → first_among n 0 e.done i ≡ o → or_spot o (first_done (suc n) es i) ≡ Some s → (first_done (suc n) es i ≡ Some s → ToldBy me i p (suc n) es s) → ToldBy me i p n (e ∷ es) s
+    go : (o : Option ExecutionPlace) → first_among n 0 e.done i ≡ o → or_spot o (first_done (suc n) es i) ≡ Some s → (first_done (suc n) es i ≡ Some s → ToldBy me i p (suc n) es s) → ToldBy me i p n (e ∷ es) s
     go None none is later =
         let r = later is in
         let at : s.entry ≡ suc n + r.steps = r.counted in
         record { steps = suc r.steps; counted = omega (arith, at); told = ap (λ t. or_this t rest) (among_none me i n 0 p e e.done none) ∙ r.told }
     go (Some t) some is later =
         let same : t ≡ s = same_Some t s is in
-        let found = among_some me i n 0 p e e.done s (some ∙ ap (λ (z : Spot). Some z) same) in
+        let found = among_some me i n 0 p e e.done s (some ∙ ap (λ (z : ExecutionPlace). Some z) same) in
         let here : s.entry ≡ n = found.1 in
         let steps : s.place ≡ 0 + found.0.steps = found.0.counted in
         let at : found.0.steps ≡ s.place = omega (arith, steps) in
@@ -127,7 +127,7 @@ told_some me i n p (e ∷ es) s is = go (first_among n 0 e.done i) refl is (told
         }
 
 -- what stands where the first execution is noted is the first receipt
-pub told_spot : (me i : ℕ) (p : Proposal) (es : List Entry) (s : Spot) → first_done 0 es i ≡ Some s → told_at me i p es s ≡ told_by me i p (entries_of es)
+pub told_spot : (me i : ℕ) (p : Proposal) (es : List Entry) (s : ExecutionPlace) → first_done 0 es i ≡ Some s → told_at me i p es s ≡ told_by me i p (entries_of es)
 told_spot me i p es s is =
     let r = told_some me i 0 p es s is in
     let steps : s.entry ≡ 0 + r.steps = r.counted in
@@ -135,9 +135,9 @@ told_spot me i p es s is =
     ap (λ n. told_in me i p (slice_get es n) s.place) at ∙ sym r.told
 
 -- before any entry
-pub nothing_done : (me : ℕ) (es : List Entry) (spots : List (Option Spot)) → es ≡ [] → spots ≡ [] → AreFirsts me es spots
+pub nothing_done : (me : ℕ) (es : List Entry) (spots : List (Option ExecutionPlace)) → es ≡ [] → spots ≡ [] → AreFirsts me es spots
 nothing_done me es spots none empty number low =
-    ap (λ (xs : List (Option Spot)). spot_at xs number) empty ∙ sym (ap (λ (xs : List Entry). first_done 0 xs (instance_of me number)) none)
+    ap (λ (xs : List (Option ExecutionPlace)). spot_at xs number) empty ∙ sym (ap (λ (xs : List Entry). first_done 0 xs (instance_of me number)) none)
 
 -- What the search finds.
 
@@ -148,14 +148,14 @@ own_leads me i es p is = go (eqb (leader_of i) me) refl is
     go true test is = eqb-true (leader_of i) me test
     go false test is = absurd (cc)
 
-found_first : (me i n : ℕ) (es : List Entry) (spots : List (Option Spot)) (p : Proposal) → AreFirsts me es spots → Some p ≡ own_proposal me (entries_of es) i → n ≡ number_of i → number_of i ≤ highest_number
+found_first : (me i n : ℕ) (es : List Entry) (spots : List (Option ExecutionPlace)) (p : Proposal) → AreFirsts me es spots → Some p ≡ own_proposal me (entries_of es) i → n ≡ number_of i → number_of i ≤ highest_number
     → spot_at spots n ≡ first_done 0 es i
 found_first me i n es spots p firsts own at low =
     let leads : leader_of i ≡ me = own_leads me i (entries_of es) p own in
     let this : instance_of me n ≡ i = omega (arith, leads, at) in
     firsts n (omega (arith, at, low)) ∙ ap (first_done 0 es) this
 
-pub searched_none : (l : Log) (k : Kept) (i n : ℕ) (spots : List (Option Spot)) (p : Proposal) → l ≡ k → AreFirsts l.me l.entries spots → n ≡ number_of i → number_of i ≤ highest_number → None ≡ spot_at spots n
+pub searched_none : (l : Log) (k : Kept) (i n : ℕ) (spots : List (Option ExecutionPlace)) (p : Proposal) → l ≡ k → AreFirsts l.me l.entries spots → n ≡ number_of i → number_of i ≤ highest_number → None ≡ spot_at spots n
     → Some p ≡ own_proposal k.me (entries_of k.entries) i → None ≡ outcome_of k.me (entries_of k.entries) i
 searched_none l k i n spots p same firsts at low none =
     subst (λ (z : Kept). Some p ≡ own_proposal z.me (entries_of z.entries) i → None ≡ outcome_of z.me (entries_of z.entries) i) same
@@ -163,7 +163,7 @@ searched_none l k i n spots p same firsts at low none =
     let es = entries_of l.entries in
     sym (told_first l.me i es p es (sym own) ∙ told_none l.me i 0 p l.entries (sym (none ∙ found_first l.me i n l.entries spots p firsts own at low))))
 
-pub searched_some : (l : Log) (k : Kept) (i n : ℕ) (spots : List (Option Spot)) (p : Proposal) (s : Spot) → l ≡ k → AreFirsts l.me l.entries spots → n ≡ number_of i → number_of i ≤ highest_number → Some s ≡ spot_at spots n
+pub searched_some : (l : Log) (k : Kept) (i n : ℕ) (spots : List (Option ExecutionPlace)) (p : Proposal) (s : ExecutionPlace) → l ≡ k → AreFirsts l.me l.entries spots → n ≡ number_of i → number_of i ≤ highest_number → Some s ≡ spot_at spots n
     → Some p ≡ own_proposal k.me (entries_of k.entries) i → told_at l.me i p l.entries s ≡ outcome_of k.me (entries_of k.entries) i
 searched_some l k i n spots p s same firsts at low some =
     subst (λ (z : Kept). Some p ≡ own_proposal z.me (entries_of z.entries) i → told_at l.me i p l.entries s ≡ outcome_of z.me (entries_of z.entries) i) same

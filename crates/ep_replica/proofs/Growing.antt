@@ -18,7 +18,7 @@ use Rattle.ep_journal.specs.declared.mark.Mark.{Mark}
 use Rattle.ep_journal.specs.declared.step_fault.StepFault.{StepFault}
 use Rattle.ep_journal.proofs.Growing.{entries_grow, next_journal}
 use Rattle.ep_replica.specs.Kept.{Kept}
-use Rattle.ep_replica.specs.Slots.{found, Tells}
+use Rattle.ep_replica.specs.Slots.{found, HoldsProposals}
 use Rattle.ep_replica.specs.declared.proposal.Proposal.{Proposal}
 use Rattle.ep_replica.specs.Applied.{Applied, IsDeclined, last_of, leaps, mark_of, mark_after, next_stamp}
 
@@ -35,10 +35,10 @@ journal_grows k event e k' j a = next_journal k.version k.opening k.faults k.me 
 })
 
 -- so does the clock
-pub clock_grows : (k : Kept) (event : Happening) (e : Entry) (k' : Kept) → AreClocked k.opening.since (entries_of k.entries) → Applied k event e k' → AreClocked k.opening.since (entries_of (k.entries ++ e ∷ []))
+pub clock_grows : (k : Kept) (event : Happening) (e : Entry) (k' : Kept) → AreClocked k.opening.base_stamp (entries_of k.entries) → Applied k event e k' → AreClocked k.opening.base_stamp (entries_of (k.entries ++ e ∷ []))
 clock_grows k event e k' h a =
-    subst (λ xs. AreClocked k.opening.since xs) (sym (entries_grow k.entries e))
-    (clocks_grow_lem k.opening.since (entries_of k.entries) (entry_of e) h (a.stamp ∙ ap (λ (h : Happening). next_stamp k h) (sym a.event)))
+    subst (λ xs. AreClocked k.opening.base_stamp xs) (sym (entries_grow k.entries e))
+    (clocks_grow_lem k.opening.base_stamp (entries_of k.entries) (entry_of e) h (a.stamp ∙ ap (λ (h : Happening). next_stamp k h) (sym a.event)))
 
 mark_is : (number stamp : ℕ) (m : Mark) → Some m ≡ mark_of number stamp → (m.number ≡ number) × (m.stamp ≡ stamp)
 mark_is number stamp m is = go (ltb number 4294967296 && ltb stamp 281474976710656) is
@@ -96,11 +96,11 @@ declined j k event mark fault is clock refused =
 
 -- what holds of a replica holds after one entry more
 pub record Holds (j : Kept) : Type 0 where
-  pub clock : AreClocked j.opening.since (entries_of j.entries)
+  pub clock : AreClocked j.opening.base_stamp (entries_of j.entries)
   pub some : 0 < j.faults
   pub known : 2 ≤ version_number j.version
 
-pub holds_next : (j j' : Kept) (event : Happening) → AreClocked j.opening.since (entries_of j.entries) → 0 < j.faults → 2 ≤ version_number j.version → (e : Entry) × Applied j event e j' → Holds j'
+pub holds_next : (j j' : Kept) (event : Happening) → AreClocked j.opening.base_stamp (entries_of j.entries) → 0 < j.faults → 2 ≤ version_number j.version → (e : Entry) × Applied j event e j' → Holds j'
 holds_next j j' event clock some known p =
     subst Holds (sym p.1.appended) (record { clock = clock_grows j event p.0 j' clock p.1; some = some; known = known })
 
@@ -120,10 +120,10 @@ pub read_off : (j j' : Kept) (es' : List Entry) (event : Happening) (mark : Opti
 read_off j j' es' event mark r clock a same' is = last_made j j' event r (applied j j' event mark clock a) (subst (λ (xs : List Entry). r ≡ get_or xs (length xs - 1) r) same' is)
 
 -- what the entry proposes is noted
-pub tells_next : (j j' : Kept) (event : Happening) (r : Entry) (me : ℕ) (old mid new : List (Option Proposal)) → Applied j event r j' → me ≡ j'.me → Tells j.me j.entries old → ((n : ℕ) → found mid n ≡ found old n)
-    → ((es : List Entry) → Tells me es mid → Tells me (es ++ r ∷ []) new) → Tells j'.me j'.entries new
+pub tells_next : (j j' : Kept) (event : Happening) (r : Entry) (me : ℕ) (old mid new : List (Option Proposal)) → Applied j event r j' → me ≡ j'.me → HoldsProposals j.me j.entries old → ((n : ℕ) → found mid n ≡ found old n)
+    → ((es : List Entry) → HoldsProposals me es mid → HoldsProposals me (es ++ r ∷ []) new) → HoldsProposals j'.me j'.entries new
 tells_next j j' event r me old mid new a is h same noted =
     let em : j'.me ≡ j.me = ap (λ (k : Kept). k.me) a.appended in
     let ee : j'.entries ≡ j.entries ++ r ∷ [] = ap (λ (k : Kept). k.entries) a.appended in
-    let here : Tells me j.entries mid = subst (λ m. Tells m j.entries mid) (sym (is ∙ em)) (λ n le. same n ∙ h n le) in
-    subst (λ m. Tells m j'.entries new) is (subst (λ (es : List Entry). Tells me es new) (sym ee) (noted j.entries here))
+    let here : HoldsProposals me j.entries mid = subst (λ m. HoldsProposals m j.entries mid) (sym (is ∙ em)) (λ n le. same n ∙ h n le) in
+    subst (λ m. HoldsProposals m j'.entries new) is (subst (λ (es : List Entry). HoldsProposals me es new) (sym ee) (noted j.entries here))

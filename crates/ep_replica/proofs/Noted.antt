@@ -14,7 +14,7 @@ use Rattle.ep_journal.specs.declared.entry.Entry.{Entry}
 use Rattle.ep_journal.specs.declared.event.Event.{Event as Happening}
 use Rattle.ep_journal.specs.declared.event.Event.TheVariants.{Propose}
 use Rattle.ep_replica.specs.Receipts.{proposed_by, proposal_of, or_else}
-use Rattle.ep_replica.specs.Slots.{found, named, HasPlace, Tells}
+use Rattle.ep_replica.specs.Slots.{found, named, HasPlace, HoldsProposals}
 use Rattle.ep_replica.specs.declared.proposal.Proposal.{Proposal}
 use Rattle.ep_journal.proofs.Growing.{entries_grow}
 
@@ -35,7 +35,7 @@ grows es e i = ap (λ xs. proposal_of xs i) (entries_grow es e) ∙ proposal_gro
 
 -- an entry that proposes nothing of the replica's own changes nothing
 pub still_tells : (me : ℕ) (es : List Entry) (e : Entry) (slots : List (Option Proposal)) → ((number : ℕ) → number ≤ highest_number → proposed_by (event_of e.event) (frames_at e.frames) (instance_of me number) ≡ None)
-    → Tells me es slots → Tells me (es ++ e ∷ []) slots
+    → HoldsProposals me es slots → HoldsProposals me (es ++ e ∷ []) slots
 still_tells me es e slots nothing tells number low =
     tells number low ∙ sym (grows es e (instance_of me number) ∙ ap (λ p. or_else p (proposal_of (entries_of es) (instance_of me number))) (nothing number low))
 
@@ -61,7 +61,7 @@ place_for_none me e slots is number limit some = absurd (some (is (instance_of m
 -- an own proposal is put at its number
 pub tells_more : (me : ℕ) (es : List Entry) (e : Entry) (slots : List (Option Proposal)) (j n : ℕ) (p : Proposal) → n < length slots → leader_of j ≡ me → n ≡ number_of j → number_of j ≤ highest_number
     → ((i : ℕ) → proposed_by (event_of e.event) (frames_at e.frames) i ≡ named (Some (j, p)) i)
-    → Tells me es slots → Tells me (es ++ e ∷ []) (set slots n (Some p))
+    → HoldsProposals me es slots → HoldsProposals me (es ++ e ∷ []) (set slots n (Some p))
 tells_more me es e slots j n p room own n_is low is tells number limit = go (eqb j (instance_of me number)) refl
   where
     rest : Option Proposal
@@ -81,7 +81,7 @@ tells_more me es e slots j n p room own n_is low is tells number limit = go (eqb
 
 -- one that another replica leads is not kept
 pub others_tell : (me : ℕ) (es : List Entry) (e : Entry) (slots : List (Option Proposal)) (j : ℕ) (p : Proposal) → leader_of j ≢ me → ((i : ℕ) → proposed_by (event_of e.event) (frames_at e.frames) i ≡ named (Some (j, p)) i)
-    → Tells me es slots → Tells me (es ++ e ∷ []) slots
+    → HoldsProposals me es slots → HoldsProposals me (es ++ e ∷ []) slots
 others_tell me es e slots j p other is tells =
     still_tells me es e slots
     (λ number limit. is (instance_of me number) ∙ ap (λ b. cond b (Some p) None) (ne_eqb j (instance_of me number) (λ same. other (let this : j ≡ instance_of me number = same in omega arith)))) tells
@@ -98,6 +98,6 @@ proposal_is e client request command seen spared b j is first about i = ap (λ (
         ap (λ n. cond (eqb n i) (Some (record { client = client; request = request; seen = seen })) None) (sym (about ∙ ap (λ (x : List ℕ). instance_of_message (message_at x)) same))
 
 -- before any entry
-pub nothing_told : (me : ℕ) (es : List Entry) (slots : List (Option Proposal)) → es ≡ [] → slots ≡ [] → Tells me es slots
+pub nothing_told : (me : ℕ) (es : List Entry) (slots : List (Option Proposal)) → es ≡ [] → slots ≡ [] → HoldsProposals me es slots
 nothing_told me es slots none empty number low =
     ap (λ (xs : List (Option Proposal)). found xs number) empty ∙ sym (ap (λ (xs : List Entry). proposal_of (entries_of xs) (instance_of me number)) none)

@@ -28,7 +28,7 @@ use Rattle.ep_journal.specs.declared.entry.Entry.{Entry}
 use Rattle.ep_journal.specs.declared.event.Event.{Event as Happening}
 use Rattle.ep_journal.proofs.Highest.{none_above}
 use Rattle.ep_replica.specs.Applied.{Applied}
-use Rattle.ep_replica.specs.Firsts.{HavePlaces}
+use Rattle.ep_replica.specs.FirstExecutions.{HavePlaces}
 use Rattle.ep_replica.specs.Kept.{Kept}
 use Rattle.ep_replica.specs.Pending.{state_of}
 use Rattle.ep_replica.specs.Receipts.{proposed_by}

@@ -21,7 +21,7 @@ use Rattle.ep_replica.specs.declared.replica_fault.ReplicaFault.TheVariants.{Bad
 
 -- the stamp of its last entry; before any, the one that its clock goes on from
 abbrev pub last_of : Kept → ℕ
-last_of k = stamp_after k.opening.since (entries_of k.entries)
+last_of k = stamp_after k.opening.base_stamp (entries_of k.entries)
 
 -- one more than the greatest stamp that is known: the last one, or what the event tells of
 abbrev pub next_stamp : Kept → Happening → ℕ
@@ -56,7 +56,7 @@ pub record Applied (k : Kept) (taken : Happening) (e : Entry) (k' : Kept) : Type
   pub room : HasRoom k.version k.me (standing k).state (event_of taken)
   pub appended : k' ≡ record k { entries = k.entries ++ e ∷ [] }
 
--- why the event was not taken: want of memory, or the first reason, in the order of the step that has the clock's mark
+-- why the event was not taken: out of memory, or the first reason, in the order of the step that has the clock's mark
 abbrev pub IsDeclined : Kept → Happening → StepFault → Type 0
 IsDeclined k event fault = IsRefused (standing k) event (mark_after k event) fault
 

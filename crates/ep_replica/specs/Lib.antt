@@ -4,7 +4,7 @@ pub mod Applied
 pub mod Receipts
 pub mod Slots
 pub mod Outcomes
-pub mod Firsts
+pub mod FirstExecutions
 pub mod Pending
 pub mod Reading
 pub mod Spans

@@ -33,7 +33,7 @@ pub record IsPending (k : Kept) (i : ℕ) : Type 0 where
 abbrev pub IsWaiting : Kept → ℕ → Type 0
 IsWaiting k i = (j : ℕ) × Reaches (graph_in (state_of k).records) i j × (graph_in (state_of k).records j ≡ None)
 
--- its execution is refused for want of memory or a full stamp
+-- its execution is refused when out of memory or a full stamp
 abbrev pub IsShort : Kept → ℕ → Type 0
 IsShort k i = (fault : StepFault) × IsDeclined k (Execute i) fault × ((fault ≡ Memory) ⊎ (fault ≡ StampFull))
 
@@ -42,7 +42,7 @@ abbrev pub IsNext : Kept → Option ℕ → Option ℕ → Type 0
 IsNext k after None = (j : ℕ) → IsPending k j → ¬ IsAbove after j
 IsNext k after (Some i) = IsPending k i × IsAbove after i × ((j : ℕ) → IsPending k j → IsAbove after j → ¬ (j < i))
 
--- a try to execute an instance: it was executed; or it isn't pending or waits; or it was refused, for want of memory or a full stamp
+-- a try to execute an instance: it was executed; or it isn't pending or waits; or it was refused, when out of memory or a full stamp
 abbrev pub Tries : Kept → ℕ → Attempt → Kept → Type 0
 Tries k i Executed k' = IsPending k i × ((e : Entry) × Applied k (Execute i) e k')
 Tries k i Passed k' = (IsPending k i → IsWaiting k i) × (k' ≡ k)
@@ -53,12 +53,12 @@ Tries k i Full k' = IsPending k i × IsDeclined k (Execute i) StampFull × (k' �
 abbrev pub LesserWait : Kept → ℕ → Type 0
 LesserWait k i = (j : ℕ) → IsPending k j → j < i → IsWaiting k j
 
--- the least pending instance that doesn't wait was executed; or nothing was: each of them waits, or one was refused for want of memory or a full stamp
+-- the least pending instance that doesn't wait was executed; or nothing was: each of them waits, or one was refused when out of memory or a full stamp
 abbrev pub ExecutesNext : Kept → Bool → Kept → Type 0
 ExecutesNext k true k' = (i : ℕ) × IsPending k i × ((e : Entry) × Applied k (Execute i) e k') × LesserWait k i
 ExecutesNext k false k' = (((j : ℕ) → IsPending k j → IsWaiting k j) ⊎ ((i : ℕ) × IsPending k i × IsShort k i × LesserWait k i)) × (k' ≡ k)
 
--- the least pending instance that may not wait is refused, for want of memory or a full stamp
+-- the least pending instance that may not wait is refused, when out of memory or a full stamp
 abbrev pub IsHeldUp : Kept → StepFault → Type 0
 IsHeldUp k fault = (i : ℕ) × IsPending k i × IsDeclined k (Execute i) fault × ((fault ≡ Memory) ⊎ (fault ≡ StampFull)) × LesserWait k i
 

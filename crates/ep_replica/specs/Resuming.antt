@@ -16,4 +16,4 @@ first_unclocked last (e ∷ es) = cond (e.stamp == 1 + max last (heard e.event))
 abbrev pub IsNoReplica : Log → ResumeFault → Type 0
 IsNoReplica j Memory = Unit {0}
 IsNoReplica j OtherVersion = j.version ≡ V1
-IsNoReplica j (NotClocked number) = first_unclocked j.opening.since (entries_of j.entries) ≡ Some number
+IsNoReplica j (NotClocked number) = first_unclocked j.opening.base_stamp (entries_of j.entries) ≡ Some number

@@ -19,6 +19,6 @@ named (Some p) i = cond (eqb p.0 i) (Some p.1) None
 abbrev pub HasPlace : ℕ → Entry → List (Option Proposal) → Type 0
 HasPlace me e slots = (number : ℕ) → number ≤ highest_number → proposed_by (event_of e.event) (frames_at e.frames) (instance_of me number) ≢ None → number < length slots
 
--- the table tells what the entries of replica me propose in each instance that it leads
-abbrev pub Tells : ℕ → List Entry → List (Option Proposal) → Type 0
-Tells me es slots = (number : ℕ) → number ≤ highest_number → found slots number ≡ proposal_of (entries_of es) (instance_of me number)
+-- the table says what the entries of replica me propose in each instance that it leads
+abbrev pub HoldsProposals : ℕ → List Entry → List (Option Proposal) → Type 0
+HoldsProposals me es slots = (number : ℕ) → number ≤ highest_number → found slots number ≡ proposal_of (entries_of es) (instance_of me number)

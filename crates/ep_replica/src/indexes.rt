@@ -4,12 +4,12 @@ ghost use Rattle.std.specs.Prelude.{◌<◌, ◌≤◌, length, IfOk, IfErr, OnO
 ghost use Rattle.ep_rules.specs.Journals.{AreClocked};
 ghost use Rattle.ep_journal.specs.Entries.{entries_of};
 ghost use Rattle.ep_replica.specs.Blockers.{Remembers};
-ghost use Rattle.ep_replica.specs.Firsts.{AreFirsts};
+ghost use Rattle.ep_replica.specs.FirstExecutions.{AreFirsts};
 ghost use Rattle.ep_replica.specs.Resuming.{IsNoReplica};
-ghost use Rattle.ep_replica.specs.Slots.{Tells};
+ghost use Rattle.ep_replica.specs.Slots.{HoldsProposals};
 
 use crate::clock::first_unclocked;
-use crate::firsts::Firsts;
+use crate::first_executions::FirstExecutions;
 use crate::remembered::Remembered;
 use crate::resume_fault::ResumeFault;
 use crate::slots::Slots;
@@ -20,27 +20,27 @@ use std::alloc::Global;
 #[derive(Drop)]
 pub(crate) struct Indexes {
     pub slots: Slots,
-    pub firsts: Firsts,
+    pub firsts: FirstExecutions,
     pub remembered: Remembered,
 }
 
 /// Those of the replica whose journal this is, where it is clocked.
 pub(crate) fn indexes_of(alloc: Global, journal: &Journal) -> Result<Indexes, ResumeFault>
-    ensures clocked { OnOk result (AreClocked journal.now.opening.since (entries_of journal.now.entries)) }
-    ensures slots { IfOk result (λ i. Tells journal.now.me journal.now.entries i.slots) }
+    ensures clocked { OnOk result (AreClocked journal.now.opening.base_stamp (entries_of journal.now.entries)) }
+    ensures slots { IfOk result (λ i. HoldsProposals journal.now.me journal.now.entries i.slots) }
     ensures some { OnOk result (0 < journal.now.faults) }
     ensures remembered { IfOk result (λ i. Remembers journal.now i.remembered.due i.remembered.blockers) }
     ensures fits { IfOk result (λ i. length i.remembered.blockers ≤ length i.remembered.due) }
     ensures firsts { IfOk result (λ i. AreFirsts journal.now.me journal.now.entries i.firsts) }
     ensures refused { IfErr result (λ fault. IsNoReplica journal.now fault) }
 {
-    let since = journal.opening().since();
-    if let Some(number) = first_unclocked(since, journal.entries()) {
+    let base_stamp = journal.opening().base_stamp();
+    if let Some(number) = first_unclocked(base_stamp, journal.entries()) {
         return Err(ResumeFault::NotClocked(number));
     }
     let _faults = journal.size().faults();
     let slots = Slots::of(alloc, journal.me(), journal.entries())?;
-    let firsts = Firsts::of(alloc, journal.me(), journal.entries())?;
+    let firsts = FirstExecutions::of(alloc, journal.me(), journal.entries())?;
     let remembered = Remembered::all_due(alloc, journal.highest())?;
     Ok(Indexes {
         slots,

@@ -2,10 +2,10 @@
 //!
 //! This is the crate to build on: a program hands events to `Replica::take`, and what comes from outside to `Replica::handle`,
 //! keeps the new entry, and sends its frames.
-//! docs/EMBEDDING.md tells how, and `ep_example` does it. `ep_world` holds replicas too.
+//! docs/EMBEDDING.md says how, and `ep_example` does it. `ep_world` holds replicas too.
 //!
-//! Start with `replica.rt`, then specs/Applied.antt (one event), specs/Receipts.antt (what callers are told) and `clock.rt`. What a
-//! program asks beside is in `asking.rt`; where instances were first executed, in `firsts.rt`.
+//! Start with `replica.rt`, then specs/Applied.antt (one event), specs/Receipts.antt (what callers are reported) and `clock.rt`. What a
+//! program asks beside is in `asking.rt`; where instances were first executed, in `first_executions.rt`.
 //!
 //! It keeps to `ep_journal`'s step, with the number and the stamp of its own clock, and its state is what its journal leaves,
 //! by its type. `Replica::new` makes one of version 2, and `Replica::opened` one of a generation, with an opening; both are one
@@ -17,7 +17,8 @@ mod blockers;
 mod clock;
 mod due_numbers;
 mod entry_receipts;
-mod firsts;
+mod execution_place;
+mod first_executions;
 mod flags;
 mod indexes;
 mod opened_fault;
@@ -32,7 +33,6 @@ mod replica_fault;
 mod resume_fault;
 mod slots;
 mod span;
-mod spot;
 
 pub use ep_phase::LeadPhase;
 pub use opened_fault::OpenedFault;

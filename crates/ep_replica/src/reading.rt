@@ -8,7 +8,7 @@ use std::alloc::{AllocError, Global};
 #[derive(Debug, Drop)]
 pub enum Reading {
     /// All that the looks found is executed: this is the map's reply.
-    Told(Reply),
+    Replied(Reply),
     /// This instance, which the looks found, isn't executed yet. It is the least of them.
     Waits(InstanceId),
 }
@@ -36,7 +36,7 @@ impl Replica {
     {
         match self.journal().least_left(found) {
             Some(instance) => Ok(Reading::Waits(instance)),
-            None => Ok(Reading::Told(self.journal().reply(command)?)),
+            None => Ok(Reading::Replied(self.journal().reply(command)?)),
         }
     }
 }

@@ -1,10 +1,10 @@
 //! Receipts, borrowed.
 
 ghost use Rattle.std.specs.Prelude.{◌≡◌, IfOk};
-ghost use Rattle.ep_replica.specs.Firsts.{told_at};
+ghost use Rattle.ep_replica.specs.FirstExecutions.{told_at};
 
+use crate::execution_place::ExecutionPlace;
 use crate::proposal::Proposal;
-use crate::spot::Spot;
 use ep_base::{Answer, InstanceId, ReplicaId, Stamp};
 use ep_journal::Entry;
 use ep_rules::Receipt;
@@ -62,7 +62,7 @@ pub(crate) fn told_at<'a>(
     instance: InstanceId,
     proposal: Proposal,
     entries: &'a [Entry],
-    spot: Spot,
+    spot: ExecutionPlace,
 ) -> Option<ReceiptView<'a>>
     ensures { result ≡ told_at replica instance proposal entries.now spot }
 {

@@ -6,7 +6,7 @@ ghost use Rattle.ep_journal.specs.Events.{event_of};
 ghost use Rattle.ep_journal.specs.declared.entry.Entry.{Entry};
 ghost use Rattle.ep_replica.specs.Receipts.{proposed_by};
 ghost use Rattle.ep_replica.specs.declared.proposal.Proposal.{Proposal};
-ghost use Rattle.ep_replica.specs.Slots.{found, named, HasPlace, Tells};
+ghost use Rattle.ep_replica.specs.Slots.{found, named, HasPlace, HoldsProposals};
 
 use crate::proposal::Proposal;
 use ep_base::{InstanceId, ReplicaId};
@@ -79,7 +79,7 @@ impl Slots {
     pub(crate) fn reserve(&mut self, top: u16) -> Result<(), AllocError>
         ensures room { OnOk result (top < length self.new) }
         ensures same { (number : ℕ) → found self.new number ≡ found self.old number }
-        ensures tells { (me : ℕ) (es : List Entry) → Tells me es self.old → Tells me es self.new }
+        ensures tells { (me : ℕ) (es : List Entry) → HoldsProposals me es self.old → HoldsProposals me es self.new }
     {
         for _ in self.items.len()..usize::from(top) + 1 {
             self.items.push(None)?;
@@ -96,7 +96,7 @@ impl Slots {
 
     /// The proposals in these entries of this replica.
     pub(crate) fn of(alloc: Global, me: ReplicaId, entries: &[Entry]) -> Result<Slots, AllocError>
-        ensures { IfOk result (λ s. Tells me entries.now s) }
+        ensures { IfOk result (λ s. HoldsProposals me entries.now s) }
     {
         let mut slots = Slots::new(alloc);
         for entry in entries {
@@ -110,7 +110,7 @@ impl Slots {
     #[inline(always)]
     pub(crate) fn note(&mut self, me: ReplicaId, entry: &Entry)
         requires room { HasPlace me entry.now self.old }
-        ensures told { (es : List Entry) → Tells me es self.old → Tells me (es ++ entry.now ∷ []) self.new }
+        ensures told { (es : List Entry) → HoldsProposals me es self.old → HoldsProposals me (es ++ entry.now ∷ []) self.new }
         ensures room { length self.new ≡ length self.old }
     {
         let Some((instance, proposal)) = proposal_in(entry) else {

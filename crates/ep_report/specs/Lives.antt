@@ -19,17 +19,17 @@ use Rattle.ep_script.specs.Word.{word_of}
 -- a generation: its number, the stamp that its clocks went on from, its first seal, and what the keys have after its history
 pub record Life : Type 0 where
   pub generation : ℕ
-  pub since : ℕ
+  pub base_stamp : ℕ
   pub closing : Option Closing
   pub contents : Contents
 
 abbrev pub life_code : Coded Life
 life_code =
     code_by (ℕ × (ℕ × (Option Closing × Contents))) (coded× coded_ℕ (coded× coded_ℕ (coded× (coded_option closing_facts.the_row.coded) contents_code)))
-    (λ l. (l.generation, (l.since, (l.closing, l.contents)))) (λ p. record { generation = p.0; since = p.1.0; closing = p.1.1.0; contents = p.1.1.1 }) (λ _. refl)
+    (λ l. (l.generation, (l.base_stamp, (l.closing, l.contents)))) (λ p. record { generation = p.0; base_stamp = p.1.0; closing = p.1.1.0; contents = p.1.1.1 }) (λ _. refl)
 
 abbrev pub generation_line : Life → List ℕ
-generation_line l = codes "generation " ++ decimal l.generation ++ codes " since " ++ decimal l.since
+generation_line l = codes "generation " ++ decimal l.generation ++ codes " since " ++ decimal l.base_stamp
 
 -- the seal that closed the map
 abbrev pub closed_line : Closing → List ℕ
@@ -59,17 +59,17 @@ link_line l committed history =
 
 -- of the generation g, whose clocks went on from the stamp since, the first seal of its history, and the map that this leaves
 abbrev pub life_with : ℕ → ℕ → Option Closing → Contents → Life
-life_with g since closing m = record { generation = g; since = since; closing = closing; contents = m }
+life_with g base_stamp closing m = record { generation = g; base_stamp = base_stamp; closing = closing; contents = m }
 
 abbrev pub life_at : Version → ℕ → Option Closing → Contents → Option Life
-life_at V1 since closing m = None
-life_at V2 since closing m = None
-life_at (V3 g) since closing m = Some (life_with g since closing m)
+life_at V1 base_stamp closing m = None
+life_at V2 base_stamp closing m = None
+life_at (V3 g) base_stamp closing m = Some (life_with g base_stamp closing m)
 
 -- of these journals, where this is the map that a report tells
 abbrev pub life_told : Collected → Option Closing → Option Contents → Option Life
 life_told c closing None = None
-life_told c closing (Some m) = life_at c.version c.opening.since closing m
+life_told c closing (Some m) = life_at c.version c.opening.base_stamp closing m
 
 -- the map that a report tells; versions 1 and 2 tell none
 abbrev pub told_at : Version → Contents → Option Contents

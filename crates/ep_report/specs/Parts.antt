@@ -6,7 +6,7 @@ use Rattle.ep_base.specs.Items.{Item}
 use Rattle.ep_base.specs.declared.reply.Reply.{Reply}
 use Rattle.ep_base.specs.declared.reply.Reply.TheVariants.{Absent, Present, Closed, Ordered, Done, Undone}
 use Rattle.ep_base.specs.declared.reply.Answer.{Answer}
-use Rattle.ep_base.specs.declared.reply.Answer.TheVariants.{Lost, Told}
+use Rattle.ep_base.specs.declared.reply.Answer.TheVariants.{Lost, Replied}
 use Rattle.ep_report.specs.declared.part.Part.{Part}
 use Rattle.ep_report.specs.declared.part.Part.TheVariants as part
 use Rattle.ep_script.specs.Word.{word_of}
@@ -92,7 +92,7 @@ reply_text (Undone values) = codes "undone" ++ values_text values
 
 abbrev pub answer_text : Answer → List ℕ
 answer_text Lost = codes "lost"
-answer_text (Told reply) = reply_text reply
+answer_text (Replied reply) = reply_text reply
 
 abbrev pub part_text : Part → List ℕ
 part_text (part.Text bytes) = bytes.now

@@ -1,7 +1,7 @@
 //! The reports of a replicated key-value core: what the program prints of a run, byte for byte.
 //!
 //! `ep_main` prints them, and `ep_library` hands out what an audit says (`judging.rt`). They tell what `ep_audit` finds, a verdict or a fault, and the lines that `ep_replay` and `ep_run` name as refused, each by its `EventFault`.
-//! It keeps to docs/FORMATS.md, section 5.
+//! It keeps to docs/CLI.md, section 5.
 //!
 //! Start with `reports.rt` and specs/Reports.antt, which says the lines in order.
 //!

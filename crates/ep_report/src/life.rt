@@ -14,7 +14,7 @@ use std::marker::Model;
 #[derive(Drop)]
 pub struct Life<'a> {
     generation: Generation,
-    since: u64,
+    base_stamp: u64,
     closing: Option<&'a Closing>,
     contents: &'a Contents,
 }
@@ -30,7 +30,7 @@ impl<'a> Model for Life<'a> {
 
     ghost coded = { life_code };
 
-    ghost view = { λ l. record { generation = l.generation; since = l.since; closing = option_copied l.closing; contents = l.contents.now } };
+    ghost view = { λ l. record { generation = l.generation; base_stamp = l.base_stamp; closing = option_copied l.closing; contents = l.contents.now } };
 
     ghost invariant = { λ l. length (entries l.contents.now) < 2 ^ 32 };
 }
@@ -39,16 +39,16 @@ impl<'a> Life<'a> {
     /// The generation with these.
     pub fn new(
         generation: Generation,
-        since: u64,
+        base_stamp: u64,
         closing: Option<&'a Closing>,
         contents: &'a Contents,
     ) -> Life<'a>
         requires { length (entries contents.now) < 2 ^ 32 }
-        ensures { result ≡ record { generation = generation; since = since; closing = option_copied closing.entry; contents = contents.now } }
+        ensures { result ≡ record { generation = generation; base_stamp = base_stamp; closing = option_copied closing.entry; contents = contents.now } }
     {
         Life {
             generation,
-            since,
+            base_stamp,
             closing,
             contents,
         }
@@ -62,10 +62,10 @@ impl<'a> Life<'a> {
     }
 
     /// The stamp that its clocks went on from.
-    pub fn since(&self) -> u64
-        ensures { result ≡ self.now.since }
+    pub fn base_stamp(&self) -> u64
+        ensures { result ≡ self.now.base_stamp }
     {
-        self.since
+        self.base_stamp
     }
 
     /// The first seal of its history.

@@ -36,12 +36,12 @@ pub fn life_of<'a>(
     requires { IfSome contents.now (λ m. length (entries m) < 2 ^ 32) }
     ensures { result ≡ life_told journals.now (option_copied closing.entry) contents.now }
 {
-    let since = journals.opening().since();
+    let base_stamp = journals.opening().base_stamp();
     match contents {
         None => None,
         Some(contents) => match journals.version().kind() {
             VersionKind::V1 | VersionKind::V2 => None,
-            VersionKind::V3(number) => Some(life_from(number, since, closing, contents)),
+            VersionKind::V3(number) => Some(life_from(number, base_stamp, closing, contents)),
         },
     }
 }
@@ -49,16 +49,16 @@ pub fn life_of<'a>(
 /// The generation of this number, whose clocks went on from this stamp, its first seal, and what the keys then have.
 fn life_from<'a>(
     number: u32,
-    since: u64,
+    base_stamp: u64,
     closing: Option<&'a Closing>,
     contents: &'a Contents,
 ) -> Life<'a>
     requires number { 1 ≤ number }
     requires keys { length (entries contents.now) < 2 ^ 32 }
-    ensures { result ≡ life_with number since (option_copied closing.entry) contents.now }
+    ensures { result ≡ life_with number base_stamp (option_copied closing.entry) contents.now }
 {
     let Ok(generation) = Generation::new(number) else {
         unreachable!()
     };
-    Life::new(generation, since, closing, contents)
+    Life::new(generation, base_stamp, closing, contents)
 }

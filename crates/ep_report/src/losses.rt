@@ -7,6 +7,6 @@ use crate::event_fault::EventFault;
 pub struct Losses<'a> {
     /// The lines of agendas that were refused, each with its cause, by rising line.
     pub refused: &'a [(u32, EventFault)],
-    /// How many frames were lost to full queues or to want of memory.
+    /// How many frames were lost to full queues or when out of memory.
     pub lost: u64,
 }

@@ -3,7 +3,7 @@
 ghost use Rattle.std.specs.Prelude.{◌≡◌, ◌<◌, ◌≤◌, ◌+◌, ◌++◌, OnOk, codes, decimal};
 ghost use Rattle.std.specs.Option.{option_copied};
 ghost use Rattle.ep_base.specs.Commands.{Put, Swap, Cas, Opaque};
-ghost use Rattle.ep_base.specs.Parts.{items_of};
+ghost use Rattle.ep_base.specs.CommandParts.{items_of};
 ghost use Rattle.ep_base.specs.Views.{asked, seen, touched};
 ghost use Rattle.ep_report.specs.Parts.{instance_text, deps_text, more_deps, option_text, request_text, second_key_text, guard_text, told_text, write_text, item_text, items_text, value_text, values_text, command_text, reply_text, answer_text, part_text, parts_text};
 ghost use Rattle.ep_script.specs.Word.{word_of};
@@ -315,7 +315,7 @@ pub fn push_answer(text: &mut Vec<u8>, answer: &Answer) -> Result<(), AllocError
 {
     match answer {
         Answer::Lost => text.extend_from_slice(b"lost"),
-        Answer::Told(reply) => push_reply(text, reply),
+        Answer::Replied(reply) => push_reply(text, reply),
     }
 }
 

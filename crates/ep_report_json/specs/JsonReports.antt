@@ -19,7 +19,7 @@ verdict_object verdict members = object (member (codes "verdict") (string_text v
 -- in version 3
 abbrev pub generation_members : Option Life → List (List ℕ)
 generation_members None = []
-generation_members (Some l) = member (codes "generation") (decimal l.generation) ∷ member (codes "since") (decimal l.since) ∷ []
+generation_members (Some l) = member (codes "generation") (decimal l.generation) ∷ member (codes "since") (decimal l.base_stamp) ∷ []
 
 -- behind the history
 abbrev pub closing_members : Option Life → List (List ℕ)

@@ -88,7 +88,7 @@ pub(crate) fn push_generation(
             },
             Member {
                 name: b"since",
-                value: Part::Number(life.since()),
+                value: Part::Number(life.base_stamp()),
             },
         ],
     )

@@ -5,7 +5,7 @@ use Rattle.ep_base.specs.Commands.{Command, Seal}
 use Rattle.ep_base.specs.Instances.{instance_of}
 use Rattle.ep_base.specs.Places.{Has}
 use Rattle.ep_base.specs.declared.reply.Answer.{Answer}
-use Rattle.ep_base.specs.declared.reply.Answer.TheVariants.{Told}
+use Rattle.ep_base.specs.declared.reply.Answer.TheVariants.{Replied}
 use Rattle.ep_base.specs.declared.reply.Reply.TheVariants.{Absent, Present, Closed}
 use Rattle.ep_rules.proofs.Merged.{at_in}
 use Rattle.ep_rules.specs.Order.{IsClosed}
@@ -34,7 +34,7 @@ pub data Line : Type 0 where
   Syncs : (g r : ℕ) → Line
   -- the node crashes, and comes back with what was handed out of
   Crashes : (g r : ℕ) → Line
-  Opens : (g r q since : ℕ) → Line
+  Opens : (g r q base_stamp : ℕ) → Line
 
 abbrev one : ℕ → ℕ
 one g = 1
@@ -50,7 +50,7 @@ abbrev entry : Generations → ℕ → ℕ → Event → List (ℕ × Answer) �
 entry l g r e done =
     let es = (l.cluster g).journal r in
     let n = length es + 1 in
-    let stamp = 1 + max (stamp_after (l.since g r) es) (heard e) in
+    let stamp = 1 + max (stamp_after (l.base_stamp g r) es) (heard e) in
     record { number = n; stamp = stamp; event = e; out = framed n stamp 0 (sends 1 r (node l g r) e); done = done }
 
 abbrev took : Generations → ℕ → ℕ → Event → List (ℕ × Answer) → LifeMove
@@ -67,7 +67,7 @@ made l (Gets g m) = handled l g (slice_get (l.cluster g).given (pred m))
 made l (Executes g r i x) = took l g r (Execute i) ((i, x) ∷ [])
 made l (Syncs g r) = Within g (HandOut r (length ((l.cluster g).journal r)))
 made l (Crashes g r) = Within g (ComeBack r ((l.cluster g).out r))
-made l (Opens g r q since) = OpensNext g r q since
+made l (Opens g r q base_stamp) = OpensNext g r q base_stamp
 
 abbrev played : Generations → List Line → List LifeMove
 played l [] = []
@@ -93,7 +93,7 @@ Can l (Gets g m) = CanHandle l g (slice_get (l.cluster g).given (pred m))
 Can l (Executes g r i x) = CanTake l g r (Execute i) ((i, x) ∷ [])
 Can l (Syncs g r) = HasAll l g r
 Can l (Crashes g r) = HasAll l g r
-Can l (Opens g r q since) = IsLifeMove one l (OpensNext g r q since)
+Can l (Opens g r q base_stamp) = IsLifeMove one l (OpensNext g r q base_stamp)
 
 abbrev CanAll : Generations → List Line → Type 0
 CanAll l [] = Unit {0}
@@ -132,7 +132,7 @@ is_move l (Gets g m) can = handles l g (slice_get (l.cluster g).given (pred m)) 
 is_move l (Executes g r i x) can = takes l g r (Execute i) ((i, x) ∷ []) can tt
 is_move l (Syncs g r) can = (can.0, ((let lt = can.1 in omega arith), record { least = can.2; most = (omega arith) }))
 is_move l (Crashes g r) can = (can.0, ((let lt = can.1 in omega arith), record { least = (omega arith); most = can.2 }))
-is_move l (Opens g r q since) can = can
+is_move l (Opens g r q base_stamp) can = can
 
 are_moves : (l : Generations) (xs : List Line) → CanAll l xs → AreLifeMoves one l (played l xs)
 are_moves l [] can = tt
@@ -140,14 +140,14 @@ are_moves l (x ∷ xs) can = (is_move l x can.0, are_moves (after_move one l (ma
 
 -- what the put of the next generation tells: the value before
 abbrev before : Answer
-before = Told (Present (49 ∷ []))
+before = Replied (Present (49 ∷ []))
 
 -- The first generation: a put and a seal at node 0, which executes both. Node 2 has lost its disk, and takes part in the next one alone. There node 1 puts, with
 -- node 2, and answers (21 moves). Node 2 hears of the commit, which isn't on its disk when it crashes; then node 0 hears of it, executes the put, and syncs.
 abbrev story : List Line
 story =
     Asks 0 0 (put_x 49) ∷ (Asks 0 0 (Seal (7 ∷ [])) ∷ (Syncs 0 0 ∷ (Gets 0 1 ∷ (Gets 0 2 ∷ (Syncs 0 1 ∷ (Gets 0 3 ∷ (Gets 0 4 ∷
-    (Executes 0 0 (instance_of 0 1) (Told Absent) ∷ (Executes 0 0 (instance_of 0 2) (Told Absent) ∷ (Syncs 0 0 ∷ (Opens 0 0 0 6 ∷ (Opens 0 1 0 6 ∷ (Opens 0 2 0 6 ∷
+    (Executes 0 0 (instance_of 0 1) (Replied Absent) ∷ (Executes 0 0 (instance_of 0 2) (Replied Absent) ∷ (Syncs 0 0 ∷ (Opens 0 0 0 6 ∷ (Opens 0 1 0 6 ∷ (Opens 0 2 0 6 ∷
     (Asks 1 1 (put_x 50) ∷ (Syncs 1 1 ∷ (Gets 1 1 ∷ (Syncs 1 2 ∷ (Gets 1 2 ∷ (Executes 1 1 (instance_of 1 1) before ∷ (Syncs 1 1 ∷
     (Gets 1 4 ∷ (Crashes 1 2 ∷ (Gets 1 3 ∷ (Executes 1 0 (instance_of 1 1) before ∷ (Syncs 1 0 ∷ [])))))))))))))))))))))))))
 
@@ -167,12 +167,12 @@ none_in i k = omega arith
 abbrev step : (r : ℕ) (s : State) (e : Event) → screened 1 r e ≡ None → IsTaken (acts 1 r s e) → Does s e [] → IsStep 1 r s e []
 step r s e unscreened taken executes = record { unscreened = unscreened; taken = taken; executes = executes }
 
-executed_put : IsExecution (node (at 8) 0 0) (instance_of 0 1) ((instance_of 0 1, Told Absent) ∷ [])
-executed_put = execution (node (at 8) 0 0) (instance_of 0 1) (attrs 1 []) (Told Absent) (closed_none _) refl (λ j h. absurd (omega arith)) (λ h. absurd (omega arith)) refl
+executed_put : IsExecution (node (at 8) 0 0) (instance_of 0 1) ((instance_of 0 1, Replied Absent) ∷ [])
+executed_put = execution (node (at 8) 0 0) (instance_of 0 1) (attrs 1 []) (Replied Absent) (closed_none _) refl (λ j h. absurd (omega arith)) (λ h. absurd (omega arith)) refl
 
-executed_seal : IsExecution (node (at 9) 0 0) (instance_of 0 2) ((instance_of 0 2, Told Absent) ∷ [])
+executed_seal : IsExecution (node (at 9) 0 0) (instance_of 0 2) ((instance_of 0 2, Replied Absent) ∷ [])
 executed_seal =
-    execution (node (at 9) 0 0) (instance_of 0 2) (attrs 2 (instance_of 0 1 ∷ [])) (Told Absent) (closed_one _ (instance_of 0 1) 1 refl) refl (λ j h. h) (λ h. absurd (omega arith)) refl
+    execution (node (at 9) 0 0) (instance_of 0 2) (attrs 2 (instance_of 0 1 ∷ [])) (Replied Absent) (closed_one _ (instance_of 0 1) 1 refl) refl (λ j h. h) (λ h. absurd (omega arith)) refl
 
 executed_next : (n r : ℕ) → graph_in (node (at n) 1 r).records (instance_of 1 1) ≡ Some (attrs 1 []) → (node (at n) 1 r).executed ≡ [] →
     answers_of (command_in (node (at n) 1 r).records) (node (at n) 1 r).store (instance_of 1 1 ∷ []) ≡ before ∷ [] →

@@ -4,7 +4,7 @@ use Rattle.std.proofs.lemmas.Bool.{eqb-true}
 use Rattle.ep_base.specs.Commands.{Command, Put}
 use Rattle.ep_base.specs.Instances.{instance_of}
 use Rattle.ep_base.specs.Places.{Has}
-use Rattle.ep_base.specs.declared.reply.Answer.TheVariants.{Told}
+use Rattle.ep_base.specs.declared.reply.Answer.TheVariants.{Replied}
 use Rattle.ep_base.specs.declared.reply.Reply.TheVariants.{Absent, Present}
 use Rattle.ep_rows.specs.OneMap.{empty, opened, after_commands}
 use Rattle.ep_rows.specs.Operations.{commands_of, history_of}
@@ -15,7 +15,7 @@ use Rattle.ep_rows.proofs.Playing.{Proposal, Deliver, Execution, Played, play, f
 -- a put is answered at replica 0 (4 acts); then its commit comes to replica 2, which executes it
 abbrev put_told : Played
 put_told =
-    play 1 fresh (Proposal 0 (put_x 49) ∷ given (1 ∷ 2 ∷ []) (Execution 0 (instance_of 0 1) (Told Absent) ∷ (Deliver 4 ∷ (Execution 2 (instance_of 0 1) (Told Absent) ∷ []))))
+    play 1 fresh (Proposal 0 (put_x 49) ∷ given (1 ∷ 2 ∷ []) (Execution 0 (instance_of 0 1) (Replied Absent) ∷ (Deliver 4 ∷ (Execution 2 (instance_of 0 1) (Replied Absent) ∷ []))))
 
 put_told_refuses_nothing : put_told.refused ≡ []
 put_told_refuses_nothing = refl
@@ -90,7 +90,7 @@ put_y = Put (121 ∷ []) (50 ∷ [])
 
 abbrev two_keys : Played
 two_keys =
-    play 1 fresh (Proposal 1 put_y ∷ given (1 ∷ 2 ∷ []) (Execution 1 (instance_of 1 1) (Told Absent) ∷ (Proposal 0 (put_x 49) ∷ given (5 ∷ 6 ∷ []) (Execution 0 (instance_of 0 1) (Told Absent) ∷ []))))
+    play 1 fresh (Proposal 1 put_y ∷ given (1 ∷ 2 ∷ []) (Execution 1 (instance_of 1 1) (Replied Absent) ∷ (Proposal 0 (put_x 49) ∷ given (5 ∷ 6 ∷ []) (Execution 0 (instance_of 0 1) (Replied Absent) ∷ []))))
 
 two_keys_refuses_nothing : two_keys.refused ≡ []
 two_keys_refuses_nothing = refl

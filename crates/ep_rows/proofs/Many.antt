@@ -3,7 +3,7 @@ use Rattle.std.proofs.Common.{◌≡◌, ℕ, true, false, Bool, List, [], ◌�
 use Rattle.ep_base.specs.Interference.{interfere}
 use Rattle.ep_base.specs.Items.{Item}
 use Rattle.ep_base.specs.Commands.{Command, Noop, Put, Get, Seal, Tx}
-use Rattle.ep_base.specs.Parts.{parts_of, command_of, tx_bytes, items_in, is_tx}
+use Rattle.ep_base.specs.CommandParts.{parts_of, command_of, tx_bytes, items_in, is_tx}
 use Rattle.ep_base.specs.declared.reply.Reply.{Reply}
 use Rattle.ep_base.specs.declared.reply.Reply.TheVariants.{Absent, Present, Closed, Done, Undone}
 use Rattle.ep_rows.specs.OneMap.{empty, Store, opened, after, after_commands, replies}

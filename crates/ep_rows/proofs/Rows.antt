@@ -5,7 +5,7 @@ use Rattle.ep_base.specs.Instances.{instance_of}
 use Rattle.ep_base.specs.Interference.{interfere}
 use Rattle.ep_base.specs.Commands.{Command, Noop, Put, Get, Swap}
 use Rattle.ep_base.specs.declared.message.Message.TheVariants.{PrepareOk, Nack}
-use Rattle.ep_base.specs.declared.reply.Answer.TheVariants.{Told}
+use Rattle.ep_base.specs.declared.reply.Answer.TheVariants.{Replied}
 use Rattle.ep_base.specs.declared.reply.Reply.TheVariants.{Absent, Present}
 use Rattle.ep_base.specs.declared.vote.VoteStatus.TheVariants.{PreAccepted}
 use Rattle.ep_rules.specs.Cells.{OutOfRange, TooFewAnswers}
@@ -131,10 +131,10 @@ both_commit = refl
 -- two puts of one key, by callers that tell each other nothing: the second one is proposed at another replica, after the first was executed
 abbrev in_turn : List Line → Played
 in_turn ls =
-    play 1 fresh (Proposal 0 (put_x 49) ∷ given (1 ∷ 2 ∷ 3 ∷ 4 ∷ []) (Execution 0 (instance_of 0 1) (Told Absent) ∷ (Proposal 1 (put_x 50) ∷ given (5 ∷ 6 ∷ 7 ∷ 8 ∷ []) (Execution 1 (instance_of 0 1) (Told Absent) ∷ ls))))
+    play 1 fresh (Proposal 0 (put_x 49) ∷ given (1 ∷ 2 ∷ 3 ∷ 4 ∷ []) (Execution 0 (instance_of 0 1) (Replied Absent) ∷ (Proposal 1 (put_x 50) ∷ given (5 ∷ 6 ∷ 7 ∷ 8 ∷ []) (Execution 1 (instance_of 0 1) (Replied Absent) ∷ ls))))
 
 abbrev both_in_turn : Played
-both_in_turn = in_turn (Execution 1 (instance_of 1 1) (Told (Present (49 ∷ []))) ∷ [])
+both_in_turn = in_turn (Execution 1 (instance_of 1 1) (Replied (Present (49 ∷ []))) ∷ [])
 
 in_turn_refuses_nothing : both_in_turn.refused ≡ []
 in_turn_refuses_nothing = refl
@@ -149,23 +149,23 @@ in_turn_history = refl
 abbrev first_executes : State
 first_executes = (play 1 fresh (Proposal 0 (put_x 49) ∷ given (1 ∷ 2 ∷ 3 ∷ 4 ∷ []) [])).world.states 0
 
-in_turn_first : IsExecution first_executes (instance_of 0 1) ((instance_of 0 1, Told Absent) ∷ [])
-in_turn_first = execution first_executes (instance_of 0 1) (attrs 1 []) (Told Absent) (closed_none _) refl (λ j h. absurd (omega arith)) (λ h. absurd (omega arith)) refl
+in_turn_first : IsExecution first_executes (instance_of 0 1) ((instance_of 0 1, Replied Absent) ∷ [])
+in_turn_first = execution first_executes (instance_of 0 1) (attrs 1 []) (Replied Absent) (closed_none _) refl (λ j h. absurd (omega arith)) (λ h. absurd (omega arith)) refl
 
 abbrev last_executes : State
 last_executes = (in_turn []).world.states 1
 
-in_turn_last : IsExecution last_executes (instance_of 1 1) ((instance_of 1 1, Told (Present (49 ∷ []))) ∷ [])
+in_turn_last : IsExecution last_executes (instance_of 1 1) ((instance_of 1 1, Replied (Present (49 ∷ []))) ∷ [])
 in_turn_last =
-    execution last_executes (instance_of 1 1) (attrs 2 (instance_of 0 1 ∷ [])) (Told (Present (49 ∷ []))) (closed_one _ (instance_of 0 1) 1 refl) refl (λ j h. h) (λ h. absurd (omega arith)) refl
+    execution last_executes (instance_of 1 1) (attrs 2 (instance_of 0 1 ∷ [])) (Replied (Present (49 ∷ []))) (closed_one _ (instance_of 0 1) 1 refl) refl (λ j h. h) (λ h. absurd (omega arith)) refl
 
 -- another replica executes a put before its own leader does, and a second put too: the leader's answer comes last, and the history has its put first
 abbrev overtaken : List Line → Played
 overtaken ls =
-    play 1 fresh (Proposal 0 (put_x 49) ∷ given (1 ∷ 2 ∷ 3 ∷ []) (Execution 1 (instance_of 0 1) (Told Absent) ∷ (Proposal 1 (put_x 50) ∷ given (5 ∷ 6 ∷ []) (Execution 1 (instance_of 1 1) (Told (Present (49 ∷ []))) ∷ ls))))
+    play 1 fresh (Proposal 0 (put_x 49) ∷ given (1 ∷ 2 ∷ 3 ∷ []) (Execution 1 (instance_of 0 1) (Replied Absent) ∷ (Proposal 1 (put_x 50) ∷ given (5 ∷ 6 ∷ []) (Execution 1 (instance_of 1 1) (Replied (Present (49 ∷ []))) ∷ ls))))
 
 abbrev leader_last : Played
-leader_last = overtaken (Execution 0 (instance_of 0 1) (Told Absent) ∷ [])
+leader_last = overtaken (Execution 0 (instance_of 0 1) (Replied Absent) ∷ [])
 
 overtaken_refuses_nothing : leader_last.refused ≡ []
 overtaken_refuses_nothing = refl
@@ -180,8 +180,8 @@ overtaken_history_before = refl
 abbrev leader_executes : State
 leader_executes = (overtaken []).world.states 0
 
-overtaken_last : IsExecution leader_executes (instance_of 0 1) ((instance_of 0 1, Told Absent) ∷ [])
-overtaken_last = execution leader_executes (instance_of 0 1) (attrs 1 []) (Told Absent) (closed_none _) refl (λ j h. absurd (omega arith)) (λ h. absurd (omega arith)) refl
+overtaken_last : IsExecution leader_executes (instance_of 0 1) ((instance_of 0 1, Replied Absent) ∷ [])
+overtaken_last = execution leader_executes (instance_of 0 1) (attrs 1 []) (Replied Absent) (closed_none _) refl (λ j h. absurd (omega arith)) (λ h. absurd (omega arith)) refl
 
 -- a put, a swap of its key with another one, and a get of that
 abbrev swap_of : ℕ → ℕ → Command
@@ -203,7 +203,7 @@ abbrev swapped_state : State
 swapped_state = swapped.world.states 0
 
 swapped_answers : answers_of (command_in swapped_state.records) swapped_state.store (instance_of 0 1 ∷ instance_of 0 2 ∷ instance_of 0 3 ∷ [])
-    ≡ Told Absent ∷ Told (Present (49 ∷ [])) ∷ Told (Present (49 ∷ [])) ∷ []
+    ≡ Replied Absent ∷ Replied (Present (49 ∷ [])) ∷ Replied (Present (49 ∷ [])) ∷ []
 swapped_answers = refl
 
 -- two swaps at once that share a key

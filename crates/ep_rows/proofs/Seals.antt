@@ -4,7 +4,7 @@ use Rattle.ep_base.specs.Instances.{instance_of}
 use Rattle.ep_base.specs.Interference.{interfere}
 use Rattle.ep_base.specs.Commands.{Command, Noop, Get, Cas, Seal, Opaque}
 use Rattle.ep_base.specs.declared.reply.Answer.{Answer}
-use Rattle.ep_base.specs.declared.reply.Answer.TheVariants.{Told}
+use Rattle.ep_base.specs.declared.reply.Answer.TheVariants.{Replied}
 use Rattle.ep_base.specs.declared.reply.Reply.TheVariants.{Absent, Present, Closed}
 use Rattle.ep_rows.specs.Closing.{up_to_seal}
 use Rattle.ep_rows.specs.Generations.{Turn, Opens, Steps, Life, birth, lived, one_history}
@@ -23,8 +23,8 @@ seal = Seal (7 ∷ [])
 abbrev sealed : Played
 sealed =
     play 1 fresh (Proposal 0 (put_x 49) ∷ given (1 ∷ 2 ∷ 3 ∷ 4 ∷ []) (Proposal 1 seal ∷ given (5 ∷ 6 ∷ 7 ∷ 8 ∷ [])
-    (Execution 1 (instance_of 0 1) (Told Absent) ∷ (Execution 1 (instance_of 1 1) (Told Absent) ∷ (Proposal 2 (put_x 50) ∷ given (9 ∷ 10 ∷ 11 ∷ 12 ∷ [])
-    (Execution 2 (instance_of 0 1) (Told Absent) ∷ (Execution 2 (instance_of 1 1) (Told Absent) ∷ (Execution 2 (instance_of 2 1) (Told Closed) ∷ []))))))))
+    (Execution 1 (instance_of 0 1) (Replied Absent) ∷ (Execution 1 (instance_of 1 1) (Replied Absent) ∷ (Proposal 2 (put_x 50) ∷ given (9 ∷ 10 ∷ 11 ∷ 12 ∷ [])
+    (Execution 2 (instance_of 0 1) (Replied Absent) ∷ (Execution 2 (instance_of 1 1) (Replied Absent) ∷ (Execution 2 (instance_of 2 1) (Replied Closed) ∷ []))))))))
 
 sealed_refuses_nothing : sealed.refused ≡ []
 sealed_refuses_nothing = refl
@@ -42,12 +42,12 @@ sealed_stores = refl
 abbrev sealed_state : State
 sealed_state = sealed.world.states 2
 
-sealed_answers : answers_of (command_in sealed_state.records) (opened empty) (instance_of 0 1 ∷ instance_of 1 1 ∷ instance_of 2 1 ∷ []) ≡ Told Absent ∷ Told Absent ∷ Told Closed ∷ []
+sealed_answers : answers_of (command_in sealed_state.records) (opened empty) (instance_of 0 1 ∷ instance_of 1 1 ∷ instance_of 2 1 ∷ []) ≡ Replied Absent ∷ Replied Absent ∷ Replied Closed ∷ []
 sealed_answers = refl
 
 -- the next generation opens with that map: at replica 0, which hasn't executed the seal, and at replica 2
 abbrev next : Played
-next = play 1 (opening_on at_seal.contents) (Proposal 0 get_x ∷ given (1 ∷ 2 ∷ 3 ∷ 4 ∷ []) (Execution 2 (instance_of 0 1) (Told (Present (49 ∷ []))) ∷ []))
+next = play 1 (opening_on at_seal.contents) (Proposal 0 get_x ∷ given (1 ∷ 2 ∷ 3 ∷ 4 ∷ []) (Execution 2 (instance_of 0 1) (Replied (Present (49 ∷ []))) ∷ []))
 
 next_refuses_nothing : next.refused ≡ []
 next_refuses_nothing = refl
@@ -89,25 +89,25 @@ put_late_commits : map (λ i. committed (put_late []) 2 i) (instance_of 0 1 ∷ 
     ≡ Some (decree (put_x 49) 2 (instance_of 1 1 ∷ [])) ∷ Some (decree seal 1 []) ∷ []
 put_late_commits = refl
 
-put_late_answers : answers_at (put_late []) (instance_of 1 1 ∷ instance_of 0 1 ∷ []) ≡ Told Absent ∷ Told Closed ∷ []
+put_late_answers : answers_at (put_late []) (instance_of 1 1 ∷ instance_of 0 1 ∷ []) ≡ Replied Absent ∷ Replied Closed ∷ []
 put_late_answers = refl
 
 -- it executes the seal first, and the put behind it, which stands in the history and not before the seal
 abbrev put_late_seals : State
 put_late_seals = (put_late []).world.states 0
 
-put_late_first : IsExecution put_late_seals (instance_of 1 1) ((instance_of 1 1, Told Absent) ∷ [])
-put_late_first = execution put_late_seals (instance_of 1 1) (attrs 1 []) (Told Absent) (closed_none _) refl (λ j h. absurd (omega arith)) (λ h. absurd (omega arith)) refl
+put_late_first : IsExecution put_late_seals (instance_of 1 1) ((instance_of 1 1, Replied Absent) ∷ [])
+put_late_first = execution put_late_seals (instance_of 1 1) (attrs 1 []) (Replied Absent) (closed_none _) refl (λ j h. absurd (omega arith)) (λ h. absurd (omega arith)) refl
 
 abbrev put_late_sealed : State
-put_late_sealed = (put_late (Execution 0 (instance_of 1 1) (Told Absent) ∷ [])).world.states 0
+put_late_sealed = (put_late (Execution 0 (instance_of 1 1) (Replied Absent) ∷ [])).world.states 0
 
-put_late_second : IsExecution put_late_sealed (instance_of 0 1) ((instance_of 0 1, Told Closed) ∷ [])
+put_late_second : IsExecution put_late_sealed (instance_of 0 1) ((instance_of 0 1, Replied Closed) ∷ [])
 put_late_second =
-    execution put_late_sealed (instance_of 0 1) (attrs 2 (instance_of 1 1 ∷ [])) (Told Closed) (closed_one _ (instance_of 1 1) 1 refl) refl (λ j h. h) (λ h. absurd (omega arith)) refl
+    execution put_late_sealed (instance_of 0 1) (attrs 2 (instance_of 1 1 ∷ [])) (Replied Closed) (closed_one _ (instance_of 1 1) 1 refl) refl (λ j h. h) (λ h. absurd (omega arith)) refl
 
 abbrev put_late_acts : List Act
-put_late_acts = (put_late (Execution 0 (instance_of 1 1) (Told Absent) ∷ (Execution 0 (instance_of 0 1) (Told Closed) ∷ []))).acts
+put_late_acts = (put_late (Execution 0 (instance_of 1 1) (Replied Absent) ∷ (Execution 0 (instance_of 0 1) (Replied Closed) ∷ []))).acts
 
 put_late_history : history_of (opened empty) 1 put_late_acts ≡ record { instance = instance_of 1 1; command = seal } ∷ (put_as 0 49 ∷ [])
 put_late_history = refl
@@ -123,7 +123,7 @@ put_early_commits : map (λ i. committed put_early 2 i) (instance_of 0 1 ∷ ins
     ≡ Some (decree seal 2 (instance_of 1 1 ∷ [])) ∷ Some (decree (put_x 49) 1 []) ∷ []
 put_early_commits = refl
 
-put_early_answers : answers_at put_early (instance_of 1 1 ∷ instance_of 0 1 ∷ []) ≡ Told Absent ∷ Told Absent ∷ []
+put_early_answers : answers_at put_early (instance_of 1 1 ∷ instance_of 0 1 ∷ []) ≡ Replied Absent ∷ Replied Absent ∷ []
 put_early_answers = refl
 
 -- Two seals at once: one depends on the other, and the first one's value counts.
@@ -138,7 +138,7 @@ two_seals_commit : map (λ i. committed two_seals 2 i) (instance_of 0 1 ∷ inst
     ≡ Some (decree seal 2 (instance_of 1 1 ∷ [])) ∷ Some (decree other_seal 1 []) ∷ []
 two_seals_commit = refl
 
-two_seals_answers : answers_at two_seals (instance_of 1 1 ∷ instance_of 0 1 ∷ []) ≡ Told Absent ∷ Told Closed ∷ []
+two_seals_answers : answers_at two_seals (instance_of 1 1 ∷ instance_of 0 1 ∷ []) ≡ Replied Absent ∷ Replied Closed ∷ []
 two_seals_answers = refl
 
 two_seals_leave : map (λ cs. after_commands (opened empty) cs) ((seal ∷ (other_seal ∷ [])) ∷ ((other_seal ∷ (seal ∷ [])) ∷ []))
@@ -155,7 +155,7 @@ in_circle_commits : map (λ i. committed in_circle 2 i) (instance_of 0 1 ∷ ins
     ≡ Some (decree (put_x 49) 2 (instance_of 1 1 ∷ [])) ∷ Some (decree seal 2 (instance_of 2 1 ∷ [])) ∷ Some (decree (put_x 51) 2 (instance_of 0 1 ∷ [])) ∷ []
 in_circle_commits = refl
 
-in_circle_answers : answers_at in_circle (instance_of 0 1 ∷ instance_of 1 1 ∷ instance_of 2 1 ∷ []) ≡ Told Absent ∷ Told Absent ∷ Told Closed ∷ []
+in_circle_answers : answers_at in_circle (instance_of 0 1 ∷ instance_of 1 1 ∷ instance_of 2 1 ∷ []) ≡ Replied Absent ∷ Replied Absent ∷ Replied Closed ∷ []
 in_circle_answers = refl
 
 -- the seal is the first one: both puts find the map closed
@@ -166,7 +166,7 @@ first_in_circle_commits : map (λ i. committed first_in_circle 2 i) (instance_of
     ≡ Some (decree seal 2 (instance_of 1 1 ∷ [])) ∷ Some (decree (put_x 50) 2 (instance_of 2 1 ∷ [])) ∷ Some (decree (put_x 51) 2 (instance_of 0 1 ∷ [])) ∷ []
 first_in_circle_commits = refl
 
-first_in_circle_answers : answers_at first_in_circle (instance_of 0 1 ∷ instance_of 1 1 ∷ instance_of 2 1 ∷ []) ≡ Told Absent ∷ Told Closed ∷ Told Closed ∷ []
+first_in_circle_answers : answers_at first_in_circle (instance_of 0 1 ∷ instance_of 1 1 ∷ instance_of 2 1 ∷ []) ≡ Replied Absent ∷ Replied Closed ∷ Replied Closed ∷ []
 first_in_circle_answers = refl
 
 -- A seal interferes with all but a no-op, whatever its key.

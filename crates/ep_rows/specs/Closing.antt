@@ -4,7 +4,7 @@ use Rattle.std.specs.Prelude.{◌≡◌, ◌≢◌, ℕ, ◌<◌, ◌≤◌, Boo
 use Rattle.ep_base.specs.Interference.{is_seal}
 use Rattle.ep_base.specs.Places.{Has}
 use Rattle.ep_base.specs.Quorums.{size}
-use Rattle.ep_base.specs.declared.reply.Answer.TheVariants.{Told}
+use Rattle.ep_base.specs.declared.reply.Answer.TheVariants.{Replied}
 use Rattle.ep_base.specs.declared.reply.Reply.{Reply}
 use Rattle.ep_base.specs.declared.reply.Reply.TheVariants.{Closed}
 use Rattle.ep_rows.specs.OneMap.{Contents, written, read, sealed_by, Store, opened, is_closed, after_commands}
@@ -79,4 +79,4 @@ RunsExecuteAll =
 abbrev pub OneSettling : Type 0
 OneSettling =
     (start : Contents) (f : ℕ) → 0 < f → size f ≤ 256 → (early late : List Act) → IsRun f (opening (opened start)) (early ++ late) → (r : ℕ) → HasClosed (ends f (opening (opened start)) early) r →
-    (a : Act) (i : ℕ) (told : Reply) → In a (early ++ late) → In (i, Told told) a.done → told ≢ Closed → Has ((ends f (opening (opened start)) early).states r).executed i
+    (a : Act) (i : ℕ) (told : Reply) → In a (early ++ late) → In (i, Replied told) a.done → told ≢ Closed → Has ((ends f (opening (opened start)) early).states r).executed i

@@ -34,7 +34,7 @@ abbrev pub outlast : LifeMove → List Stood → List Stood
 outlast (Within g (Take r e)) these = these
 outlast (Within g (HandOut r n)) these = these
 outlast (Within g (ComeBack r n)) these = without (is_lost g r n) these
-outlast (OpensNext g r q since) these = these
+outlast (OpensNext g r q base_stamp) these = these
 
 -- the life that stands in the end; the part of it that was done up to a point; and the read there
 

@@ -20,22 +20,22 @@ pub record Generations : Type 0 where
   pub cluster : ℕ → Cluster
   pub has_opened : ℕ → ℕ → Bool
   pub map : ℕ → ℕ → Contents
-  pub since : ℕ → ℕ → ℕ
+  pub base_stamp : ℕ → ℕ → ℕ
 
 -- every replica has opened the first generation, with one map, and no other one
 abbrev pub newborn : Start → Generations
-newborn start = record { cluster = λ g. fresh_cluster; has_opened = λ g r. eqb g 0; map = λ g r. start.map; since = λ g r. start.since r }
+newborn start = record { cluster = λ g. fresh_cluster; has_opened = λ g r. eqb g 0; map = λ g r. start.map; base_stamp = λ g r. start.base_stamp r }
 
 -- what the replica opened the generation with
 abbrev pub start_of : Generations → ℕ → ℕ → Start
-start_of l g r = record { map = l.map g r; since = l.since g }
+start_of l g r = record { map = l.map g r; base_stamp = l.base_stamp g }
 
 -- the map that those entries leave of which the node has handed something out
 abbrev pub store_out : (ℕ → ℕ) → Generations → ℕ → ℕ → Store
 store_out f l g r = (left (f g) r (fresh_state (opened (l.map g r))) (handed_out (l.cluster g) r)).store
 
 -- an entry that the node has handed something out of executed a seal, and its stamp isn't above this one
-pub record HasSealed (f : ℕ → ℕ) (l : Generations) (g r since : ℕ) : Type 0 where
+pub record HasSealed (f : ℕ → ℕ) (l : Generations) (g r base_stamp : ℕ) : Type 0 where
   pub entry : Entry
   pub stands : In entry (handed_out (l.cluster g) r)
   pub instance : ℕ
@@ -43,32 +43,32 @@ pub record HasSealed (f : ℕ → ℕ) (l : Generations) (g r since : ℕ) : Typ
   pub decree : Decree
   pub committed : committed_in (left (f g) r (fresh_state (opened (l.map g r))) (handed_out (l.cluster g) r)).records instance ≡ Some decree
   pub seals : is_seal decree.command ≡ true
-  pub reached : entry.stamp ≤ since
+  pub reached : entry.stamp ≤ base_stamp
 
 pub data LifeMove : Type 0 where
   -- a node of the generation moves
   Within : (generation : ℕ) → (move : Move) → LifeMove
   -- the replica opens the generation after this one, with the map of a node of this one; its clock goes on from the stamp
-  OpensNext : (generation replica from since : ℕ) → LifeMove
+  OpensNext : (generation replica from base_stamp : ℕ) → LifeMove
 
 -- Only who has opened a generation moves in it. Whoever opens the next one takes a map that entries have closed which were handed out of, and its clock
 -- goes on from the stamp of one that executed a seal, or from a later one.
--- f tells how many faults each generation stands.
+-- f says how many faults each generation stands.
 abbrev pub IsLifeMove : (ℕ → ℕ) → Generations → LifeMove → Type 0
 IsLifeMove f l (Within g m) = (l.has_opened g (mover m) ≡ true) × IsMove (start_of l g (mover m)) (f g) (l.cluster g) m
-IsLifeMove f l (OpensNext g r q since) = (l.has_opened (suc g) r ≡ false) × (l.has_opened g q ≡ true) × (is_closed (store_out f l g q) ≡ true) × HasSealed f l g q since
+IsLifeMove f l (OpensNext g r q base_stamp) = (l.has_opened (suc g) r ≡ false) × (l.has_opened g q ≡ true) × (is_closed (store_out f l g q) ≡ true) × HasSealed f l g q base_stamp
 
 -- the replica has opened the generation after this one, too
 abbrev pub opened_next : ℕ → ℕ → (ℕ → ℕ → Bool) → ℕ → ℕ → Bool
 opened_next g r was = λ h p. cond (eqb (suc g) h) (eqb r p || was h p) (was h p)
 
 abbrev pub after_move : (ℕ → ℕ) → Generations → LifeMove → Generations
-after_move f l (Within g m) = record { cluster = with_at g (moved (l.cluster g) m) l.cluster; has_opened = l.has_opened; map = l.map; since = l.since }
-after_move f l (OpensNext g r q since) = record {
+after_move f l (Within g m) = record { cluster = with_at g (moved (l.cluster g) m) l.cluster; has_opened = l.has_opened; map = l.map; base_stamp = l.base_stamp }
+after_move f l (OpensNext g r q base_stamp) = record {
   cluster = l.cluster;
   has_opened = opened_next g r l.has_opened;
   map = λ h p. cond (eqb (suc g) h) (cond (eqb r p) (store_out f l g q).contents (l.map h p)) (l.map h p);
-  since = λ h p. cond (eqb (suc g) h) (cond (eqb r p) since (l.since h p)) (l.since h p);
+  base_stamp = λ h p. cond (eqb (suc g) h) (cond (eqb r p) base_stamp (l.base_stamp h p)) (l.base_stamp h p);
 }
 
 -- each move is one of what the earlier ones leave
@@ -94,7 +94,7 @@ abbrev pub stand_on : LifeMove → List Stood → List Stood
 stand_on (Within g (Take r e)) these = these ++ (Took g (record { replica = r; entry = e }) ∷ [])
 stand_on (Within g (HandOut r n)) these = these
 stand_on (Within g (ComeBack r n)) these = without (is_lost g r n) these
-stand_on (OpensNext g r q since) these = these ++ (Opened g r q ∷ [])
+stand_on (OpensNext g r q base_stamp) these = these ++ (Opened g r q ∷ [])
 
 -- the entries of a generation
 abbrev pub taken_in : ℕ → List Stood → List Scheduled

@@ -16,11 +16,11 @@ use Rattle.ep_rows.specs.OneMap.{Contents, opened, empty}
 -- What nodes open with: a map, and for each the stamp that its clock goes on from.
 pub record Start : Type 0 where
   pub map : Contents
-  pub since : ℕ → ℕ
+  pub base_stamp : ℕ → ℕ
 
 -- where a life begins
 abbrev pub no_start : Start
-no_start = record { map = empty; since = λ r. 0 }
+no_start = record { map = empty; base_stamp = λ r. 0 }
 
 -- One node.
 
@@ -28,7 +28,7 @@ no_start = record { map = empty; since = λ r. 0 }
 pub record IsTaken (start : Start) (f me : ℕ) (es : List Entry) (e : Entry) : Type 0 where
   pub entry : IsEntry f me (left f me (fresh_state (opened start.map)) es) e
   pub number : e.number ≡ length es + 1
-  pub stamp : e.stamp ≡ 1 + max (stamp_after (start.since me) es) (heard e.event)
+  pub stamp : e.stamp ≡ 1 + max (stamp_after (start.base_stamp me) es) (heard e.event)
   pub marked : AreMarked e 0 e.out
 
 -- the first n entries are at least those that were handed out of

@@ -6,7 +6,7 @@ use Rattle.std.specs.List.{filter, AllByRecursion}
 use Rattle.ep_base.specs.Commands.{Command, Noop, Get, Put, Del, Swap, Cas, Seal, Opaque, Tx}
 use Rattle.ep_base.specs.declared.reply.Reply.TheVariants.{Absent}
 use Rattle.ep_base.specs.declared.reply.Answer.{Answer}
-use Rattle.ep_base.specs.declared.reply.Answer.TheVariants.{Lost, Told}
+use Rattle.ep_base.specs.declared.reply.Answer.TheVariants.{Lost, Replied}
 use Rattle.ep_base.specs.Places.{place, Has}
 use Rattle.ep_rules.specs.Graph.{Graph}
 use Rattle.ep_base.specs.Sameness.{is_noop}
@@ -122,16 +122,16 @@ module _ (base : Store) (all : Graph) (c : ℕ → Command) (dep : AreDependent 
       told = ap (λ as'. get_or as' k x) is ∙ answers_at c (after_all c base before) e.order k i x lt ∙ ap (λ y. answer (after_all c (after_all c base before) (take k e.order)) (c y)) at
           ∙ ap (λ m. answer m (c i)) (sym (after_both c base before (take k e.order)) ∙ ap (λ ys. after_all c base ys) (sym front))
 
-      go : (b : Bool) → is_noop (c i) ≡ b → ((is_noop (c i) ≡ true) × (get_or e.answers k x ≡ Lost)) ⊎ (Has (filter (is_real c) h) i × (get_or e.answers k x ≡ Told (get_or (replies base (map c (filter (is_real c) h))) (place (filter (is_real c) h) i) Absent)))
-      go true n = inl (n, told ∙ ap (λ b. cond b Lost (Told (reply (after_all c base (take (place (before ++ e.order) i) (before ++ e.order))) (c i)))) n)
+      go : (b : Bool) → is_noop (c i) ≡ b → ((is_noop (c i) ≡ true) × (get_or e.answers k x ≡ Lost)) ⊎ (Has (filter (is_real c) h) i × (get_or e.answers k x ≡ Replied (get_or (replies base (map c (filter (is_real c) h))) (place (filter (is_real c) h) i) Absent)))
+      go true n = inl (n, told ∙ ap (λ b. cond b Lost (Replied (reply (after_all c base (take (place (before ++ e.order) i) (before ++ e.order))) (c i)))) n)
       go false n =
           let r : is_real c i ≡ true = ap (λ b. cond b false true) n in
           let hi : Has h i = within i has in
           let hr : Has (filter (is_real c) h) i = filter_has (is_real c) h i r hi in
           inr (
             hr,
-            told ∙ ap (λ b. cond b Lost (Told (reply (after_all c base (take (place (before ++ e.order) i) (before ++ e.order))) (c i)))) n
-                ∙ ap Told (same_reply (before ++ e.order) i w has hi ∙ sym (real_reply c base h i r hi) ∙ sym (replies_at c base (filter (is_real c) h) i hr)),
+            told ∙ ap (λ b. cond b Lost (Replied (reply (after_all c base (take (place (before ++ e.order) i) (before ++ e.order))) (c i)))) n
+                ∙ ap Replied (same_reply (before ++ e.order) i w has hi ∙ sym (real_reply c base h i r hi) ∙ sym (replies_at c base (filter (is_real c) h) i hr)),
           )
 
 -- all executions

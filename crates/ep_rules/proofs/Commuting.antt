@@ -10,7 +10,7 @@ use Rattle.std.specs.Cmp.Lexicographic.{slice_cmp, nat_list_eq_equiv}
 use Rattle.std.specs.FinMap.{get-insert, get-remove, same_map}
 use Rattle.ep_base.specs.Commands.{Command, Noop, Get, Put, Del, Swap, Cas, Seal, Opaque, Tx}
 use Rattle.ep_base.specs.Attributes.{same_list}
-use Rattle.ep_base.specs.Interference.{interfere, meet, part, has_key, share_key, keys_of, only_reads, is_seal}
+use Rattle.ep_base.specs.Interference.{interfere, meet, meet_seal, has_key, share_key, keys_of, only_reads, is_seal}
 use Rattle.ep_base.specs.Items.{Item, item_keys, none_writes}
 use Rattle.ep_base.specs.Sameness.{same_option}
 use Rattle.ep_base.specs.TwoKeys.{TwoKeys}
@@ -258,10 +258,10 @@ tx_unread m is b e = go (all_hold m is)
 commutes_open : (m : Contents) (a b : Command) → interfere a b ≡ false → written (written m a) b ≡ written (written m b) a
 commutes_open m Noop b e = refl
 commutes_open m (Get k) b e = refl
-commutes_open m (Put k v) b e = write_past m k (Some v) b (apart (has_key k (keys_of b)) (part (Put k v) b) e)
-commutes_open m (Del k) b e = write_past m k None b (apart (has_key k (keys_of b)) (part (Del k) b) e)
+commutes_open m (Put k v) b e = write_past m k (Some v) b (apart (has_key k (keys_of b)) (meet_seal (Put k v) b) e)
+commutes_open m (Del k) b e = write_past m k None b (apart (has_key k (keys_of b)) (meet_seal (Del k) b) e)
 commutes_open m (Swap p) b e =
-    let n = apart_both (has_key p.first (keys_of b)) (has_key p.second (keys_of b)) (part (Swap p) b) e in
+    let n = apart_both (has_key p.first (keys_of b)) (has_key p.second (keys_of b)) (meet_seal (Swap p) b) e in
     let x : Option (List ℕ) = value_at m p.second in
     let y : Option (List ℕ) = value_at m p.first in
     write_past (with_key m p.first x) p.second y b n.1
@@ -270,10 +270,10 @@ commutes_open m (Swap p) b e =
     ∙ ap (λ (z : Option (List ℕ)). with_key (with_key (written m b) p.first (value_at (written m b) p.second)) p.second z) (sym (untouched m b p.first n.0))
 commutes_open m (Cas k x n) b e =
     go (same_option (value_at m k) x)
-    ∙ ap (λ (z : Option (List ℕ)). cond (same_option z x) (with_key (written m b) k n) (written m b)) (sym (untouched m b k (apart (has_key k (keys_of b)) (part (Cas k x n) b) e)))
+    ∙ ap (λ (z : Option (List ℕ)). cond (same_option z x) (with_key (written m b) k n) (written m b)) (sym (untouched m b k (apart (has_key k (keys_of b)) (meet_seal (Cas k x n) b) e)))
   where
     go : (t : Bool) → written (cond t (with_key m k n) m) b ≡ cond t (with_key (written m b) k n) (written m b)
-    go true = write_past m k n b (apart (has_key k (keys_of b)) (part (Cas k x n) b) e)
+    go true = write_past m k n b (apart (has_key k (keys_of b)) (meet_seal (Cas k x n) b) e)
     go false = refl
 commutes_open m (Seal v) b e = refl
 commutes_open m (Opaque q w) b e = refl
@@ -281,20 +281,20 @@ commutes_open m (Tx is) b e = go (none_writes is) refl
   where
     go : (t : Bool) → none_writes is ≡ t → written (written m (Tx is)) b ≡ written (written m b) (Tx is)
     go true f = ap (λ (x : Contents). written x b) (tx_reads m is f) ∙ sym (tx_reads (written m b) is f)
-    go false f = tx_commutes m is b (unshared (share_key (item_keys is) (keys_of b)) (none_writes is) (only_reads b) (part (Tx is) b) e f)
+    go false f = tx_commutes m is b (unshared (share_key (item_keys is) (keys_of b)) (none_writes is) (only_reads b) (meet_seal (Tx is) b) e f)
 
 unseen_open : (m : Contents) (a b : Command) → interfere a b ≡ false → read (written m a) b ≡ read m b
 unseen_open m Noop b e = refl
 unseen_open m (Get k) b e = refl
-unseen_open m (Put k v) b e = read_past m k (Some v) b (apart (has_key k (keys_of b)) (part (Put k v) b) e)
-unseen_open m (Del k) b e = read_past m k None b (apart (has_key k (keys_of b)) (part (Del k) b) e)
+unseen_open m (Put k v) b e = read_past m k (Some v) b (apart (has_key k (keys_of b)) (meet_seal (Put k v) b) e)
+unseen_open m (Del k) b e = read_past m k None b (apart (has_key k (keys_of b)) (meet_seal (Del k) b) e)
 unseen_open m (Swap p) b e =
-    let n = apart_both (has_key p.first (keys_of b)) (has_key p.second (keys_of b)) (part (Swap p) b) e in
+    let n = apart_both (has_key p.first (keys_of b)) (has_key p.second (keys_of b)) (meet_seal (Swap p) b) e in
     read_past (with_key m p.first (value_at m p.second)) p.second (value_at m p.first) b n.1 ∙ read_past m p.first (value_at m p.second) b n.0
 unseen_open m (Cas k x n) b e = go (same_option (value_at m k) x)
   where
     go : (t : Bool) → read (cond t (with_key m k n) m) b ≡ read m b
-    go true = read_past m k n b (apart (has_key k (keys_of b)) (part (Cas k x n) b) e)
+    go true = read_past m k n b (apart (has_key k (keys_of b)) (meet_seal (Cas k x n) b) e)
     go false = refl
 unseen_open m (Seal v) b e = refl
 unseen_open m (Opaque q w) b e = refl
@@ -302,7 +302,7 @@ unseen_open m (Tx is) b e = go (none_writes is) refl
   where
     go : (t : Bool) → none_writes is ≡ t → read (written m (Tx is)) b ≡ read m b
     go true f = ap (λ (x : Contents). read x b) (tx_reads m is f)
-    go false f = tx_unread m is b (unshared (share_key (item_keys is) (keys_of b)) (none_writes is) (only_reads b) (part (Tx is) b) e f)
+    go false f = tx_unread m is b (unshared (share_key (item_keys is) (keys_of b)) (none_writes is) (only_reads b) (meet_seal (Tx is) b) e f)
 
 -- Seals: only a no-op doesn't interfere with one.
 

@@ -18,8 +18,8 @@ use Rattle.ep_rules.specs.Cells.{is_committed, record_or_fresh, Cell}
 use Rattle.ep_rules.specs.Counting.{count}
 use Rattle.ep_rules.specs.Phases.{holds}
 use Rattle.ep_rules.specs.Recovery.{answered_ballot}
-use Rattle.ep_rules.specs.declared.led.Led.{Led}
-use Rattle.ep_rules.specs.declared.led.Led.TheVariants.{Proposing, Accepting, Preparing}
+use Rattle.ep_rules.specs.declared.led_instance.LedInstance.{LedInstance}
+use Rattle.ep_rules.specs.declared.led_instance.LedInstance.TheVariants.{Proposing, Accepting, Preparing}
 use Rattle.ep_rules.specs.declared.record.Record.{Record}
 use Rattle.ep_rules.proofs.Attributes.{within}
 
@@ -194,14 +194,14 @@ module _ (f l : ℕ) where
     pub unvoted : x.promised ≡ b → ballot_at x.vote < b
     pub each : (k : ℕ) (v : Option Vote) → answer answers k ≡ Some v → Reported h k b v
 
-  abbrev pub LedOk : History → ℕ → Record → Option Led → Type 0
+  abbrev pub LedOk : History → ℕ → Record → Option LedInstance → Type 0
   LedOk h r x None = Unit {0}
   LedOk h r x (Some (Proposing b s answers)) = ProposingOk h r x b s answers
   LedOk h r x (Some (Accepting b answers)) = AcceptingOk h r x b answers
   LedOk h r x (Some (Preparing b answers)) = PreparingOk h r x b answers
 
   -- a replica's part of the history, by its record and what it leads
-  pub record HeldOk (h : History) (r : ℕ) (x : Record) (led : Option Led) : Type 0 where
+  pub record HeldOk (h : History) (r : ℕ) (x : Record) (led : Option LedInstance) : Type 0 where
     pub promised : h.promised r ≡ x.promised
     pub order : ballot_at x.vote ≤ x.promised
     pub vote : (b : ℕ) → Told h r b x.vote

@@ -22,8 +22,8 @@ use Rattle.ep_rules.specs.Phases.{Outcome, with_attrs, with_commit, is_usable, o
 use Rattle.ep_rules.specs.Recovery.{answered_all, next_counter, prepare_phase, Choice, CommitIt, AcceptIt, AcceptFast, ProposeIt, ProposeNoop, act_on, recover, use_prepare_ok, more_preparing, choose}
 use Rattle.ep_rules.specs.States.{State, cell_in, record_in, free_number}
 use Rattle.ep_rules.specs.Steps.{Event, Propose, Handle, GiveUp, Recover, Execute, at, handled, proposed, acts, sends, sent_by, sent_from}
-use Rattle.ep_rules.specs.declared.led.Led.{Led}
-use Rattle.ep_rules.specs.declared.led.Led.TheVariants.{Proposing, Accepting, Preparing}
+use Rattle.ep_rules.specs.declared.led_instance.LedInstance.{LedInstance}
+use Rattle.ep_rules.specs.declared.led_instance.LedInstance.TheVariants.{Proposing, Accepting, Preparing}
 use Rattle.ep_rules.specs.declared.record.Record.{Record}
 
 abbrev Small : ℕ → List (ℕ × Message) → Type 0
@@ -88,7 +88,7 @@ pre_accept_ok_few : (f i me b : ℕ) (a : Attrs) (r : Record) (more : Option (�
 pre_accept_ok_few f i me b a r None = none_out f
 pre_accept_ok_few f i me b a r (Some more) = either f (is_usable b r more.0) _ nothing (count_few f i me b more.1 a more.2 r) (none_out f)
 
-give_up_few : (f i me : ℕ) (r : Record) (led : Option Led) → FewIn f (give_up f i me r led)
+give_up_few : (f i me : ℕ) (r : Record) (led : Option LedInstance) → FewIn f (give_up f i me r led)
 give_up_few f i me r None = tt
 give_up_few f i me r (Some (Proposing b s answers)) =
     either_outcome f (is_usable (leader_of i) r b) _ _ (either_outcome f (leb f (others f me answers)) (Ok (slow_path f i me b answers r.vote)) (Err TooFewAnswers) (slow_few f i me b answers r.vote) tt) tt

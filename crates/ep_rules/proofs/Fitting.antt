@@ -28,8 +28,8 @@ use Rattle.ep_rules.specs.Steps.{Event, Propose, Handle, GiveUp, Recover, Execut
 use Rattle.ep_base.specs.Messages.{instance_of_message}
 use Rattle.ep_rules.proofs.Counting.{least_some}
 use Rattle.ep_rules.proofs.Lookups.{insert_same, insert_other, none_there}
-use Rattle.ep_rules.specs.declared.led.Led.{Led}
-use Rattle.ep_rules.specs.declared.led.Led.TheVariants.{Proposing, Accepting, Preparing}
+use Rattle.ep_rules.specs.declared.led_instance.LedInstance.{LedInstance}
+use Rattle.ep_rules.specs.declared.led_instance.LedInstance.TheVariants.{Proposing, Accepting, Preparing}
 use Rattle.ep_rules.specs.declared.record.Record.{Record}
 use Rattle.ep_rules.specs.OneMap.{Store}
 
@@ -154,7 +154,7 @@ fast_fits : (f i me : ℕ) (a : Attrs) (r : Record) (v : Option Vote) → leader
 fast_fits f i me a r None small fits = nothing_fits i me
 fast_fits f i me a r (Some v) small fits = commit_fits f i me _ r small fits
 
-kept_fits : (i me : ℕ) (l : Led) → ChangeFits i me (record { entry = None; led = Some (Some l); told = None; out = [] })
+kept_fits : (i me : ℕ) (l : LedInstance) → ChangeFits i me (record { entry = None; led = Some (Some l); told = None; out = [] })
 kept_fits i me l = record { entry = tt; out = tt }
 
 count_fits : (f i me b s : ℕ) (a : Attrs) (answers : Answers Attrs) (r : Record) → leader_of i < 256 → BallotFits i b → RecordFits i r → ChangeFits i me (count_pre_accept_ok f i me b s a answers r)
@@ -170,7 +170,7 @@ use_fits f i me b a r None small fits record_fits = nothing_fits i me
 use_fits f i me b a r (Some more) small fits record_fits =
     split i me (is_usable b r more.0) _ nothing (λ e. count_fits f i me b more.1 a more.2 r small fits record_fits) (λ e. nothing_fits i me)
 
-pre_accept_ok_fits : (f i me from b : ℕ) (a : Attrs) (r : Record) (led : Option Led) → leader_of i < 256 → BallotFits i b → RecordFits i r → ChangeFits i me (on_pre_accept_ok f i me from b a r led)
+pre_accept_ok_fits : (f i me from b : ℕ) (a : Attrs) (r : Record) (led : Option LedInstance) → leader_of i < 256 → BallotFits i b → RecordFits i r → ChangeFits i me (on_pre_accept_ok f i me from b a r led)
 pre_accept_ok_fits f i me from b a r led small fits record_fits = use_fits f i me b a r (more_proposing from a led) small fits record_fits
 
 give_up_with_fits : (f i me b : ℕ) (answers : Answers Attrs) (r : Record) → leader_of i < 256 → OutcomeFits i me (give_up_with f i me b answers r)
@@ -181,7 +181,7 @@ give_up_with_fits f i me b answers r small =
     (λ g. tt))
     (λ e. tt)
 
-give_up_fits : (f i me : ℕ) (r : Record) (led : Option Led) → leader_of i < 256 → OutcomeFits i me (give_up f i me r led)
+give_up_fits : (f i me : ℕ) (r : Record) (led : Option LedInstance) → leader_of i < 256 → OutcomeFits i me (give_up f i me r led)
 give_up_fits f i me r None small = tt
 give_up_fits f i me r (Some (Proposing b s answers)) small = give_up_with_fits f i me b answers r small
 give_up_fits f i me r (Some (Accepting b answers)) small = tt
@@ -198,7 +198,7 @@ use_accept_fits f i me b r (Some more) small fits =
     (λ e. split i me (leb f (others f me more.1)) (commit_own f i me r r.vote) (kept (Accepting b more.1)) (λ g. commit_own_fits f i me r r.vote small fits) (λ g. kept_fits i me (Accepting b more.1)))
     (λ e. nothing_fits i me)
 
-accept_ok_fits : (f i me from b : ℕ) (r : Record) (led : Option Led) → leader_of i < 256 → RecordFits i r → ChangeFits i me (on_accept_ok f i me from b r led)
+accept_ok_fits : (f i me from b : ℕ) (r : Record) (led : Option LedInstance) → leader_of i < 256 → RecordFits i r → ChangeFits i me (on_accept_ok f i me from b r led)
 accept_ok_fits f i me from b r led small fits = use_accept_fits f i me b r (more_accepting from led) small fits
 
 -- Explicit prepare.
@@ -221,7 +221,7 @@ use_prepare_fits f i me b own r (Some more) small fits record_fits =
     (λ e. split_outcome i me (leb (f + 1) (answered_all f more.1)) (act_on f i me b own r (choose f (leader_of i) (λ q. answer more.1 q))) (Ok (kept (Preparing b more.1))) (λ g. act_fits f i me b own r (choose f (leader_of i) (λ q. answer more.1 q)) small fits record_fits) (λ g. kept_fits i me (Preparing b more.1)))
     (λ e. nothing_fits i me)
 
-prepare_ok_fits : (f i me from b : ℕ) (v : Option Vote) (own : Command → Attrs) (r : Record) (led : Option Led) → leader_of i < 256 → BallotFits i b → RecordFits i r →
+prepare_ok_fits : (f i me from b : ℕ) (v : Option Vote) (own : Command → Attrs) (r : Record) (led : Option LedInstance) → leader_of i < 256 → BallotFits i b → RecordFits i r →
     OutcomeFits i me (on_prepare_ok f i me from b v own r led)
 prepare_ok_fits f i me from b v own r led small fits record_fits = use_prepare_fits f i me b own r (more_preparing from v led) small fits record_fits
 

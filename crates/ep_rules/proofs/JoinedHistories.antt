@@ -4,7 +4,7 @@ use Rattle.std.proofs.lemmas.Bool.{cases_Bool, cases_lt, eqb-true}
 use Rattle.std.proofs.lemmas.List.{get_or_append_left, get_or-append-add}
 use Rattle.ep_base.specs.Places.{place, Has}
 use Rattle.ep_base.specs.declared.reply.Answer.{Answer}
-use Rattle.ep_base.specs.declared.reply.Answer.TheVariants.{Told}
+use Rattle.ep_base.specs.declared.reply.Answer.TheVariants.{Replied}
 use Rattle.ep_base.specs.declared.reply.Reply.TheVariants.{Absent}
 use Rattle.ep_rules.specs.Closing.{up_to_seal, written_by, read_by}
 use Rattle.ep_rules.specs.Generations.{Named, named, operations, joined, place_in, HasIn, NamedOnce, IsLegalIn}
@@ -145,7 +145,7 @@ module _ (h_of : ℕ → List Operation) where
           let p = cut_in (h_of g) i c in
           inr (
             hj,
-            told.1 ∙ ap Told (
+            told.1 ∙ ap Replied (
                 ap (λ n. get_or (replies (opened (base g)) (commands_of (h_of g))) n Absent) (sym p.1)
                 ∙ cut_reply (base g) (h_of g) (place (instances_of (cut g)) i) c
                 ∙ sym (read_J n g (place (instances_of (cut g)) i) next lt c)
@@ -153,6 +153,6 @@ module _ (h_of : ℕ → List Operation) where
           ))
       | inr none ↦ inl (
         (λ hj. none (J_back n g i hj).1),
-        inr (told.1 ∙ ap Told (late_reply (base g) (h_of g) (place (instances_of (h_of g)) i) real (cut_out (h_of g) i none) told.0)),
+        inr (told.1 ∙ ap Replied (late_reply (base g) (h_of g) (place (instances_of (h_of g)) i) real (cut_out (h_of g) i none) told.0)),
       )
     ]

@@ -46,12 +46,12 @@ pub local_runs_grow_lem : LocalRunsGrow
 local_runs_grow_lem base f me es e h k number stamp marked = (numbered_grow 1 0 es e h.0 (omega arith) stamp marked, steps_grow f me (fresh_state base) es e h.1 k)
 
 pub clocks_grow_lem : ClocksGrow
-clocks_grow_lem since es e h is = clocked_grow since es e h is
+clocks_grow_lem base_stamp es e h is = clocked_grow base_stamp es e h is
 
 pub clocks_stay_above_lem : ClocksStayAbove
-clocks_stay_above_lem since [] e h m = absurd m
-clocks_stay_above_lem since (x ∷ es) e h (inl is) = subst (λ (d : Entry). since < d.stamp) is (let t = h.0 in omega arith)
-clocks_stay_above_lem since (x ∷ es) e h (inr m) = let r = clocks_stay_above_lem x.stamp es e h.1 m in let t = h.0 in omega arith
+clocks_stay_above_lem base_stamp [] e h m = absurd m
+clocks_stay_above_lem base_stamp (x ∷ es) e h (inl is) = subst (λ (d : Entry). base_stamp < d.stamp) is (let t = h.0 in omega arith)
+clocks_stay_above_lem base_stamp (x ∷ es) e h (inr m) = let r = clocks_stay_above_lem x.stamp es e h.1 m in let t = h.0 in omega arith
 
 pub asked_grows_lem : AskedGrows
 asked_grows_lem [] more = refl

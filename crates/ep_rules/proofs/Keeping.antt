@@ -13,7 +13,7 @@ use Rattle.ep_rules.specs.Cells.{Change, nothing, answered, kept, record_or_fres
 use Rattle.ep_rules.specs.Counting.{to_those, is_other}
 use Rattle.ep_rules.specs.Phases.{Outcome, limited, with_commit, commit_phase}
 use Rattle.ep_rules.specs.Recovery.{on_nack}
-use Rattle.ep_rules.specs.declared.led.Led.{Led}
+use Rattle.ep_rules.specs.declared.led_instance.LedInstance.{LedInstance}
 use Rattle.ep_rules.specs.declared.record.Record.{Record}
 use Rattle.ep_rules.proofs.Facts.{History, Decided, IsCast, IsLast, LedOk, HeldOk, CellOk, MessageOk, HistoryOk, Advance}
 use Rattle.ep_rules.proofs.Histories.{same_advance}
@@ -119,7 +119,7 @@ module _ {f i r : ℕ} {own : Command → Attrs} {new : Command → Type 0} {h :
   pub keep_told : (promised : ℕ) → Kept f i r own new h c (on_nack promised c.told)
   keep_told promised = keep_same (on_nack promised c.told) (record { held = cell.held; fresh = cell.fresh }) tt
 
-  pub keep_led : (led : Led) → LedOk f (leader_of i) h r (record_of i c) (Some led) → Kept f i r own new h c (kept led)
+  pub keep_led : (led : LedInstance) → LedOk f (leader_of i) h r (record_of i c) (Some led) → Kept f i r own new h c (kept led)
   keep_led led p = keep_same (kept led) (record { held = record { promised = (cell.held).promised; order = (cell.held).order; vote = (cell.held).vote; leads = p }; fresh = cell.fresh }) tt
 
   -- a commit that was told

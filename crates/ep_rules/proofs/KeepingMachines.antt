@@ -4,7 +4,7 @@ use Rattle.std.proofs.lemmas.Bool.{false≢true, or_parts}
 use Rattle.std.specs.Prelude.{◌&&◌, ◌||◌, not}
 use Rattle.ep_base.specs.Attributes.{same_list}
 use Rattle.ep_base.specs.Places.{place, Has}
-use Rattle.ep_base.specs.Interference.{keys_of, has_key, share_key, only_reads, meet, part}
+use Rattle.ep_base.specs.Interference.{keys_of, has_key, share_key, only_reads, meet, meet_seal}
 use Rattle.ep_base.proofs.Same.{Decides-same_list}
 use Rattle.ep_rules.specs.Machines.{AreFree, Machine, after_operations, reply_to, MachinesResume, AreSameAt, KeepsToKeys, KeepersAreMachines, MapIsMachine}
 use Rattle.ep_rules.specs.OneMap.{after, reply}
@@ -24,7 +24,7 @@ apart (l ∷ ks) ls e k h = go (same_list k l) refl h (apart ks ls (or_parts (ha
 
 -- both only read, or they share no key
 how_free : (o p : Operation) → AreFree o p → ((only_reads o.command ≡ true) × (only_reads p.command ≡ true)) ⊎ (share_key (keys_of o.command) (keys_of p.command) ≡ false)
-how_free o p f = go (share_key (keys_of o.command) (keys_of p.command)) (only_reads o.command) (only_reads p.command) refl refl (or_parts (meet o.command p.command) (part o.command p.command) f.meet).0
+how_free o p f = go (share_key (keys_of o.command) (keys_of p.command)) (only_reads o.command) (only_reads p.command) refl refl (or_parts (meet o.command p.command) (meet_seal o.command p.command) f.meet).0
   where
     go : (s a b : Bool) → only_reads o.command ≡ a → only_reads p.command ≡ b → (s && not (a && b)) ≡ false → ((only_reads o.command ≡ true) × (only_reads p.command ≡ true)) ⊎ (s ≡ false)
     go false a b x y e = inr refl

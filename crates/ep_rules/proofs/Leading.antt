@@ -16,8 +16,8 @@ use Rattle.ep_rules.specs.Answers.{Answers, answer, with_answer}
 use Rattle.ep_rules.specs.Cells.{is_committed, Cell}
 use Rattle.ep_rules.specs.Counting.{count, is_other}
 use Rattle.ep_rules.specs.Phases.{accept_phase, with_attrs, is_usable, others, fast_answered, holds, all_equal, joined, slow_path, fast_path, count_pre_accept_ok, use_pre_accept_ok, on_pre_accept_ok, give_up, commit_own, count_accept_ok, use_accept_ok, on_accept_ok}
-use Rattle.ep_rules.specs.declared.led.Led.{Led}
-use Rattle.ep_rules.specs.declared.led.Led.TheVariants.{Proposing, Accepting, Preparing}
+use Rattle.ep_rules.specs.declared.led_instance.LedInstance.{LedInstance}
+use Rattle.ep_rules.specs.declared.led_instance.LedInstance.TheVariants.{Proposing, Accepting, Preparing}
 use Rattle.ep_rules.specs.declared.record.Record.{Record}
 use Rattle.ep_rules.proofs.Attributes.{within, within_trans, join_all_own, join_all_each}
 use Rattle.ep_rules.proofs.Choices.{not_both}
@@ -231,7 +231,7 @@ module _ {f i r : ℕ} {own : Command → Attrs} {new : Command → Type 0} (few
       (λ e. stay))
       (λ e. split (Kept f i r own new h c) (leb f (others f r all)) _ _ (λ m. keep_slow b sp answers all p at live views (leb-true _ _ m)) (λ e. stay))
 
-  keep_led_pre_accept_ok : (from b : ℕ) (a : Attrs) (led : Option Led) → LedOk f (leader_of i) h r (record_of i c) led → MessageOk f (leader_of i) h from r (PreAcceptOk i b a) → Kept f i r own new h c (on_pre_accept_ok f i r from b a (record_of i c) led)
+  keep_led_pre_accept_ok : (from b : ℕ) (a : Attrs) (led : Option LedInstance) → LedOk f (leader_of i) h r (record_of i c) led → MessageOk f (leader_of i) h from r (PreAcceptOk i b a) → Kept f i r own new h c (on_pre_accept_ok f i r from b a (record_of i c) led)
   keep_led_pre_accept_ok from b a None p told = keep_nothing ok cell
   keep_led_pre_accept_ok from b a (Some (Accepting lb answers)) p told = keep_nothing ok cell
   keep_led_pre_accept_ok from b a (Some (Preparing lb answers)) p told = keep_nothing ok cell
@@ -265,7 +265,7 @@ module _ {f i r : ℕ} {own : Command → Attrs} {new : Command → Type 0} (few
       subst (λ v. Kept f i r own new h c (commit_own f i r (record_of i c) v)) (sym s.1) (keep_commit_phase ok cell y (slowly b cast.chosen (omega arith))))
       (λ m. keep_led ok cell (Accepting b all) (record { mine = p.mine; reached = p.reached; vote = p.vote; each = more }))
 
-  keep_led_accept_ok : (from b : ℕ) (led : Option Led) → LedOk f (leader_of i) h r (record_of i c) led → h.accepted from b ≡ true → Kept f i r own new h c (on_accept_ok f i r from b (record_of i c) led)
+  keep_led_accept_ok : (from b : ℕ) (led : Option LedInstance) → LedOk f (leader_of i) h r (record_of i c) led → h.accepted from b ≡ true → Kept f i r own new h c (on_accept_ok f i r from b (record_of i c) led)
   keep_led_accept_ok from b None p told = keep_nothing ok cell
   keep_led_accept_ok from b (Some (Proposing lb sp answers)) p told = keep_nothing ok cell
   keep_led_accept_ok from b (Some (Preparing lb answers)) p told = keep_nothing ok cell
@@ -281,7 +281,7 @@ module _ {f i r : ℕ} {own : Command → Attrs} {new : Command → Type 0} (few
 
 -- Giving up.
 module _ {f i r : ℕ} (own : Command → Attrs) (new : Command → Type 0) (few : size f ≤ 256) (l_low : leader_of i < size f) (r_low : r < size f) {h : History} (ok : HistoryOk f (leader_of i) h) {c : Cell} (cell : CellOk f i h r c) where
-  keep_led_give_up : (led : Option Led) → LedOk f (leader_of i) h r (record_of i c) led → KeptOk f i r own new h c (give_up f i r (record_of i c) led)
+  keep_led_give_up : (led : Option LedInstance) → LedOk f (leader_of i) h r (record_of i c) led → KeptOk f i r own new h c (give_up f i r (record_of i c) led)
   keep_led_give_up None p = tt
   keep_led_give_up (Some (Accepting b answers)) p = tt
   keep_led_give_up (Some (Preparing b answers)) p = tt

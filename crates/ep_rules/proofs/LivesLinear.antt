@@ -8,7 +8,7 @@ use Rattle.ep_base.specs.Places.{place, Has}
 use Rattle.ep_base.specs.Quorums.{size}
 use Rattle.ep_base.specs.Commands.{Command}
 use Rattle.ep_base.specs.declared.reply.Answer.{Answer}
-use Rattle.ep_base.specs.declared.reply.Answer.TheVariants.{Told}
+use Rattle.ep_base.specs.declared.reply.Answer.TheVariants.{Replied}
 use Rattle.ep_rules.specs.Closing.{has_seal, up_to_seal}
 use Rattle.ep_rules.specs.Generations.{Turn, Opens, Steps, birth, IsLife, lived, acts_in, opening_map, history_in, Named, operations, joined, ages, one_history, place_in, HasIn, RespondsIn, IsLegalIn, WasProposedIn, PrecedesIn, IsOneHistory, LivesAreLinearizable}
 use Rattle.ep_rules.specs.Linearizable.{Precedes, IsLinearizable}
@@ -167,14 +167,14 @@ module _ (start : Contents) (f : ℕ → ℕ) (sizes : (g : ℕ) → (0 < f g) �
         t.1,
         m,
         t.3,
-        λ e. elim (legal g t.0 i (Told t.1) m t.3) [
+        λ e. elim (legal g t.0 i (Replied t.1) m t.3) [
           | inl none ↦ none.0 hj
           | inr told ↦ reads_open start (operations (J (ages turns))) (place_in (J (ages turns)) g i) (sym (told_from _ _ told.1) ∙ e)
         ],
       )
 
   responded : (g i : ℕ) → RespondsIn turns g i → HasIn (J (ages turns)) g i
-  responded g i t = elim (legal g t.0 i (Told t.1) t.2 t.3) [
+  responded g i t = elim (legal g t.0 i (Replied t.1) t.2 t.3) [
     | inl none ↦ elim none.1 [ inl lost ↦ told_lost t.1 lost | inr shut ↦ absurd (t.4 (told_from _ _ shut)) ]
     | inr told ↦ told.0
   ]
@@ -278,7 +278,7 @@ module _ (start : Contents) (f : ℕ → ℕ) (sizes : (g : ℕ) → (0 < f g) �
         proposed = q.0;
         act = t.0;
         earlier = subst (λ acts. In t.0 acts) (sym q.1) t.2;
-        executed = in_has t.0.done s.0.instance (Told t.1) t.3;
+        executed = in_has t.0.done s.0.instance (Replied t.1) t.3;
       } in
       let after = (lin k).real_time s.0.instance j (instance_in (h_of k) s.0 there) inside.0 precedes in
       let le = before_seals (h_of k) s.0 j (once_in k) there s.2 c in

@@ -20,8 +20,8 @@ use Rattle.ep_rules.specs.Phases.{Outcome, limited, first_phase, accept_phase, c
 use Rattle.ep_rules.specs.Recovery.{Choice, CommitIt, AcceptIt, AcceptFast, ProposeIt, ProposeNoop, choose, recover_with, act_on, next_counter, recover, on_prepare, answered_all, count_prepare_ok, use_prepare_ok, on_prepare_ok}
 use Rattle.ep_rules.specs.States.{State, cell_in, record_in, is_free, free_number}
 use Rattle.ep_rules.specs.Steps.{Event, Propose, Handle, GiveUp, Recover, Execute, handled, at, proposed, acts}
-use Rattle.ep_rules.specs.declared.led.Led.{Led}
-use Rattle.ep_rules.specs.declared.led.Led.TheVariants.{Proposing, Accepting, Preparing}
+use Rattle.ep_rules.specs.declared.led_instance.LedInstance.{LedInstance}
+use Rattle.ep_rules.specs.declared.led_instance.LedInstance.TheVariants.{Proposing, Accepting, Preparing}
 use Rattle.ep_rules.specs.declared.record.Record.{Record}
 use Rattle.ep_rules.proofs.Counting.{least_some}
 use Rattle.ep_rules.proofs.Keeping.{AllSent, sent_to_those, split}
@@ -59,7 +59,7 @@ module _ (f i me : ℕ) (x : Record) where
   local_answered : (from : ℕ) (m : Message) → instance_of_message m ≡ i → Local i x (answered from m)
   local_answered from m e = record { about = (e, tt); stays = λ d. tt }
 
-  local_kept : (led : Led) → Local i x (kept led)
+  local_kept : (led : LedInstance) → Local i x (kept led)
   local_kept led = record { about = tt; stays = λ d. tt }
 
   local_recorded : (y : Record) (from : ℕ) (m : Message) → instance_of_message m ≡ i → (is_committed x.vote ≡ true → y.vote ≡ x.vote) → Local i x (recorded y from m)
@@ -113,7 +113,7 @@ module _ (f i me : ℕ) (x : Record) where
       (λ e. local_kept (Proposing b s answers)))
       (λ e. split (Local i x) (leb f (others f me answers)) _ _ (λ e. local_slow live b answers x.vote) (λ e. local_kept (Proposing b s answers)))
 
-  local_pre_accept_ok : (from b : ℕ) (a : Attrs) (led : Option Led) → Local i x (on_pre_accept_ok f i me from b a x led)
+  local_pre_accept_ok : (from b : ℕ) (a : Attrs) (led : Option LedInstance) → Local i x (on_pre_accept_ok f i me from b a x led)
   local_pre_accept_ok from b a None = local_nothing
   local_pre_accept_ok from b a (Some (Accepting lb answers)) = local_nothing
   local_pre_accept_ok from b a (Some (Preparing lb answers)) = local_nothing
@@ -121,7 +121,7 @@ module _ (f i me : ℕ) (x : Record) where
       split (λ more. Local i x (use_pre_accept_ok f i me b a x more)) (is_some (answer answers from)) _ _ (λ e. local_nothing) (λ e.
       split (Local i x) (is_usable b x lb) _ _ (λ u. local_count_pre_accept_ok (usable b x lb u).2 b s a (with_answer answers from a)) (λ u. local_nothing))
 
-  local_give_up : (led : Option Led) → LocalOk i x (give_up f i me x led)
+  local_give_up : (led : Option LedInstance) → LocalOk i x (give_up f i me x led)
   local_give_up None = tt
   local_give_up (Some (Accepting b answers)) = tt
   local_give_up (Some (Preparing b answers)) = tt
@@ -134,7 +134,7 @@ module _ (f i me : ℕ) (x : Record) where
   local_commit_own live None = local_nothing
   local_commit_own live (Some v) = local_commit_phase live v.decree
 
-  local_accept_ok : (from b : ℕ) (led : Option Led) → Local i x (on_accept_ok f i me from b x led)
+  local_accept_ok : (from b : ℕ) (led : Option LedInstance) → Local i x (on_accept_ok f i me from b x led)
   local_accept_ok from b None = local_nothing
   local_accept_ok from b (Some (Proposing lb s answers)) = local_nothing
   local_accept_ok from b (Some (Preparing lb answers)) = local_nothing
@@ -170,7 +170,7 @@ module _ (f i me : ℕ) (x : Record) where
   local_count_prepare_ok live b answers own =
       split (LocalOk i x) (leb (f + 1) (answered_all f answers)) _ _ (λ m. local_choice live b own (choose f (leader_of i) (λ q. answer answers q))) (λ m. local_kept (Preparing b answers))
 
-  local_prepare_ok : (from b : ℕ) (v : Option Vote) (own : Command → Attrs) (led : Option Led) → LocalOk i x (on_prepare_ok f i me from b v own x led)
+  local_prepare_ok : (from b : ℕ) (v : Option Vote) (own : Command → Attrs) (led : Option LedInstance) → LocalOk i x (on_prepare_ok f i me from b v own x led)
   local_prepare_ok from b v own None = local_nothing
   local_prepare_ok from b v own (Some (Proposing lb s answers)) = local_nothing
   local_prepare_ok from b v own (Some (Accepting lb answers)) = local_nothing

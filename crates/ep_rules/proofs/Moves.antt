@@ -13,7 +13,7 @@ use Rattle.ep_rules.specs.Phases.{Outcome}
 use Rattle.ep_rules.specs.States.{State, cell_in, or_zero, with_entry, with_led, changed, free_number}
 use Rattle.ep_rules.specs.Steps.{Sent, Event, Propose, Handle, GiveUp, Recover, Execute, message_within, is_within, is_for, screened, at, proposed, acts, changed_by, sent_from, sent_by, leaves, IsTaken}
 use Rattle.ep_rules.specs.Worlds.{World, Act, moved}
-use Rattle.ep_rules.specs.declared.led.Led.{Led}
+use Rattle.ep_rules.specs.declared.led_instance.LedInstance.{LedInstance}
 use Rattle.ep_rules.specs.declared.record.Record.{Record}
 use Rattle.ep_rules.proofs.Keeping.{newer, newer_entry, applied}
 use Rattle.ep_rules.proofs.Local.{free_found}
@@ -25,7 +25,7 @@ entry_here : (m : Map Record) (i : ℕ) (o : Option Record) → get (with_entry 
 entry_here m i None = refl
 entry_here m i (Some x) = insert_same m i x
 
-led_here : (m : Map Led) (i : ℕ) (o : Option (Option Led)) → get (with_led m i o) i ≡ newer o (get m i)
+led_here : (m : Map LedInstance) (i : ℕ) (o : Option (Option LedInstance)) → get (with_led m i o) i ≡ newer o (get m i)
 led_here m i None = refl
 led_here m i (Some None) = remove_same m i
 led_here m i (Some (Some x)) = insert_same m i x
@@ -38,7 +38,7 @@ entry_other : {X : Type 0} (m : Map X) (i : ℕ) (o : Option X) (j : ℕ) → j 
 entry_other m i None j ne = refl
 entry_other m i (Some x) j ne = insert_other m i x j ne
 
-led_other : (m : Map Led) (i : ℕ) (o : Option (Option Led)) (j : ℕ) → j ≢ i → get (with_led m i o) j ≡ get m j
+led_other : (m : Map LedInstance) (i : ℕ) (o : Option (Option LedInstance)) (j : ℕ) → j ≢ i → get (with_led m i o) j ≡ get m j
 led_other m i None j ne = refl
 led_other m i (Some None) j ne = remove_other m i j ne
 led_other m i (Some (Some x)) j ne = insert_other m i x j ne

@@ -15,9 +15,9 @@ use Rattle.ep_rules.proofs.OneProposal.{same, after, before, placed}
 use Rattle.ep_rules.specs.OneMap.{Store}
 
 pub played_accepted_lem : PlayedAccepted
-played_accepted_lem base since f journal schedule played own numbered clocked receipts are_own =
-    let matched = (played_match_lem base since f journal schedule played own numbered clocked).1 in
-    clocked_accepted_lem base since f journal clocked (λ r e m h is. (matched r e m h is).0) receipts are_own
+played_accepted_lem base base_stamp f journal schedule played own numbered clocked receipts are_own =
+    let matched = (played_match_lem base base_stamp f journal schedule played own numbered clocked).1 in
+    clocked_accepted_lem base base_stamp f journal clocked (λ r e m h is. (matched r e m h is).0) receipts are_own
 
 -- in the middle of a list
 in_middle : {X : Type 0} (xs : List X) (x : X) (ys whole : List X) → xs ++ (x ∷ ys) ≡ whole → In x whole

@@ -11,21 +11,21 @@ use Rattle.ep_rules.proofs.Played.{clocked_later}
 use Rattle.ep_rules.specs.OneMap.{Store}
 
 pub own_receipts_agree_lem : OwnReceiptsAgree
-own_receipts_agree_lem base since f journal clocked r t own =
+own_receipts_agree_lem base base_stamp f journal clocked r t own =
     let executed = subst (λ q. HasDone (journal q) t.entry t.stamp t.instance t.answer) (sym own.replica) own.executed in
     subst (λ q. (p : Proposes base f q (journal q) t.instance t.client t.request) → p.seen ≡ t.seen → Agrees base f journal t) own.leader (λ p seen.
     let stands : In p.proposal (journal (leader_of t.instance)) = subst (λ es. In p.proposal es) p.split (in_right p.proposal p.before (p.proposal ∷ p.rest) (inl refl)) in
-    let lt : heard p.proposal.event < p.proposal.stamp = clocked_later (since (leader_of t.instance)) (journal (leader_of t.instance)) p.proposal (clocked (leader_of t.instance)) stands in
+    let lt : heard p.proposal.event < p.proposal.stamp = clocked_later (base_stamp (leader_of t.instance)) (journal (leader_of t.instance)) p.proposal (clocked (leader_of t.instance)) stands in
     let from : p.seen < p.proposal.stamp = subst (λ (e : Event). heard e < p.proposal.stamp) p.event lt in
     record { known = record { proposed = p; executed = executed }; later = subst (λ n. n < p.proposal.stamp) seen from }) own.proposed own.seen
 
 pub clocked_match_lem : ClockedMatch
-clocked_match_lem since journal clocked sent r e m h is = (sent r e m h is, subst (λ v. heard v < e.stamp) is (clocked_later (since r) (journal r) e (clocked r) h))
+clocked_match_lem base_stamp journal clocked sent r e m h is = (sent r e m h is, subst (λ v. heard v < e.stamp) is (clocked_later (base_stamp r) (journal r) e (clocked r) h))
 
 pub clocked_accepted_lem : ClockedAccepted
-clocked_accepted_lem base since f journal clocked sent receipts are_own = record {
-  matched = clocked_match_lem since journal clocked sent;
-  agree = λ t h. let o = are_own t h in own_receipts_agree_lem base since f journal clocked o.0 t o.1;
+clocked_accepted_lem base base_stamp f journal clocked sent receipts are_own = record {
+  matched = clocked_match_lem base_stamp journal clocked sent;
+  agree = λ t h. let o = are_own t h in own_receipts_agree_lem base base_stamp f journal clocked o.0 t o.1;
 }
 
 pub sent_stays_lem : SentStays

@@ -128,7 +128,7 @@ pub played_is_a_run_lem : PlayedIsARun
 played_is_a_run_lem base f these h = played_run f these (opening base) [] refl h
 
 pub played_match_lem : PlayedMatch
-played_match_lem base since f journal these h own numbered clocked =
+played_match_lem base base_stamp f journal these h own numbered clocked =
     let local : AreLocalRuns base f journal = record {
       local = λ r. (numbered r, subst (λ es. AreSteps f r (fresh_state base) es) (own r) (steps_of f these (opening base) [] h r));
       others = λ r ge. sym (own r) ∙ none_of f these (opening base) [] h r ge;
@@ -139,6 +139,6 @@ played_match_lem base since f journal these h own numbered clocked =
           let s = sender_of f these these (opening base) [] (λ b k. k) (λ z k. absurd k) h at.0 m at.1 (ap (λ (z : Entry). z.event) at.3 ∙ is) in
           let home : In s.act.entry (journal s.act.replica) = subst (λ es. In s.act.entry es) (own s.act.replica) (in_of s.act these s.stands) in (
             (frames_were_sent_lem base f journal s.act.replica s.act.entry m (local.local s.act.replica) home s.out).1,
-            subst (λ v. heard v < e.stamp) is (clocked_later (since r) (journal r) e (clocked r) stands),
+            subst (λ v. heard v < e.stamp) is (clocked_later (base_stamp r) (journal r) e (clocked r) stands),
           ),
     )

@@ -20,8 +20,8 @@ use Rattle.ep_rules.specs.Phases.{accept_phase, first_phase, is_usable, propose}
 use Rattle.ep_rules.specs.Recovery.{Choice, CommitIt, AcceptIt, AcceptFast, ProposeIt, ProposeNoop, choose, recover_with, act_on, next_counter, prepare_phase, recover, answered_all, count_prepare_ok, use_prepare_ok, on_prepare_ok}
 use Rattle.ep_rules.specs.States.{State, cell_in}
 use Rattle.ep_rules.specs.Steps.{handled}
-use Rattle.ep_rules.specs.declared.led.Led.{Led}
-use Rattle.ep_rules.specs.declared.led.Led.TheVariants.{Proposing, Accepting, Preparing}
+use Rattle.ep_rules.specs.declared.led_instance.LedInstance.{LedInstance}
+use Rattle.ep_rules.specs.declared.led_instance.LedInstance.TheVariants.{Proposing, Accepting, Preparing}
 use Rattle.ep_rules.specs.declared.record.Record.{Record}
 use Rattle.ep_rules.proofs.Attributes.{within_self}
 use Rattle.ep_rules.proofs.Choices.{choose_ok, ChoiceOk, MayAccept, MayPropose, not_both}
@@ -236,7 +236,7 @@ module _ {f i r : ℕ} (own : Command → Attrs) (new : Command → Type 0) (two
       (choose_ok f l two h ok b (λ q. answer all q) more (leb-true _ _ m) l_low))
       (λ m. keep_led ok cell (Preparing b all) (record { mine = p.mine; reached = p.reached; low = p.low; unchosen = p.unchosen; unasked = p.unasked; unvoted = p.unvoted; each = more }))
 
-  keep_led_prepare_ok : (from b : ℕ) (v : Option Vote) (led : Option Led) → LedOk f (leader_of i) h r (record_of i c) led → Reported f (leader_of i) h from b v → KeptOk f i r own new h c (on_prepare_ok f i r from b v own (record_of i c) led)
+  keep_led_prepare_ok : (from b : ℕ) (v : Option Vote) (led : Option LedInstance) → LedOk f (leader_of i) h r (record_of i c) led → Reported f (leader_of i) h from b v → KeptOk f i r own new h c (on_prepare_ok f i r from b v own (record_of i c) led)
   keep_led_prepare_ok from b v None p told = keep_nothing ok cell
   keep_led_prepare_ok from b v (Some (Proposing lb sp answers)) p told = keep_nothing ok cell
   keep_led_prepare_ok from b v (Some (Accepting lb answers)) p told = keep_nothing ok cell

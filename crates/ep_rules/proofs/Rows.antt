@@ -13,8 +13,8 @@ use Rattle.ep_rules.specs.Answers.{Answers, answer}
 use Rattle.ep_rules.specs.Cells.{nothing, kept, voted, fresh_record, NotLeading, TooFewAnswers}
 use Rattle.ep_rules.specs.Phases.{propose, on_pre_accept, on_pre_accept_ok, give_up}
 use Rattle.ep_rules.specs.Recovery.{Choice, CommitIt, AcceptFast, ProposeIt, ProposeNoop, choose}
-use Rattle.ep_rules.specs.declared.led.Led.{Led}
-use Rattle.ep_rules.specs.declared.led.Led.TheVariants.{Proposing, Accepting}
+use Rattle.ep_rules.specs.declared.led_instance.LedInstance.{LedInstance}
+use Rattle.ep_rules.specs.declared.led_instance.LedInstance.TheVariants.{Proposing, Accepting}
 use Rattle.ep_rules.specs.declared.record.Record.{Record}
 
 -- the instance, and the command in it
@@ -101,7 +101,7 @@ own = voted (ballot_of 0 0) PreAccepted put_alone
 abbrev own_joined : Record
 own_joined = record { promised = ballot_of 1 4; vote = own.vote }
 
-abbrev leads : Answers Attrs → Option Led
+abbrev leads : Answers Attrs → Option LedInstance
 leads answers = Some (Proposing (ballot_of 0 0) 4 answers)
 
 -- a proposal that spares replica 1 asks the three others

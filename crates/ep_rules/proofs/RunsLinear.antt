@@ -10,7 +10,7 @@ use Rattle.ep_base.specs.Sameness.{is_noop}
 use Rattle.ep_base.specs.Commands.{Command}
 use Rattle.ep_base.specs.declared.decree.Decree.{Decree}
 use Rattle.ep_base.specs.declared.reply.Answer.{Answer}
-use Rattle.ep_base.specs.declared.reply.Answer.TheVariants.{Lost, Told}
+use Rattle.ep_base.specs.declared.reply.Answer.TheVariants.{Lost, Replied}
 use Rattle.ep_base.specs.declared.reply.Reply.{Reply}
 use Rattle.ep_base.specs.declared.reply.Reply.TheVariants.{Absent}
 use Rattle.ep_base.proofs.Interfering.{turn}
@@ -87,12 +87,12 @@ module _ (base : Store) (f : ℕ) where
 -- a reply to the history's instances, by its commands
 to_legal : (base : Store) → (c : ℕ → Command) (h : List Operation) → AreOf c h → ((i : ℕ) → Has (instances_of h) i → is_real c i ≡ true) → (i : ℕ) (x : Answer) → IsReply base c (instances_of h) i x → IsLegal base h i x
 to_legal base c h of are_real i x (inl p) = inl ((λ k. false≢true (sym (ap (λ b. cond b false true) p.0) ∙ are_real i k)), p.1)
-to_legal base c h of are_real i x (inr p) = inr (p.0, p.1 ∙ ap (λ cs. Told (get_or (replies base cs) (place (instances_of h) i) Absent)) (sym (commands_are c h of)))
+to_legal base c h of are_real i x (inr p) = inr (p.0, p.1 ∙ ap (λ cs. Replied (get_or (replies base cs) (place (instances_of h) i) Absent)) (sym (commands_are c h of)))
 
-pub told_lost : {X : Type 0} (y : Reply) → Told y ≡ Lost → X
+pub told_lost : {X : Type 0} (y : Reply) → Replied y ≡ Lost → X
 told_lost y e = absurd (cc)
 
-pub told_from : (y z : Reply) → Told y ≡ Told z → y ≡ z
+pub told_from : (y z : Reply) → Replied y ≡ Replied z → y ≡ z
 told_from y z e = cc
 
 module _ (base : Store) (f : ℕ) (some : 0 < f) (few : size f ≤ 256) (acts : List Act) (run : IsRun f (opening base) acts) where
@@ -124,7 +124,7 @@ module _ (base : Store) (f : ℕ) (some : 0 < f) (few : size f ≤ 256) (acts : 
   ]
 
   responded : (i : ℕ) → Responds acts i → Has (instances_of (history_of base f acts)) i
-  responded i t = elim (legal t.0 i (Told t.1) t.2 t.3) [ inl lost ↦ told_lost t.1 lost.1 | inr told ↦ told.0 ]
+  responded i t = elim (legal t.0 i (Replied t.1) t.2 t.3) [ inl lost ↦ told_lost t.1 lost.1 | inr told ↦ told.0 ]
 
   -- the run in two parts
   module _ (before : List Act) (rest : List Act) (whole : before ++ rest ≡ acts) where

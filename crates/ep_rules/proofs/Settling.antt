@@ -2,7 +2,7 @@
 use Rattle.std.proofs.Common.{◌≡◌, ◌≢◌, ℕ, ◌<◌, ◌≤◌, inl, inr, List, [], ◌++◌, ap, subst, ◌∙◌}
 use Rattle.ep_base.specs.Places.{place, Has}
 use Rattle.ep_base.specs.Quorums.{size}
-use Rattle.ep_base.specs.declared.reply.Answer.TheVariants.{Told}
+use Rattle.ep_base.specs.declared.reply.Answer.TheVariants.{Replied}
 use Rattle.ep_base.specs.declared.reply.Reply.{Reply}
 use Rattle.ep_base.specs.declared.reply.Reply.TheVariants.{Closed}
 use Rattle.ep_rules.specs.Closing.{up_to_seal, HasClosed, OneSettling}
@@ -32,8 +32,8 @@ module _ (start : Contents) (f : ℕ) (some : 0 < f) (few : size f ≤ 256) (ear
       let t = history_grows_lem (opened start) f early late in
       ap up_to_seal t.1 ∙ cut_more (history_of (opened start) f early) t.0 (runs_close_lem start f some few early before r shut).0
 
-  settled : (a : Act) (i : ℕ) (told : Reply) → In a (early ++ late) → In (i, Told told) a.done → told ≢ Closed → Has ((ends f (opening (opened start)) early).states r).executed i
-  settled a i told m k open' = elim ((linearizability_holds (opened start) f some few (early ++ late) run).legal a i (Told told) m k) [
+  settled : (a : Act) (i : ℕ) (told : Reply) → In a (early ++ late) → In (i, Replied told) a.done → told ≢ Closed → Has ((ends f (opening (opened start)) early).states r).executed i
+  settled a i told m k open' = elim ((linearizability_holds (opened start) f some few (early ++ late) run).legal a i (Replied told) m k) [
     | inl lost ↦ told_lost told lost.1
     | inr there ↦ elim (has_or (instances_of (up_to_seal h)) i) [
       | inl c ↦ (

@@ -14,8 +14,8 @@ use Rattle.ep_base.specs.declared.vote.VoteStatus.TheVariants.{PreAccepted, Acce
 use Rattle.ep_base.specs.declared.vote.Vote.{Vote}
 use Rattle.ep_rules.specs.Cells.{record_or_fresh, Cell}
 use Rattle.ep_rules.specs.Phases.{holds}
-use Rattle.ep_rules.specs.declared.led.Led.{Led}
-use Rattle.ep_rules.specs.declared.led.Led.TheVariants.{Proposing, Accepting, Preparing}
+use Rattle.ep_rules.specs.declared.led_instance.LedInstance.{LedInstance}
+use Rattle.ep_rules.specs.declared.led_instance.LedInstance.TheVariants.{Proposing, Accepting, Preparing}
 use Rattle.ep_rules.specs.declared.record.Record.{Record}
 use Rattle.ep_rules.proofs.Attributes.{within}
 use Rattle.ep_rules.proofs.Counting.{count_le}
@@ -191,7 +191,7 @@ module _ (f l r : ℕ) (h h' : History) (go : Advance f l r h h') where
   }
 
   -- what is led, where the ballots of r's are chosen at as they were
-  pub led_same : (k : ℕ) (x : Record) (led : Option Led) → ((b : ℕ) → owner_of b ≡ k → h'.chosen b ≡ h.chosen b) → ((b : ℕ) → owner_of b ≡ k → h'.asked b ≡ h.asked b) → LedOk f l h k x led → LedOk f l h' k x led
+  pub led_same : (k : ℕ) (x : Record) (led : Option LedInstance) → ((b : ℕ) → owner_of b ≡ k → h'.chosen b ≡ h.chosen b) → ((b : ℕ) → owner_of b ≡ k → h'.asked b ≡ h.asked b) → LedOk f l h k x led → LedOk f l h' k x led
   led_same k x None same same_asked p = tt
   led_same k x (Some (Proposing b s answers)) same same_asked p = record {
     mine = p.mine;
@@ -215,7 +215,7 @@ module _ (f l r : ℕ) (h h' : History) (go : Advance f l r h h') where
   }
 
   -- the same, after a promise or a vote at a ballot that isn't led here
-  pub led_moved : (k : ℕ) (x x' : Record) (led : Option Led) → ((b : ℕ) → owner_of b ≡ k → h'.chosen b ≡ h.chosen b) → ((b : ℕ) → owner_of b ≡ k → h'.asked b ≡ h.asked b) → x.promised ≤ x'.promised → ((b : ℕ) → owner_of b ≡ k → b ≤ x.promised → x'.promised ≢ b) → LedOk f l h k x led → LedOk f l h' k x' led
+  pub led_moved : (k : ℕ) (x x' : Record) (led : Option LedInstance) → ((b : ℕ) → owner_of b ≡ k → h'.chosen b ≡ h.chosen b) → ((b : ℕ) → owner_of b ≡ k → h'.asked b ≡ h.asked b) → x.promised ≤ x'.promised → ((b : ℕ) → owner_of b ≡ k → b ≤ x.promised → x'.promised ≢ b) → LedOk f l h k x led → LedOk f l h' k x' led
   led_moved k x x' None same same_asked up ne p = tt
   led_moved k x x' (Some (Proposing b s answers)) same same_asked up ne p = record {
     mine = p.mine;
@@ -244,7 +244,7 @@ module _ (f l r : ℕ) (h h' : History) (go : Advance f l r h h') where
   }
 
   -- what another replica holds
-  pub held_other : (k : ℕ) (x : Record) (led : Option Led) → k ≢ r → HeldOk f l h k x led → HeldOk f l h' k x led
+  pub held_other : (k : ℕ) (x : Record) (led : Option LedInstance) → k ≢ r → HeldOk f l h k x led → HeldOk f l h' k x led
   held_other k x led ne p = record {
     promised = go.same_promised k ne ∙ p.promised;
     order = p.order;

@@ -6,7 +6,7 @@ use Rattle.ep_base.specs.declared.message.Message.{Message}
 use Rattle.ep_base.specs.declared.vote.VoteStatus.{VoteStatus}
 use Rattle.ep_base.specs.declared.vote.VoteStatus.TheVariants.{PreAccepted, Accepted, Committed}
 use Rattle.ep_base.specs.declared.vote.Vote.{Vote}
-use Rattle.ep_rules.specs.declared.led.Led.{Led}
+use Rattle.ep_rules.specs.declared.led_instance.LedInstance.{LedInstance}
 use Rattle.ep_rules.specs.declared.record.Record.{Record}
 
 -- an instance that nothing is known of: the default ballot is promised, and there is no vote
@@ -68,7 +68,7 @@ committed_decree (Some v) = committed_at v.status v.decree
 -- the new record, what is led from now on, and the counter that is told, each none where it stays as it was; and what is sent, with its receivers
 pub record Change : Type 0 where
   pub entry : Option Record
-  pub led : Option (Option Led)
+  pub led : Option (Option LedInstance)
   pub told : Option ℕ
   pub out : List (ℕ × Message)
 
@@ -84,7 +84,7 @@ abbrev pub recorded : Record → ℕ → Message → Change
 recorded r from m = record { entry = Some r; led = None; told = None; out = (from, m) ∷ [] }
 
 -- the answers are kept
-abbrev pub kept : Led → Change
+abbrev pub kept : LedInstance → Change
 kept l = record { entry = None; led = Some (Some l); told = None; out = [] }
 
 -- the record after a vote at b
@@ -106,5 +106,5 @@ pub data Refusal : Type 0 where
 -- what one replica knows of one instance: its record, what it leads, and the greatest counter that a Nack told it
 pub record Cell : Type 0 where
   pub entry : Option Record
-  pub led : Option Led
+  pub led : Option LedInstance
   pub told : ℕ

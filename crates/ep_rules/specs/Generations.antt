@@ -6,7 +6,7 @@ use Rattle.ep_base.specs.Places.{place, Has}
 use Rattle.ep_base.specs.Quorums.{size}
 use Rattle.ep_base.specs.Commands.{Command}
 use Rattle.ep_base.specs.declared.reply.Answer.{Answer}
-use Rattle.ep_base.specs.declared.reply.Answer.TheVariants.{Lost, Told}
+use Rattle.ep_base.specs.declared.reply.Answer.TheVariants.{Lost, Replied}
 use Rattle.ep_base.specs.declared.reply.Reply.{Reply}
 use Rattle.ep_base.specs.declared.reply.Reply.TheVariants.{Absent, Closed}
 use Rattle.ep_rules.specs.Closing.{up_to_seal, first_seal, written_by, read_by, store_of, HasClosed}
@@ -36,7 +36,7 @@ birth start = record { worlds = λ g. opening (opened start); has_opened = λ g 
 abbrev pub with_state : World → ℕ → State → World
 with_state w r s = record { states = λ q. cond (eqb r q) s (w.states q); sent = w.sent }
 
--- f tells how many faults each generation stands: it has 2f+1 replicas. A replica goes on with an old generation as long as it will
+-- f says how many faults each generation stands: it has 2f+1 replicas. A replica goes on with an old generation as long as it will
 abbrev pub IsTurn : (ℕ → ℕ) → Life → Turn → Type 0
 IsTurn f l (Opens g r q) = (l.has_opened (suc g) r ≡ false) × (l.has_opened g q ≡ true) × HasClosed (l.worlds g) q
 IsTurn f l (Steps g a) = (l.has_opened g a.replica ≡ true) × Happens (f g) (l.worlds g) a
@@ -121,13 +121,13 @@ NamedOnce (o ∷ os) = (¬ HasIn os o.generation o.operation.instance) × NamedO
 
 -- some step of the generation answers i with a reply other than that the map is closed
 abbrev pub RespondsIn : List Turn → ℕ → ℕ → Type 0
-RespondsIn turns g i = (a : Act) × (reply : Reply) × In (Steps g a) turns × In (i, Told reply) a.done × (reply ≢ Closed)
+RespondsIn turns g i = (a : Act) × (reply : Reply) × In (Steps g a) turns × In (i, Replied reply) a.done × (reply ≢ Closed)
 
 -- what has a place answers the reply there of one map to the history, whatever its generation; what has none is lost, or finds the map closed
 abbrev pub IsLegalIn : Contents → List Named → ℕ → ℕ → Answer → Type 0
 IsLegalIn start h g i x =
-    ((¬ HasIn h g i) × ((x ≡ Lost) ⊎ (x ≡ Told Closed)))
-    ⊎ (HasIn h g i × (x ≡ Told (get_or (read_by start (operations h)) (place_in h g i) Absent)))
+    ((¬ HasIn h g i) × ((x ≡ Lost) ⊎ (x ≡ Replied Closed)))
+    ⊎ (HasIn h g i × (x ≡ Replied (get_or (read_by start (operations h)) (place_in h g i) Absent)))
 
 -- a turn proposes c as instance i of a generation, at the replica that leads it, of whose own instances it is the least one of which that replica had no record
 pub record WasProposedIn (start : Contents) (f : ℕ → ℕ) (turns : List Turn) (g i : ℕ) (c : Command) : Type 0 where

@@ -6,7 +6,7 @@ use Rattle.ep_base.specs.Commands.{Command}
 use Rattle.ep_base.specs.declared.reply.Reply.{Reply}
 use Rattle.ep_base.specs.declared.reply.Reply.TheVariants.{Absent}
 use Rattle.ep_base.specs.declared.reply.Answer.{Answer}
-use Rattle.ep_base.specs.declared.reply.Answer.TheVariants.{Lost, Told}
+use Rattle.ep_base.specs.declared.reply.Answer.TheVariants.{Lost, Replied}
 use Rattle.ep_base.specs.Interference.{interfere}
 use Rattle.ep_base.specs.Places.{place, Has}
 use Rattle.ep_rules.specs.Graph.{Graph, Reaches}
@@ -80,7 +80,7 @@ reply_in base c is i = reply (after_all c base (take (place is i) is)) (c i)
 abbrev pub AnswersBy : (base : Store) → (ℕ → Command) → List ℕ → Execution → Type 0
 AnswersBy base c h e = (k i : ℕ) (x : Answer) → k < length e.order → get_or e.order k i ≡ i →
     ((is_noop (c i) ≡ true) × (get_or e.answers k x ≡ Lost))
-    ⊎ (Has h i × (get_or e.answers k x ≡ Told (get_or (replies base (map c h)) (place h i) Absent)))
+    ⊎ (Has h i × (get_or e.answers k x ≡ Replied (get_or (replies base (map c h)) (place h i) Absent)))
 
 -- a component is executed whole in one execution
 abbrev pub IsWhole : Graph → Execution → Type 0

@@ -9,7 +9,7 @@ use Rattle.ep_base.specs.Places.{place, Has}
 use Rattle.ep_base.specs.Quorums.{size}
 use Rattle.ep_base.specs.Commands.{Command}
 use Rattle.ep_base.specs.declared.reply.Answer.{Answer}
-use Rattle.ep_base.specs.declared.reply.Answer.TheVariants.{Lost, Told}
+use Rattle.ep_base.specs.declared.reply.Answer.TheVariants.{Lost, Replied}
 use Rattle.ep_base.specs.declared.reply.Reply.{Reply}
 use Rattle.ep_base.specs.declared.reply.Reply.TheVariants.{Absent}
 use Rattle.ep_rules.specs.Counts.{AreOnce}
@@ -21,13 +21,13 @@ use Rattle.ep_rules.specs.Worlds.{opening, Act, In, IsRun, ends}
 
 -- some execution among the acts answers i with a reply
 abbrev pub Responds : List Act → ℕ → Type 0
-Responds acts i = (a : Act) × (reply : Reply) × In a acts × In (i, Told reply) a.done
+Responds acts i = (a : Act) × (reply : Reply) × In a acts × In (i, Replied reply) a.done
 
 -- the answer is one map's reply to the history at i's place there; where i has none, it is lost
 abbrev pub IsLegal : (base : Store) → List Operation → ℕ → Answer → Type 0
 IsLegal base h i x =
     ((¬ Has (instances_of h) i) × (x ≡ Lost))
-    ⊎ (Has (instances_of h) i × (x ≡ Told (get_or (replies base (commands_of h)) (place (instances_of h) i) Absent)))
+    ⊎ (Has (instances_of h) i × (x ≡ Replied (get_or (replies base (commands_of h)) (place (instances_of h) i) Absent)))
 
 -- i was executed, at whatever replica, before j was proposed, at whatever replica
 pub record Precedes (base : Store) (f : ℕ) (acts : List Act) (i j : ℕ) : Type 0 where

@@ -110,9 +110,9 @@ PlayedIsARun = (base : Store) → (f : ℕ) (schedule : List Scheduled) → AreP
 
 -- The journals of what a world plays, where they are numbered and clocked, are local runs that match.
 abbrev pub PlayedMatch : Type 0
-PlayedMatch = (base : Store) (since : ℕ → ℕ) →
+PlayedMatch = (base : Store) (base_stamp : ℕ → ℕ) →
     (f : ℕ) (journal : Journals) (schedule : List Scheduled) → ArePlayed f (opening base) [] schedule → ((r : ℕ) → of r schedule ≡ journal r) →
-    ((r : ℕ) → AreNumbered 1 0 (journal r)) → ((r : ℕ) → AreClocked (since r) (journal r)) → AreLocalRuns base f journal × IsMatched journal
+    ((r : ℕ) → AreNumbered 1 0 (journal r)) → ((r : ℕ) → AreClocked (base_stamp r) (journal r)) → AreLocalRuns base f journal × IsMatched journal
 
 -- The frames of what a world plays, in order of sending, are what the world has sent.
 abbrev pub PlayedSends : Type 0
@@ -120,9 +120,9 @@ PlayedSends = (base : Store) → (f : ℕ) (schedule : List Scheduled) → ArePl
 
 -- The journals of what a world plays are accepted, with receipts of its replicas' own commands.
 abbrev pub PlayedAccepted : Type 0
-PlayedAccepted = (base : Store) (since : ℕ → ℕ) →
+PlayedAccepted = (base : Store) (base_stamp : ℕ → ℕ) →
     (f : ℕ) (journal : Journals) (schedule : List Scheduled) → ArePlayed f (opening base) [] schedule → ((r : ℕ) → of r schedule ≡ journal r) →
-    ((r : ℕ) → AreNumbered 1 0 (journal r)) → ((r : ℕ) → AreClocked (since r) (journal r)) →
+    ((r : ℕ) → AreNumbered 1 0 (journal r)) → ((r : ℕ) → AreClocked (base_stamp r) (journal r)) →
     (receipts : List Receipt) → AreOwn base f journal receipts → IsAccepted base f journal receipts
 
 -- Proposals.
@@ -135,7 +135,7 @@ pub record Takes (me : ℕ) (s : State) (e : Entry) : Type 0 where
   pub first : slice_get e.out 0 ≡ Some frame
   pub about : (m : Frame) → In m e.out → instance_of_message m.sent.message ≡ instance_of me (number + 1)
 
--- What a proposal sends tells which instance it takes.
+-- What a proposal sends says which instance it takes.
 abbrev pub ProposalsName : Type 0
 ProposalsName =
     (f me : ℕ) (s : State) (e : Entry) (client request seen : ℕ) (spared : Option ℕ) (c : Command) → 0 < f → e.event ≡ Propose client request c seen spared → IsEntry f me s e → Takes me s e
@@ -164,11 +164,11 @@ LocalRunsGrow = (base : Store) →
 -- (`since` is the stamp at which a replica's clock begins: 0 in the first generation, and in later ones that of the entry that closed the map with which it opens.)
 -- A clocked journal with one entry more, stamped one more than the greatest stamp that was known, is clocked.
 abbrev pub ClocksGrow : Type 0
-ClocksGrow = (since : ℕ) (es : List Entry) (e : Entry) → AreClocked since es → e.stamp ≡ 1 + max (stamp_after since es) (heard e.event) → AreClocked since (es ++ (e ∷ []))
+ClocksGrow = (base_stamp : ℕ) (es : List Entry) (e : Entry) → AreClocked base_stamp es → e.stamp ≡ 1 + max (stamp_after base_stamp es) (heard e.event) → AreClocked base_stamp (es ++ (e ∷ []))
 
 -- Clocks that begin at a stamp stay above it.
 abbrev pub ClocksStayAbove : Type 0
-ClocksStayAbove = (since : ℕ) (es : List Entry) (e : Entry) → AreClocked since es → In e es → since < e.stamp
+ClocksStayAbove = (base_stamp : ℕ) (es : List Entry) (e : Entry) → AreClocked base_stamp es → In e es → base_stamp < e.stamp
 
 -- What a world plays goes on with what is played in the world that it leaves.
 abbrev pub PlayedGrows : Type 0
@@ -204,18 +204,18 @@ OwnStays = (base : Store) → (f me : ℕ) (es more : List Entry) (t : Receipt) 
 
 -- Receipts of a replica's own commands agree with clocked journals.
 abbrev pub OwnReceiptsAgree : Type 0
-OwnReceiptsAgree = (base : Store) (since : ℕ → ℕ) (f : ℕ) (journal : Journals) → ((r : ℕ) → AreClocked (since r) (journal r)) → (r : ℕ) (t : Receipt) → IsOwn base f r (journal r) t → Agrees base f journal t
+OwnReceiptsAgree = (base : Store) (base_stamp : ℕ → ℕ) (f : ℕ) (journal : Journals) → ((r : ℕ) → AreClocked (base_stamp r) (journal r)) → (r : ℕ) (t : Receipt) → IsOwn base f r (journal r) t → Agrees base f journal t
 
 -- Clocked journals match where each handled frame was sent.
 abbrev pub ClockedMatch : Type 0
 ClockedMatch =
-    (since : ℕ → ℕ) (journal : Journals) → ((r : ℕ) → AreClocked (since r) (journal r)) → ((r : ℕ) (e : Entry) (m : Frame) → In e (journal r) → e.event ≡ Handle m → WasSent journal m) →
+    (base_stamp : ℕ → ℕ) (journal : Journals) → ((r : ℕ) → AreClocked (base_stamp r) (journal r)) → ((r : ℕ) (e : Entry) (m : Frame) → In e (journal r) → e.event ≡ Handle m → WasSent journal m) →
     IsMatched journal
 
 -- Clocked journals where each handled frame was sent are accepted, with receipts of which each is some replica's own.
 abbrev pub ClockedAccepted : Type 0
-ClockedAccepted = (base : Store) (since : ℕ → ℕ) →
-    (f : ℕ) (journal : Journals) → ((r : ℕ) → AreClocked (since r) (journal r)) → ((r : ℕ) (e : Entry) (m : Frame) → In e (journal r) → e.event ≡ Handle m → WasSent journal m) →
+ClockedAccepted = (base : Store) (base_stamp : ℕ → ℕ) →
+    (f : ℕ) (journal : Journals) → ((r : ℕ) → AreClocked (base_stamp r) (journal r)) → ((r : ℕ) (e : Entry) (m : Frame) → In e (journal r) → e.event ≡ Handle m → WasSent journal m) →
     (receipts : List Receipt) → AreOwn base f journal receipts → IsAccepted base f journal receipts
 
 -- What is accepted has no fault, and there is one first fault at most.

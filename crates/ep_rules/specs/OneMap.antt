@@ -9,7 +9,7 @@ use Rattle.ep_base.specs.Items.{Item}
 use Rattle.ep_base.specs.declared.reply.Reply.{Reply}
 use Rattle.ep_base.specs.declared.reply.Reply.TheVariants.{Absent, Present, Closed, Ordered, Done, Undone}
 use Rattle.ep_base.specs.declared.reply.Answer.{Answer}
-use Rattle.ep_base.specs.declared.reply.Answer.TheVariants.{Lost, Told}
+use Rattle.ep_base.specs.declared.reply.Answer.TheVariants.{Lost, Replied}
 
 -- what the keys have
 abbrev pub Contents : Type 0
@@ -124,7 +124,7 @@ reply s c = reply_under s.seal s.contents c
 
 -- what an execution answers: the reply, or that the proposal was lost
 abbrev pub answer : Store → Command → Answer
-answer s c = if is_noop c then Lost else Told (reply s c)
+answer s c = if is_noop c then Lost else Replied (reply s c)
 
 -- what the commands of these instances leave, done in turn
 abbrev pub after_all : (ℕ → Command) → Store → List ℕ → Store

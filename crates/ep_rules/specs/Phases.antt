@@ -14,8 +14,8 @@ use Rattle.ep_base.specs.declared.vote.Vote.{Vote}
 use Rattle.ep_rules.specs.Answers.{Answers, answer, with_answer}
 use Rattle.ep_rules.specs.Cells.{voted_ballot, is_committed, is_done_at, is_settled_at, Change, nothing, answered, recorded, kept, voted, Refusal, NotLeading, TooFewAnswers, SeqExhausted}
 use Rattle.ep_rules.specs.Counting.{count, every, to_those, is_other}
-use Rattle.ep_rules.specs.declared.led.Led.{Led}
-use Rattle.ep_rules.specs.declared.led.Led.TheVariants.{Proposing, Accepting, Preparing}
+use Rattle.ep_rules.specs.declared.led_instance.LedInstance.{LedInstance}
+use Rattle.ep_rules.specs.declared.led_instance.LedInstance.TheVariants.{Proposing, Accepting, Preparing}
 use Rattle.ep_rules.specs.declared.record.Record.{Record}
 
 -- what an event changes, or why it is refused
@@ -123,7 +123,7 @@ count_pre_accept_ok f i me b s a answers r =
     (cond (leb f (others f me answers)) (slow_path f i me b answers r.vote) (kept (Proposing b s answers)))
 
 -- the ballot led in phase 1, the spared replica, and the answers with this one, if that replica has not answered yet
-abbrev pub more_proposing : ℕ → Attrs → Option Led → Option (ℕ × ℕ × Answers Attrs)
+abbrev pub more_proposing : ℕ → Attrs → Option LedInstance → Option (ℕ × ℕ × Answers Attrs)
 more_proposing from a None = None
 more_proposing from a (Some (Proposing b s answers)) = cond (is_some (answer answers from)) None (Some (b, s, with_answer answers from a))
 more_proposing from a (Some (Accepting b answers)) = None
@@ -133,7 +133,7 @@ abbrev pub use_pre_accept_ok : ℕ → ℕ → ℕ → ℕ → Attrs → Record 
 use_pre_accept_ok f i me b a r None = nothing
 use_pre_accept_ok f i me b a r (Some more) = cond (is_usable b r more.0) (count_pre_accept_ok f i me b more.1 a more.2 r) nothing
 
-abbrev pub on_pre_accept_ok : ℕ → ℕ → ℕ → ℕ → ℕ → Attrs → Record → Option Led → Change
+abbrev pub on_pre_accept_ok : ℕ → ℕ → ℕ → ℕ → ℕ → Attrs → Record → Option LedInstance → Change
 on_pre_accept_ok f i me from b a r led = use_pre_accept_ok f i me b a r (more_proposing from a led)
 
 -- the leader waits no longer for the fast quorum
@@ -143,7 +143,7 @@ give_up_with f i me b answers r =
     (cond (leb f (others f me answers)) (Ok (slow_path f i me b answers r.vote)) (Err TooFewAnswers))
     (Err NotLeading)
 
-abbrev pub give_up : ℕ → ℕ → ℕ → Record → Option Led → Outcome
+abbrev pub give_up : ℕ → ℕ → ℕ → Record → Option LedInstance → Outcome
 give_up f i me r None = Err NotLeading
 give_up f i me r (Some (Proposing b s answers)) = give_up_with f i me b answers r
 give_up f i me r (Some (Accepting b answers)) = Err NotLeading
@@ -157,7 +157,7 @@ commit_own f i me r (Some v) = commit_phase f i me v.decree r
 abbrev pub count_accept_ok : ℕ → ℕ → ℕ → ℕ → Answers (Unit {0}) → Record → Change
 count_accept_ok f i me b answers r = cond (leb f (others f me answers)) (commit_own f i me r r.vote) (kept (Accepting b answers))
 
-abbrev pub more_accepting : ℕ → Option Led → Option (ℕ × Answers (Unit {0}))
+abbrev pub more_accepting : ℕ → Option LedInstance → Option (ℕ × Answers (Unit {0}))
 more_accepting from None = None
 more_accepting from (Some (Proposing b s answers)) = None
 more_accepting from (Some (Accepting b answers)) = cond (is_some (answer answers from)) None (Some (b, with_answer answers from tt))
@@ -167,5 +167,5 @@ abbrev pub use_accept_ok : ℕ → ℕ → ℕ → ℕ → Record → Option (�
 use_accept_ok f i me b r None = nothing
 use_accept_ok f i me b r (Some more) = cond (is_usable b r more.0) (count_accept_ok f i me b more.1 r) nothing
 
-abbrev pub on_accept_ok : ℕ → ℕ → ℕ → ℕ → ℕ → Record → Option Led → Change
+abbrev pub on_accept_ok : ℕ → ℕ → ℕ → ℕ → ℕ → Record → Option LedInstance → Change
 on_accept_ok f i me from b r led = use_accept_ok f i me b r (more_accepting from led)

@@ -13,8 +13,8 @@ use Rattle.ep_rules.specs.Answers.{Answers, answer, with_answer}
 use Rattle.ep_rules.specs.Cells.{is_preaccept, is_accept, is_commit, is_committed, Change, nothing, answered, recorded, kept, AlreadyCommitted, BallotsExhausted}
 use Rattle.ep_rules.specs.Counting.{count, least, to_those, is_other}
 use Rattle.ep_rules.specs.Phases.{Outcome, limited, first_phase, accept_phase, commit_phase, is_usable}
-use Rattle.ep_rules.specs.declared.led.Led.{Led}
-use Rattle.ep_rules.specs.declared.led.Led.TheVariants.{Proposing, Accepting, Preparing}
+use Rattle.ep_rules.specs.declared.led_instance.LedInstance.{LedInstance}
+use Rattle.ep_rules.specs.declared.led_instance.LedInstance.TheVariants.{Proposing, Accepting, Preparing}
 use Rattle.ep_rules.specs.declared.record.Record.{Record}
 
 -- The choice among the answers of f+1 replicas, l being the instance's leader. An answer is a replica's last vote, or that it has not voted.
@@ -137,7 +137,7 @@ count_prepare_ok f i me b answers own r =
     (act_on f i me b own r (choose f (leader_of i) (λ q. answer answers q)))
     (Ok (kept (Preparing b answers)))
 
-abbrev pub more_preparing : ℕ → Option Vote → Option Led → Option (ℕ × Answers (Option Vote))
+abbrev pub more_preparing : ℕ → Option Vote → Option LedInstance → Option (ℕ × Answers (Option Vote))
 more_preparing from v None = None
 more_preparing from v (Some (Proposing b s answers)) = None
 more_preparing from v (Some (Accepting b answers)) = None
@@ -147,7 +147,7 @@ abbrev pub use_prepare_ok : ℕ → ℕ → ℕ → ℕ → (Command → Attrs) 
 use_prepare_ok f i me b own r None = Ok nothing
 use_prepare_ok f i me b own r (Some more) = cond (is_usable b r more.0) (count_prepare_ok f i me b more.1 own r) (Ok nothing)
 
-abbrev pub on_prepare_ok : ℕ → ℕ → ℕ → ℕ → ℕ → Option Vote → (Command → Attrs) → Record → Option Led → Outcome
+abbrev pub on_prepare_ok : ℕ → ℕ → ℕ → ℕ → ℕ → Option Vote → (Command → Attrs) → Record → Option LedInstance → Outcome
 on_prepare_ok f i me from b v own r led = use_prepare_ok f i me b own r (more_preparing from v led)
 
 -- the greatest counter told is kept

@@ -9,13 +9,13 @@ use Rattle.ep_rules.specs.Counting.{least}
 use Rattle.ep_rules.specs.Graph.{Graph}
 use Rattle.ep_rules.specs.Maps.{Map, none, get, insert, remove}
 use Rattle.ep_rules.specs.OneMap.{Store}
-use Rattle.ep_rules.specs.declared.led.Led.{Led}
+use Rattle.ep_rules.specs.declared.led_instance.LedInstance.{LedInstance}
 use Rattle.ep_rules.specs.declared.record.Record.{Record}
 
 -- records, what the replica leads, the counters that Nacks told, what it executed, in order, and its map
 pub record State : Type 0 where
   pub records : Map Record
-  pub leads : Map Led
+  pub leads : Map LedInstance
   pub told : Map ℕ
   pub executed : List ℕ
   pub store : Store
@@ -46,7 +46,7 @@ abbrev pub with_held : {X : Type 0} → Map X → ℕ → Option X → Map X
 with_held m i None = remove m i
 with_held m i (Some x) = insert m i x
 
-abbrev pub with_led : Map Led → ℕ → Option (Option Led) → Map Led
+abbrev pub with_led : Map LedInstance → ℕ → Option (Option LedInstance) → Map LedInstance
 with_led m i None = m
 with_led m i (Some l) = with_held m i l
 

@@ -9,7 +9,7 @@ use Rattle.ep_base.specs.Commands.{Command}
 use Rattle.ep_base.specs.declared.decree.Decree.{Decree}
 use Rattle.ep_base.specs.declared.reply.Reply.TheVariants.{Absent}
 use Rattle.ep_base.specs.declared.reply.Answer.{Answer}
-use Rattle.ep_base.specs.declared.reply.Answer.TheVariants.{Lost, Told}
+use Rattle.ep_base.specs.declared.reply.Answer.TheVariants.{Lost, Replied}
 use Rattle.ep_base.specs.Places.{place, Has}
 use Rattle.ep_rules.specs.History.{is_new}
 use Rattle.ep_rules.specs.OneMap.{replies, Store}
@@ -64,7 +64,7 @@ history_of c schedule = filter (λ i. cond (is_noop (c i)) false true) (merged_o
 
 -- a no-op's answer is Lost; any other one is one map's reply to the history, at the instance's place there
 abbrev pub IsReply : (base : Store) → (ℕ → Command) → List ℕ → ℕ → Answer → Type 0
-IsReply base c h i x = ((is_noop (c i) ≡ true) × (x ≡ Lost)) ⊎ (Has h i × (x ≡ Told (get_or (replies base (map c h)) (place h i) Absent)))
+IsReply base c h i x = ((is_noop (c i) ≡ true) × (x ≡ Lost)) ⊎ (Has h i × (x ≡ Replied (get_or (replies base (map c h)) (place h i) Absent)))
 
 -- Receipts.
 

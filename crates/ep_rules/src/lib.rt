@@ -5,7 +5,7 @@
 //! contracts are theorems.
 //!
 //! Start with specs/Phases.antt and specs/Recovery.antt (the rules), then specs/Steps.antt (one step of a replica) and
-//! specs/Worlds.antt (runs). The laws are the public modules below; docs/SAFETY.md tells how their proof goes.
+//! specs/Worlds.antt (runs). The laws are the public modules below; docs/SAFETY.md says how their proof goes.
 //!
 //! A rule that is changed has to be changed in the code that follows it too (`ep_phase`, `ep_prepare`), and copied by
 //! tools/generate; tools/wrong-rules shows which laws a wrong one breaks.
@@ -17,7 +17,7 @@ pub mod counts;
 mod duplicate;
 pub mod generations;
 pub mod history;
-mod led;
+mod led_instance;
 pub mod linearizable;
 pub mod machines;
 pub mod merging;
@@ -28,7 +28,7 @@ pub mod safety;
 
 pub use answers::Answers;
 pub use duplicate::Duplicate;
-pub use led::Led;
+pub use led_instance::LedInstance;
 pub use outgoing::Outgoing;
 pub use receipt::Receipt;
 pub use record::Record;

@@ -102,7 +102,7 @@ own_weather f r (w ∷ ws) h = go (eqb w.from r) (own_weather f r ws (weather_re
 pub own_is : (f r : ℕ) (ws : List Weather) → IsWeather f ws → IsWeatherAt f r (own_of r ws)
 own_is f r ws h = record { weather = own_weather f r ws h; own = own_from r ws }
 
--- setting it is refused for want of memory alone
+-- setting it is refused only when out of memory
 
 pub memory_alone : (P : Type 0) (fault : HostFault) → P → IsUnset P fault → fault ≡ Memory
 memory_alone P Memory it unset = refl

@@ -10,7 +10,7 @@ use std::alloc::AllocError;
 pub(crate) struct Cursor {
     /// How many of the node's lines came before: the place of the next one.
     place: u32,
-    /// How many of the node's refusals were told.
+    /// How many of the node's refusals were reported.
     told: usize,
 }
 

@@ -13,6 +13,6 @@ pub struct Ran {
     pub receipts: Vec<Receipt>,
     /// The lines that their replicas refused, in rising order, each with the cause.
     pub refused: Vec<(u32, EventFault)>,
-    /// How many frames were lost: for want of memory, and where an inbox was full.
+    /// How many frames were lost: when out of memory, and where an inbox was full.
     pub lost: u64,
 }

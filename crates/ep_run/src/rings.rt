@@ -20,8 +20,8 @@ use std::thread::Threads;
 /// The sections are run one after another, each in its own weather. In each, every node gets its lines, in the script's order, and turns in a thread
 /// of its own, until it has used them up, or for the limit of turns; then the held frames are put; then the nodes turn in rounds until none of them
 /// moves, or for as many rounds; then receipts are collected. A frame that is held during these rounds waits for the next section. Requests and
-/// what clients have seen are as in [`crate::run`]. A line that its node refuses, for want of memory too, is listed, and the
-/// run goes on; what the turns leave of a node's lines stays for the next section. Elsewhere want of memory ends the run. Where no thread can be
+/// what clients have seen are as in [`crate::run`]. A line that its node refuses, when out of memory too, is listed, and the
+/// run goes on; what the turns leave of a node's lines stays for the next section. Elsewhere running out of memory ends the run. Where no thread can be
 /// started, the nodes turn on the calling one.
 ///
 /// The journals are of the script's version, and have its opening. The audit accepts what a run leaves: no rings are needed to know it, and none of the journals.

@@ -298,7 +298,7 @@ fn run_as<S: Start + Send + Sync, R: Threads + Wait + Sync>(
 /// receipts are collected. A frame that is held while they are pumped so waits for the next section. A client's requests are
 /// numbered from 1 in the script's order, refused ones included; what it has seen is the greatest stamp of its receipts
 /// before the section. A line that its replica refuses is listed, and the run goes on; so it does where a thread finds no
-/// memory. Elsewhere want of memory ends the run, and so does a thread that can't be started.
+/// memory. Elsewhere running out of memory ends the run, and so does a thread that can't be started.
 ///
 /// The journals are of the script's version, and have its opening. The audit's verdict of them and of the receipts, or its first fault, is part of what a run leaves.
 pub fn run<R: Threads + Wait + Sync>(

@@ -42,7 +42,7 @@ pub(crate) fn weather_in(alloc: Global, lines: &[WeatherLine]) -> Result<Vec<Wea
     Ok(weather)
 }
 
-/// The want of memory that a fault is.
+/// The out-of-memory error that a fault is.
 pub(crate) fn want_of_memory(_fault: HostFault) -> AllocError
     requires { _fault ≡ Memory }
 {

@@ -71,8 +71,8 @@ none_kept keys entries e f = (
   once_if_none entries f,
 )
 
-pub opens_with_none : (entries : List (List ℕ × List ℕ)) → entries ≡ [] → IsOpening (record { entries = entries; since = 0 })
-opens_with_none entries none = record { once = once_if_none entries none; since = omega arith }
+pub opens_with_none : (entries : List (List ℕ × List ℕ)) → entries ≡ [] → IsOpening (record { entries = entries; base_stamp = 0 })
+opens_with_none entries none = record { once = once_if_none entries none; base_stamp = omega arith }
 
 -- an entry more, of a key that has none
 pub once_more : (entries taken : List (List ℕ × List ℕ)) (e : List ℕ × List ℕ) → taken ≡ entries ++ e ∷ [] → has_key_of e entries ≡ false → AreOnce entries → AreOnce taken

@@ -10,7 +10,7 @@ use Rattle.std.proofs.lemmas.Bool.{and_parts, leb-true}
 use Rattle.ep_base.specs.Commands.{Command, Tx}
 use Rattle.ep_base.specs.Items.{Item, rise_above, told_count}
 use Rattle.ep_base.specs.Ops.{is_items_len}
-use Rattle.ep_base.specs.Parts.{items_in, tx_bytes, all_items, are_items, is_tx}
+use Rattle.ep_base.specs.CommandParts.{items_in, tx_bytes, all_items, are_items, is_tx}
 use Rattle.ep_base.proofs.Bodies.{tx_again, tx_parts, tx_there}
 use Rattle.ep_script.specs.Clauses.{Said, alone, with_clause, placed, with_said, below, begins_with}
 use Rattle.ep_script.specs.Grammar.{tx_with}

@@ -12,7 +12,7 @@ use Rattle.std.proofs.lemmas.List.{append-nil}
 use Rattle.ep_base.specs.Attributes.{same_list}
 use Rattle.ep_base.specs.Interference.{has_key}
 use Rattle.ep_base.specs.Items.{Item, item_keys, rise_above}
-use Rattle.ep_base.specs.Parts.{flag}
+use Rattle.ep_base.specs.CommandParts.{flag}
 use Rattle.ep_base.proofs.Ascending.{below_none}
 use Rattle.ep_base.proofs.Same.{Decides-same_list}
 use Rattle.ep_script.specs.Clauses.{Said, alone, with_clause, placed, with_said, merged, said_of, guards, tolds, writes, IsTwice, listed, SaysThese, item_of, rise, AreSaid, MergingLaw}

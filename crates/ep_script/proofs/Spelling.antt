@@ -6,7 +6,7 @@ use Rattle.std.specs.Str.{bytes_eq}
 use Rattle.std.proofs.lemmas.Bool.Decides.{nat_tests}
 use Rattle.std.proofs.lemmas.List.{append-nil}
 use Rattle.std.proofs.lemmas.List.Elements.{All-head, All-tail}
-use Rattle.ep_script.specs.Word.{is_plain, digit_of, digit_value, digits_byte, byte_word, byte_words, spelled, between, after_sign, word_of, bytes_of, WordLaw}
+use Rattle.ep_script.specs.Word.{is_plain, is_above_sign, digit_of, digit_value, digits_byte, byte_word, byte_words, spelled, between, after_sign, word_of, bytes_of, WordLaw}
 
 digit_again : (n : ℕ) → n < 16 → digit_value (digit_of n) ≡ Some n
 digit_again n h = grind (arith, nat_tests)
@@ -116,3 +116,16 @@ spelled_plainly done (b ∷ bs) h =
 pub plain_spells_itself : (w : List ℕ) → 0 < length w → list_all is_plain w ≡ true → bytes_of w ≡ Some w
 plain_spells_itself [] n h = absurd (omega arith)
 plain_spells_itself (b ∷ bs) n h = not_none b bs (first_differs b bs (plain_is_no_sign b (first_passes b bs h))) ∙ spelled_plainly [] (b ∷ bs) h
+
+above_is_plain : (b : ℕ) → is_above_sign b ≡ true → is_plain b ≡ true
+above_is_plain b h = grind (arith, nat_tests)
+
+-- what is above the sign is plain
+pub above_are_plain : (bs : List ℕ) → list_all is_above_sign bs ≡ true → list_all is_plain bs ≡ true
+above_are_plain [] h = refl
+above_are_plain (b ∷ bs) h = go (is_above_sign b) refl h (above_are_plain bs)
+  where
+    go : (p : Bool) → is_above_sign b ≡ p → (p && list_all is_above_sign bs) ≡ true
+        → (list_all is_above_sign bs ≡ true → list_all is_plain bs ≡ true) → list_all is_plain (b ∷ bs) ≡ true
+    go true e k rest = rw (above_is_plain b e) (rest k)
+    go false e k rest = absurd (cc k)

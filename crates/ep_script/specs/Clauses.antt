@@ -6,7 +6,7 @@ use Rattle.std.specs.declared.cmp.Ordering.{Ordering}
 use Rattle.std.specs.declared.cmp.Ordering.TheVariants.{Less, Equal, Greater}
 use Rattle.ep_base.specs.Attributes.{same_list}
 use Rattle.ep_base.specs.Items.{Item, rise_above}
-use Rattle.ep_base.specs.Parts.{flag}
+use Rattle.ep_base.specs.CommandParts.{flag}
 use Rattle.ep_script.specs.declared.clause.Clause.{Clause}
 use Rattle.ep_script.specs.declared.clause.Clause.TheVariants.{Guard, Told, Write}
 

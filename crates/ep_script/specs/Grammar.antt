@@ -7,7 +7,7 @@ use Rattle.ep_base.specs.Attributes.{same_list}
 use Rattle.ep_base.specs.Instances.{instance_of}
 use Rattle.ep_base.specs.Commands.{Command, Get, Put, Del, Swap, Cas, Seal, Opaque, Tx}
 use Rattle.ep_base.specs.Items.{Item}
-use Rattle.ep_base.specs.Parts.{are_items}
+use Rattle.ep_base.specs.CommandParts.{are_items}
 use Rattle.ep_base.specs.Values.{most_value}
 use Rattle.ep_base.specs.Versions.{highest_in, knows}
 use Rattle.ep_base.specs.declared.version.Version.{Version}

@@ -10,11 +10,11 @@ use Rattle.ep_script.specs.declared.opening_line.OpeningLine.TheVariants.{Since,
 -- what replicas open with: the keys that have a value, each with it, in the order of their lines, and the stamp that the clocks go on from
 pub record Opening : Type 0 where
   pub entries : List (List ℕ × List ℕ)
-  pub since : ℕ
+  pub base_stamp : ℕ
 
 -- where a life begins
 abbrev pub no_opening : Opening
-no_opening = record { entries = []; since = 0 }
+no_opening = record { entries = []; base_stamp = 0 }
 
 -- both are of one key
 abbrev pub same_key : List ℕ × List ℕ → List ℕ × List ℕ → Bool
@@ -31,7 +31,7 @@ has_key_of e entries = list_any (same_key e) entries
 -- each key once, and a stamp below the greatest one, or 0
 pub record IsOpening (o : Opening) : Type 0 where
   pub once : AreOnce o.entries
-  pub since : o.since ≤ 281474976710654
+  pub base_stamp : o.base_stamp ≤ 281474976710654
 
 -- no script is of version 1, and one of version 2 opens with nothing
 abbrev pub OpensIn : Version → Opening → Type 0
@@ -53,11 +53,11 @@ first_head f = record { faults = f; version = V2; opening = no_opening }
 pub record OpenHead : Type 0 where
   pub faults : ℕ
   pub generation : ℕ
-  pub since : Option ℕ
+  pub base_stamp : Option ℕ
   pub entries : List (List ℕ × List ℕ)
 
 abbrev pub open_head : ℕ → ℕ → OpenHead
-open_head f g = record { faults = f; generation = g; since = None; entries = [] }
+open_head f g = record { faults = f; generation = g; base_stamp = None; entries = [] }
 
 -- where there is no line `since S`, clocks begin at 0
 abbrev pub or_zero : Option ℕ → ℕ
@@ -65,9 +65,9 @@ or_zero None = 0
 or_zero (Some s) = s
 
 abbrev pub head_of : OpenHead → Head
-head_of h = record { faults = h.faults; version = V3 h.generation; opening = record { entries = h.entries; since = or_zero h.since } }
+head_of h = record { faults = h.faults; version = V3 h.generation; opening = record { entries = h.entries; base_stamp = or_zero h.base_stamp } }
 
 -- one more line of what the replicas open with; a second line `since S` is refused, and so is a second one of a key
 abbrev pub after_opening : OpenHead → OpeningLine → Option OpenHead
-after_opening h (Since s) = if is_some h.since then None else Some (record { faults = h.faults; generation = h.generation; since = Some s; entries = h.entries })
-after_opening h (Entry k v) = if has_key_of (k, v) h.entries then None else Some (record { faults = h.faults; generation = h.generation; since = h.since; entries = h.entries ++ (k, v) ∷ [] })
+after_opening h (Since s) = if is_some h.base_stamp then None else Some (record { faults = h.faults; generation = h.generation; base_stamp = Some s; entries = h.entries })
+after_opening h (Entry k v) = if has_key_of (k, v) h.entries then None else Some (record { faults = h.faults; generation = h.generation; base_stamp = h.base_stamp; entries = h.entries ++ (k, v) ∷ [] })

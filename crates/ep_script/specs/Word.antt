@@ -7,6 +7,10 @@ use Rattle.std.specs.Str.{bytes_eq}
 abbrev pub is_plain : ℕ → Bool
 is_plain b = nat_le 33 b && nat_le b 126 && not (b == 37)
 
+-- those of them that are above `%`
+abbrev pub is_above_sign : ℕ → Bool
+is_above_sign b = nat_le 38 b && nat_le b 126
+
 -- digits are printed in lower case
 abbrev pub digit_of : ℕ → ℕ
 digit_of n = if nat_lt n 10 then n + 48 else n + 87

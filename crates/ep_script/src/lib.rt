@@ -1,8 +1,8 @@
 //! Scripts of a replicated key-value core: words of bytes, lines, and whole scripts from a source.
 //!
 //! `ep_replay` plays what `read_script` reads, and `ep_report` prints keys and values by `push_word`. `read_run` reads what is
-//! to run in threads. It keeps to docs/FORMATS.md, sections 3 and 4, byte for byte: a script is read whole, or its first line
-//! at fault is told.
+//! to run in threads. It keeps to docs/CLI.md, sections 3 and 4, byte for byte: a script is read whole, or its first line
+//! at fault is reported.
 //!
 //! Start with `reader.rt` and `line.rt`, then specs/Grammar.antt and specs/Plan.antt. `Refusal` finds which word of a refused line is at
 //! fault, and what may stand there: by `form.rt`, a table of the forms of lines, and by the functions that read words.

@@ -19,7 +19,7 @@ use std::mem::replace;
 pub(crate) struct OpenHead {
     size: Size,
     generation: Generation,
-    since: Option<u64>,
+    base_stamp: Option<u64>,
     entries: OpeningEntries,
 }
 
@@ -29,9 +29,9 @@ impl Model for OpenHead {
 
     ghost Value = { heads.OpenHead };
 
-    ghost view = { λ h. record { faults = h.size; generation = h.generation; since = h.since; entries = h.entries } };
+    ghost view = { λ h. record { faults = h.size; generation = h.generation; base_stamp = h.base_stamp; entries = h.entries } };
 
-    ghost invariant = { λ h. IfSome h.since (λ s. s ≤ 281474976710654) };
+    ghost invariant = { λ h. IfSome h.base_stamp (λ s. s ≤ 281474976710654) };
 }
 
 impl OpenHead {
@@ -42,7 +42,7 @@ impl OpenHead {
         OpenHead {
             size,
             generation,
-            since: None,
+            base_stamp: None,
             entries: OpeningEntries::new(alloc),
         }
     }
@@ -53,19 +53,19 @@ impl OpenHead {
         ensures { IfOk result (λ b. MatchBool b (after_opening self.old line ≡ Some self.new) (after_opening self.old line ≡ None)) }
     {
         match line {
-            OpeningLine::Since(since) => Ok(self.take_since(since)),
+            OpeningLine::Since(base_stamp) => Ok(self.take_since(base_stamp)),
             OpeningLine::Entry(key, value) => self.take_entry(alloc, key, value),
         }
     }
 
-    fn take_since(&mut self, since: u64) -> bool
-        requires { since ≤ 281474976710654 }
-        ensures { MatchBool result (after_opening self.old (Since since) ≡ Some self.new) (after_opening self.old (Since since) ≡ None) }
+    fn take_since(&mut self, base_stamp: u64) -> bool
+        requires { base_stamp ≤ 281474976710654 }
+        ensures { MatchBool result (after_opening self.old (Since base_stamp) ≡ Some self.new) (after_opening self.old (Since base_stamp) ≡ None) }
     {
-        if self.since.is_some() {
+        if self.base_stamp.is_some() {
             return false;
         }
-        self.since = Some(since);
+        self.base_stamp = Some(base_stamp);
         true
     }
 
@@ -81,7 +81,7 @@ impl OpenHead {
         ensures { result ≡ head_of self.old }
     {
         let entries = replace(&mut self.entries, OpeningEntries::new(alloc));
-        let opening = ScriptOpening::new(entries.into_items(), self.since.unwrap_or(0));
+        let opening = ScriptOpening::new(entries.into_items(), self.base_stamp.unwrap_or(0));
         Head::of_generation(self.size, self.generation, opening)
     }
 }

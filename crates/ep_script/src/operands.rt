@@ -3,7 +3,7 @@
 ghost use Rattle.std.specs.Prelude.{◌≡◌, ◌≤◌, [], ◌∷◌, Some, IfOk, IfSome, map};
 ghost use Rattle.std.specs.Option.{option_copied};
 ghost use Rattle.ep_base.specs.Commands.{Cas};
-ghost use Rattle.ep_base.specs.Parts.{IsShort};
+ghost use Rattle.ep_base.specs.CommandParts.{IsShort};
 ghost use Rattle.ep_base.specs.Quorums.{size as size_with};
 ghost use Rattle.ep_base.specs.Instances.{instance_of, highest_number};
 ghost use Rattle.ep_base.specs.Versions.{highest_in};

@@ -125,7 +125,7 @@ fn spared(
     propose(alloc, size, version, Some(replica), rest)
 }
 
-/// The same, if the version has it.
+/// The replica that a proposal spares, if the version has that.
 fn sparing(
     alloc: Global,
     size: Size,

@@ -79,7 +79,7 @@ pub(crate) fn read_opening_line(
         return Ok(None);
     };
     if is_word(first, b"since") {
-        return Ok(since(rest));
+        return Ok(base_stamp(rest));
     }
     if is_word(first, b"opening") {
         return entry(alloc, rest);
@@ -87,7 +87,7 @@ pub(crate) fn read_opening_line(
     Ok(None)
 }
 
-fn since(words: &[u8]) -> Option<OpeningLine>
+fn base_stamp(words: &[u8]) -> Option<OpeningLine>
     ensures value { result ≡ since_of (words_of words.now) }
     ensures in_range { IfSome result IsOfOpening }
 {

@@ -52,7 +52,7 @@ fn tx_items(alloc: Global, words: &[u8]) -> Result<Option<TxItems>, AllocError>
     Ok(Some(items))
 }
 
-// Adds what this word and the first of those after it say, and tells which words are left; none where they are refused.
+// Adds what this word and the first of those after it say, and says which words are left; none where they are refused.
 fn add_item<'a>(
     alloc: Global,
     items: &mut TxItems,

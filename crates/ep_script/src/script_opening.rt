@@ -12,7 +12,7 @@ use std::marker::Model;
 #[derive(Debug, Drop)]
 pub struct ScriptOpening {
     entries: Vec<(Key, Value)>,
-    since: u64,
+    base_stamp: u64,
 }
 
 impl Model for ScriptOpening {
@@ -20,9 +20,9 @@ impl Model for ScriptOpening {
 
     ghost Value = { heads.Opening };
 
-    ghost view = { λ o. record { entries = o.entries.items; since = o.since } };
+    ghost view = { λ o. record { entries = o.entries.items; base_stamp = o.base_stamp } };
 
-    ghost invariant = { λ o. heads.IsOpening (record { entries = o.entries.items; since = o.since }) };
+    ghost invariant = { λ o. heads.IsOpening (record { entries = o.entries.items; base_stamp = o.base_stamp }) };
 }
 
 impl ScriptOpening {
@@ -32,16 +32,19 @@ impl ScriptOpening {
     {
         ScriptOpening {
             entries: Vec::new(alloc),
-            since: 0,
+            base_stamp: 0,
         }
     }
 
     /// These entries, each of another key, and this stamp.
-    pub(crate) fn new(entries: Vec<(Key, Value)>, since: u64) -> ScriptOpening
-        requires { IsOpening (record { entries = entries.items; since = since }) }
-        ensures { result ≡ record { entries = entries.items; since = since } }
+    pub(crate) fn new(entries: Vec<(Key, Value)>, base_stamp: u64) -> ScriptOpening
+        requires { IsOpening (record { entries = entries.items; base_stamp = base_stamp }) }
+        ensures { result ≡ record { entries = entries.items; base_stamp = base_stamp } }
     {
-        ScriptOpening { entries, since }
+        ScriptOpening {
+            entries,
+            base_stamp,
+        }
     }
 
     /// The keys that have a value, each once and with it, in the order of their lines.
@@ -53,10 +56,10 @@ impl ScriptOpening {
     }
 
     /// The stamp that the clocks go on from.
-    pub fn since(&self) -> u64
-        ensures value { result ≡ self.now.since }
+    pub fn base_stamp(&self) -> u64
+        ensures value { result ≡ self.now.base_stamp }
         ensures in_range { result ≤ 281474976710654 }
     {
-        self.since
+        self.base_stamp
     }
 }

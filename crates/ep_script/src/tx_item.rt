@@ -1,7 +1,7 @@
 //! Items of a command over many keys, as they are read.
 
 ghost use Rattle.std.specs.Prelude.{◌≡◌, ◌≤◌, ◌++◌, ℕ, Some, None, OnOk, MatchBool, is_some, length};
-ghost use Rattle.ep_base.specs.Parts.{flag, write_flag, flags_of, part_bytes, put_bytes, guard_bytes, write_bytes, item_bytes};
+ghost use Rattle.ep_base.specs.CommandParts.{flag, write_flag, flags_of, part_bytes, put_bytes, guard_bytes, write_bytes, item_bytes};
 ghost use Rattle.ep_base.specs.Values.{most_value};
 ghost use Rattle.ep_script.specs.Clauses.{alone, with_clause};
 ghost use Rattle.ep_script.specs.declared.clause.Clause.TheVariants.{Guard, Told, Write};

@@ -1,7 +1,7 @@
 //! What a line `tx` says, key by key.
 
 ghost use Rattle.std.specs.Prelude.{◌≡◌, ◌≤◌, ◌<◌, ◌++◌, ◌∷◌, [], Some, None, true, IfOk, OnErr, OnOk, MatchBool, length, drop};
-ghost use Rattle.ep_base.specs.Parts.{items_bytes, tx_bytes};
+ghost use Rattle.ep_base.specs.CommandParts.{items_bytes, tx_bytes};
 ghost use Rattle.ep_script.specs.Clauses.{below, begins_with, with_said, MergingLaw};
 
 use crate::clause::Clause;

@@ -2,9 +2,12 @@
 
 ghost use Rattle.std.specs.Prelude.{◌≡◌, ◌++◌, ◌<◌, [], Some, IfOk, IfSome, IsTrue, OnOk, MatchOption, length};
 ghost use Rattle.std.specs.List.{list_all};
-ghost use Rattle.ep_script.specs.Word.{is_plain, digit_of, digit_value, digits_byte, byte_word, byte_words, word_of, spelled, between, bytes_of, Escapes, WordLaw};
+ghost use Rattle.ep_script.specs.Word.{is_plain, is_above_sign, digit_of, digit_value, digits_byte, byte_word, byte_words, word_of, spelled, between, bytes_of, Escapes, WordLaw};
 
 use std::alloc::{AllocError, Global};
+
+/// From this length on, bytes are first looked at together.
+const LONG: usize = 32;
 
 /// Appends the word that spells the bytes: a byte from 21 to 7e (hexadecimal) other than `%` as itself, any other
 /// one as `%` and two hexadecimal digits in lower case, no bytes as `%-`. At an `Err` a part of it may be there.
@@ -51,7 +54,33 @@ pub(crate) fn is_plain_byte(byte: u8) -> bool
     (byte >= 0x21) & (byte <= 0x7e) & (byte != b'%')
 }
 
+#[tactic(auto, using(crate::proofs::Spelling::above_are_plain))]
 fn are_plain(bytes: &[u8]) -> bool
+    ensures { result ≡ list_all is_plain bytes.now }
+{
+    if bytes.len() < LONG {
+        return are_each_plain(bytes);
+    }
+    if are_above_sign(bytes) {
+        return true;
+    }
+    are_each_plain(bytes)
+}
+
+// Whether all bytes are plain and above `%`. For many bytes this is quicker than a test of each one.
+fn are_above_sign(bytes: &[u8]) -> bool
+    ensures { result ≡ list_all is_above_sign bytes.now }
+{
+    let mut least = u8::MAX;
+    let mut greatest = 0;
+    for byte in bytes {
+        least = least.min(*byte);
+        greatest = greatest.max(*byte);
+    }
+    least > b'%' && greatest <= 0x7e
+}
+
+fn are_each_plain(bytes: &[u8]) -> bool
     ensures { result ≡ list_all is_plain bytes.now }
 {
     let mut plain = true;

@@ -10,8 +10,8 @@ use Rattle.ep_replica.specs.Kept.{Kept}
 use Rattle.ep_serve.specs.Acting.{Acts, ExecutesEach, ExecutesSo, TakesOrRefuses}
 use Rattle.ep_serve.specs.Serving.{AllWait, AreServed, IsBatch, Waiting}
 use Rattle.ep_serve.specs.Lasting.{Crashes}
-use Rattle.ep_serve.specs.declared.due.Due.{Due}
-use Rattle.ep_serve.specs.declared.due.Due.TheVariants.{Taken, Refused, Value, Open, Leads, Synced, State, Ready, Handled, Interfering, Read, Malformed}
+use Rattle.ep_serve.specs.declared.pending_answer.PendingAnswer.{PendingAnswer}
+use Rattle.ep_serve.specs.declared.pending_answer.PendingAnswer.TheVariants.{Taken, Refused, Value, Open, Leads, Synced, State, Ready, Handled, Interfering, Read, Malformed}
 use Rattle.ep_serve.specs.declared.mode.Mode.{Mode}
 use Rattle.ep_bundle.specs.declared.journal_dialect.JournalDialect.{JournalDialect}
 use Rattle.ep_wire.specs.declared.request.Request.{Request}
@@ -31,7 +31,7 @@ extends_more k m k' a b =
 takes_more : (k k' : Kept) (e : Happening) → Takes k e k' → Extends k k'
 takes_more k k' e h = (h.0 ∷ [], h.1.appended)
 
-takes_or_not : (k k' : Kept) (e : Happening) (d : Due) → TakesOrRefuses k e d k' → Extends k k'
+takes_or_not : (k k' : Kept) (e : Happening) (d : PendingAnswer) → TakesOrRefuses k e d k' → Extends k k'
 takes_or_not k k' e (Taken from count) h = takes_more k k' e h.2
 takes_or_not k k' e (Refused r) h = extends_same k k' h.1
 takes_or_not k k' e (Value key) h = absurd h
@@ -53,7 +53,7 @@ executes_each : (k k' : Kept) (is : List ℕ) → ExecutesEach k is k' → Exten
 executes_each k k' [] h = extends_same k k' h
 executes_each k k' (i ∷ is) h = extends_more k h.0 k' (takes_more k h.0 (event.Execute i) h.2) (executes_each h.0 k' is h.3)
 
-pub acts_more : (k k' : Kept) (r : Request) (d : Due) → Acts k r d k' → Extends k k'
+pub acts_more : (k k' : Kept) (r : Request) (d : PendingAnswer) → Acts k r d k' → Extends k k'
 acts_more k k' (request.Event e) d h = elim h [
   | inl far ↦ extends_same k k' far.2
   | inr near ↦ takes_or_not k k' e d near.1
@@ -72,11 +72,11 @@ acts_more k k' (request.Interfering key) d h = extends_same k k' h.1
 acts_more k k' (request.Read key found) d h = extends_same k k' h.1
 acts_more k k' (request.Malformed m) d h = extends_same k k' h.1
 
-wait_more : (mode : Mode) (n : ℕ) (k k' : Kept) (rs : List Request) (ds : List Due) → AllWait mode n k rs ds k' → Extends k k'
+wait_more : (mode : Mode) (n : ℕ) (k k' : Kept) (rs : List Request) (ds : List PendingAnswer) → AllWait mode n k rs ds k' → Extends k k'
 wait_more mode n k k' [] ds h = extends_same k k' h.1
 wait_more mode n k k' (r ∷ rs) ds h = extends_more k h.2 k' (acts_more k h.2 r h.0 h.3) (wait_more mode n h.2 k' rs h.1 h.5)
 
-pub waiting_more : (mode : Mode) (how : JournalDialect) (k k' : Kept) (l l' : Left) (ds : List Due) → Waiting mode how k l ds k' l' → Extends k k'
+pub waiting_more : (mode : Mode) (how : JournalDialect) (k k' : Kept) (l l' : Left) (ds : List PendingAnswer) → Waiting mode how k l ds k' l' → Extends k k'
 waiting_more mode how k k' l l' ds w = wait_more mode (length k.entries) k k' w.requests ds w.acted
 
 batch_more : (mode : Mode) (how : JournalDialect) (k k' : Kept) (l l' : Left) (out : List ℕ) → IsBatch mode how k l out k' l' → Extends k k'

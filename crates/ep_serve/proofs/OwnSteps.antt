@@ -17,7 +17,7 @@ use Rattle.ep_rules.specs.Maps.{none}
 use Rattle.ep_rules.specs.States.{committed_in}
 use Rattle.ep_rules.specs.declared.record.Record.{Record}
 use Rattle.ep_serve.specs.Acting.{made_since, stopped_since, AdvancesAll, AdvancesShort, ExecutesSo}
-use Rattle.ep_serve.specs.declared.due.Due.{Due}
+use Rattle.ep_serve.specs.declared.pending_answer.PendingAnswer.{PendingAnswer}
 
 -- Own instances, one after the other.
 
@@ -38,17 +38,17 @@ abbrev pub AdvancesSome : Kept → Kept → Type 0
 AdvancesSome k k' = (times : ℕ) × ExecutesSo times k k'
 
 -- all that were ready were executed
-pub all_made : (k k' : Kept) (from : ℕ) (due : Due) → AdvancesSome k k' → TriesNext k' (Ok false) k' → from ≡ length k.entries → due ≡ made_since from k' → AdvancesAll k due k'
+pub all_made : (k k' : Kept) (from : ℕ) (due : PendingAnswer) → AdvancesSome k k' → TriesNext k' (Ok false) k' → from ≡ length k.entries → due ≡ made_since from k' → AdvancesAll k due k'
 all_made k k' from due some none is told = (some.0, some.1, inl (none.0, told ∙ ap (λ n. made_since n k') is))
 
 -- the next one was refused
-pub stopped_advance : {E : Type 0} (k k' : Kept) (from : ℕ) (fault : StepFault) (result : Result Due E) → AdvancesSome k k' → IsHeldUp k' fault → from ≡ length k.entries → IfOk result (λ due. (fault ≡ StampFull) × (due ≡ stopped_since from k'))
+pub stopped_advance : {E : Type 0} (k k' : Kept) (from : ℕ) (fault : StepFault) (result : Result PendingAnswer E) → AdvancesSome k k' → IsHeldUp k' fault → from ≡ length k.entries → IfOk result (λ due. (fault ≡ StampFull) × (due ≡ stopped_since from k'))
     → IfOk result (λ due. AdvancesAll k due k')
 stopped_advance k k' from fault (Ok due) some held is told = (some.0, some.1, inr (subst (λ (f : StepFault). IsHeldUp k' f) told.0 held, told.1 ∙ ap (λ n. stopped_since n k') is))
 stopped_advance k k' from fault (Err e) some held is told = tt
 
 -- memory was wanted for the next one
-pub short_advance : {E : Type 0} (k k' : Kept) (fault : StepFault) (result : Result Due E) → AdvancesSome k k' → IsHeldUp k' fault → OnErr result (AdvancesShort k k')
+pub short_advance : {E : Type 0} (k k' : Kept) (fault : StepFault) (result : Result PendingAnswer E) → AdvancesSome k k' → IsHeldUp k' fault → OnErr result (AdvancesShort k k')
 short_advance k k' fault (Ok due) some held = tt
 short_advance k k' fault (Err e) some held = (some.0, some.1, (held.0, held.1, inl refl, inl refl, held.4))
 

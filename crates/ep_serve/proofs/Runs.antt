@@ -10,11 +10,11 @@ use Rattle.ep_wire.specs.declared.request.Request.{Request}
 use Rattle.ep_wire.specs.declared.request_fault.RequestFault.{RequestFault}
 use Rattle.ep_wire.specs.declared.request_fault.RequestFault.TheVariants as request
 use Rattle.ep_serve.specs.Acting.{Acts}
-use Rattle.ep_serve.specs.Answering.{AllTold, IsTold, Tell, Tells}
+use Rattle.ep_serve.specs.Answering.{AreAnswersTo, IsAnswerTo, AnswersEach, AnswersOne}
 use Rattle.ep_serve.specs.Faults.{of_request}
 use Rattle.ep_serve.specs.Lasting.{Crashes, Lasts, LastsFrom}
 use Rattle.ep_serve.specs.Serving.{AllWait, AreRead, AreServed, BreaksOff, DoesNext, Ends, InService, IsBatch, IsSilent, MayWait, Serves, ServesAll}
-use Rattle.ep_serve.specs.declared.due.Due.{Due}
+use Rattle.ep_serve.specs.declared.pending_answer.PendingAnswer.{PendingAnswer}
 use Rattle.ep_serve.specs.declared.mode.Mode.{Mode}
 use Rattle.ep_serve.specs.declared.serve_fault.ServeFault.{ServeFault}
 use Rattle.ep_serve.specs.declared.serve_fault.ServeFault.TheVariants.{Memory, ReadFailed, BadRequest, WriteFailed, LogFailed}
@@ -26,9 +26,9 @@ pub read_more : (how : JournalDialect) (l l' m : Left) (rs : List Request) (r : 
 read_more how l l' m [] r e next = (m, subst (λ (x : Left). next_request how x ≡ Ok (Some r, m)) e next, refl)
 read_more how l l' m (q ∷ rs) r h next = (h.0, h.1, read_more how h.0 l' m rs r h.2 next)
 
-pub wait_more : (mode : Mode) (n : ℕ) (k k' m : Kept) (rs : List Request) (ds : List Due) (r : Request) (d : Due) → AllWait mode n k rs ds k' → Acts k' r d m → MayWait mode n r m → AllWait mode n k (rs ++ r ∷ []) (ds ++ d ∷ []) m
-wait_more mode n k k' m [] ds r d h a w = (d, [], m, subst (λ (x : Kept). Acts x r d m) h.1 a, w, (refl, refl), ap (λ (x : List Due). x ++ d ∷ []) h.0)
-wait_more mode n k k' m (q ∷ rs) ds r d h a w = (h.0, h.1 ++ d ∷ [], h.2, h.3, h.4, wait_more mode n h.2 k' m rs h.1 r d h.5 a w, ap (λ (x : List Due). x ++ d ∷ []) h.6)
+pub wait_more : (mode : Mode) (n : ℕ) (k k' m : Kept) (rs : List Request) (ds : List PendingAnswer) (r : Request) (d : PendingAnswer) → AllWait mode n k rs ds k' → Acts k' r d m → MayWait mode n r m → AllWait mode n k (rs ++ r ∷ []) (ds ++ d ∷ []) m
+wait_more mode n k k' m [] ds r d h a w = (d, [], m, subst (λ (x : Kept). Acts x r d m) h.1 a, w, (refl, refl), ap (λ (x : List PendingAnswer). x ++ d ∷ []) h.0)
+wait_more mode n k k' m (q ∷ rs) ds r d h a w = (h.0, h.1 ++ d ∷ [], h.2, h.3, h.4, wait_more mode n h.2 k' m rs h.1 r d h.5 a w, ap (λ (x : List PendingAnswer). x ++ d ∷ []) h.6)
 
 pub served_more : (b : ℕ) (mode : Mode) (how : JournalDialect) (w : Crashes) (k m k' : Kept) (l l1 l' : Left) (out more : List ℕ) → AreServed b mode how w k l out m l1 → IsBatch mode how m l1 more k' l' → Lasts w k' → AreServed (suc b) mode how w k l (out ++ more) k' l'
 served_more zero mode how w k m k' l l1 l' out more h batch lasts =
@@ -56,7 +56,7 @@ serves_on mode how w w' s k k' l l' old new p e h = record {
 pub same_extends : (k : Kept) → Extends k k
 same_extends k = ([], λ t. record k { entries = sym (append-nil k.entries) t })
 
-abbrev pub service_on : (mode : Mode) (how : JournalDialect) (w w' : Crashes) (k k' : Kept) (l l' : Left) (old new : Option (List ℕ)) (ds : List Due) (s : InService mode how w k l old new k' l' ds) → Passes w w' s.replica → InService mode how w' k l old new k' l' ds
+abbrev pub service_on : (mode : Mode) (how : JournalDialect) (w w' : Crashes) (k k' : Kept) (l l' : Left) (old new : Option (List ℕ)) (ds : List PendingAnswer) (s : InService mode how w k l old new k' l' ds) → Passes w w' s.replica → InService mode how w' k l old new k' l' ds
 service_on mode how w w' k k' l l' old new ds s p = record {
   replica = s.replica;
   from = s.from;
@@ -73,7 +73,7 @@ begins mode how w k l old begun = record {
 }
 
 -- its answer waits
-abbrev pub one_waits : (mode : Mode) (how : JournalDialect) (w : Crashes) (k k' m : Kept) (l l' l'' : Left) (old new : Option (List ℕ)) (ds : List Due) (r : Request) (d : Due) (s : InService mode how w k l old new k' l' ds)
+abbrev pub one_waits : (mode : Mode) (how : JournalDialect) (w : Crashes) (k k' m : Kept) (l l' l'' : Left) (old new : Option (List ℕ)) (ds : List PendingAnswer) (r : Request) (d : PendingAnswer) (s : InService mode how w k l old new k' l' ds)
     → next_request how l' ≡ Ok (Some r, l'') → Acts k' r d m → MayWait mode (length s.replica.entries) r m → InService mode how w k l old new m l'' (ds ++ d ∷ [])
 one_waits mode how w k k' m l l' l'' old new ds r d s next a may = record {
   replica = s.replica;
@@ -87,8 +87,8 @@ one_waits mode how w k k' m l l' l'' old new ds r d s next a may = record {
 }
 
 -- its answer is written, and all that waited
-abbrev pub one_is_written : (mode : Mode) (how : JournalDialect) (w : Crashes) (k k' m : Kept) (l l' l'' : Left) (old mid new : Option (List ℕ)) (ds : List Due) (r : Request) (d : Due) (s : InService mode how w k l old mid k' l' ds)
-    → next_request how l' ≡ Ok (Some r, l'') → Acts k' r d m → ¬ MayWait mode (length s.replica.entries) r m → Tell m (ds ++ d ∷ []) mid new → Lasts w m → InService mode how w k l old new m l'' []
+abbrev pub one_is_written : (mode : Mode) (how : JournalDialect) (w : Crashes) (k k' m : Kept) (l l' l'' : Left) (old mid new : Option (List ℕ)) (ds : List PendingAnswer) (r : Request) (d : PendingAnswer) (s : InService mode how w k l old mid k' l' ds)
+    → next_request how l' ≡ Ok (Some r, l'') → Acts k' r d m → ¬ MayWait mode (length s.replica.entries) r m → AnswersEach m (ds ++ d ∷ []) mid new → Lasts w m → InService mode how w k l old new m l'' []
 one_is_written mode how w k k' m l l' l'' old mid new ds r d s next a may t lasts = record {
   replica = m;
   from = l'';
@@ -105,33 +105,33 @@ one_is_written mode how w k k' m l l' l'' old mid new ds r d s next a may t last
 
 -- answers
 
-told_more : (k : Kept) (ds : List Due) (d : Due) (out bytes : List ℕ) → AllTold k ds out → IsTold k d bytes → AllTold k (ds ++ d ∷ []) (out ++ bytes)
+told_more : (k : Kept) (ds : List PendingAnswer) (d : PendingAnswer) (out bytes : List ℕ) → AreAnswersTo k ds out → IsAnswerTo k d bytes → AreAnswersTo k (ds ++ d ∷ []) (out ++ bytes)
 told_more k [] d out bytes h t = (bytes, [], t, refl, ap (λ (x : List ℕ). x ++ bytes) h ∙ sym (append-nil bytes))
 told_more k (e ∷ ds) d out bytes h t = (h.0, h.1 ++ bytes, h.2, told_more k ds d h.1 bytes h.3 t, ap (λ (x : List ℕ). x ++ bytes) h.4 ∙ append_assoc h.0 h.1 bytes)
 
-pub tell_none : (k : Kept) (old : Option (List ℕ)) → Tell k [] old old
+pub tell_none : (k : Kept) (old : Option (List ℕ)) → AnswersEach k [] old old
 tell_none k old = record { bytes = []; told = refl; appended = Appends-nil old }
 
-pub tell_more : (k : Kept) (ds : List Due) (d : Due) (old mid new : Option (List ℕ)) → Tell k ds old mid → Tells k d mid new → Tell k (ds ++ d ∷ []) old new
+pub tell_more : (k : Kept) (ds : List PendingAnswer) (d : PendingAnswer) (old mid new : Option (List ℕ)) → AnswersEach k ds old mid → AnswersOne k d mid new → AnswersEach k (ds ++ d ∷ []) old new
 tell_more k ds d old mid new s t = record {
   bytes = s.bytes ++ t.bytes;
   told = told_more k ds d s.bytes t.bytes s.told t.told;
   appended = Appends-trans old mid new s.bytes t.bytes s.appended t.appended;
 }
 
-pub tell_next : (k : Kept) (i : ℕ) (ds : List Due) (d : Due) (old mid new : Option (List ℕ)) → i < length ds → d ≡ get_or ds i d → Tell k (take i ds) old mid → Tells k d mid new → Tell k (take (i + 1) ds) old new
-tell_next k i ds d old mid new lt is s t = subst (λ (xs : List Due). Tell k xs old new) (sym (take_more i ds d lt is)) (tell_more k (take i ds) d old mid new s t)
+pub tell_next : (k : Kept) (i : ℕ) (ds : List PendingAnswer) (d : PendingAnswer) (old mid new : Option (List ℕ)) → i < length ds → d ≡ get_or ds i d → AnswersEach k (take i ds) old mid → AnswersOne k d mid new → AnswersEach k (take (i + 1) ds) old new
+tell_next k i ds d old mid new lt is s t = subst (λ (xs : List PendingAnswer). AnswersEach k xs old new) (sym (take_more i ds d lt is)) (tell_more k (take i ds) d old mid new s t)
 
 -- The end of a run.
 
-pub all_served : (mode : Mode) (how : JournalDialect) (w : Crashes) (k k' : Kept) (l l' : Left) (old held new : Option (List ℕ)) (ds : List Due) → InService mode how w k l old held k' l' ds → Lasts w k' → Tell k' ds held new → ServesAll mode how w k l old new k' l'
+pub all_served : (mode : Mode) (how : JournalDialect) (w : Crashes) (k k' : Kept) (l l' : Left) (old held new : Option (List ℕ)) (ds : List PendingAnswer) → InService mode how w k l old held k' l' ds → Lasts w k' → AnswersEach k' ds held new → ServesAll mode how w k l old new k' l'
 all_served mode how w k k' l l' old held new ds s lasts t = record { dues = ds; held = held; before = s; lasts = lasts; told = t }
 
 -- at most one request more was done
 abbrev pub DoesLast : JournalDialect → Kept → Left → Kept → Type 0
 DoesLast how k l k' = (k' ≡ k) ⊎ DoesNext how k l k'
 
-breaks_off : (mode : Mode) (how : JournalDialect) (w : Crashes) (k k' m : Kept) (l l' : Left) (old held new : Option (List ℕ)) (ds : List Due) → InService mode how w k l old held k' l' ds → new ≡ held → DoesLast how k' l' m → BreaksOff mode how w k l old new m
+breaks_off : (mode : Mode) (how : JournalDialect) (w : Crashes) (k k' m : Kept) (l l' : Left) (old held new : Option (List ℕ)) (ds : List PendingAnswer) → InService mode how w k l old held k' l' ds → new ≡ held → DoesLast how k' l' m → BreaksOff mode how w k l old new m
 breaks_off mode how w k k' m l l' old held new ds s is last = record {
   before = k';
   from = l';
@@ -140,7 +140,7 @@ breaks_off mode how w k k' m l l' old held new ds s is last = record {
   last = last;
 }
 
-short : (mode : Mode) (how : JournalDialect) (w : Crashes) (k k' m : Kept) (l l' : Left) (old held new : Option (List ℕ)) (ds : List Due) (e : ServeFault) → InService mode how w k l old held k' l' ds → IsSilent e held new → DoesLast how k' l' m → (e ≡ WriteFailed → Lasts w m)
+short : (mode : Mode) (how : JournalDialect) (w : Crashes) (k k' m : Kept) (l l' : Left) (old held new : Option (List ℕ)) (ds : List PendingAnswer) (e : ServeFault) → InService mode how w k l old held k' l' ds → IsSilent e held new → DoesLast how k' l' m → (e ≡ WriteFailed → Lasts w m)
     → Ends mode how w k l old new (Err e) m
 short mode how w k k' m l l' old held new ds Memory s is last lasts = inl (breaks_off mode how w k k' m l l' old held new ds s is last)
 short mode how w k k' m l l' old held new ds ReadFailed s is last lasts = absurd is
@@ -148,7 +148,7 @@ short mode how w k k' m l l' old held new ds (BadRequest at) s is last lasts = a
 short mode how w k k' m l l' old held new ds WriteFailed s is last lasts = (held, breaks_off mode how w k k' m l l' old held held ds s refl last, lasts refl)
 short mode how w k k' m l l' old held new ds (LogFailed cause) s is last lasts = breaks_off mode how w k k' m l l' old held new ds s is last
 
-pub cut_short : (mode : Mode) (how : JournalDialect) (w : Crashes) (k k' m : Kept) (l l' : Left) (old held new : Option (List ℕ)) (ds : List Due) (r : Result Unit ServeFault) (e : ServeFault) → InService mode how w k l old held k' l' ds → IsSilent e held new → DoesLast how k' l' m → (e ≡ WriteFailed → Lasts w m)
+pub cut_short : (mode : Mode) (how : JournalDialect) (w : Crashes) (k k' m : Kept) (l l' : Left) (old held new : Option (List ℕ)) (ds : List PendingAnswer) (r : Result Unit ServeFault) (e : ServeFault) → InService mode how w k l old held k' l' ds → IsSilent e held new → DoesLast how k' l' m → (e ≡ WriteFailed → Lasts w m)
     → IsErrAnd r (λ x. x ≡ e) → Ends mode how w k l old new r m
 cut_short mode how w k k' m l l' old held new ds (Ok x) e s silent last lasts is = absurd is
 cut_short mode how w k k' m l l' old held new ds (Err f) e s silent last lasts is = subst (λ (x : ServeFault). Ends mode how w k l old new (Err x) m) (sym is) (short mode how w k k' m l l' old held new ds e s silent last lasts)
@@ -171,5 +171,5 @@ ends_badly mode how how' w k k' l l' old new f e p left size_is all read is = su
     go (request.BadRequest at) h = (l', all, h.0, h.1)
 
 -- the loop's end, which no input reaches
-pub ends_never : (mode : Mode) (how : JournalDialect) (w : Crashes) (k k' : Kept) (l l' : Left) (old held : Option (List ℕ)) (ds : List Due) → InService mode how w k l old held k' l' ds → Ends mode how w k l old held (Err Memory) k'
+pub ends_never : (mode : Mode) (how : JournalDialect) (w : Crashes) (k k' : Kept) (l l' : Left) (old held : Option (List ℕ)) (ds : List PendingAnswer) → InService mode how w k l old held k' l' ds → Ends mode how w k l old held (Err Memory) k'
 ends_never mode how w k k' l l' old held ds s = inl (breaks_off mode how w k k' k' l l' old held held ds s refl (inl refl))

@@ -10,10 +10,10 @@ use Rattle.ep_wire.specs.Requests.{next_request, ReadsRequest}
 use Rattle.ep_bundle.specs.declared.journal_dialect.JournalDialect.{JournalDialect}
 use Rattle.ep_wire.specs.declared.request.Request.{Request}
 use Rattle.ep_serve.specs.Acting.{Acts}
-use Rattle.ep_serve.specs.Answering.{Tell}
+use Rattle.ep_serve.specs.Answering.{AnswersEach}
 use Rattle.ep_serve.specs.Lasting.{crashes, Crashes, GoesOn, IsKept, Lasts, StaysKnown}
 use Rattle.ep_serve.specs.Serving.{DoesOne, Ends, IfSettled, IfUnwritten, InService, IsSilent, MayWait, ServesAll, Waits, dialect_of, is_sync}
-use Rattle.ep_serve.specs.declared.due.Due.{Due}
+use Rattle.ep_serve.specs.declared.pending_answer.PendingAnswer.{PendingAnswer}
 use Rattle.ep_serve.specs.declared.mode.Mode.{Mode}
 use Rattle.ep_serve.specs.declared.serve_fault.ServeFault.{ServeFault}
 use Rattle.ep_serve.specs.declared.serve_fault.ServeFault.TheVariants.{Memory, ReadFailed, BadRequest, WriteFailed, LogFailed}
@@ -22,16 +22,16 @@ use Rattle.ep_serve.proofs.Keeping.{lasts_first, lasts_now, passes, rests}
 use Rattle.ep_serve.proofs.Runs.{all_served, begins, cut_short, one_is_written, one_waits, service_on}
 
 -- what stands between two requests: those before are served, or wait, and the replica that told the last batch is on the disk
-pub record Stands {D : Type 0} (seen : D → Option (List ℕ)) (moment : D → ℕ) (left_since : D → ℕ → List ℕ → Type 0) (mode : Mode) (start node : Logged D) (zs : List ℕ) (old held : Option (List ℕ)) (place : ℕ) (left : Option (List ℕ)) (dues : List Due) : Type 0 where
+pub record Stands {D : Type 0} (seen : D → Option (List ℕ)) (moment : D → ℕ) (left_since : D → ℕ → List ℕ → Type 0) (mode : Mode) (start node : Logged D) (zs : List ℕ) (old held : Option (List ℕ)) (place : ℕ) (left : Option (List ℕ)) (dues : List PendingAnswer) : Type 0 where
   pub ys : List ℕ
   pub left_is : left ≡ Some ys
   pub service : InService mode (dialect_of start.replica) (crashes start.digest seen moment left_since start.device node.device) start.replica (record { at = 0; bytes = zs }) old held node.replica (record { at = place; bytes = ys }) dues
   pub synced : node.synced ≡ length service.replica.entries
 
-pub stands_first : {D : Type 0} (seen : D → Option (List ℕ)) (moment : D → ℕ) (left_since : D → ℕ → List ℕ → Type 0) (mode : Mode) (start : Logged D) (zs : List ℕ) (old left : Option (List ℕ)) (dues : List Due) → IsQuiet start → left ≡ Some zs → dues ≡ []
+pub stands_first : {D : Type 0} (seen : D → Option (List ℕ)) (moment : D → ℕ) (left_since : D → ℕ → List ℕ → Type 0) (mode : Mode) (start : Logged D) (zs : List ℕ) (old left : Option (List ℕ)) (dues : List PendingAnswer) → IsQuiet start → left ≡ Some zs → dues ≡ []
     → ((bytes : List ℕ) → seen start.device ≡ Some bytes → LeavesOnly moment left_since start.device start.device (IsCut start start.synced)) → Stands seen moment left_since mode start start zs old old 0 left dues
 stands_first seen moment left_since mode start zs old left dues quiet is none at_rest =
-    subst (λ (x : List Due). Stands seen moment left_since mode start start zs old old 0 left x) (sym none)
+    subst (λ (x : List PendingAnswer). Stands seen moment left_since mode start start zs old old 0 left x) (sym none)
     (record {
       ys = zs;
       left_is = is;
@@ -44,7 +44,7 @@ may_as : (mode : Mode) (a b : ℕ) (r : Request) (k : Kept) → a ≡ b → MayW
 may_as mode a b r k same may = subst (λ (x : ℕ). MayWait mode x r k) same may
 
 -- its answer waits
-waits_on : {D : Type 0} (seen : D → Option (List ℕ)) (moment : D → ℕ) (left_since : D → ℕ → List ℕ → Type 0) (mode : Mode) (start node : Logged D) (k : Kept) (zs : List ℕ) (old held left : Option (List ℕ)) (p q : ℕ) (before : List Due) (r : Request) (d : Due) (xs : List ℕ)
+waits_on : {D : Type 0} (seen : D → Option (List ℕ)) (moment : D → ℕ) (left_since : D → ℕ → List ℕ → Type 0) (mode : Mode) (start node : Logged D) (k : Kept) (zs : List ℕ) (old held left : Option (List ℕ)) (p q : ℕ) (before : List PendingAnswer) (r : Request) (d : PendingAnswer) (xs : List ℕ)
     (s : Stands seen moment left_since mode start node zs old held p left before) → next_request (dialect_of start.replica) (record { at = p; bytes = s.ys }) ≡ Ok (Some r, record { at = q; bytes = xs }) → Acts node.replica r d k → MayWait mode node.synced r k
     → Stands seen moment left_since mode start (record node { replica = k }) zs old held q (Some xs) (before ++ d ∷ [])
 waits_on seen moment left_since mode start node k zs old held left p q before r d xs s next acted may = record {
@@ -56,9 +56,9 @@ waits_on seen moment left_since mode start node k zs old held left p q before r 
 }
 
 -- its answer is written, with all that waited
-written_on : {D : Type 0} (seen : D → Option (List ℕ)) (moment : D → ℕ) (left_since : D → ℕ → List ℕ → Type 0) (mode : Mode) (start node node' : Logged D) (zs : List ℕ) (old held new left : Option (List ℕ)) (p q : ℕ) (before : List Due) (r : Request) (d : Due) (xs : List ℕ)
+written_on : {D : Type 0} (seen : D → Option (List ℕ)) (moment : D → ℕ) (left_since : D → ℕ → List ℕ → Type 0) (mode : Mode) (start node node' : Logged D) (zs : List ℕ) (old held new left : Option (List ℕ)) (p q : ℕ) (before : List PendingAnswer) (r : Request) (d : PendingAnswer) (xs : List ℕ)
     (s : Stands seen moment left_since mode start node zs old held p left before) → node.digest ≡ start.digest → next_request (dialect_of start.replica) (record { at = p; bytes = s.ys }) ≡ Ok (Some r, record { at = q; bytes = xs }) → Acts node.replica r d node'.replica → ¬ MayWait mode node.synced r node'.replica
-    → Tell node'.replica (before ++ d ∷ []) held new → IsQuiet node' → IsKept node.digest seen moment left_since node.device node'.device node'.replica → GoesOn node.digest seen moment left_since node.device node'.device node.replica node.synced → StaysKnown seen start.device node.device
+    → AnswersEach node'.replica (before ++ d ∷ []) held new → IsQuiet node' → IsKept node.digest seen moment left_since node.device node'.device node'.replica → GoesOn node.digest seen moment left_since node.device node'.device node.replica node.synced → StaysKnown seen start.device node.device
     → Stands seen moment left_since mode start node' zs old new q (Some xs) []
 written_on seen moment left_since mode start node node' zs old held new left p q before r d xs s own next acted may told quiet kept goes known =
     let stays : IsKept start.digest seen moment left_since node.device node'.device node'.replica = subst (λ (x : List ℕ). IsKept x seen moment left_since node.device node'.device node'.replica) own kept in
@@ -82,7 +82,7 @@ read_as : (how how' : JournalDialect) (l : Left) (found : Option Request) (r : R
 read_as how how' l found r q left' same read is =
     subst (λ (x : JournalDialect). next_request x l ≡ Ok (Some r, record { at = q; bytes = read.0 })) same (read.2 ∙ ap (λ (f : Option Request). Ok (f, record { at = q; bytes = read.0 })) is)
 
-pub stands_next : {D : Type 0} (seen : D → Option (List ℕ)) (moment : D → ℕ) (left_since : D → ℕ → List ℕ → Type 0) (mode : Mode) (start node node' : Logged D) (zs : List ℕ) (old held new left left' : Option (List ℕ)) (p q : ℕ) (how : JournalDialect) (before after : List Due) (found : Option Request) (r : Request)
+pub stands_next : {D : Type 0} (seen : D → Option (List ℕ)) (moment : D → ℕ) (left_since : D → ℕ → List ℕ → Type 0) (mode : Mode) (start node node' : Logged D) (zs : List ℕ) (old held new left left' : Option (List ℕ)) (p q : ℕ) (how : JournalDialect) (before after : List PendingAnswer) (found : Option Request) (r : Request)
     → (s : Stands seen moment left_since mode start node zs old held p left before) → node.digest ≡ start.digest → how ≡ dialect_of start.replica → ReadsRequest how (record { at = p; bytes = s.ys }) (Ok found) q left' → found ≡ Some r
     → (m : Mode) → m ≡ mode → Waits m node r before held node' after new (IsKept node.digest seen moment left_since node.device node'.device node'.replica) → GoesOn node.digest seen moment left_since node.device node'.device node.replica node.synced → StaysKnown seen start.device node.device
     → Stands seen moment left_since mode start node' zs old new q left' after
@@ -92,15 +92,15 @@ stands_next {D = D} seen moment left_since mode start node node' zs old held new
       | inl a ↦
           subst (λ (x : Logged D). Stands seen moment left_since mode start x zs old new q (Some read.0) after) (sym a.3)
           (subst (λ (x : Option (List ℕ)). Stands seen moment left_since mode start (record node { replica = node'.replica }) zs old x q (Some read.0) after) (sym a.2)
-          (subst (λ (x : List Due). Stands seen moment left_since mode start (record node { replica = node'.replica }) zs old held q (Some read.0) x) (sym a.1)
+          (subst (λ (x : List PendingAnswer). Stands seen moment left_since mode start (record node { replica = node'.replica }) zs old held q (Some read.0) x) (sym a.1)
           (waits_on seen moment left_since mode start node node'.replica zs old held left p q before r w.0 read.0 s (read_as how (dialect_of start.replica) (record { at = p; bytes = s.ys }) found r q left' same read is) w.1 a.0)))
       | inr a ↦
-          subst (λ (x : List Due). Stands seen moment left_since mode start node' zs old new q (Some read.0) x) (sym a.1)
+          subst (λ (x : List PendingAnswer). Stands seen moment left_since mode start node' zs old new q (Some read.0) x) (sym a.1)
           (written_on seen moment left_since mode start node node' zs old held new left p q before r w.0 read.0 s own (read_as how (dialect_of start.replica) (record { at = p; bytes = s.ys }) found r q left' same read is) w.1 a.0 a.2 a.3 a.4 goes known)
     ])
 
 -- the service after a call that may have failed
-pub goes_on_to : {D : Type 0} (seen : D → Option (List ℕ)) (moment : D → ℕ) (left_since : D → ℕ → List ℕ → Type 0) (mode : Mode) (start node node' : Logged D) (zs : List ℕ) (old held left : Option (List ℕ)) (p : ℕ) (before : List Due)
+pub goes_on_to : {D : Type 0} (seen : D → Option (List ℕ)) (moment : D → ℕ) (left_since : D → ℕ → List ℕ → Type 0) (mode : Mode) (start node node' : Logged D) (zs : List ℕ) (old held left : Option (List ℕ)) (p : ℕ) (before : List PendingAnswer)
     (s : Stands seen moment left_since mode start node zs old held p left before) → node.digest ≡ start.digest → GoesOn node.digest seen moment left_since node.device node'.device node.replica node.synced → StaysKnown seen start.device node.device
     → InService mode (dialect_of start.replica) (crashes start.digest seen moment left_since start.device node'.device) start.replica (record { at = 0; bytes = zs }) old held node.replica (record { at = p; bytes = s.ys }) before
 goes_on_to seen moment left_since mode start node node' zs old held left p before s own goes known =
@@ -116,7 +116,7 @@ pub settled_so : (e : ServeFault) (P : Type 0) → IfSettled (Err e) P → e ≡
 settled_so e P h is = subst (λ (x : ServeFault). IfSettled (Err x) P) is h
 
 -- a fault at a request
-pub stopped : {D : Type 0} (seen : D → Option (List ℕ)) (moment : D → ℕ) (left_since : D → ℕ → List ℕ → Type 0) (mode : Mode) (start node node' : Logged D) (zs : List ℕ) (old held new left left' : Option (List ℕ)) (p q : ℕ) (how : JournalDialect) (before : List Due) (found : Option Request) (asked : Request) (e : ServeFault) (r : Result Unit ServeFault)
+pub stopped : {D : Type 0} (seen : D → Option (List ℕ)) (moment : D → ℕ) (left_since : D → ℕ → List ℕ → Type 0) (mode : Mode) (start node node' : Logged D) (zs : List ℕ) (old held new left left' : Option (List ℕ)) (p q : ℕ) (how : JournalDialect) (before : List PendingAnswer) (found : Option Request) (asked : Request) (e : ServeFault) (r : Result Unit ServeFault)
     (s : Stands seen moment left_since mode start node zs old held p left before) → node.digest ≡ start.digest → how ≡ dialect_of start.replica → ReadsRequest how (record { at = p; bytes = s.ys }) (Ok found) q left' → found ≡ Some asked → DoesOne node.replica asked node'.replica → IsSilent e held new → IfUnwritten (Err e) (IsQuiet node' × IsKept node.digest seen moment left_since node.device node'.device node'.replica)
     → GoesOn node.digest seen moment left_since node.device node'.device node.replica node.synced → StaysKnown seen start.device node.device → IsErrAnd r (λ x. x ≡ e)
     → Ends mode (dialect_of start.replica) (crashes start.digest seen moment left_since start.device node'.device) start.replica (record { at = 0; bytes = zs }) old new r node'.replica
@@ -127,7 +127,7 @@ stopped seen moment left_since mode start node node' zs old held new left left' 
     (λ failed. lasts_now start.digest seen moment left_since start.device node.device node'.device node'.replica known (subst (λ (x : List ℕ). IsKept x seen moment left_since node.device node'.device node'.replica) own (unwritten_so e (IsQuiet node' × IsKept node.digest seen moment left_since node.device node'.device node'.replica) unwritten failed).1)) is
 
 -- a fault where all that waits was to be written
-pub stopped_settling : {D : Type 0} (seen : D → Option (List ℕ)) (moment : D → ℕ) (left_since : D → ℕ → List ℕ → Type 0) (mode : Mode) (start node node' : Logged D) (zs : List ℕ) (old held new left : Option (List ℕ)) (p : ℕ) (before : List Due) (e : ServeFault) (r : Result Unit ServeFault)
+pub stopped_settling : {D : Type 0} (seen : D → Option (List ℕ)) (moment : D → ℕ) (left_since : D → ℕ → List ℕ → Type 0) (mode : Mode) (start node node' : Logged D) (zs : List ℕ) (old held new left : Option (List ℕ)) (p : ℕ) (before : List PendingAnswer) (e : ServeFault) (r : Result Unit ServeFault)
     (s : Stands seen moment left_since mode start node zs old held p left before) → node.digest ≡ start.digest → node'.replica ≡ node.replica → IsSilent e held new → IfSettled (Err e) (IsKept node.digest seen moment left_since node.device node'.device node.replica)
     → GoesOn node.digest seen moment left_since node.device node'.device node.replica node.synced → StaysKnown seen start.device node.device → IsErrAnd r (λ x. x ≡ e)
     → Ends mode (dialect_of start.replica) (crashes start.digest seen moment left_since start.device node'.device) start.replica (record { at = 0; bytes = zs }) old new r node'.replica
@@ -138,8 +138,8 @@ stopped_settling seen moment left_since mode start node node' zs old held new le
     (lasts_now start.digest seen moment left_since start.device node.device node'.device node.replica known (subst (λ (x : List ℕ). IsKept x seen moment left_since node.device node'.device node.replica) own (settled_so e (IsKept node.digest seen moment left_since node.device node'.device node.replica) kept failed)))) is
 
 -- all that waited was written
-pub all_settled : {D : Type 0} (seen : D → Option (List ℕ)) (moment : D → ℕ) (left_since : D → ℕ → List ℕ → Type 0) (mode : Mode) (start node node' : Logged D) (zs : List ℕ) (old held new left : Option (List ℕ)) (p : ℕ) (before after : List Due)
-    (s : Stands seen moment left_since mode start node zs old held p left before) → node.digest ≡ start.digest → node'.replica ≡ node.replica → Tell node.replica before held new × (after ≡ []) → IsKept node.digest seen moment left_since node.device node'.device node.replica
+pub all_settled : {D : Type 0} (seen : D → Option (List ℕ)) (moment : D → ℕ) (left_since : D → ℕ → List ℕ → Type 0) (mode : Mode) (start node node' : Logged D) (zs : List ℕ) (old held new left : Option (List ℕ)) (p : ℕ) (before after : List PendingAnswer)
+    (s : Stands seen moment left_since mode start node zs old held p left before) → node.digest ≡ start.digest → node'.replica ≡ node.replica → AnswersEach node.replica before held new × (after ≡ []) → IsKept node.digest seen moment left_since node.device node'.device node.replica
     → GoesOn node.digest seen moment left_since node.device node'.device node.replica node.synced → StaysKnown seen start.device node.device
     → ServesAll mode (dialect_of start.replica) (crashes start.digest seen moment left_since start.device node'.device) start.replica (record { at = 0; bytes = zs }) old new node'.replica (record { at = p; bytes = s.ys })
 all_settled seen moment left_since mode start node node' zs old held new left p before after s own same told kept goes known =
@@ -151,7 +151,7 @@ all_settled seen moment left_since mode start node node' zs old held new left p 
     (lasts_now start.digest seen moment left_since start.device node.device node'.device node.replica known stays) told.0)
 
 -- the node still works, and what is on its disk it has
-pub works_on : {D : Type 0} (mode : Mode) (node node' : Logged D) (r : Request) (before after : List Due) (old new : Option (List ℕ)) (P : Type 0) → node.closed ≡ false → Waits mode node r before old node' after new P → node'.closed ≡ false
+pub works_on : {D : Type 0} (mode : Mode) (node node' : Logged D) (r : Request) (before after : List PendingAnswer) (old new : Option (List ℕ)) (P : Type 0) → node.closed ≡ false → Waits mode node r before old node' after new P → node'.closed ≡ false
 works_on mode node node' r before after old new P works w = elim w.2 [
   | inl a ↦ ap (λ n. n.closed) a.3 ∙ works
   | inr a ↦ a.3.works
@@ -160,7 +160,7 @@ works_on mode node node' r before after old new P works w = elim w.2 [
 longer : (k k' : Kept) → Extends k k' → length k.entries ≤ length k'.entries
 longer k k' h = subst (λ (x : Kept). length k.entries ≤ length x.entries) (sym h.1) (let e = length-append k.entries h.0 in omega arith)
 
-pub within_on : {D : Type 0} (mode : Mode) (node node' : Logged D) (r : Request) (before after : List Due) (old new : Option (List ℕ)) (P : Type 0) → node.synced ≤ length node.replica.entries → Waits mode node r before old node' after new P
+pub within_on : {D : Type 0} (mode : Mode) (node node' : Logged D) (r : Request) (before after : List PendingAnswer) (old new : Option (List ℕ)) (P : Type 0) → node.synced ≤ length node.replica.entries → Waits mode node r before old node' after new P
     → node'.synced ≤ length node'.replica.entries
 within_on mode node node' r before after old new P within w = elim w.2 [
   | inl a ↦
@@ -183,13 +183,13 @@ unwritten_of (Err f) e P is h = subst (λ (x : ServeFault). IfUnwritten (Err x) 
     go WriteFailed h = h refl
     go (LogFailed cause) h = tt
 
-pub written_out : {D : Type 0} (P : Type 0) (mode m : Mode) (old mid new : Logged D) (r : Request) (asks may : Bool) (before between after : List Due) (held held' : Option (List ℕ)) → ((d : Due) × Acts old.replica r d mid.replica × (between ≡ before ++ d ∷ []))
-    → mid ≡ record old { replica = mid.replica } → m ≡ mode → ((q : Request) → asks ≡ is_sync q → (IsTrue may ↔ MayWait m mid.synced q mid.replica)) → asks ≡ is_sync r → may ≡ false → new.replica ≡ mid.replica → Tell mid.replica between held held' × (after ≡ []) → IsQuiet new → P
+pub written_out : {D : Type 0} (P : Type 0) (mode m : Mode) (old mid new : Logged D) (r : Request) (asks may : Bool) (before between after : List PendingAnswer) (held held' : Option (List ℕ)) → ((d : PendingAnswer) × Acts old.replica r d mid.replica × (between ≡ before ++ d ∷ []))
+    → mid ≡ record old { replica = mid.replica } → m ≡ mode → ((q : Request) → asks ≡ is_sync q → (IsTrue may ↔ MayWait m mid.synced q mid.replica)) → asks ≡ is_sync r → may ≡ false → new.replica ≡ mid.replica → AnswersEach mid.replica between held held' × (after ≡ []) → IsQuiet new → P
     → Waits mode old r before held new after held' P
 written_out P mode m old mid new r asks may before between after held held' a same mode_is decides asked none replica told quiet p = (
   a.0,
   subst (λ (x : Kept). Acts old.replica r a.0 x) (sym replica) a.1,
-  inr ((λ w. false≢true (sym none ∙ (decides r asked).1 (as_before w))), told.1, subst (λ (x : Kept). Tell x (before ++ a.0 ∷ []) held held') (sym replica) (subst (λ (x : List Due). Tell mid.replica x held held') a.2 told.0), quiet, p),
+  inr ((λ w. false≢true (sym none ∙ (decides r asked).1 (as_before w))), told.1, subst (λ (x : Kept). AnswersEach x (before ++ a.0 ∷ []) held held') (sym replica) (subst (λ (x : List PendingAnswer). AnswersEach mid.replica x held held') a.2 told.0), quiet, p),
 )
   where
     as_before : MayWait mode old.synced r new.replica → MayWait m mid.synced r mid.replica

@@ -6,7 +6,7 @@ use Rattle.ep_serve.specs.Acting.{IsCutShort, IsUndone}
 use Rattle.ep_wire.specs.declared.request.Request.{Request}
 use Rattle.ep_wire.specs.declared.request.Request.TheVariants as request
 
--- it stopped for want of memory
+-- it stopped when out of memory
 pub cut_short : {D : Type 0} (n n' : Logged D) (r : Request) → n.closed ≡ false → IsUndone n r n' → IsCutShort n.replica r n'.replica
 cut_short n n' (request.Event happening) works un = absurd (false≢true (sym works ∙ un.0))
 cut_short n n' request.BadFrame works un = absurd un

@@ -28,7 +28,7 @@ use Rattle.ep_rules.specs.Steps.{Executes as Executed, leaves, order_of}
 use Rattle.ep_rules.specs.declared.record.Record.{Record}
 use Rattle.ep_base.specs.declared.decree.Decree.{Decree}
 use Rattle.ep_serve.specs.Acting.{made_since, stopped_since, AreSwept, ExecutesAll, ExecutesEach, IsStampless, IsSwept, LedWantsMemory, NoneIsReady, StopsShort, TriesOne}
-use Rattle.ep_serve.specs.declared.due.Due.{Due}
+use Rattle.ep_serve.specs.declared.pending_answer.PendingAnswer.{PendingAnswer}
 
 -- One execution.
 
@@ -233,10 +233,10 @@ every_short start k k' n r is s w h =
 
 -- What is told.
 
-pub all_swept : (k k' : Kept) (swept : Bool) (from : ℕ) (due : Due) → swept ≡ true → (roots : List ℕ) × ExecutesEach k roots k' × AreSwept swept k' → from ≡ length k.entries → due ≡ made_since from k' → ExecutesAll k due k'
+pub all_swept : (k k' : Kept) (swept : Bool) (from : ℕ) (due : PendingAnswer) → swept ≡ true → (roots : List ℕ) × ExecutesEach k roots k' × AreSwept swept k' → from ≡ length k.entries → due ≡ made_since from k' → ExecutesAll k due k'
 all_swept k k' false from due is all starts told = absurd (let e : false ≡ true = is in cc)
 all_swept k k' true from due is all starts told = (all.0, all.1, inl (all.2, told ∙ ap (λ n. made_since n k') starts))
 
-pub stopped_sweep : (k k' : Kept) (swept : Bool) (from : ℕ) (due : Due) → swept ≡ false → (roots : List ℕ) × ExecutesEach k roots k' × AreSwept swept k' → from ≡ length k.entries → due ≡ stopped_since from k' → ExecutesAll k due k'
+pub stopped_sweep : (k k' : Kept) (swept : Bool) (from : ℕ) (due : PendingAnswer) → swept ≡ false → (roots : List ℕ) × ExecutesEach k roots k' × AreSwept swept k' → from ≡ length k.entries → due ≡ stopped_since from k' → ExecutesAll k due k'
 stopped_sweep k k' true from due is all starts told = absurd (let e : true ≡ false = is in cc)
 stopped_sweep k k' false from due is all starts told = (all.0, all.1, inr (all.2, told ∙ ap (λ n. stopped_since n k') starts))

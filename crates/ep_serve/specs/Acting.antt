@@ -11,8 +11,8 @@ use Rattle.ep_replica.specs.Applied.{IsDeclined}
 use Rattle.ep_replica.specs.Kept.{Kept}
 use Rattle.ep_replica.specs.Pending.{ExecutesNext, IsHeldUp, IsPending, IsWaiting}
 use Rattle.ep_rules.specs.Journals.{stamp_after}
-use Rattle.ep_serve.specs.declared.due.Due.{Due}
-use Rattle.ep_serve.specs.declared.due.Due.TheVariants.{Taken, Refused, Value, Open, Leads, Synced, State, Ready, Handled, Interfering, Read, Malformed}
+use Rattle.ep_serve.specs.declared.pending_answer.PendingAnswer.{PendingAnswer}
+use Rattle.ep_serve.specs.declared.pending_answer.PendingAnswer.TheVariants.{Taken, Refused, Value, Open, Leads, Synced, State, Ready, Handled, Interfering, Read, Malformed}
 use Rattle.ep_wire.specs.declared.take_fault.TakeFault.{TakeFault}
 use Rattle.ep_wire.specs.declared.take_fault.TakeFault.TheVariants.{BadFrame, Step}
 use Rattle.ep_wire.specs.declared.request.Request.{Request}
@@ -24,7 +24,7 @@ IsRefusal k happening BadFrame = ⊥
 IsRefusal k happening (Step fault) = IsDeclined k happening fault
 
 -- the event's step is taken, the next entry; or it is refused, and nothing changes
-abbrev pub TakesOrRefuses : Kept → Happening → Due → Kept → Type 0
+abbrev pub TakesOrRefuses : Kept → Happening → PendingAnswer → Kept → Type 0
 TakesOrRefuses k happening (Taken from count) k' = (from ≡ length k.entries) × (count ≡ 1) × Takes k happening k'
 TakesOrRefuses k happening (Refused refusal) k' = IsRefusal k happening refusal × (k' ≡ k)
 TakesOrRefuses k happening (Value key) k' = ⊥
@@ -40,7 +40,7 @@ TakesOrRefuses k happening (Malformed m) k' = ⊥
 
 -- the stamp that a client has seen is more than 2^40 above that of the replica's last entry
 abbrev pub IsFarAhead : Kept → ℕ → Type 0
-IsFarAhead k seen = stamp_after k.opening.since (entries_of k.entries) + 2 ^ 40 < seen
+IsFarAhead k seen = stamp_after k.opening.base_stamp (entries_of k.entries) + 2 ^ 40 < seen
 
 -- the stamp that an event's client has seen; 0 where no client asks for it
 abbrev pub seen_by : Happening → ℕ
@@ -51,17 +51,17 @@ seen_by (event.Recover i) = 0
 seen_by (event.Execute i) = 0
 
 -- an event whose client has seen so high a stamp is refused as one for which no stamp is left, and nothing changes; any other is taken, or refused
-abbrev pub TakesNear : Kept → Happening → Due → Kept → Type 0
+abbrev pub TakesNear : Kept → Happening → PendingAnswer → Kept → Type 0
 TakesNear k happening due k' = (IsFarAhead k (seen_by happening) × (due ≡ Refused (Step StampFull)) × (k' ≡ k)) ⊎ ((¬ IsFarAhead k (seen_by happening)) × TakesOrRefuses k happening due k')
 
 -- How it is told that all that was ready was executed.
 
 -- the entries that were made behind the first ones, so many
-abbrev pub made_since : ℕ → Kept → Due
+abbrev pub made_since : ℕ → Kept → PendingAnswer
 made_since from k = Taken from (length k.entries - from)
 
 -- where no stamp is left for the next one: the entries that were made; or, if none was, that refusal
-abbrev pub stopped_since : ℕ → Kept → Due
+abbrev pub stopped_since : ℕ → Kept → PendingAnswer
 stopped_since from k = cond (eqb (length k.entries) from) (Refused (Step StampFull)) (made_since from k)
 
 -- Executing own instances.
@@ -76,7 +76,7 @@ abbrev pub NoOwnIsReady : Kept → Type 0
 NoOwnIsReady k = (i : ℕ) → IsPending k i → IsWaiting k i
 
 -- so many, and then none is ready, or no stamp is left for the next one
-abbrev pub AdvancesAll : Kept → Due → Kept → Type 0
+abbrev pub AdvancesAll : Kept → PendingAnswer → Kept → Type 0
 AdvancesAll k due k' =
     (times : ℕ) × ExecutesSo times k k' × ((NoOwnIsReady k' × (due ≡ made_since (length k.entries) k')) ⊎ (IsHeldUp k' StampFull × (due ≡ stopped_since (length k.entries) k')))
 
@@ -99,7 +99,7 @@ IsStampless k = (i : ℕ) × IsOutstanding k i × IsDeclined k (event.Execute i)
 abbrev pub NoneIsReady : Kept → Type 0
 NoneIsReady k = (i : ℕ) → IsOutstanding k i → IsWaiting k i
 
-abbrev pub ExecutesAll : Kept → Due → Kept → Type 0
+abbrev pub ExecutesAll : Kept → PendingAnswer → Kept → Type 0
 ExecutesAll k due k' =
     (roots : List ℕ) × ExecutesEach k roots k' × ((NoneIsReady k' × (due ≡ made_since (length k.entries) k')) ⊎ (IsStampless k' × (due ≡ stopped_since (length k.entries) k')))
 
@@ -138,10 +138,10 @@ pub record LedWantsMemory (r : ℕ) (k : Kept) : Type 0 where
   pub lesser : (j : ℕ) → leader_of j ≡ r → IsOutstanding k j → j < next → IsWaiting k j
 
 -- a request that asks changes nothing
-abbrev pub Asks : Kept → Due → Due → Kept → Type 0
+abbrev pub Asks : Kept → PendingAnswer → PendingAnswer → Kept → Type 0
 Asks k asked due k' = (due ≡ asked) × (k' ≡ k)
 
-abbrev pub Acts : Kept → Request → Due → Kept → Type 0
+abbrev pub Acts : Kept → Request → PendingAnswer → Kept → Type 0
 Acts k (request.Event happening) due k' = TakesNear k happening due k'
 Acts k request.BadFrame due k' = (due ≡ Refused BadFrame) × (k' ≡ k)
 Acts k request.Advance due k' = AdvancesAll k due k'
@@ -161,7 +161,7 @@ Acts k (request.Malformed m) due k' = Asks k (Malformed m) due k'
 abbrev pub IsPassedOver : {D : Type 0} → Logged D → Logged D → Type 0
 IsPassedOver n n' = (n.closed ≡ true) × (n' ≡ n)
 
--- a request to execute all that is ready stopped for want of memory, when some were executed
+-- a request to execute all that is ready stopped when out of memory, when some were executed
 abbrev pub IsCutShort : Kept → Request → Kept → Type 0
 IsCutShort k (request.Event happening) k' = ⊥
 IsCutShort k request.BadFrame k' = ⊥
@@ -178,7 +178,7 @@ IsCutShort k (request.Interfering key) k' = ⊥
 IsCutShort k (request.Read key found) k' = ⊥
 IsCutShort k (request.Malformed m) k' = ⊥
 
--- Why a request wasn't done: a node whose device has failed passes over what would change it; executing all that is ready may stop for want of memory; and no
+-- Why a request wasn't done: a node whose device has failed passes over what would change it; executing all that is ready may stop when out of memory; and no
 -- other fails.
 abbrev pub IsUndone : {D : Type 0} → Logged D → Request → Logged D → Type 0
 IsUndone n (request.Event happening) n' = IsPassedOver n n'

@@ -19,7 +19,7 @@ use Rattle.ep_looks.specs.Reads.{found}
 use Rattle.ep_replica.specs.Pending.{state_of}
 use Rattle.ep_replica.specs.Reading.{IsReading}
 use Rattle.ep_replica.specs.declared.reading.Reading.{Reading}
-use Rattle.ep_replica.specs.declared.reading.Reading.TheVariants.{Told, Waits}
+use Rattle.ep_replica.specs.declared.reading.Reading.TheVariants.{Replied, Waits}
 use Rattle.ep_node.specs.Handled.{handled_from}
 use Rattle.ep_node.specs.Telling.{commits_by, executed_by, AreOpen}
 use Rattle.ep_node.specs.declared.open_instance.OpenInstance.{OpenInstance}
@@ -31,8 +31,8 @@ use Rattle.ep_rules.specs.States.{committed_in}
 use Rattle.ep_rules.specs.declared.receipt.Receipt.{Receipt}
 use Rattle.ep_rules.specs.declared.record.Record.{Record}
 use Rattle.ep_space.specs.Open.{IsNextOpen}
-use Rattle.ep_serve.specs.declared.due.Due.{Due}
-use Rattle.ep_serve.specs.declared.due.Due.TheVariants.{Taken, Refused, Value, Open, Leads, Synced, State, Ready, Handled, Interfering, Read, Malformed}
+use Rattle.ep_serve.specs.declared.pending_answer.PendingAnswer.{PendingAnswer}
+use Rattle.ep_serve.specs.declared.pending_answer.PendingAnswer.TheVariants.{Taken, Refused, Value, Open, Leads, Synced, State, Ready, Handled, Interfering, Read, Malformed}
 use Rattle.ep_wire.specs.Answers.{entry_bytes, handled_bytes, instance_bytes, instances_bytes, interfering_bytes, leading_bytes, malformed_bytes, open_bytes, ready_bytes, refused_bytes, reply_bytes, sealed_code, sent_bytes, state_bytes, synced_bytes, taken_as, taken_bytes, told_receipts_bytes, value_bytes, waits_bytes}
 use Rattle.ep_wire.specs.declared.lead_progress.LeadProgress.{LeadProgress}
 use Rattle.ep_wire.specs.declared.lead_progress.LeadProgress.TheVariants.{Proposing, Accepting, Preparing}
@@ -80,7 +80,7 @@ told_state k = record {
   used = last_number 0 k.entries;
   deps = most_own_deps (state_of k).records k.me (last_number 0 k.entries);
   is_sealed = is_some (state_of k).store.seal;
-  stamp = stamp_after k.opening.since (entries_of k.entries);
+  stamp = stamp_after k.opening.base_stamp (entries_of k.entries);
 }
 
 -- What there is to tell.
@@ -116,44 +116,44 @@ told_ready k after xs =
 
 -- what a read is answered
 abbrev pub reading_bytes : Reading → List ℕ
-reading_bytes (Told r) = reply_bytes r
+reading_bytes (Replied r) = reply_bytes r
 reading_bytes (Waits i) = waits_bytes i
 
 -- the answer's bytes
-abbrev pub IsTold : Kept → Due → List ℕ → Type 0
-IsTold k (Taken from count) bytes = bytes ≡ taken_bytes (number_bytes 4 count ++ told_from k from count)
-IsTold k (Refused refusal) bytes = bytes ≡ refused_bytes refusal
-IsTold k (Value key) bytes = bytes ≡ value_bytes (value_at (state_of k).store.contents key)
-IsTold k (Open after) bytes = (found : Option ℕ) × IsNextOpen (state_of k).records after found × (bytes ≡ instance_bytes found)
-IsTold k (Leads i) bytes = bytes ≡ leading_bytes (option_map leading_of (progress_in k.faults k.me (get (state_of k).leads i)))
-IsTold k Synced bytes = bytes ≡ synced_bytes (length k.entries)
-IsTold k State bytes = bytes ≡ state_bytes (told_state k)
-IsTold k (Ready after most) bytes = (xs : List OpenInstance) × AreOpen k most None xs × (bytes ≡ ready_bytes (told_ready k after xs))
-IsTold k (Handled r) bytes = bytes ≡ handled_bytes (handled_from r k.entries)
-IsTold k (Interfering key) bytes = bytes ≡ interfering_bytes (found (state_of k) (Get key))
-IsTold k (Read key met) bytes = (r : Reading) × IsReading (state_of k) (Get key) met r × (bytes ≡ reading_bytes r)
-IsTold k (Malformed m) bytes = bytes ≡ malformed_bytes m
+abbrev pub IsAnswerTo : Kept → PendingAnswer → List ℕ → Type 0
+IsAnswerTo k (Taken from count) bytes = bytes ≡ taken_bytes (number_bytes 4 count ++ told_from k from count)
+IsAnswerTo k (Refused refusal) bytes = bytes ≡ refused_bytes refusal
+IsAnswerTo k (Value key) bytes = bytes ≡ value_bytes (value_at (state_of k).store.contents key)
+IsAnswerTo k (Open after) bytes = (found : Option ℕ) × IsNextOpen (state_of k).records after found × (bytes ≡ instance_bytes found)
+IsAnswerTo k (Leads i) bytes = bytes ≡ leading_bytes (option_map leading_of (progress_in k.faults k.me (get (state_of k).leads i)))
+IsAnswerTo k Synced bytes = bytes ≡ synced_bytes (length k.entries)
+IsAnswerTo k State bytes = bytes ≡ state_bytes (told_state k)
+IsAnswerTo k (Ready after most) bytes = (xs : List OpenInstance) × AreOpen k most None xs × (bytes ≡ ready_bytes (told_ready k after xs))
+IsAnswerTo k (Handled r) bytes = bytes ≡ handled_bytes (handled_from r k.entries)
+IsAnswerTo k (Interfering key) bytes = bytes ≡ interfering_bytes (found (state_of k) (Get key))
+IsAnswerTo k (Read key met) bytes = (r : Reading) × IsReading (state_of k) (Get key) met r × (bytes ≡ reading_bytes r)
+IsAnswerTo k (Malformed m) bytes = bytes ≡ malformed_bytes m
 
 -- each of the answers, one after the other
-abbrev pub AllTold : Kept → List Due → List ℕ → Type 0
-AllTold k [] bytes = bytes ≡ []
-AllTold k (d ∷ ds) bytes = (first rest : List ℕ) × IsTold k d first × AllTold k ds rest × (bytes ≡ first ++ rest)
+abbrev pub AreAnswersTo : Kept → List PendingAnswer → List ℕ → Type 0
+AreAnswersTo k [] bytes = bytes ≡ []
+AreAnswersTo k (d ∷ ds) bytes = (first rest : List ℕ) × IsAnswerTo k d first × AreAnswersTo k ds rest × (bytes ≡ first ++ rest)
 
 -- the answers that waited, and behind them all that there is to tell of the entries after the first ones, so many, and of so many open instances
-pub record AllAnswered (k : Kept) (ds : List Due) (after most : ℕ) (bytes : List ℕ) : Type 0 where
+pub record AllAnswered (k : Kept) (ds : List PendingAnswer) (after most : ℕ) (bytes : List ℕ) : Type 0 where
   pub waited : List ℕ
   pub ready : List ℕ
-  pub all : AllTold k ds waited
-  pub last : IsTold k (Ready after most) ready
+  pub all : AreAnswersTo k ds waited
+  pub last : IsAnswerTo k (Ready after most) ready
   pub is : bytes ≡ waited ++ ready
 
 -- the answer was appended to the bytes that a sink holds, where they are known
-pub record Tells (k : Kept) (d : Due) (old new : Option (List ℕ)) : Type 0 where
+pub record AnswersOne (k : Kept) (d : PendingAnswer) (old new : Option (List ℕ)) : Type 0 where
   pub bytes : List ℕ
-  pub told : IsTold k d bytes
+  pub told : IsAnswerTo k d bytes
   pub appended : Appends old new bytes
 
-pub record Tell (k : Kept) (ds : List Due) (old new : Option (List ℕ)) : Type 0 where
+pub record AnswersEach (k : Kept) (ds : List PendingAnswer) (old new : Option (List ℕ)) : Type 0 where
   pub bytes : List ℕ
-  pub told : AllTold k ds bytes
+  pub told : AreAnswersTo k ds bytes
   pub appended : Appends old new bytes

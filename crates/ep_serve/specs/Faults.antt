@@ -1,4 +1,4 @@
--- What the faults of the parts are told as.
+-- What the faults of the parts are reported as.
 use Rattle.ep_node.specs.declared.node_fault.NodeFault.{NodeFault}
 use Rattle.ep_node.specs.declared.node_fault.NodeFault.TheVariants as node
 use Rattle.ep_serve.specs.declared.serve_fault.ServeFault.{ServeFault}
@@ -11,7 +11,7 @@ of_request request.Memory = Memory
 of_request request.ReadFailed = ReadFailed
 of_request (request.BadRequest at) = BadRequest at
 
--- a node whose device works refuses a sync for want of memory alone
+-- a node whose device works refuses a sync only when out of memory
 abbrev pub of_node : NodeFault → ServeFault
 of_node (node.Refused fault) = Memory
 of_node node.Memory = Memory

@@ -7,9 +7,9 @@ use Rattle.ep_device.specs.declared.system_fault.SystemFault.{SystemFault}
 use Rattle.ep_node.specs.Nodes.{IsQuiet, Logged}
 use Rattle.ep_replica.specs.Kept.{Kept}
 use Rattle.ep_serve.specs.Acting.{Acts, IsCutShort}
-use Rattle.ep_serve.specs.Answering.{AllTold, Tell}
+use Rattle.ep_serve.specs.Answering.{AreAnswersTo, AnswersEach}
 use Rattle.ep_serve.specs.Lasting.{Crashes, Lasts, LastsFrom}
-use Rattle.ep_serve.specs.declared.due.Due.{Due}
+use Rattle.ep_serve.specs.declared.pending_answer.PendingAnswer.{PendingAnswer}
 use Rattle.ep_serve.specs.declared.mode.Mode.{Mode}
 use Rattle.ep_serve.specs.declared.mode.Mode.TheVariants.{Asked}
 use Rattle.ep_serve.specs.declared.serve_fault.ServeFault.{ServeFault}
@@ -54,28 +54,28 @@ pub record MayWait (mode : Mode) (synced : ℕ) (r : Request) (k : Kept) : Type 
   pub unsynced : synced < length k.entries
 
 -- each acts, these answers are due, and all of them may wait
-abbrev pub AllWait : Mode → ℕ → Kept → List Request → List Due → Kept → Type 0
+abbrev pub AllWait : Mode → ℕ → Kept → List Request → List PendingAnswer → Kept → Type 0
 AllWait mode synced k [] ds k' = (ds ≡ []) × (k' ≡ k)
-AllWait mode synced k (r ∷ rs) ds k' = (d : Due) × (more : List Due) × (m : Kept) × Acts k r d m × MayWait mode synced r m × AllWait mode synced m rs more k' × (ds ≡ d ∷ more)
+AllWait mode synced k (r ∷ rs) ds k' = (d : PendingAnswer) × (more : List PendingAnswer) × (m : Kept) × Acts k r d m × MayWait mode synced r m × AllWait mode synced m rs more k' × (ds ≡ d ∷ more)
 
 -- Requests whose answers wait, of a replica all of whose entries are on the disk.
-pub record Waiting (mode : Mode) (how : JournalDialect) (k : Kept) (l : Left) (ds : List Due) (k' : Kept) (l' : Left) : Type 0 where
+pub record Waiting (mode : Mode) (how : JournalDialect) (k : Kept) (l : Left) (ds : List PendingAnswer) (k' : Kept) (l' : Left) : Type 0 where
   pub requests : List Request
   pub read : AreRead how l requests l'
   pub acted : AllWait mode (length k.entries) k requests ds k'
 
 -- Requests whose answers are written together: those that wait, and the first one whose answer may not. They are told by the replica that they leave.
 pub record IsBatch (mode : Mode) (how : JournalDialect) (k : Kept) (l : Left) (out : List ℕ) (k' : Kept) (l' : Left) : Type 0 where
-  pub dues : List Due
+  pub dues : List PendingAnswer
   pub before : Kept
   pub from : Left
   pub waiting : Waiting mode how k l dues before from
   pub last : Request
   pub read : next_request how from ≡ Ok (Some last, l')
-  pub due : Due
+  pub due : PendingAnswer
   pub acted : Acts before last due k'
   pub written : ¬ MayWait mode (length k.entries) last k'
-  pub told : AllTold k' (dues ++ due ∷ []) out
+  pub told : AreAnswersTo k' (dues ++ due ∷ []) out
 
 -- So many batches, one after the other. Of each the entries of the replica that told it are on the disk from a moment on, which isn't after this one.
 abbrev pub AreServed : ℕ → Mode → JournalDialect → Crashes → Kept → Left → List ℕ → Kept → Left → Type 0
@@ -92,27 +92,27 @@ pub record Serves (mode : Mode) (how : JournalDialect) (w : Crashes) (k : Kept) 
   pub appended : Appends old new out
 
 -- requests are served up to `replica` and `from`, and those since then wait for their answers
-pub record InService (mode : Mode) (how : JournalDialect) (w : Crashes) (k : Kept) (l : Left) (old new : Option (List ℕ)) (k' : Kept) (l' : Left) (dues : List Due) : Type 0 where
+pub record InService (mode : Mode) (how : JournalDialect) (w : Crashes) (k : Kept) (l : Left) (old new : Option (List ℕ)) (k' : Kept) (l' : Left) (dues : List PendingAnswer) : Type 0 where
   pub replica : Kept
   pub from : Left
   pub served : Serves mode how w k l old new replica from
   pub waiting : Waiting mode how replica from dues k' l'
 
--- all requests were answered, those too that waited at the end, which are told in the same way
+-- all requests were answered, those too that waited at the end, which are reported in the same way
 pub record ServesAll (mode : Mode) (how : JournalDialect) (w : Crashes) (k : Kept) (l : Left) (old new : Option (List ℕ)) (k' : Kept) (l' : Left) : Type 0 where
-  pub dues : List Due
+  pub dues : List PendingAnswer
   pub held : Option (List ℕ)
   pub before : InService mode how w k l old held k' l' dues
   pub lasts : Lasts w k'
-  pub told : Tell k' dues held new
+  pub told : AnswersEach k' dues held new
 
 -- no request follows
 abbrev pub IsOver : JournalDialect → Left → Type 0
 IsOver how l = (m : Left) × (next_request how l ≡ Ok (None, m))
 
--- one request more was done, or it stopped for want of memory
+-- one request more was done, or it stopped when out of memory
 abbrev pub DoesOne : Kept → Request → Kept → Type 0
-DoesOne k r k' = ((d : Due) × Acts k r d k') ⊎ IsCutShort k r k'
+DoesOne k r k' = ((d : PendingAnswer) × Acts k r d k') ⊎ IsCutShort k r k'
 
 -- the next request, where it is one
 abbrev pub DoesNext : JournalDialect → Kept → Left → Kept → Type 0
@@ -122,12 +122,12 @@ DoesNext how k l k' = (r : Request) × (m : Left) × (next_request how l ≡ Ok 
 pub record BreaksOff (mode : Mode) (how : JournalDialect) (w : Crashes) (k : Kept) (l : Left) (old new : Option (List ℕ)) (k' : Kept) : Type 0 where
   pub before : Kept
   pub from : Left
-  pub dues : List Due
+  pub dues : List PendingAnswer
   pub service : InService mode how w k l old new before from dues
   pub last : (k' ≡ before) ⊎ DoesNext how before from k'
 
 -- What is written when a node no longer serves, of its replica k' then: at the end of the input, where it can't be read, and where its bytes are no request,
--- all requests before were answered; for want of memory all, or some batches of those that were done; where the log failed, some batches; where writing failed, these
+-- all requests before were answered; when out of memory all, or some batches of those that were done; where the log failed, some batches; where writing failed, these
 -- and what the sink made of one more, of which nothing is known but that what it tells is on the disk.
 abbrev pub Ends : Mode → JournalDialect → Crashes → Kept → Left → Option (List ℕ) → Option (List ℕ) → Result Unit ServeFault → Kept → Type 0
 Ends mode how w k l old new (Ok x) k' = (l' : Left) × ServesAll mode how w k l old new k' l' × IsOver how l'
@@ -149,11 +149,11 @@ IfSettled (Err (LogFailed cause)) P = Unit {0}
 -- One request more.
 
 -- it was handled: its answer waits, and only the replica changed; or all that waited was written, with it, once all was on the disk, as P says
-abbrev pub Waits : {D : Type 0} → Mode → Logged D → Request → List Due → Option (List ℕ) → Logged D → List Due → Option (List ℕ) → Type 0 → Type 0
+abbrev pub Waits : {D : Type 0} → Mode → Logged D → Request → List PendingAnswer → Option (List ℕ) → Logged D → List PendingAnswer → Option (List ℕ) → Type 0 → Type 0
 Waits mode node r before old node' after new P =
-    (d : Due) × Acts node.replica r d node'.replica
+    (d : PendingAnswer) × Acts node.replica r d node'.replica
     × ((MayWait mode node.synced r node'.replica × (after ≡ before ++ d ∷ []) × (new ≡ old) × (node' ≡ record node { replica = node'.replica }))
-    ⊎ ((¬ MayWait mode node.synced r node'.replica) × (after ≡ []) × Tell node'.replica (before ++ d ∷ []) old new × IsQuiet node' × P))
+    ⊎ ((¬ MayWait mode node.synced r node'.replica) × (after ≡ []) × AnswersEach node'.replica (before ++ d ∷ []) old new × IsQuiet node' × P))
 
 -- what holds where the sink failed
 abbrev pub IfUnwritten : Result Unit ServeFault → Type 0 → Type 0

@@ -6,8 +6,8 @@ ghost use Rattle.ep_replica.specs.Kept.{Kept};
 ghost use Rattle.ep_serve.specs.Acting.{seen_by, Acts, IsFarAhead, IsPassedOver, IsUndone, TakesNear, TakesOrRefuses};
 
 use crate::advancing::advance_all;
-use crate::due::Due;
 use crate::executing::execute_all;
+use crate::pending_answer::PendingAnswer;
 use ep_device::Device;
 use ep_journal::{Event, StepFault};
 use ep_node::{Node, NodeFault};
@@ -19,15 +19,15 @@ use std::alloc::AllocError;
 const REACH: u64 = 1_099_511_627_776;
 
 /// The node takes an event, or refuses it.
-fn take<D: Device>(node: &mut Node<D>, event: Event) -> Result<Due, AllocError>
+fn take<D: Device>(node: &mut Node<D>, event: Event) -> Result<PendingAnswer, AllocError>
     ensures ok { IfOk result (λ due. TakesOrRefuses node.old.replica event due node.new.replica) }
     ensures same { node.new ≡ record node.old { replica = node.new.replica } }
     ensures err { OnErr result (IsPassedOver node.old node.new) }
 {
     let from = node.taken();
     match node.step(event) {
-        Ok(()) => Ok(Due::Taken { from, count: 1 }),
-        Err(NodeFault::Refused(fault)) => Ok(Due::Refused(TakeFault::Step(fault))),
+        Ok(()) => Ok(PendingAnswer::Taken { from, count: 1 }),
+        Err(NodeFault::Refused(fault)) => Ok(PendingAnswer::Refused(TakeFault::Step(fault))),
         // No other fault comes of a node whose device works.
         Err(_) => Err(AllocError),
     }
@@ -58,7 +58,7 @@ fn seen_by(event: &Event) -> u64
 }
 
 /// The node takes an event unless its client has seen a stamp that is too far ahead, or refuses it.
-fn take_near<D: Device>(node: &mut Node<D>, event: Event) -> Result<Due, AllocError>
+fn take_near<D: Device>(node: &mut Node<D>, event: Event) -> Result<PendingAnswer, AllocError>
     ensures ok { IfOk result (λ due. TakesNear node.old.replica event due node.new.replica) }
     ensures same { node.new ≡ record node.old { replica = node.new.replica } }
     ensures err { OnErr result (IsPassedOver node.old node.new) }
@@ -66,33 +66,33 @@ fn take_near<D: Device>(node: &mut Node<D>, event: Event) -> Result<Due, AllocEr
     let seen = seen_by(&event);
     if is_far_ahead(node, seen) {
         drop(event);
-        return Ok(Due::Refused(TakeFault::Step(StepFault::StampFull)));
+        return Ok(PendingAnswer::Refused(TakeFault::Step(StepFault::StampFull)));
     }
     take(node, event)
 }
 
 /// Does what the request asks, none of which is on the disk yet, and tells the answer that is due for it. `Err` where the node's device has failed, and
-/// nothing changed; and for want of memory in executing all that is ready, own or not, of which some may have been executed. No other request fails at a
+/// nothing changed; and when out of memory in executing all that is ready, own or not, of which some may have been executed. No other request fails at a
 /// node whose device works.
-pub fn act<D: Device>(node: &mut Node<D>, request: Request) -> Result<Due, AllocError>
+pub fn act<D: Device>(node: &mut Node<D>, request: Request) -> Result<PendingAnswer, AllocError>
     ensures ok { IfOk result (λ due. Acts node.old.replica request due node.new.replica) }
     ensures same { node.new ≡ record node.old { replica = node.new.replica } }
     ensures err { OnErr result (IsUndone node.old request node.new) }
 {
     match request {
         Request::Event(event) => take_near(node, event),
-        Request::BadFrame => Ok(Due::Refused(TakeFault::BadFrame)),
+        Request::BadFrame => Ok(PendingAnswer::Refused(TakeFault::BadFrame)),
         Request::Advance => advance_all(node),
-        Request::Get(key) => Ok(Due::Value(key)),
-        Request::NextOpen(after) => Ok(Due::Open(after)),
-        Request::Leads(instance) => Ok(Due::Leads(instance)),
-        Request::Sync => Ok(Due::Synced),
-        Request::State => Ok(Due::State),
+        Request::Get(key) => Ok(PendingAnswer::Value(key)),
+        Request::NextOpen(after) => Ok(PendingAnswer::Open(after)),
+        Request::Leads(instance) => Ok(PendingAnswer::Leads(instance)),
+        Request::Sync => Ok(PendingAnswer::Synced),
+        Request::State => Ok(PendingAnswer::State),
         Request::ExecuteAll => execute_all(node),
-        Request::Ready { after, most } => Ok(Due::Ready { after, most }),
-        Request::Handled(peer) => Ok(Due::Handled(peer)),
-        Request::Interfering(key) => Ok(Due::Interfering(key)),
-        Request::Read { key, found } => Ok(Due::Read { key, found }),
-        Request::Malformed(malformed) => Ok(Due::Malformed(malformed)),
+        Request::Ready { after, most } => Ok(PendingAnswer::Ready { after, most }),
+        Request::Handled(peer) => Ok(PendingAnswer::Handled(peer)),
+        Request::Interfering(key) => Ok(PendingAnswer::Interfering(key)),
+        Request::Read { key, found } => Ok(PendingAnswer::Read { key, found }),
+        Request::Malformed(malformed) => Ok(PendingAnswer::Malformed(malformed)),
     }
 }

@@ -5,15 +5,15 @@ ghost use Rattle.ep_node.specs.Nodes.{Logged};
 ghost use Rattle.ep_replica.specs.Pending.{IsHeldUp, TriesNext};
 ghost use Rattle.ep_serve.specs.Acting.{AdvancesAll, AdvancesShort, ExecutesSo, IsPassedOver};
 
-use crate::due::Due;
 use crate::making::{made_since, stopped_by};
+use crate::pending_answer::PendingAnswer;
 use ep_device::Device;
 use ep_journal::StepFault;
 use ep_node::{Node, NodeFault};
 use std::alloc::AllocError;
 
 /// The node, whose device works, executes the least own instance that is ready, with all that it waits for: one entry more, and `true`; `false` where none is
-/// ready. `Err`, for want of memory or of a stamp, changes nothing.
+/// ready. `Err`, when out of memory or of stamps, changes nothing.
 pub fn execute_own<D: Device>(node: &mut Node<D>) -> Result<bool, StepFault>
     requires { node.old.closed ≡ false }
     ensures ok { IfOk result (λ executed. TriesNext node.old.replica (Ok executed) node.new.replica) }
@@ -27,7 +27,7 @@ pub fn execute_own<D: Device>(node: &mut Node<D>) -> Result<bool, StepFault>
     }
 }
 
-/// The node, whose device works, executes all own instances that are ready, in rising order, until none is. `Err`, for want of memory or of a stamp: those
+/// The node, whose device works, executes all own instances that are ready, in rising order, until none is. `Err`, when out of memory or of stamps: those
 /// before the one that was refused have been executed.
 pub fn advance_own<D: Device>(node: &mut Node<D>) -> Result<(), StepFault>
     requires { node.old.closed ≡ false }
@@ -50,8 +50,8 @@ pub fn advance_own<D: Device>(node: &mut Node<D>) -> Result<(), StepFault>
     unreachable!()
 }
 
-/// The node, whose device works, executes all own instances that are ready, and tells what was made. Want of memory stops it at one.
-fn advance<D: Device>(node: &mut Node<D>) -> Result<Due, AllocError>
+/// The node, whose device works, executes all own instances that are ready, and says what was made. Running out of memory stops it at one.
+fn advance<D: Device>(node: &mut Node<D>) -> Result<PendingAnswer, AllocError>
     requires { node.old.closed ≡ false }
     ensures ok { IfOk result (λ due. AdvancesAll node.old.replica due node.new.replica) }
     ensures same { node.new ≡ record node.old { replica = node.new.replica } }
@@ -64,8 +64,8 @@ fn advance<D: Device>(node: &mut Node<D>) -> Result<Due, AllocError>
     }
 }
 
-/// The same of any node: `Err` where its device has failed, and where memory is wanted.
-pub(crate) fn advance_all<D: Device>(node: &mut Node<D>) -> Result<Due, AllocError>
+/// Any node executes all own instances that are ready: `Err` where its device has failed, and where memory runs out.
+pub(crate) fn advance_all<D: Device>(node: &mut Node<D>) -> Result<PendingAnswer, AllocError>
     ensures ok { IfOk result (λ due. AdvancesAll node.old.replica due node.new.replica) }
     ensures same { node.new ≡ record node.old { replica = node.new.replica } }
     ensures err { OnErr result (IsPassedOver node.old node.new ⊎ AdvancesShort node.old.replica node.new.replica) }

@@ -1,4 +1,4 @@
-//! Want of memory for answers.
+//! Out of memory for answers.
 
 use ep_base::WriteFailed;
 use std::alloc::AllocError;

@@ -4,8 +4,8 @@ ghost use Rattle.std.specs.Prelude.{◌≡◌, ◌<◌, ◌≤◌, ◌+◌, ◌+
 ghost use Rattle.std.specs.Io.KnownBytes.{Appends};
 ghost use Rattle.ep_frame.specs.Fields.{number_bytes};
 ghost use Rattle.ep_journal.specs.declared.entry.Entry.{Entry as Written};
-ghost use Rattle.ep_serve.specs.Answering.{told_entry, told_from, AllAnswered, AllTold, Tell, Tells};
-ghost use Rattle.ep_serve.specs.declared.due.Due.TheVariants.{Synced, Taken};
+ghost use Rattle.ep_serve.specs.Answering.{told_entry, told_from, AllAnswered, AreAnswersTo, AnswersEach, AnswersOne};
+ghost use Rattle.ep_serve.specs.declared.pending_answer.PendingAnswer.TheVariants.{Synced, Taken};
 ghost use Rattle.ep_wire.specs.Answers.{entry_bytes, taken_bytes};
 
 use crate::answer_fault::AnswerFault;
@@ -13,7 +13,7 @@ use crate::asked::{
     put_asked_handled, put_asked_interfering, put_asked_lead, put_asked_open, put_asked_read,
     put_asked_state, put_asked_value,
 };
-use crate::due::Due;
+use crate::pending_answer::PendingAnswer;
 use crate::readying::put_ready;
 use ep_base::{Noted, Sink};
 use ep_bundle::{learn_entry, put_u32};
@@ -129,7 +129,7 @@ fn put_taken<K: Sink>(
     from: usize,
     count: usize,
 ) -> Result<(), AnswerFault>
-    ensures { OnOk result (Tells replica.now (Taken from count) (K.held sink.old) (K.held sink.new)) }
+    ensures { OnOk result (AnswersOne replica.now (Taken from count) (K.held sink.old) (K.held sink.new)) }
 {
     // What was taken is there.
     if !are_there(replica, from, count) {
@@ -141,7 +141,7 @@ fn put_taken<K: Sink>(
 
 /// How many entries are on the disk.
 fn put_synced<K: Sink>(sink: &mut K, replica: &Replica) -> Result<(), AnswerFault>
-    ensures { OnOk result (Tells replica.now Synced (K.held sink.old) (K.held sink.new)) }
+    ensures { OnOk result (AnswersOne replica.now Synced (K.held sink.old) (K.held sink.new)) }
 {
     let Ok(number) = u32::try_from(replica.journal().entries().len()) else {
         return Err(AnswerFault);
@@ -155,24 +155,24 @@ fn put_asked<K: Sink>(
     alloc: Global,
     sink: &mut K,
     replica: &Replica,
-    due: &Due,
+    due: &PendingAnswer,
 ) -> Result<(), AnswerFault>
-    ensures { OnOk result (Tells replica.now due.now (K.held sink.old) (K.held sink.new)) }
+    ensures { OnOk result (AnswersOne replica.now due.now (K.held sink.old) (K.held sink.new)) }
 {
     match due {
-        Due::Taken { from, count } => put_taken(alloc, sink, replica, *from, *count),
-        Due::Refused(refusal) => Ok(write_refused(sink, refusal)?),
-        Due::Value(key) => put_asked_value(sink, replica, key),
-        Due::Open(after) => put_asked_open(sink, replica, *after),
-        Due::Leads(instance) => put_asked_lead(sink, replica, *instance),
-        Due::Synced => put_synced(sink, replica),
-        Due::State => put_asked_state(sink, replica),
+        PendingAnswer::Taken { from, count } => put_taken(alloc, sink, replica, *from, *count),
+        PendingAnswer::Refused(refusal) => Ok(write_refused(sink, refusal)?),
+        PendingAnswer::Value(key) => put_asked_value(sink, replica, key),
+        PendingAnswer::Open(after) => put_asked_open(sink, replica, *after),
+        PendingAnswer::Leads(instance) => put_asked_lead(sink, replica, *instance),
+        PendingAnswer::Synced => put_synced(sink, replica),
+        PendingAnswer::State => put_asked_state(sink, replica),
         // What there is to tell the node tells.
-        Due::Ready { .. } => Err(AnswerFault),
-        Due::Handled(peer) => put_asked_handled(sink, replica, *peer),
-        Due::Interfering(key) => put_asked_interfering(alloc, sink, replica, key),
-        Due::Read { key, found } => put_asked_read(alloc, sink, replica, key, found),
-        Due::Malformed(malformed) => Ok(write_malformed(sink, *malformed)?),
+        PendingAnswer::Ready { .. } => Err(AnswerFault),
+        PendingAnswer::Handled(peer) => put_asked_handled(sink, replica, *peer),
+        PendingAnswer::Interfering(key) => put_asked_interfering(alloc, sink, replica, key),
+        PendingAnswer::Read { key, found } => put_asked_read(alloc, sink, replica, key, found),
+        PendingAnswer::Malformed(malformed) => Ok(write_malformed(sink, *malformed)?),
     }
 }
 
@@ -181,12 +181,12 @@ fn put_due<D: Device, K: Sink>(
     alloc: Global,
     sink: &mut K,
     node: &mut Node<D>,
-    due: &Due,
+    due: &PendingAnswer,
 ) -> Result<(), AnswerFault>
     ensures same { node.new ≡ node.old }
-    ensures told { OnOk result (Tells node.old.replica due.now (K.held sink.old) (K.held sink.new)) }
+    ensures told { OnOk result (AnswersOne node.old.replica due.now (K.held sink.old) (K.held sink.new)) }
 {
-    if let Due::Ready { after, most } = due {
+    if let PendingAnswer::Ready { after, most } = due {
         return put_ready(alloc, sink, node, *after, *most);
     }
     let Some(replica) = node.replica() else {
@@ -199,10 +199,10 @@ fn put_dues<D: Device, K: Sink>(
     alloc: Global,
     sink: &mut K,
     node: &mut Node<D>,
-    dues: &[Due],
+    dues: &[PendingAnswer],
 ) -> Result<(), AnswerFault>
     ensures same { node.new ≡ node.old }
-    ensures told { OnOk result (Tell node.old.replica dues.now (K.held sink.old) (K.held sink.new)) }
+    ensures told { OnOk result (AnswersEach node.old.replica dues.now (K.held sink.old) (K.held sink.new)) }
 {
     for due in dues {
         put_due(alloc, sink, node, due)?;
@@ -214,22 +214,22 @@ fn put_dues<D: Device, K: Sink>(
 pub(crate) fn answers_of<D: Device>(
     alloc: Global,
     node: &mut Node<D>,
-    dues: &[Due],
+    dues: &[PendingAnswer],
 ) -> Result<Vec<u8>, AnswerFault>
     ensures same { node.new ≡ node.old }
-    ensures told { IfOk result (λ out. AllTold node.old.replica dues.now out.items) }
+    ensures told { IfOk result (λ out. AreAnswersTo node.old.replica dues.now out.items) }
 {
     let mut sink = Noted::new(Vec::with_capacity(alloc, ROOM)?);
     put_dues(alloc, &mut sink, node, dues)?;
     Ok(sink.into_inner())
 }
 
-/// The answers that wait, one after the other, and behind them all that there is to tell of the entries after the first ones, of which `after` were told
+/// The answers that wait, one after the other, and behind them all that there is to tell of the entries after the first ones, of which `after` were reported
 /// before, and of at most `most` open instances; where all that the node took is on the disk.
 pub fn all_answers<D: Device>(
     alloc: Global,
     node: &mut Node<D>,
-    dues: &[Due],
+    dues: &[PendingAnswer],
     after: u32,
     most: u8,
 ) -> Result<Vec<u8>, AllocError>
@@ -245,7 +245,7 @@ pub fn all_answers<D: Device>(
 fn answers_and_ready<D: Device>(
     alloc: Global,
     node: &mut Node<D>,
-    dues: &[Due],
+    dues: &[PendingAnswer],
     after: u32,
     most: u8,
 ) -> Result<Vec<u8>, AnswerFault>

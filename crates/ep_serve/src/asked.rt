@@ -3,8 +3,8 @@
 ghost use Rattle.std.specs.Prelude.{◌≡◌, ℕ, List, IfOk, OnOk};
 ghost use Rattle.std.specs.Io.KnownBytes.{Appends};
 ghost use Rattle.ep_base.specs.Commands.{Get};
-ghost use Rattle.ep_serve.specs.Answering.{leading_of, reading_bytes, Tells};
-ghost use Rattle.ep_serve.specs.declared.due.Due.TheVariants.{Handled, Interfering, Leads, Open, Read, State, Value};
+ghost use Rattle.ep_serve.specs.Answering.{leading_of, reading_bytes, AnswersOne};
+ghost use Rattle.ep_serve.specs.declared.pending_answer.PendingAnswer.TheVariants.{Handled, Interfering, Leads, Open, Read, State, Value};
 
 use crate::answer_fault::AnswerFault;
 use crate::telling::told_state;
@@ -24,7 +24,7 @@ pub(crate) fn put_asked_value<K: Sink>(
     replica: &Replica,
     key: &Key,
 ) -> Result<(), AnswerFault>
-    ensures { OnOk result (Tells replica.now (Value key.now) (K.held sink.old) (K.held sink.new)) }
+    ensures { OnOk result (AnswersOne replica.now (Value key.now) (K.held sink.old) (K.held sink.new)) }
 {
     match replica.get(key) {
         Some(value) => write_value(sink, value)?,
@@ -39,7 +39,7 @@ pub(crate) fn put_asked_open<K: Sink>(
     replica: &Replica,
     after: Option<InstanceId>,
 ) -> Result<(), AnswerFault>
-    ensures { OnOk result (Tells replica.now (Open after) (K.held sink.old) (K.held sink.new)) }
+    ensures { OnOk result (AnswersOne replica.now (Open after) (K.held sink.old) (K.held sink.new)) }
 {
     let found = replica.next_open(after);
     write_instance(sink, found)?;
@@ -63,7 +63,7 @@ pub(crate) fn put_asked_lead<K: Sink>(
     replica: &Replica,
     instance: InstanceId,
 ) -> Result<(), AnswerFault>
-    ensures { OnOk result (Tells replica.now (Leads instance) (K.held sink.old) (K.held sink.new)) }
+    ensures { OnOk result (AnswersOne replica.now (Leads instance) (K.held sink.old) (K.held sink.new)) }
 {
     let leading = match replica.leads(instance) {
         Some((phase, answers)) => Some(leading_of(phase, answers)),
@@ -79,7 +79,7 @@ pub(crate) fn put_asked_handled<K: Sink>(
     replica: &Replica,
     peer: ReplicaId,
 ) -> Result<(), AnswerFault>
-    ensures { OnOk result (Tells replica.now (Handled peer) (K.held sink.old) (K.held sink.new)) }
+    ensures { OnOk result (AnswersOne replica.now (Handled peer) (K.held sink.old) (K.held sink.new)) }
 {
     write_handled(sink, handled_from(peer, replica.journal().entries()))?;
     Ok(())
@@ -102,7 +102,7 @@ pub(crate) fn put_asked_interfering<K: Sink>(
     replica: &Replica,
     key: &Key,
 ) -> Result<(), AnswerFault>
-    ensures { OnOk result (Tells replica.now (Interfering key.now) (K.held sink.old) (K.held sink.new)) }
+    ensures { OnOk result (AnswersOne replica.now (Interfering key.now) (K.held sink.old) (K.held sink.new)) }
 {
     let command = get_of(alloc, key)?;
     let found = replica.interfering(alloc, &command)?;
@@ -118,7 +118,7 @@ fn put_reading<K: Sink>(sink: &mut K, reading: &Reading) -> Result<(), AnswerFau
     ensures { OnOk result (Appends (K.held sink.old) (K.held sink.new) (reading_bytes reading.now)) }
 {
     match reading {
-        Reading::Told(reply) => write_reply(sink, reply)?,
+        Reading::Replied(reply) => write_reply(sink, reply)?,
         Reading::Waits(instance) => write_waits(sink, *instance)?,
     }
     Ok(())
@@ -132,7 +132,7 @@ pub(crate) fn put_asked_read<K: Sink>(
     key: &Key,
     found: &Instances,
 ) -> Result<(), AnswerFault>
-    ensures { OnOk result (Tells replica.now (Read key.now found.now) (K.held sink.old) (K.held sink.new)) }
+    ensures { OnOk result (AnswersOne replica.now (Read key.now found.now) (K.held sink.old) (K.held sink.new)) }
 {
     let command = get_of(alloc, key)?;
     let reading = replica.read(&command, found.as_slice())?;
@@ -141,7 +141,7 @@ pub(crate) fn put_asked_read<K: Sink>(
 
 /// What the node tells of itself.
 pub(crate) fn put_asked_state<K: Sink>(sink: &mut K, replica: &Replica) -> Result<(), AnswerFault>
-    ensures { OnOk result (Tells replica.now State (K.held sink.old) (K.held sink.new)) }
+    ensures { OnOk result (AnswersOne replica.now State (K.held sink.old) (K.held sink.new)) }
 {
     let Some(state) = told_state(replica) else {
         return Err(AnswerFault);

@@ -7,8 +7,8 @@ ghost use Rattle.ep_node.specs.Executing.{IsOutstanding};
 ghost use Rattle.ep_node.specs.Nodes.{Logged};
 ghost use Rattle.ep_serve.specs.Acting.{AreSwept, ExecutesAll, ExecutesEach, IsPassedOver, IsSwept, LedWantsMemory, StopsShort, TriesOne};
 
-use crate::due::Due;
 use crate::making::{made_since, stopped_since};
+use crate::pending_answer::PendingAnswer;
 use ep_base::{InstanceId, ReplicaId};
 use ep_device::Device;
 use ep_journal::StepFault;
@@ -23,7 +23,7 @@ pub(crate) fn instance_at(replica: ReplicaId, number: u16) -> InstanceId
     InstanceId::new(replica, number).unwrap()
 }
 
-/// That no stamp is left; any other fault of an execution is want of memory.
+/// That no stamp is left; any other fault of an execution means out of memory.
 fn stampless(fault: StepFault) -> Result<bool, AllocError>
     ensures { IfOk result (λ tried. (tried ≡ false) × (fault ≡ step.StampFull)) }
 {
@@ -33,7 +33,7 @@ fn stampless(fault: StepFault) -> Result<bool, AllocError>
     }
 }
 
-/// Executes the instance, if it is ready; `false` where no stamp is left for that. Want of memory changes nothing.
+/// Executes the instance, if it is ready; `false` where no stamp is left for that. Running out of memory changes nothing.
 fn try_one<D: Device>(node: &mut Node<D>, instance: InstanceId) -> Result<bool, AllocError>
     requires { node.old.closed ≡ false }
     ensures ok { IfOk result (λ tried. TriesOne node.old.replica instance tried node.new.replica) }
@@ -47,7 +47,7 @@ fn try_one<D: Device>(node: &mut Node<D>, instance: InstanceId) -> Result<bool, 
     }
 }
 
-/// Executes those of this leader's instances that are ready, in rising order; `false` where no stamp is left for one. Want of memory stops it at one.
+/// Executes those of this leader's instances that are ready, in rising order; `false` where no stamp is left for one. Running out of memory stops it at one.
 fn execute_led<D: Device>(node: &mut Node<D>, leader: ReplicaId) -> Result<bool, AllocError>
     requires { node.old.closed ≡ false }
     ensures ok { IfOk result (λ swept. (roots : List ℕ) × ExecutesEach node.old.replica roots node.new.replica × IsSwept leader swept node.new.replica) }
@@ -72,7 +72,7 @@ fn execute_every<D: Device>(node: &mut Node<D>) -> Result<bool, AllocError>
     ensures err { OnErr result (StopsShort node.old.replica node.new.replica) }
 {
     for index in 0..7 {
-        let swept = execute_led(node, ReplicaId::known(index))?;
+        let swept = execute_led(node, ReplicaId::from_valid(index))?;
         if !swept {
             return Ok(false);
         }
@@ -80,8 +80,8 @@ fn execute_every<D: Device>(node: &mut Node<D>) -> Result<bool, AllocError>
     Ok(true)
 }
 
-/// The node executes all that is committed and waits for nothing that isn't, own or not. `Err` where its device has failed, and where memory is wanted.
-pub(crate) fn execute_all<D: Device>(node: &mut Node<D>) -> Result<Due, AllocError>
+/// The node executes all that is committed and waits for nothing that isn't, own or not. `Err` where its device has failed, and where memory runs out.
+pub(crate) fn execute_all<D: Device>(node: &mut Node<D>) -> Result<PendingAnswer, AllocError>
     ensures ok { IfOk result (λ due. ExecutesAll node.old.replica due node.new.replica) }
     ensures same { node.new ≡ record node.old { replica = node.new.replica } }
     ensures err { OnErr result (IsPassedOver node.old node.new ⊎ StopsShort node.old.replica node.new.replica) }

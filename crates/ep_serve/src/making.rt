@@ -5,7 +5,7 @@ ghost use Rattle.ep_node.specs.Nodes.{Logged};
 ghost use Rattle.ep_journal.specs.declared.step_fault.StepFault.TheVariants as step;
 ghost use Rattle.ep_serve.specs.Acting.{made_since, stopped_since};
 
-use crate::due::Due;
+use crate::pending_answer::PendingAnswer;
 use ep_device::Device;
 use ep_journal::StepFault;
 use ep_node::Node;
@@ -13,19 +13,19 @@ use ep_wire::TakeFault;
 use std::alloc::AllocError;
 
 /// The entries that were made behind the first ones, so many.
-pub(crate) fn made_since<D: Device>(node: &Node<D>, from: usize) -> Due
+pub(crate) fn made_since<D: Device>(node: &Node<D>, from: usize) -> PendingAnswer
     ensures { result ≡ made_since from node.now.replica }
 {
     let count = node.taken().saturating_sub(from);
-    Due::Taken { from, count }
+    PendingAnswer::Taken { from, count }
 }
 
 /// The same where no stamp is left for the next one; if none was made, that refusal.
-pub(crate) fn stopped_since<D: Device>(node: &Node<D>, from: usize) -> Due
+pub(crate) fn stopped_since<D: Device>(node: &Node<D>, from: usize) -> PendingAnswer
     ensures { result ≡ stopped_since from node.now.replica }
 {
     if node.taken() == from {
-        Due::Refused(TakeFault::Step(StepFault::StampFull))
+        PendingAnswer::Refused(TakeFault::Step(StepFault::StampFull))
     } else {
         made_since(node, from)
     }
@@ -36,7 +36,7 @@ pub(crate) fn stopped_by<D: Device>(
     node: &Node<D>,
     from: usize,
     fault: StepFault,
-) -> Result<Due, AllocError>
+) -> Result<PendingAnswer, AllocError>
     ensures { IfOk result (λ due. (fault ≡ step.StampFull) × (due ≡ stopped_since from node.now.replica)) }
 {
     match fault {

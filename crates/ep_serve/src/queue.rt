@@ -5,9 +5,9 @@ ghost use Rattle.ep_serve.specs.Serving.{is_sync};
 
 use crate::acting::act;
 use crate::answering::answers_of;
-use crate::due::Due;
 use crate::durable::put_on_disk;
 use crate::mode::Mode;
+use crate::pending_answer::PendingAnswer;
 use crate::serve_fault::ServeFault;
 use ep_base::Sink;
 use ep_device::Device;
@@ -28,7 +28,7 @@ fn is_sync(request: &Request) -> bool
 /// The answers that wait, in the order of their requests.
 #[derive(Drop)]
 pub(crate) struct Queue {
-    dues: Vec<Due>,
+    dues: Vec<PendingAnswer>,
     mode: Mode,
     alloc: Global,
 }
@@ -38,10 +38,10 @@ impl Queue {
     ghost use Rattle.ep_base.specs.Devices.{FailsAsTold};
     ghost use Rattle.ep_node.specs.Nodes.{IsQuiet};
     ghost use Rattle.ep_serve.specs.Acting.{Acts};
-    ghost use Rattle.ep_serve.specs.Answering.{Tell};
+    ghost use Rattle.ep_serve.specs.Answering.{AnswersEach};
     ghost use Rattle.ep_serve.specs.Lasting.{GoesOn, IsKept, StaysKnown};
     ghost use Rattle.ep_serve.specs.Serving.{is_log_failed, is_sync, is_write_failed, DoesOne, IfSettled, IfUnwritten, IsSilent, MayWait, Names, Waits};
-    ghost use Rattle.ep_serve.specs.declared.due.Due.{Due};
+    ghost use Rattle.ep_serve.specs.declared.pending_answer.PendingAnswer.{PendingAnswer};
     ghost use Rattle.ep_wire.specs.declared.request.Request.{Request};
     ghost use Rattle.ep_serve.specs.declared.serve_fault.ServeFault.TheVariants.{Memory};
 
@@ -60,7 +60,7 @@ impl Queue {
     #[tactic(auto, using(crate::proofs::Stopping::cut_short))]
     fn add<D: Device>(&mut self, node: &mut Node<D>, request: Request) -> Result<(), ServeFault>
         requires { node.old.closed ≡ false }
-        ensures ok { OnOk result ((d : Due) × Acts node.old.replica request d node.new.replica × (self.new.dues.items ≡ self.old.dues.items ++ d ∷ [])) }
+        ensures ok { OnOk result ((d : PendingAnswer) × Acts node.old.replica request d node.new.replica × (self.new.dues.items ≡ self.old.dues.items ++ d ∷ [])) }
         ensures same { (node.new ≡ record node.old { replica = node.new.replica }) × (self.new.mode ≡ self.old.mode) }
         ensures err { IfErr result (λ fault. (fault ≡ Memory) × DoesOne node.old.replica request node.new.replica) }
     {
@@ -85,7 +85,7 @@ impl Queue {
         requires quiet { IsQuiet node.old }
         ensures same { node.new ≡ node.old }
         ensures mode { self.new.mode ≡ self.old.mode }
-        ensures ok { OnOk result (Tell node.old.replica self.old.dues.items (K.held sink.old) (K.held sink.new) × (self.new.dues.items ≡ [])) }
+        ensures ok { OnOk result (AnswersEach node.old.replica self.old.dues.items (K.held sink.old) (K.held sink.new) × (self.new.dues.items ≡ [])) }
         ensures silent { IfErr result (λ fault. IsSilent fault (K.held sink.old) (K.held sink.new)) }
         ensures sink_cause { FailsAsTold is_write_failed result (K.has_failed sink.old) (K.has_failed sink.new) }
         ensures log_cause { FailsAsTold is_log_failed result (D.has_failed node.old.device) (D.has_failed node.new.device) }
@@ -108,7 +108,7 @@ impl Queue {
         ensures replica { node.new.replica ≡ node.old.replica }
         ensures own { node.new.digest ≡ node.old.digest }
         ensures mode { self.new.mode ≡ self.old.mode }
-        ensures ok { OnOk result (Tell node.old.replica self.old.dues.items (K.held sink.old) (K.held sink.new) × (self.new.dues.items ≡ [])) }
+        ensures ok { OnOk result (AnswersEach node.old.replica self.old.dues.items (K.held sink.old) (K.held sink.new) × (self.new.dues.items ≡ [])) }
         ensures silent { IfErr result (λ fault. IsSilent fault (K.held sink.old) (K.held sink.new)) }
         ensures quiet { IfSettled result (IsQuiet node.new) }
         ensures kept { IfSettled result (IsKept node.old.digest D.seen D.moment D.left_since node.old.device node.new.device node.old.replica) }

@@ -4,8 +4,8 @@ ghost use Rattle.std.specs.Prelude.{◌≡◌, ◌<◌, ◌+◌, ◌++◌, ◌^�
 ghost use Rattle.std.specs.Io.KnownBytes.{Appends};
 ghost use Rattle.std.specs.List.{flat_map};
 ghost use Rattle.std.specs.Option.{option_map};
-ghost use Rattle.ep_serve.specs.Answering.{happened_bytes, leading_of, open_instance_bytes, open_instances_bytes, outgoing_bytes, sent_frames_bytes, summary_bytes, Tells};
-ghost use Rattle.ep_serve.specs.declared.due.Due.TheVariants as due;
+ghost use Rattle.ep_serve.specs.Answering.{happened_bytes, leading_of, open_instance_bytes, open_instances_bytes, outgoing_bytes, sent_frames_bytes, summary_bytes, AnswersOne};
+ghost use Rattle.ep_serve.specs.declared.pending_answer.PendingAnswer.TheVariants as due;
 ghost use Rattle.ep_wire.specs.Answers.{ready_bytes, sent_bytes, told_receipts_bytes};
 
 use crate::answer_fault::AnswerFault;
@@ -201,7 +201,7 @@ pub(crate) fn put_ready<D: Device, K: Sink>(
     most: u8,
 ) -> Result<(), AnswerFault>
     ensures same { node.new ≡ node.old }
-    ensures told { OnOk result (Tells node.old.replica (due.Ready after most) (K.held sink.old) (K.held sink.new)) }
+    ensures told { OnOk result (AnswersOne node.old.replica (due.Ready after most) (K.held sink.old) (K.held sink.new)) }
 {
     let version = node.version();
     let Ok(ready) = node.ready(alloc, after, most) else {

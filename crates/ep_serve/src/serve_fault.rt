@@ -51,7 +51,7 @@ impl From<NodeFault> for ServeFault {
     fn from(fault: NodeFault) -> ServeFault {
         match fault {
             NodeFault::Failed(cause) => ServeFault::LogFailed(cause),
-            // A node whose device works refuses a sync for want of memory alone.
+            // A node whose device works refuses a sync only when out of memory.
             NodeFault::Memory | NodeFault::Refused(_) | NodeFault::Closed => ServeFault::Memory,
         }
     }

@@ -23,7 +23,7 @@ use Rattle.ep_server.specs.declared.server_fault.ServerFault.TheVariants.{Open, 
 pub tells_nothing : (a : Option (List ℕ)) (first : Bool) → TellsCut (output a a first first)
 tells_nothing a first = record { cut = None; told = inr (Appends-nil a); for_good = λ e. e }
 
--- what was cut off a log is told
+-- what was cut off a log is reported
 pub tells_cut : {E : Type 0} (cut : Option Cut) (a b : Option (List ℕ)) (first second : Bool) (r : Result Unit E) → Puts a b first second r (told_first cut) → TellsCut (output a b first second)
 tells_cut cut a b first second r p = record { cut = cut; told = told_by a b first second (told_first cut) r p; for_good = stays r p }
   where

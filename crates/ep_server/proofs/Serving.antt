@@ -45,7 +45,7 @@ has_served {D = D} shown role o start bytes zs log cut outcome reader out cluste
     go (Ok x) ends fails = served (Ok x) ends fails
     go (Err why) ends fails = served (Err why) ends fails
 
--- What was cut off is told, and then how it ended.
+-- What was cut off is reported, and then how it ended.
 
 pub told_twice : (a b c : Option (List ℕ)) (first second third : Bool) (xs ys : List ℕ) → Told (output a b first second) xs → (second ≡ true → third ≡ true) → Told (output b c second third) ys → Told (output a c first third) (xs ++ ys)
 told_twice a b c first second third xs ys before stays after = elim before [
@@ -72,7 +72,7 @@ ends_after {F = F} held has_failed outcome status a b b' c xs told same stays en
     go (Ok x) h = (h.0, subst (λ (l : List ℕ). Told (became held has_failed a c) l) (append-nil xs) (twice [] h.1))
     go (Err e) h = (h.0, twice (line_of e) h.1)
 
--- what a call has put is told
+-- what a call has put is reported
 pub told_by : {E : Type 0} (a b : Option (List ℕ)) (first second : Bool) (xs : List ℕ) (r : Result Unit E) → Puts a b first second r xs → Told (output a b first second) xs
 told_by a b first second xs (Ok x) p = inr p.0
 told_by a b first second xs (Err e) p = inl p

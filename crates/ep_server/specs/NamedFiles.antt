@@ -20,14 +20,14 @@ use Rattle.ep_server.specs.Replays.{HasOpened}
 use Rattle.ep_server.specs.declared.folder_fault.FolderFault.{FolderFault}
 use Rattle.ep_server.specs.declared.named_file.NamedFile.{NamedFile}
 
--- A file isn't read, or memory was refused, which is told, and nothing was written on the output.
+-- A file isn't read, or memory was refused, which is reported, and nothing was written on the output.
 pub record AreUnread (Is : FilesFault → Type 0) (status : Status) (out fault : Output) : Type 0 where
   pub why : FilesFault
   pub of : Is why
   pub silent : WroteNothing out
   pub told : TurnsAway why status fault
 
--- want of memory; or a file in the folder of this name isn't read; or what it has is refused, which is told behind its name
+-- out of memory; or a file in the folder of this name isn't read; or what it has is refused, which is reported behind its name
 abbrev pub IsUnopened : List ℕ → FilesFault → Type 0
 IsUnopened folder files.Memory = Unit {0}
 IsUnopened folder (files.ReadFailed line) = IsUnreadOf folder line.items

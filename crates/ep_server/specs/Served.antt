@@ -87,19 +87,19 @@ IsFailure shown open_.OtherLog = Unit {0}
 IsFailure shown (open_.Log fault) = Unit {0}
 IsFailure shown (open_.NotClocked number) = Unit {0}
 
--- before a fault is told: where the log isn't opened, why, and that nothing was written
+-- before a fault is reported: where the log isn't opened, why, and that nothing was written
 abbrev pub Happens : {D : Type 0} → Shown D → Role → Origin → List ℕ → List ℕ → Option Cut → Result Unit ServerFault → Input → Output → Type 0
 Happens shown role o bytes zs cut (Ok x) reader out = HasServed shown role o bytes zs cut (Ok x) reader out
 Happens shown role o bytes zs cut (Err (Open why)) reader out = IsUnopened role.begin o role.faults role.me bytes why × IsFailure shown why × WroteNothing out × (cut ≡ None)
 Happens shown role o bytes zs cut (Err (Serve why)) reader out = HasServed shown role o bytes zs cut (Err why) reader out
 Happens shown role o bytes zs cut (Err (Folder why)) reader out = ⊥
 
--- what was cut off the log is told first
+-- what was cut off the log is reported first
 abbrev pub told_first : Option Cut → List ℕ
 told_first None = []
 told_first (Some cut) = line_of_cut cut
 
--- then a fault is told, and decides on the status
+-- then a fault is reported, and decides on the status
 abbrev pub EndsWith : List ℕ → Result Unit ServerFault → Status → Output → Type 0
 EndsWith told (Ok x) status fault = (status ≡ Done) × Told fault told
 EndsWith told (Err e) status fault = (status ≡ status_of e) × Told fault (told ++ line_of e)
@@ -140,14 +140,14 @@ pub record HasServedThere {D : Type 0} (shown : Shown D) (mode : Mode) (faults m
   pub of : IsOfFile faults me start
   pub over : IsOver shown mode start zs outcome reader out
 
--- before a fault is told: such a node has served; or there is none, and nothing was written
+-- before a fault is reported: such a node has served; or there is none, and nothing was written
 abbrev pub HappensThere : {D : Type 0} → Shown D → Mode → ℕ → ℕ → List ℕ → Result Unit ServerFault → Input → Output → Type 0
 HappensThere shown mode faults me zs (Ok x) reader out = HasServedThere shown mode faults me zs (Ok x) reader out
 HappensThere shown mode faults me zs (Err (Serve why)) reader out = HasServedThere shown mode faults me zs (Err (Serve why)) reader out
 HappensThere shown mode faults me zs (Err (Open why)) reader out = WroteNothing out
 HappensThere shown mode faults me zs (Err (Folder why)) reader out = WroteNothing out
 
--- what was cut off one log, or two, is told, and nothing else; an output that has failed has failed for good
+-- what was cut off one log, or two, is reported, and nothing else; an output that has failed has failed for good
 pub record TellsCut (fault : Output) : Type 0 where
   pub cut : Option Cut
   pub told : Told fault (told_first cut)

@@ -16,7 +16,7 @@ use std::alloc::Global;
 use std::rt::Files;
 
 /// Reads the files and writes the bundle of what they hold, in one go. Each torn end has a line on the fault output, or what stops it has one;
-/// where telling fails, the status stays.
+/// where reporting fails, the status stays.
 pub fn collect_named<R: Files + AllocGlobal, S, W: Sink, F: Sink>(
     rt: &R,
     names: &CollectNames,

@@ -49,7 +49,7 @@ Exit status:
 const AFTER_CONTENTS: &str = "\
 FOLDER is that of a node (--dir). Standard output is what the replica has executed in the newest generation there: a line with the
 generation, how many entries its log has, how many keys have a value and the digest of them all, as a report has it, and then a line
-for each key, in rising order, with its value: two words of bytes (docs/FORMATS.md, sections 3 and 5). A log whose end is torn is
+for each key, in rising order, with its value: two words of bytes (docs/CLI.md, sections 3 and 6.3). A log whose end is torn is
 taken up to it, which standard error says. The folder is not changed. Standard input is not read.
 
 Example:

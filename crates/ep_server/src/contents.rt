@@ -54,7 +54,7 @@ fn names_of(
 }
 
 /// Reads the files, and shows the map of the generation of what they hold, in one go. A torn end has a line on the fault output, or what stops it
-/// has one; where telling fails, the status stays.
+/// has one; where reporting fails, the status stays.
 pub fn show_named<R: Files<File = File> + AllocGlobal, S, W: Sink, F: Sink>(
     rt: &R,
     folder: &str,

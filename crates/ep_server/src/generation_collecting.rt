@@ -82,7 +82,7 @@ fn paths_of(
 }
 
 /// Reads what the folders have, by the names of their files, and writes the bundle of the generation of what they hold, in one go. Each torn end has a line on the fault output, or what
-/// stops it has one; where telling fails, the status stays.
+/// stops it has one; where reporting fails, the status stays.
 pub fn collect_of<R: Files<File = File> + AllocGlobal, S, W: Sink, F: Sink>(
     rt: &R,
     generation: Generation,

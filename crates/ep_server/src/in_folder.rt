@@ -27,7 +27,7 @@ use std::rt::Files;
 
 /// Serves as the replica of this folder, in the generation that it is in, until the source is over or a fault stops it, and answers how the
 /// program ends. What was cut off a log is told by a line on the fault output before anything is answered, and what stops the node by one more;
-/// where telling fails, the status stays.
+/// where reporting fails, the status stays.
 pub fn serve_folder<'a, R: Files<File = File> + AllocGlobal, S: Source, W: Sink, F: Sink>(
     rt: &'a R,
     options: &FolderOptions<'_>,

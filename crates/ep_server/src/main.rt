@@ -11,7 +11,7 @@
 //! files that their commands name.
 //!
 //! Start with `program.rt` and specs/Served.antt, `collecting.rt` and specs/NamedFiles.antt. A fault has one line on the fault
-//! output and one status (`server_fault.rt`, `telling.rt`, `ep_cli`), as docs/FORMATS.md, sections 6.1 and 10, list them.
+//! output and one status (`server_fault.rt`, `telling.rt`, `ep_cli`), as docs/CLI.md, section 6.1, and docs/FORMATS.md, section 10, list them.
 #![tactic(auto)]
 
 mod absent;

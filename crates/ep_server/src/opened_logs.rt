@@ -125,7 +125,7 @@ fn spelled(
             digest,
             log,
         }),
-        // (want of memory, which has no name)
+        // (out of memory, which has no name)
         Err(_) => Err(unopened(alloc, folder, FolderFault::Memory)),
     }
 }

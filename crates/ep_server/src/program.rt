@@ -21,7 +21,7 @@ use std::mem::forget;
 
 /// Serves as the node whose log the device holds, until the source is over or a fault stops it, and answers how the program
 /// ends. What was cut off the log is told by a line on the fault output before anything is answered, and what stops the node by
-/// one more; where telling fails, the status stays.
+/// one more; where reporting fails, the status stays.
 pub fn serve_log<D: Device + Drop, S: Source, W: Sink, F: Sink>(
     alloc: Global,
     options: &Options<'_>,
@@ -120,7 +120,7 @@ fn opened<D: Device + Drop>(
     }
 }
 
-/// Tells what was cut off the log, if anything was.
+/// Says what was cut off the log, if anything was.
 pub(crate) fn tell_first<F: Sink>(cut: Option<Cut>, fault_writer: &mut F) -> Result<(), WriteFailed>
     ensures { Puts (F.held fault_writer.old) (F.held fault_writer.new) (F.has_failed fault_writer.old) (F.has_failed fault_writer.new) result (told_first cut) }
 {
@@ -130,7 +130,7 @@ pub(crate) fn tell_first<F: Sink>(cut: Option<Cut>, fault_writer: &mut F) -> Res
     }
 }
 
-/// How the program ends. A fault is told on the fault output; where that fails, the status stays.
+/// How the program ends. A fault is reported on the fault output; where that fails, the status stays.
 pub(crate) fn concluded<F: Sink>(outcome: Result<(), ServerFault>, fault_writer: &mut F) -> Status
     ensures concluded { EndsWith [] outcome result (became F.held F.has_failed fault_writer.old fault_writer.new) }
     ensures for_good { F.has_failed fault_writer.old ≡ true → F.has_failed fault_writer.new ≡ true }

@@ -317,7 +317,7 @@ fn tell_failure<F: Sink>(what: &[u8], cause: SystemFault, sink: &mut F) -> Resul
     sink.put(b"\n")
 }
 
-/// How the program ends where the folder of this name can't be had. Why is told on the fault output; where that fails, the status stays.
+/// How the program ends where the folder of this name can't be had. Why is reported on the fault output; where that fails, the status stays.
 pub(crate) fn tell_place<F: Sink>(folder: &str, why: DeviceFault, sink: &mut F) -> Status
     ensures status { result ≡ status_of_place why }
     ensures told { Told (became F.held F.has_failed sink.old sink.new) (line_of_place folder.now why) }

@@ -10,7 +10,7 @@ use ep_moving::upgrade_files;
 use std::rt::Files;
 
 /// Reads the logs and writes the opening file of generation 2 that they give, in one go. Each torn end has a line on the fault output, or what
-/// stops it has one; where telling fails, the status stays.
+/// stops it has one; where reporting fails, the status stays.
 pub fn upgrade_named<R: Files + AllocGlobal, S, W: Sink, F: Sink>(
     rt: &R,
     names: &[String],

@@ -3,7 +3,7 @@ use Rattle.std.proofs.Common.{◌≡◌, ◌≢◌, ℕ, Bool, true, false, cond
 use Rattle.ep_base.specs.Attributes.{same_list}
 use Rattle.ep_base.specs.Commands.{Command, Opaque}
 use Rattle.ep_base.specs.Interference.{has_key}
-use Rattle.ep_base.specs.Parts.{IsInRange, IsSecond}
+use Rattle.ep_base.specs.CommandParts.{IsInRange, IsSecond}
 use Rattle.ep_base.specs.Touched.{Touched}
 use Rattle.ep_base.proofs.Same.{Decides-same_list}
 use Rattle.ep_space.specs.Index.{brings}

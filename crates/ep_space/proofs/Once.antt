@@ -7,7 +7,7 @@ use Rattle.ep_base.specs.Commands.{Command, Noop, Get, Put, Del, Swap, Cas, Seal
 use Rattle.ep_base.specs.Interference.{has_key, is_many, is_seal, keys_of, only_reads}
 use Rattle.ep_base.specs.Items.{Item, item_keys, rise_above, told_count, none_writes}
 use Rattle.ep_base.specs.Ops.{is_items_len}
-use Rattle.ep_base.specs.Parts.{IsInRange, are_items, all_items, items_of, tx_bytes}
+use Rattle.ep_base.specs.CommandParts.{IsInRange, are_items, all_items, items_of, tx_bytes}
 use Rattle.ep_base.specs.Sameness.{is_noop}
 use Rattle.ep_base.proofs.Ascending.{above_none}
 use Rattle.ep_base.proofs.Same.{Decides-same_list}

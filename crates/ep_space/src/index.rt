@@ -80,7 +80,7 @@ fn run_at<'a>(runs: &'a Runs, key: &[u8]) -> &'a [InstanceId]
     }
 }
 
-/// The same runs again.
+/// A copy of the runs.
 pub(crate) fn duplicate(index: &Index, alloc: Global) -> Result<Index, AllocError>
     ensures { IfOk result (λ same. (k : List ℕ) → run same k ≡ run index.now k) }
 {
@@ -126,7 +126,7 @@ fn set_run(runs: &mut Runs, key: &[u8], instances: &[InstanceId]) -> Result<(), 
 }
 
 /// Makes room in the run of each name that the command brings: that it has, and the instance's record hasn't. A key that had no run gets an
-/// empty one. No run changes, at want of memory either.
+/// empty one. No run changes, when out of memory either.
 #[inline(always)]
 pub(crate) fn make_room(
     index: &mut Index,
@@ -246,7 +246,7 @@ fn place_of(runs: &Runs, key: &[u8]) -> Option<usize>
     }
 }
 
-// The same, looked for here first.
+// Where the key's run stands, looked for here first.
 #[inline(always)]
 fn place_from(runs: &Runs, last: usize, key: &[u8]) -> Option<usize>
     ensures some { IfSome result (λ n. StandsAt runs.now.entries n key.now) }

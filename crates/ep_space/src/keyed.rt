@@ -63,7 +63,7 @@ impl Keyed {
         }
     }
 
-    /// The same records and places again.
+    /// A copy of the records and places.
     pub fn duplicate(&self, alloc: Global) -> Result<Keyed, AllocError>
         ensures { IfOk result (λ k. k ≡ record { held = self.now.held; places = self.now.places; room = k.room }) }
     {
@@ -111,7 +111,7 @@ impl Keyed {
         self.table.reserve(id)
     }
 
-    /// Makes room for each key that the command brings to the instance. There may be more room at want of memory too; nothing else changes.
+    /// Makes room for each key that the command brings to the instance. There may be more room when out of memory too; nothing else changes.
     #[inline(always)]
     pub fn make_room(&mut self, id: InstanceId, command: &Command) -> Result<(), AllocError>
         ensures room { OnOk result (HasRoom self.new.room (keys_at self.old.held id) (index_keys command.now)) }

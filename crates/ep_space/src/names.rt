@@ -3,7 +3,7 @@
 ghost use Rattle.std.specs.Prelude.{◌≡◌, ◌∷◌, true, option_copied};
 ghost use Rattle.ep_base.specs.Attributes.{same_list};
 ghost use Rattle.ep_base.specs.Interference.{has_key, keys_in, is_many};
-ghost use Rattle.ep_base.specs.Parts.{IsSecond};
+ghost use Rattle.ep_base.specs.CommandParts.{IsSecond};
 ghost use Rattle.ep_base.specs.Views.{touched};
 ghost use Rattle.ep_space.specs.Keys.{index_keys, mark, marked};
 ghost use Rattle.ep_space.specs.Names.{named, all_named, AreApart, AreMany};
@@ -86,7 +86,7 @@ pub(crate) fn has_name(command: &Command, name: Name<'_>) -> bool
     }
 }
 
-// The same of a command over many keys.
+// Whether a command over many keys has this name.
 fn has_item(command: &Command, name: Name<'_>) -> bool
     requires { is_many command.now ≡ true }
     ensures { result ≡ has_key (named name.entry) (index_keys command.now) }

@@ -148,7 +148,7 @@ impl Space {
     }
 
     /// Makes a place for the instance's record, if it has none, and room in the index for what a vote for this command brings there. Nothing
-    /// else changes; at want of memory there may be more room, and no place more.
+    /// else changes; when out of memory there may be more room, and no place more.
     #[inline(always)]
     pub fn reserve_for(&mut self, id: InstanceId, command: &Command) -> Result<(), AllocError>
         ensures ok { OnOk result (self.new ≡ record self.old { places = set.insert self.old.places id; room = self.new.room }) }

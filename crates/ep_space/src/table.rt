@@ -140,7 +140,7 @@ impl Table<Record> {
 }
 
 impl<V: Duplicate> Table<V> {
-    /// The same table again.
+    /// A copy of the table.
     pub fn duplicate(&self, alloc: Global) -> Result<Table<V>, AllocError>
         ensures { IfOk result (λ t. t ≡ self.now) }
     {
@@ -150,7 +150,7 @@ impl<V: Duplicate> Table<V> {
     }
 }
 
-/// The same entries again.
+/// A copy of the entries.
 fn duplicates<V: Duplicate>(entries: &Entries<V>, alloc: Global) -> Result<Entries<V>, AllocError>
     ensures { IfOk result (λ same. same.items ≡ entries.now.items) }
 {
@@ -175,7 +175,7 @@ fn add_entry<V: Drop>(
     Ok(())
 }
 
-/// The same value again, if there is one.
+/// A copy of the value, if there is one.
 fn duplicate_of<V: Duplicate>(value: &Option<V>, alloc: Global) -> Result<Option<V>, AllocError>
     ensures { IfOk result (λ same. same ≡ value.now) }
 {

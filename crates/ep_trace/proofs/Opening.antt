@@ -35,7 +35,7 @@ over k old new was =
 
 -- Replicas, one after another.
 
--- those of the replicas below n were told
+-- those of the replicas below n were reported
 abbrev pub ToldBelow : Played → ℕ → List ℕ → List ℕ → Type 0
 ToldBelow w n old new = (more : List ℕ) × OpenBelow w n more × (new ≡ old ++ more)
 

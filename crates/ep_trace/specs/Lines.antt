@@ -1,4 +1,4 @@
--- What the events of a replay are told as, a line each.
+-- What the events of a replay are reported as, a line each.
 use Rattle.std.specs.Prelude.{ℕ, ◌+◌, List, [], ◌∷◌, ◌++◌, Option, Some, None, codes, decimal}
 use Rattle.ep_base.specs.Commands.{Command}
 use Rattle.ep_frame.specs.Meaning.{sender_at, origin_at}
@@ -36,7 +36,7 @@ happening_text n (taken.Execute i) frames = taken_text (taken.Execute i) frames
 abbrev pub receiver_text : ℕ → List ℕ → List ℕ
 receiver_text n b = codes "#" ++ decimal n ++ codes " to " ++ decimal (origin_at b).to
 
--- the rest of what is sent, from this number on, after a frame of these words: frames of the same words, one after another, are told together
+-- the rest of what is sent, from this number on, after a frame of these words: frames of the same words, one after another, are reported together
 abbrev pub more_sent : ℕ → List ℕ → List (List ℕ) → List ℕ
 more_sent n words [] = codes ": " ++ words
 more_sent n words (b ∷ bs) = between words (words_at b) ++ receiver_text n b ++ more_sent (n + 1) (words_at b) bs

@@ -4,7 +4,7 @@
 //! that it handles and sends, or why it is refused; then each message that was never given, and each instance that a replica
 //! knows of and hasn't committed; and then what would end what is open, which `ep_ending` tells.
 //!
-//! Start with `traced.rt`, then specs/Traced.antt (which events are told, in which order) and specs/Lines.antt (each line).
+//! Start with `traced.rt`, then specs/Traced.antt (which events are reported, in which order) and specs/Lines.antt (each line).
 //! `ep_replay` plays the script, and keeps each event that it tries: what is told here is what `epaxos replay` plays.
 #![tactic(auto)]
 

@@ -11,7 +11,7 @@ generation_text g = codes "version 3 generation " ++ decimal g
 
 -- the stamp that the clocks go on from, and how many keys there are, with the digest of what they have
 abbrev pub opening_text : Opening → List ℕ
-opening_text o = codes " since " ++ decimal o.since ++ codes " opening " ++ contents_text o.contents
+opening_text o = codes " since " ++ decimal o.base_stamp ++ codes " opening " ++ contents_text o.contents
 
 -- a generation, and what it begins with
 abbrev pub edition_text : ℕ → Opening → List ℕ

@@ -1,4 +1,4 @@
--- What entries are told as, where `handled` is the test for frames that some entry handles.
+-- What entries are reported as, where `handled` is the test for frames that some entry handles.
 use Rattle.std.specs.Prelude.{ℕ, Bool, cond, List, [], ◌∷◌, ◌++◌, codes, decimal}
 use Rattle.ep_base.specs.Attributes.{same_list}
 use Rattle.ep_base.specs.declared.reply.Answer.{Answer}
@@ -48,7 +48,7 @@ abbrev pub receiver_text : (List ℕ → Bool) → List ℕ → List ℕ
 receiver_text handled b = codes "to " ++ decimal (origin_at b).to ++ cond (handled b) [] (codes " NEVER HANDLED")
 
 module _ (handled : List ℕ → Bool) where
-  -- the rest of what is sent, after a frame of these words: frames of the same words, one after another, are told with it, by their receivers
+  -- the rest of what is sent, after a frame of these words: frames of the same words, one after another, are reported with it, by their receivers
   abbrev pub more_sent : List ℕ → List (List ℕ) → List ℕ
   more_sent words [] = codes ": " ++ words
   more_sent words (b ∷ bs) = between words (words_at b) ++ receiver_text handled b ++ more_sent (words_at b) bs

@@ -30,7 +30,7 @@ pub record IsInOrder (c : Collected) (all : List (ℕ × ℕ)) : Type 0 where
   pub places : all ≡ places_of order
 
 -- The text begins with the line of the journals' edition, if there is one. It has a line for each entry that is asked for, in the order of the journals'
--- schedule, or says that there is none. In it a frame is told as never handled exactly where no entry of any journal handles it.
+-- schedule, or says that there is none. In it a frame is reported as never handled exactly where no entry of any journal handles it.
 pub record IsShown (c : Collected) (part : Selection) (text : List ℕ) : Type 0 where
   pub all : List (ℕ × ℕ)
   pub ordered : IsInOrder c all

@@ -1,4 +1,4 @@
--- What messages and events are told as.
+-- What messages and events are reported as.
 use Rattle.std.specs.Prelude.{ℕ, List, [], ◌++◌, Option, Some, None, codes, decimal}
 use Rattle.ep_base.specs.Ballots.{counter_of, owner_of}
 use Rattle.ep_base.specs.Commands.{Command}

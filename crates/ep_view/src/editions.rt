@@ -38,7 +38,7 @@ fn push_opening(text: &mut Vec<u8>, opening: &Opening) -> Result<(), AllocError>
         text,
         &[
             Part::Text(b" since "),
-            Part::Number(opening.since()),
+            Part::Number(opening.base_stamp()),
             Part::Text(b" opening "),
         ],
     )?;

@@ -6,7 +6,7 @@
 //! - `sequence` gives a sequence diagram for Mermaid, `graph` the dependency graph of what is committed for Graphviz.
 //!
 //! `Selection` is which entries are asked for, `Wanted` as a command line asks. One walk (`walk.rt`) goes over them by stamp and then by replica, with a printer for
-//! each format. Keys and values are printed as words of bytes, as in scripts and reports (docs/FORMATS.md, section 3), and quoted as each format asks: no byte of a
+//! each format. Keys and values are printed as words of bytes, as in scripts and reports (docs/CLI.md, section 3), and quoted as each format asks: no byte of a
 //! journal ends a string, a line or a tag (`ep_json`, specs/Labels.antt). What of it other views of runs need is public too.
 //!
 //! Start with specs/Words.antt, which says the text of a message and of an event, then `showing.rt` and specs/Lines.antt, which says a

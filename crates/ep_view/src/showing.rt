@@ -106,7 +106,7 @@ pub fn show(alloc: Global, journals: &Journals, part: &Selection) -> Result<Vec<
     text
 }
 
-// The same, where these frames are handled.
+// The entries of the journals that the part keeps, where these frames are handled.
 #[tactic(auto, using(crate::proofs::AsShown::is_shown))]
 fn shown_by(
     alloc: Global,

@@ -22,7 +22,7 @@ use Rattle.ep_cli.proofs.Printed.{not_made, put_to}
 use Rattle.ep_cli.specs.Outputs.{Output, Wrote, WroteNothing, became}
 use Rattle.ep_cli.specs.Printed.{IsPut, IsTextPut, Makes}
 use Rattle.ep_cli.specs.declared.made.Made.{Made}
-use Rattle.ep_viewer.specs.Views.{Concludes, Does, Prints, Tells}
+use Rattle.ep_viewer.specs.Views.{Concludes, Does, Prints, Displays}
 use Rattle.ep_view.specs.declared.wanted.Wanted.{Wanted}
 use Rattle.ep_viewer.specs.declared.viewer_asked.ViewerAsked.{ViewerAsked}
 use Rattle.ep_viewer.specs.declared.viewer_asked.ViewerAsked.TheVariants.{View as OfBundle, Trace, Explain, Version, Help}
@@ -86,11 +86,11 @@ not_read view b r zs place left is found = not_made (Does (OfBundle view)) r (of
 -- a text of the journals that are read is a view
 pub viewed :
     (view : View) (journals : Collected) (receipts : List Receipt) (end : Left) (zs text : List ℕ) (out : Output) → ReadsBundle (record { at = 0; bytes = zs }) (Ok ((journals, receipts), end)) →
-    Tells view journals text → Wrote out text → Does (OfBundle view) (Ok Done) zs out
+    Displays view journals text → Wrote out text → Does (OfBundle view) (Ok Done) zs out
 viewed view journals receipts end zs text out read tells wrote =
     (refl, record { journals = journals; receipts = receipts; end = end; read = read; text = text; tells = tells; wrote = wrote })
 
--- or there is none, for want of memory
+-- or there is none, when out of memory
 pub not_viewed : (view : View) (zs : List ℕ) (e : ViewerFault) (out : Output) → e ≡ Memory → WroteNothing out → Does (OfBundle view) (Err e) zs out
 not_viewed view zs e out is silent = subst (λ (x : ViewerFault). Does (OfBundle view) (Err x) zs out) (sym is) silent
 
@@ -102,7 +102,7 @@ pub no_text_not_written : (e : ViewerFault) → e ≡ Memory → is_write e ≡ 
 no_text_not_written e is = ap is_write is
 
 -- of columns nothing is promised
-pub any_text : (wanted : Wanted) (journals : Collected) (r : Result (Vec ℕ) ViewerFault) → IfOk r (λ t. Tells (Columns wanted) journals t.items)
+pub any_text : (wanted : Wanted) (journals : Collected) (r : Result (Vec ℕ) ViewerFault) → IfOk r (λ t. Displays (Columns wanted) journals t.items)
 any_text wanted journals (Ok text) = tt
 any_text wanted journals (Err e) = tt
 

@@ -30,24 +30,24 @@ use Rattle.ep_cli.specs.declared.status.Status.{Status}
 use Rattle.ep_cli.specs.declared.status.Status.TheVariants.{Done}
 
 -- The bytes are one bundle, and this was written of its journals.
-pub record IsView (Tells : Collected → List ℕ → Type 0) (zs : List ℕ) (out : Output) : Type 0 where
+pub record IsView (Displays : Collected → List ℕ → Type 0) (zs : List ℕ) (out : Output) : Type 0 where
   pub journals : Collected
   pub receipts : List Receipt
   pub end : Left
   pub read : ReadsBundle (record { at = 0; bytes = zs }) (Ok ((journals, receipts), end))
   pub text : List ℕ
-  pub tells : Tells journals text
+  pub tells : Displays journals text
   pub wrote : Wrote out text
 
 -- a bundle is viewed, or is refused, and then nothing is written
 abbrev pub Views : (Collected → List ℕ → Type 0) → Result Status ViewerFault → List ℕ → Output → Type 0
-Views Tells (Ok status) zs out = (status ≡ Done) × IsView Tells zs out
-Views Tells (Err (Script line)) zs out = ⊥
-Views Tells (Err (BadBundle offset)) zs out = ReadsBundle (record { at = 0; bytes = zs }) (Err (bundle.BadBundle offset)) × WroteNothing out
-Views Tells (Err (NotARun replica entry)) zs out = ReadsBundle (record { at = 0; bytes = zs }) (Err (bundle.NotARun replica entry)) × WroteNothing out
-Views Tells (Err Memory) zs out = WroteNothing out
-Views Tells (Err Read) zs out = WroteNothing out
-Views Tells (Err Write) zs out = Unit {0}
+Views Displays (Ok status) zs out = (status ≡ Done) × IsView Displays zs out
+Views Displays (Err (Script line)) zs out = ⊥
+Views Displays (Err (BadBundle offset)) zs out = ReadsBundle (record { at = 0; bytes = zs }) (Err (bundle.BadBundle offset)) × WroteNothing out
+Views Displays (Err (NotARun replica entry)) zs out = ReadsBundle (record { at = 0; bytes = zs }) (Err (bundle.NotARun replica entry)) × WroteNothing out
+Views Displays (Err Memory) zs out = WroteNothing out
+Views Displays (Err Read) zs out = WroteNothing out
+Views Displays (Err Write) zs out = Unit {0}
 
 -- The bytes are a script, and what was written is its trace.
 pub record IsTrace (zs : List ℕ) (out : Output) : Type 0 where
@@ -100,27 +100,27 @@ unfoldable pub IsOwnPage : Collected → Selection → List ℕ → Type 0
 IsOwnPage journals part text = IsPage HEAD.now TAIL.now journals part text
 
 -- what is told of a bundle's journals; of columns nothing is promised
-abbrev pub Tells : View → Collected → List ℕ → Type 0
-Tells (Show wanted) journals text = IsShown journals (part_of journals wanted) text
-Tells (Columns wanted) journals text = Unit {0}
-Tells (Page wanted) journals text = IsOwnPage journals (part_of journals wanted) text
-Tells (Sequence wanted) journals text = IsSequence journals (part_of journals wanted) text
-Tells (Graph wanted) journals text = IsGraph journals (part_of journals wanted) text
-Tells (Events wanted) journals text = IsTraceFile journals (part_of journals wanted) text
+abbrev pub Displays : View → Collected → List ℕ → Type 0
+Displays (Show wanted) journals text = IsShown journals (part_of journals wanted) text
+Displays (Columns wanted) journals text = Unit {0}
+Displays (Page wanted) journals text = IsOwnPage journals (part_of journals wanted) text
+Displays (Sequence wanted) journals text = IsSequence journals (part_of journals wanted) text
+Displays (Graph wanted) journals text = IsGraph journals (part_of journals wanted) text
+Displays (Events wanted) journals text = IsTraceFile journals (part_of journals wanted) text
 
 abbrev pub Does : ViewerAsked → Result Status ViewerFault → List ℕ → Output → Type 0
-Does (OfBundle view) outcome zs out = Views (Tells view) outcome zs out
+Does (OfBundle view) outcome zs out = Views (Displays view) outcome zs out
 Does Explain outcome zs out = Explains outcome zs out
 Does Trace outcome zs out = Traces outcome zs out
 Does Version outcome zs out = Prints outcome (codes "epaxos 1.0.0\n") out
 Does (Help text) outcome zs out = Prints outcome (string_bytes text) out
 
--- a fault is told, and decides on the status
+-- a fault is reported, and decides on the status
 abbrev pub Concludes : Result Status ViewerFault → Status → Output → Type 0
 Concludes (Ok found) status fault = (status ≡ found) × WroteNothing fault
 Concludes (Err e) status fault = (status ≡ status_of e) × Told fault (line_of e)
 
--- what was asked for was done, or why it wasn't is told; the input and the output failed where the outcome says so, and nowhere else
+-- what was asked for was done, or why it wasn't is reported; the input and the output failed where the outcome says so, and nowhere else
 pub record Performs (asked : ViewerAsked) (status : Status) (zs : List ℕ) (reader : Input) (out fault : Output) : Type 0 where
   pub outcome : Result Status ViewerFault
   pub does : Does asked outcome zs out

@@ -76,7 +76,7 @@ Exit status:
 
 /// What the help of `trace` says at its end.
 const AFTER_TRACE: &str = "\
-Standard input, to its end, is a script: lines as in the example; docs/FORMATS.md, section 4, has all of them.
+Standard input, to its end, is a script: lines as in the example; docs/CLI.md, section 4, has all of them.
 Nothing is printed before the end is read.
 
 A trace has a line for each event that the script tries, in order: the script's line, the replica's entry, the event, the number

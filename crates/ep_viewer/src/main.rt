@@ -6,7 +6,7 @@
 //! page stand in page.html, beside src/; `tools/generate` makes `parts.rt` of it.
 //!
 //! Start with `program.rt` and specs/Views.antt. A fault has one line on the fault output and one status (`viewer_fault.rt`,
-//! `telling.rt`, and `ep_cli`), as docs/FORMATS.md, section 6, lists them.
+//! `telling.rt`, and `ep_cli`), as docs/CLI.md, section 6, lists them.
 #![tactic(auto)]
 
 mod command_line;

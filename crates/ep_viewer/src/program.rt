@@ -71,7 +71,7 @@ fn attempt<S: Source, W: Sink, F>(
     }
 }
 
-/// How the program ends. A fault is told on the fault output; where that fails, the status stays.
+/// How the program ends. A fault is reported on the fault output; where that fails, the status stays.
 fn concluded<F: Sink>(outcome: Result<Status, ViewerFault>, fault_writer: &mut F) -> Status
     ensures { Concludes outcome result (became F.held F.has_failed fault_writer.old fault_writer.new) }
 {

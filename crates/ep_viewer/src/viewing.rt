@@ -4,7 +4,7 @@ ghost use Rattle.std.specs.Prelude.{◌≡◌, ℕ, List, Some, IfOk, IfErr, fal
 ghost use Rattle.ep_base.specs.Devices.{FailsAsTold};
 ghost use Rattle.ep_cli.specs.Printed.{Makes};
 ghost use Rattle.ep_viewer.specs.Faults.{is_read, is_write};
-ghost use Rattle.ep_viewer.specs.Views.{Does, Tells};
+ghost use Rattle.ep_viewer.specs.Views.{Does, Displays};
 ghost use Rattle.ep_viewer.specs.declared.viewer_asked.ViewerAsked.TheVariants.{View as OfBundle};
 ghost use Rattle.ep_viewer.specs.declared.viewer_fault.ViewerFault.TheVariants.{Memory};
 ghost use Rattle.ep_viewer.specs.declared.view.View.TheVariants.{Show, Page, Sequence, Graph, Events};
@@ -45,7 +45,7 @@ pub(crate) fn view_of<S: Source>(
 
 /// What is printed of the journals.
 fn text_of(alloc: Global, view: &View, journals: &Journals) -> Result<Vec<u8>, ViewerFault>
-    ensures tells { IfOk result (λ text. Tells view.now journals.now text.items) }
+    ensures tells { IfOk result (λ text. Displays view.now journals.now text.items) }
     ensures refused { IfErr result (λ e. e ≡ Memory) }
 {
     match view {
@@ -60,7 +60,7 @@ fn text_of(alloc: Global, view: &View, journals: &Journals) -> Result<Vec<u8>, V
 
 /// The entries that are wanted, a line each.
 fn lines_of(alloc: Global, wanted: &Wanted, journals: &Journals) -> Result<Vec<u8>, ViewerFault>
-    ensures tells { IfOk result (λ text. Tells (Show wanted.now) journals.now text.items) }
+    ensures tells { IfOk result (λ text. Displays (Show wanted.now) journals.now text.items) }
     ensures refused { IfErr result (λ e. e ≡ Memory) }
 {
     let part = wanted.part(alloc, journals)?;
@@ -79,7 +79,7 @@ fn columns_of(alloc: Global, wanted: &Wanted, journals: &Journals) -> Result<Vec
 
 /// A page for a browser, of the entries that are wanted.
 fn page_of(alloc: Global, wanted: &Wanted, journals: &Journals) -> Result<Vec<u8>, ViewerFault>
-    ensures tells { IfOk result (λ text. Tells (Page wanted.now) journals.now text.items) }
+    ensures tells { IfOk result (λ text. Displays (Page wanted.now) journals.now text.items) }
     ensures refused { IfErr result (λ e. e ≡ Memory) }
 {
     let part = wanted.part(alloc, journals)?;
@@ -89,7 +89,7 @@ fn page_of(alloc: Global, wanted: &Wanted, journals: &Journals) -> Result<Vec<u8
 
 /// A sequence diagram of the entries that are wanted, for Mermaid.
 fn sequence_of(alloc: Global, wanted: &Wanted, journals: &Journals) -> Result<Vec<u8>, ViewerFault>
-    ensures tells { IfOk result (λ text. Tells (Sequence wanted.now) journals.now text.items) }
+    ensures tells { IfOk result (λ text. Displays (Sequence wanted.now) journals.now text.items) }
     ensures refused { IfErr result (λ e. e ≡ Memory) }
 {
     let part = wanted.part(alloc, journals)?;
@@ -99,7 +99,7 @@ fn sequence_of(alloc: Global, wanted: &Wanted, journals: &Journals) -> Result<Ve
 
 /// The dependency graph of what the entries propose and recover that are wanted, for Graphviz.
 fn graph_of(alloc: Global, wanted: &Wanted, journals: &Journals) -> Result<Vec<u8>, ViewerFault>
-    ensures tells { IfOk result (λ text. Tells (Graph wanted.now) journals.now text.items) }
+    ensures tells { IfOk result (λ text. Displays (Graph wanted.now) journals.now text.items) }
     ensures refused { IfErr result (λ e. e ≡ Memory) }
 {
     let part = wanted.part(alloc, journals)?;
@@ -109,7 +109,7 @@ fn graph_of(alloc: Global, wanted: &Wanted, journals: &Journals) -> Result<Vec<u
 
 /// The entries that are wanted, as trace events.
 fn events_of(alloc: Global, wanted: &Wanted, journals: &Journals) -> Result<Vec<u8>, ViewerFault>
-    ensures tells { IfOk result (λ text. Tells (Events wanted.now) journals.now text.items) }
+    ensures tells { IfOk result (λ text. Displays (Events wanted.now) journals.now text.items) }
     ensures refused { IfErr result (λ e. e ≡ Memory) }
 {
     let part = wanted.part(alloc, journals)?;

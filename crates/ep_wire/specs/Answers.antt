@@ -177,7 +177,7 @@ sealed_code is_sealed = cond is_sealed 1 0
 abbrev pub counts_bytes : NodeState → List ℕ
 counts_bytes s = number_bytes 4 s.generation ++ number_bytes 4 s.entries
 
--- what tells when to seal, and its stamp
+-- what says when to seal, and its stamp
 abbrev pub space_bytes : NodeState → List ℕ
 space_bytes s = number_bytes 2 s.used ++ number_bytes 2 s.deps ++ number_bytes 1 (sealed_code s.is_sealed) ++ number_bytes 8 s.stamp
 

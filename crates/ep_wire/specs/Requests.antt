@@ -80,7 +80,7 @@ key asked bs = cond (eqb (length bs) 0 || ltb 255 (length bs)) (Err 5) (Ok (aske
 abbrev pub next_open : JournalDialect → List ℕ → Result Request ℕ
 next_open how bs = cond (same_list bs (0 ∷ 0 ∷ 0 ∷ [])) (Ok (NextOpen None)) (map_ok (λ i. NextOpen (Some i)) (named how bs))
 
--- how many entries were told before, and how many open instances are asked for at most
+-- how many entries were reported before, and how many open instances are asked for at most
 abbrev pub ready : Left → Reading Request
 ready l = and_then (field 4 0 4294967295 l) (λ after l. and_then (field 1 0 255 l) (λ most l. Ok (Ready after most, l)))
 
@@ -237,7 +237,7 @@ abbrev pub next_request : JournalDialect → Left → Reading (Option Request)
 next_request how l = unless_over l (request how l)
 
 -- What a call answers, the place at which it leaves off, and the bytes that its source then has left: it is the next request, or none where the
--- input is over; or its length is out of range or its bytes are cut, which is told at its first byte; or the source or memory failed.
+-- input is over; or its length is out of range or its bytes are cut, which is reported at its first byte; or the source or memory failed.
 abbrev pub ReadsRequest : JournalDialect → Left → Result (Option Request) RequestFault → ℕ → Option (List ℕ) → Type 0
 ReadsRequest how l (Ok next) place left = (bytes : List ℕ) × (left ≡ Some bytes) × (next_request how l ≡ Ok (next, record { at = place; bytes = bytes }))
 ReadsRequest how l (Err Memory) place left = Unit {0}

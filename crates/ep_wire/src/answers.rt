@@ -332,7 +332,7 @@ pub fn write_malformed<K: Sink>(sink: &mut K, malformed: Malformed) -> Result<()
     put_u64(sink, malformed.at)
 }
 
-/// The byte that tells whether a seal was executed: 1 where one was, else 0.
+/// The byte that says whether a seal was executed: 1 where one was, else 0.
 pub fn sealed_code(is_sealed: bool) -> u8
     ensures { result ≡ sealed_code is_sealed }
 {
@@ -347,7 +347,7 @@ fn put_counts<K: Sink>(sink: &mut K, state: &NodeState) -> Result<(), WriteFaile
     put_u32(sink, state.entries)
 }
 
-/// What tells when to seal, and the last stamp.
+/// What says when to seal, and the last stamp.
 fn put_space<K: Sink>(sink: &mut K, state: &NodeState) -> Result<(), WriteFailed>
     ensures { Puts (K.held sink.old) (K.held sink.new) (K.has_failed sink.old) (K.has_failed sink.new) result (space_bytes state.now) }
 {

@@ -6,7 +6,7 @@ ghost use Rattle.ep_wire.specs.Front.{Gathers};
 
 use ep_base::{ReadFailed, Source};
 
-/// Fills the front of the buffer with the next bytes of the source, and tells how many there are: fewer than the buffer is
+/// Fills the front of the buffer with the next bytes of the source, and says how many there are: fewer than the buffer is
 /// long only where the input ends.
 pub(crate) fn gather<S: Source>(source: &mut S, buf: &mut [u8]) -> Result<usize, ReadFailed>
     ensures bytes { (zs : List ℕ) → S.left source.old ≡ Some zs → IfOk result (λ n. Gathers n zs buf.new (S.left source.new)) }

@@ -63,7 +63,7 @@ fn early_field(key: u64, value: u64, at: u64) -> RequestField
     }
 }
 
-/// The same of one of version 3 that begins here, where both keys and the body have so many bytes.
+/// The field at this place of a proposal of version 3 that begins here, where both keys and the body have so many bytes.
 fn late_field(from: u64, first: u64, second: u64, body: u64, at: u64) -> RequestField
     requires from { from < 2 ^ 8 }
     requires first { first < 2 ^ 8 }
@@ -103,7 +103,7 @@ fn early_field_in(body: &[u8], at: u64) -> RequestField
     early_field(u64::from(byte_at(body, 17)), two_at(body, 18), at)
 }
 
-/// The same of one of version 3, which begins here.
+/// The field at this place of a proposal of version 3, which begins here.
 fn late_field_in(from: u8, body: &[u8], at: u64) -> RequestField
     ensures { result ≡ field_in (late_fields_in from body.now) at }
 {
@@ -114,7 +114,7 @@ fn late_field_in(from: u8, body: &[u8], at: u64) -> RequestField
     late_field(begin, first, second, four_at(body, start + 14), at)
 }
 
-/// The same of the version.
+/// The field at this place of a proposal of this version.
 fn proposal_field(version: Version, body: &[u8], at: u64) -> RequestField
     ensures { result ≡ field_in (proposal_fields version body.now) at }
 {
@@ -202,7 +202,7 @@ fn read_field(key: u64, count: u64, at: u64) -> RequestField
     }
 }
 
-/// The same of a read with this body.
+/// The field at this place of a read with this body.
 fn read_field_in(body: &[u8], at: u64) -> RequestField
     ensures { result ≡ field_in (read_fields_in body.now) at }
 {

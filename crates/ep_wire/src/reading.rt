@@ -76,7 +76,7 @@ fn read_sized<S: Source>(
     Ok(request)
 }
 
-/// The next request; none where the input is over. A fault may be told at any byte of it.
+/// The next request; none where the input is over. A fault may be reported at any byte of it.
 fn read_next<S: Source>(
     alloc: Global,
     source: &mut S,

@@ -83,7 +83,7 @@ fn read_read<S: Source>(
     Ok(Request::Read { key, found })
 }
 
-/// The same, and nothing after it.
+/// A key and what the looks found, and nothing after it.
 fn read_lone_read<S: Source>(
     alloc: Global,
     source: &mut S,
@@ -137,7 +137,7 @@ pub fn write_waits<K: Sink>(sink: &mut K, instance: InstanceId) -> Result<(), Wr
     put_instance(sink, instance)
 }
 
-/// Writes what a read is told.
+/// Writes what a read is reported.
 pub fn write_reply<K: Sink>(sink: &mut K, reply: &Reply) -> Result<(), WriteFailed>
     ensures { Puts (K.held sink.old) (K.held sink.new) (K.has_failed sink.old) (K.has_failed sink.new) result (reply_bytes reply.now) }
 {
@@ -165,7 +165,7 @@ fn write_told<K: Sink>(sink: &mut K, code: u8, told: &ToldValues) -> Result<(), 
 fn put_told_in_third<K: Sink>(sink: &mut K, told: &ToldValues) -> Result<(), WriteFailed>
     ensures { Puts (K.held sink.old) (K.held sink.new) (K.has_failed sink.old) (K.has_failed sink.new) result (told_bytes (V3 1) told.now) }
 {
-    put_told(sink, Version::known(3, 1), told)
+    put_told(sink, Version::from_valid(3, 1), told)
 }
 
 /// How many bytes follow the length of the reply that tells these values.
@@ -199,7 +199,7 @@ fn one_told_len(value: &Option<Value>) -> u32
     }
 }
 
-/// Writes a reply that tells no value.
+/// Writes a reply that says no value.
 fn write_plain<K: Sink>(sink: &mut K, code: u8) -> Result<(), WriteFailed>
     ensures { Puts (K.held sink.old) (K.held sink.new) (K.has_failed sink.old) (K.has_failed sink.new) result (plain_bytes code) }
 {

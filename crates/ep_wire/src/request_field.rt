@@ -39,7 +39,7 @@ pub enum RequestField {
     SecondKey,
     /// Its body.
     Body,
-    /// How many entries were told before.
+    /// How many entries were reported before.
     After,
     /// How many open instances are asked for at most.
     Most,

@@ -103,7 +103,7 @@ goes_on w r taken e k h lt a among =
       schedule = h.schedule ++ (act r e ∷ []);
       shows = shows_more w h.schedule r taken e k lt there h.shows a among;
       journals = journals_more w r taken e k lt there h.journals a;
-      clocked = each w r e there (λ q es. AreClocked w.opening.since (entries_of es)) h.clocked (λ c. clock_grows (replica_in w r) taken e k c a);
+      clocked = each w r e there (λ q es. AreClocked w.opening.base_stamp (entries_of es)) h.clocked (λ c. clock_grows (replica_in w r) taken e k c a);
     }
 
 -- The frames of an entry: their places, and how many there are.

@@ -151,7 +151,7 @@ new_world f ks steps messages h opens none no_steps no_messages = record {
   schedule = [];
   shows = record { journals = λ r. ap entries_of (sym (none r)); steps = no_steps; messages = no_messages; played = tt };
   journals = record { count = count_all ks ∙ as_many f ks h; opens = opens; journal = λ r lt. subst (λ (es : List Entry). IsJournal (first_version ks) (first_opening ks) f r es) (sym (none r)) (record { run = (tt, tt); above = tt; readable = tt; versioned = tt }); others = λ r ge. none r };
-  clocked = λ r. subst (λ (es : List Entry). AreClocked (first_opening ks).since (entries_of es)) (sym (none r)) tt;
+  clocked = λ r. subst (λ (es : List Entry). AreClocked (first_opening ks).base_stamp (entries_of es)) (sym (none r)) tt;
 }
 
 pub second_opens : (ks : List Kept) → first_version ks ≡ V2 → first_opening ks ≡ no_opening → OpensIn (first_version ks) (first_opening ks)

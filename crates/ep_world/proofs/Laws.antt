@@ -44,12 +44,12 @@ is_played w h = record {
 }
 
 pub accepted : (w : Played) → IsWorld w → (receipts : List Receipt) → AreOwn (opens w.opening) w.faults (journals_in w) receipts → IsAccepted (opens w.opening) w.faults (journals_in w) receipts
-accepted w h receipts own = played_accepted_lem (opens w.opening) (λ _. w.opening.since) w.faults (journals_in w) h.schedule h.shows.played h.shows.journals (λ r. numbered_in (collected w) r h.journals) h.clocked receipts own
+accepted w h receipts own = played_accepted_lem (opens w.opening) (λ _. w.opening.base_stamp) w.faults (journals_in w) h.schedule h.shows.played h.shows.journals (λ r. numbered_in (collected w) r h.journals) h.clocked receipts own
 
 -- the journals are one run
 pub merges : (w : Played) → IsWorld w → 1 ≤ w.faults → w.faults ≤ 3 → (schedule : List Scheduled) × Merges (opens w.opening) w.faults (journals_in w) schedule
 merges w h some few =
-    let m = played_match_lem (opens w.opening) (λ _. w.opening.since) w.faults (journals_in w) h.schedule h.shows.played h.shows.journals (λ r. numbered_in (collected w) r h.journals) h.clocked in
+    let m = played_match_lem (opens w.opening) (λ _. w.opening.base_stamp) w.faults (journals_in w) h.schedule h.shows.played h.shows.journals (λ r. numbered_in (collected w) r h.journals) h.clocked in
     let s = some_schedule_lem (size w.faults) (journals_in w) m.0.others (λ r. numbered_in (collected w) r h.journals) in
     (s.0, record { some = omega arith; few = omega arith; local = m.0; matched = m.1; scheduled = s.1 })
 

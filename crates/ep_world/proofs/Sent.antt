@@ -82,7 +82,7 @@ stands_at w m k x b number entry frame is readable = record {
 
 -- each replica's entries are a local run
 pub local_in : (w : Played) → IsWorld w → AreLocalRuns (opens w.opening) w.faults (journals_in w)
-local_in w h = (played_match_lem (opens w.opening) (λ _. w.opening.since) w.faults (journals_in w) h.schedule h.shows.played h.shows.journals (λ r. numbered_in (collected w) r h.journals) h.clocked).0
+local_in w h = (played_match_lem (opens w.opening) (λ _. w.opening.base_stamp) w.faults (journals_in w) h.schedule h.shows.played h.shows.journals (λ r. numbered_in (collected w) r h.journals) h.clocked).0
 
 pub stands : (w : Played) (h : IsWorld w) (m : Frame) → In m (frames_of h.schedule) → Stands w m
 stands w h m k =

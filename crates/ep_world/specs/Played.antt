@@ -95,4 +95,4 @@ pub record IsWorld (w : Played) : Type 0 where
   pub schedule : List Scheduled
   pub shows : Shows w schedule
   pub journals : AreJournals (collected w)
-  pub clocked : (r : ℕ) → AreClocked w.opening.since (journals_in w r)
+  pub clocked : (r : ℕ) → AreClocked w.opening.base_stamp (journals_in w r)

@@ -55,7 +55,7 @@ pub record Happens (w : Played) (event : WorldEvent) (w' : Played) : Type 0 wher
   pub applied : Applied (replica_in w replica) taken entry (replica_in w' replica)
   pub becomes : w' ≡ grown w replica entry
 
--- why the event is no step: want of memory; there is no such message; there is no such replica; or the replica's first reason
+-- why the event is no step: out of memory; there is no such message; there is no such replica; or the replica's first reason
 abbrev pub IsNotEnabled : Played → WorldEvent → WorldFault → Type 0
 IsNotEnabled w event cause =
     (cause ≡ Step Memory)

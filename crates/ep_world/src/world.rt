@@ -136,6 +136,7 @@ impl World {
     }
 
     /// Gives the message of this number to its receiver: as `step` does, of `Deliver`.
+    #[inline(always)]
     pub fn deliver(&mut self, message: u64) -> Result<(), WorldFault>
         ensures ok { OnOk result (Happens self.old (Deliver message) self.new) }
         ensures refused { IfErr result (λ cause. IsNotEnabled self.old (Deliver message) cause) }
@@ -147,6 +148,7 @@ impl World {
     }
 
     /// The replica that handles a message, and the message's frame.
+    #[inline(always)]
     fn receive(&self, message: u64) -> Result<(ReplicaId, Frame), WorldFault>
         ensures ok { IfOk result (λ p. asked self.now (Deliver message) ≡ Some (p.0, Handle p.1)) }
         ensures refused { IfErr result (λ cause. IsNotEnabled self.now (Deliver message) cause) }
@@ -154,9 +156,8 @@ impl World {
         let Some(frame) = self.message(message) else {
             return Err(WorldFault::NoSuchMessage(message));
         };
-        let to = receiver(frame);
         let frame = frame.clone()?;
-        Ok((to, frame))
+        Ok((receiver(&frame), frame))
     }
 
     /// The replica takes what some event of the world asks of it.

@@ -38,7 +38,7 @@ pub enum WorldEvent {
 }
 
 impl WorldEvent {
-    /// The same event again.
+    /// A copy of the event.
     pub fn copy(&self, alloc: Global) -> Result<WorldEvent, AllocError>
         ensures { IfOk result (λ e. e ≡ self.now) }
     {

@@ -1,8 +1,9 @@
 //! The admin socket: commands that change the cluster are taken here and not at the clients' port, so that whoever may write data can't end it.
+use crate::ask::{Ask, What};
 use crate::clients::about_server;
 use crate::command_fault::CommandFault;
 use crate::commands::{Asked, Hello, understand};
-use crate::driver::{Ask, Event, Told, What};
+use crate::event::Event;
 use crate::manage_fault::ManageFault;
 use crate::password::Password;
 use crate::peers::{Membership, who_is_at};
@@ -10,6 +11,7 @@ use crate::replies::Due;
 use crate::resp::{Input, Reply, Version, read_command};
 use crate::teller::Teller;
 use crate::timed::read_some;
+use crate::told::Told;
 use crate::wishes::Manage;
 use std::fmt;
 use std::fs;
@@ -279,7 +281,7 @@ impl Session<'_> {
 
 /// What is wrong with an address that is named: each new machine has to be at its own.
 fn fault_of_addresses(manage: &Manage, membership: &Membership) -> Option<ManageFault> {
-    if membership.waiting.is_this() {
+    if membership.waits() {
         return None;
     }
     let named: Vec<_> = match manage {

@@ -1,7 +1,7 @@
 //! What the machines of a cluster leave, judged as one chain: by `epaxos collect` of each generation, and `epaxos audit
 //! --chain` of all.
-use crate::generations::sum_of;
 use crate::opening::Opening;
+use crate::sum::sum_of;
 use epaxos::parts::folder::reference;
 use epaxos::parts::follower::Follower;
 use epaxos::parts::read_folder::ReadFolder;

@@ -128,7 +128,6 @@ mod tests {
     fn what_errors_say_of_the_command() {
         let undone = [
             CommandFault::NoMajority,
-            CommandFault::Lost,
             CommandFault::Contended,
             CommandFault::Waiting,
             CommandFault::NotInTime,

@@ -5,7 +5,7 @@ use crate::command_fault::CommandFault;
 use crate::commands::List;
 use crate::connections::{Connection, Connections};
 use crate::door::{Door, Waiting};
-use crate::driver::Event;
+use crate::event::Event;
 use crate::keys::{Keys, Wanted};
 use crate::listing::Listing;
 use crate::memory::Memory;

@@ -1,9 +1,8 @@
 //! Why a client's command isn't answered by its reply.
-use crate::driver::Told;
 use crate::malformed_fault::MalformedFault;
 use crate::manage_fault::ManageFault;
-use crate::numbers_fault::NumbersFault;
 use crate::stored::{LONGEST_CONTENT, LONGEST_OWNER};
+use crate::told::Told;
 use epaxos::{Fault, LONGEST_KEY, LONGEST_TX};
 use std::fmt;
 
@@ -20,8 +19,6 @@ pub enum CommandFault {
     Unseen,
     /// It wasn't done: no majority is reached.
     NoMajority,
-    /// It wasn't done: no-ops were committed in the places of all its tries.
-    Lost,
     /// It wasn't done: at each try others had changed the key.
     Contended,
     /// It wasn't done: the store ends, and hadn't proposed it.
@@ -34,8 +31,6 @@ pub enum CommandFault {
     NotInTime,
     /// It wasn't done: the core refused it.
     Node(Fault),
-    /// It wasn't done: there is no client number for it.
-    Numbers(NumbersFault),
     /// What somebody who runs the store has asked for isn't done.
     Managing(ManageFault),
     /// It is for operators, at this admin socket.
@@ -115,7 +110,7 @@ impl CommandFault {
             Told::Late => CommandFault::Waiting,
             Told::MapFull => CommandFault::MapFull,
             Told::Ending => CommandFault::Ending,
-            Told::DoneUnseen { .. } | Told::Doubtful => CommandFault::Doubtful,
+            Told::DoneUnseen | Told::Doubtful => CommandFault::Doubtful,
             _ => CommandFault::StoreEnds,
         }
     }
@@ -154,7 +149,6 @@ impl fmt::Display for CommandFault {
             CommandFault::Doubtful => f.write_str("TRYAGAIN this replica lagged; the command may be done"),
             CommandFault::Unseen => f.write_str("TRYAGAIN the command was done, and its reply is lost"),
             CommandFault::NoMajority => f.write_str("TRYAGAIN the command wasn't done: no majority is reached"),
-            CommandFault::Lost => f.write_str("TRYAGAIN the command wasn't done: others have taken its places"),
             CommandFault::Contended => f.write_str("TRYAGAIN the command wasn't done: others changed the key at each try"),
             CommandFault::Waiting => f.write_str("TRYAGAIN the command wasn't done: its time was over before it was proposed"),
             CommandFault::MapFull => {
@@ -168,7 +162,6 @@ impl fmt::Display for CommandFault {
                 Fault::Memory => write!(f, "OOM the core refused, ask again: {fault}"),
                 _ => write!(f, "ERR the core refused: {fault}"),
             },
-            CommandFault::Numbers(fault) => write!(f, "ERR {fault}"),
             CommandFault::Managing(fault) => write!(f, "ERR {fault}"),
             CommandFault::ForOperators(place) => {
                 write!(f, "NOPERM this command is for operators only: use {place}")

@@ -1,18 +1,16 @@
 //! The folder of a replica: where its files are, a lock, and whether they are whole.
 use crate::directory_fault::DirectoryFault;
-use crate::generations::in_use;
 use crate::identities;
 use crate::opening::Opening;
 use crate::planning::{first, newest};
 use epaxos::host::Stored;
 use epaxos::parts::files::{self, unusable};
 use epaxos::parts::folder::{look, reference};
-use epaxos::parts::give_way;
 use epaxos::parts::read_folder::ReadFolder;
 use std::fs::{self, File, OpenOptions, TryLockError};
-use std::io;
+use std::io::{self, ErrorKind};
 use std::path::{Path, PathBuf};
-use std::thread::{self, JoinHandle};
+use std::thread;
 use std::time::{Duration, Instant};
 
 /// How long to wait for a store that still ends.
@@ -81,27 +79,15 @@ impl Directory {
         self.path.join("receipts").join(generation.to_string())
     }
 
-    /// Where an opening that a peer hands comes together.
-    pub fn taken(&self) -> PathBuf {
-        self.path.join("opening.part")
+    /// The generations of which there are receipts.
+    pub fn generations_with_receipts(&self) -> Vec<u32> {
+        let there = fs::read_dir(self.path.join("receipts")).into_iter().flatten().flatten();
+        there.filter_map(|entry| entry.file_name().to_str()?.parse().ok()).collect()
     }
 
-    /// An opening that has come whole: a start by it that was broken off is repeated.
+    /// An opening that a start goes on by.
     pub fn whole(&self) -> PathBuf {
         self.path.join(WHOLE)
-    }
-
-    /// Where what leads to such an opening comes together.
-    pub fn leading(&self) -> PathBuf {
-        self.taken().with_extension("logs")
-    }
-
-    /// What came together is whole.
-    pub fn keep_taken(&self) -> io::Result<PathBuf> {
-        File::open(self.taken())?.sync_all()?;
-        fs::rename(self.taken(), self.whole())?;
-        files::sync(&self.path)?;
-        Ok(self.whole())
     }
 
     pub(crate) fn has_identities(&self) -> bool {
@@ -183,8 +169,8 @@ impl Directory {
         for folder in [self.generations(), self.path.join("receipts")] {
             files::create(&folder).map_err(unusable(&folder))?;
         }
-        // (of what a peer was handing before this start nothing more comes)
-        [self.taken(), self.leading()].iter().for_each(|path| _ = fs::remove_file(path));
+        // (stores before this one kept there what a peer was handing)
+        ["opening.part", "opening.logs"].iter().for_each(|name| _ = fs::remove_file(self.path.join(name)));
         Ok(())
     }
 
@@ -223,51 +209,11 @@ impl Directory {
         let held = look(&self.folder()).unwrap_or_default();
         first(&held, generation) == Ok(generation)
     }
-
-    /// Takes back that the core has opened its newest generation, of which nobody was told: it was for another number of replicas than
-    /// the seal wants. The marks go first, or what is left of the generation would be missed.
-    pub fn take_back(&self, generation: u32) -> Result<(), DirectoryFault> {
-        for left in self.generations_with("left") {
-            let folder = self.generations().join(left.to_string());
-            let removed = fs::remove_file(folder.join("left")).and_then(|()| files::sync(&folder));
-            removed.map_err(unusable(&folder))?;
-        }
-        let folder = self.generations().join(generation.to_string());
-        let removed = fs::remove_dir_all(&folder).and_then(|()| files::sync(&self.generations()));
-        Ok(removed.map_err(unusable(&folder))?)
-    }
-
-    /// Drops what isn't needed of generations that were left: all but the last `kept` ones, and those whose logs lead to the newest one. Marks go last. A
-    /// thread does it, where there is something: long files take a while.
-    pub fn drop_left_beside(&self, kept: usize) -> Option<JoinHandle<()>> {
-        let held = look(&self.folder()).ok()?;
-        let needed = first(&held, newest(&held).ok()?).ok()?;
-        let mut left: Vec<u32> = held.iter().filter(|one| one.left_for > 0).map(|one| one.number).collect();
-        left.truncate(left.len().saturating_sub(kept));
-        left.retain(|generation| *generation < needed);
-        if left.is_empty() {
-            return None;
-        }
-        let of = |generation: &u32| (self.generations().join(generation.to_string()), self.receipts(*generation));
-        let left: Vec<_> = left.iter().map(of).collect();
-        let drop_all = move || {
-            give_way();
-            left.iter().for_each(|(folder, receipts)| drop_one(folder, receipts));
-        };
-        // (what can't be dropped now is dropped later)
-        thread::Builder::new().name("drop".into()).spawn(drop_all).ok()
-    }
 }
 
-/// Drops the folder of a generation that was left, its mark last, and then its receipts.
-fn drop_one(folder: &Path, receipts: &Path) {
-    let files = fs::read_dir(folder).into_iter().flatten().flatten().map(|entry| entry.path());
-    let mut files: Vec<PathBuf> = files.collect();
-    files.sort_by_key(|path| path.ends_with("left"));
-    let dropped = files.iter().try_for_each(fs::remove_file).and_then(|()| fs::remove_dir(folder));
-    if dropped.is_ok() {
-        let _ = fs::remove_file(receipts);
-    }
+/// What is told of a folder that another process has.
+fn in_use(path: &Path) -> io::Error {
+    io::Error::new(ErrorKind::WouldBlock, format!("{} is in use by another store", path.display()))
 }
 
 fn lock(file: &File, path: &Path) -> Result<(), DirectoryFault> {
@@ -345,32 +291,6 @@ mod tests {
         fs::create_dir_all(&path).unwrap();
         fs::write(path.join("log"), "EPLG").unwrap();
         assert!(matches!(Directory::open(&path), Err(DirectoryFault::Old(_))));
-        fs::remove_dir_all(path).unwrap();
-    }
-
-    #[test]
-    fn what_was_left_is_dropped_but_for_the_last_ones() {
-        let path = at("left");
-        let directory = Directory::open(&path).unwrap();
-        directory.prepare().unwrap();
-        for generation in 1..=4 {
-            fs::create_dir_all(directory.generations().join(generation.to_string())).unwrap();
-            fs::write(directory.opening(generation), "").unwrap();
-            fs::write(directory.receipts(generation), "").unwrap();
-            if generation < 4 {
-                fs::write(directory.generations().join(format!("{generation}/left")), "4").unwrap();
-            }
-        }
-        let drop_left = |kept| directory.drop_left_beside(kept).unwrap().join().unwrap();
-        drop_left(2);
-        assert_eq!(directory.generations_with("opening"), [2, 3, 4]);
-        assert!(!directory.receipts(1).exists() && directory.receipts(2).exists());
-        assert!(!directory.generations().join("1").exists());
-        directory.take_back(4).unwrap();
-        assert_eq!((directory.newest(), directory.generations_with("left")), (Some(3), vec![]));
-        fs::write(directory.generations().join("2/left"), "3").unwrap();
-        drop_left(0);
-        assert_eq!(directory.generations_with("opening"), [3]);
         fs::remove_dir_all(path).unwrap();
     }
 }

@@ -17,11 +17,13 @@ pub const NAME: &str = "identities";
 pub struct Identities {
     folder: PathBuf,
     own: Identity,
+    /// Whether it was made just now.
+    is_new: bool,
     known: Mutex<Vec<Option<Identity>>>,
 }
 
 impl Identities {
-    /// Reads what the folder tells. At the first start this replica's identity is made.
+    /// Reads what the folder tells. At the first start this replica's identity is made, and is to be kept.
     pub fn open(folder: &Path, replicas: usize, replica: u8) -> Result<Identities, IdentitiesFault> {
         let path = folder.join(NAME);
         let told = |error: io::Error| IdentitiesFault::Unusable(path.clone(), error);
@@ -30,17 +32,20 @@ impl Identities {
             text => text.map_err(told)?,
         };
         let mut known = read_lines(&text, replicas).ok_or_else(|| IdentitiesFault::NotAList(path.clone(), replicas))?;
+        let is_new = text.is_empty();
         let own = match known[usize::from(replica)] {
             Some(own) => own,
-            None if text.is_empty() => {
-                let own = by_chance().map_err(told)?;
-                known[usize::from(replica)] = Some(own);
-                write_lines(folder, &known).map_err(told)?;
-                own
-            }
+            None if is_new => by_chance().map_err(told)?,
             None => return Err(IdentitiesFault::OfAnother(path)),
         };
-        Ok(Identities { folder: folder.to_path_buf(), own, known: Mutex::new(known) })
+        known[usize::from(replica)] = Some(own);
+        Ok(Identities { folder: folder.to_path_buf(), own, is_new, known: Mutex::new(known) })
+    }
+
+    /// From now on this replica has its identity, on the disk.
+    pub fn keep(&self) -> Result<(), IdentitiesFault> {
+        let written = if self.is_new { write_lines(&self.folder, &self.known()) } else { Ok(()) };
+        written.map_err(|error| IdentitiesFault::Unusable(self.folder.join(NAME), error))
     }
 
     pub fn own(&self) -> Identity {
@@ -114,6 +119,8 @@ mod tests {
         let folder = std::env::temp_dir().join(format!("store-identities-{}", std::process::id()));
         fs::create_dir_all(&folder).unwrap();
         let first = Identities::open(&folder, 3, 1).unwrap();
+        assert!(!folder.join(NAME).exists());
+        first.keep().unwrap();
         assert!(first.meet(0, [7; 16]).unwrap());
         assert!(!first.meet(0, [8; 16]).unwrap());
         assert!(!first.meet(3, [8; 16]).unwrap());
@@ -132,7 +139,9 @@ mod tests {
         assert_eq!(Identities::open(&folder, 3, 1).unwrap().of(2), Some([6; 16]));
         let fresh = folder.join("fresh");
         fs::create_dir_all(&fresh).unwrap();
-        assert_ne!(Identities::open(&fresh, 3, 1).unwrap().own(), first.own());
+        let other = Identities::open(&fresh, 3, 1).unwrap();
+        other.keep().unwrap();
+        assert_ne!(other.own(), first.own());
         assert!(matches!(Identities::open(&fresh, 3, 2), Err(IdentitiesFault::OfAnother(_))));
         assert!(matches!(Identities::open(&fresh, 1, 0), Err(IdentitiesFault::NotAList(_, 1))));
         fs::remove_dir_all(&folder).unwrap();

@@ -12,19 +12,18 @@
 //! What is asked of several keys at once waits in the queue of each (`transacting.rs`), and what is behind it there
 //! waits for it.
 use crate::actions::Action;
-use crate::begun::Begun;
+use crate::ask::{Ask, What};
 use crate::command_fault::CommandFault;
-use crate::driver::{Ask, Event, Told, What};
+use crate::event::Event;
 use crate::metrics::Metrics;
-use crate::numbers::Numbers;
-use crate::numbers_fault::NumbersFault;
 use crate::replies::ReplyTo;
 use crate::resp::Reply;
-use crate::say::warn;
 use crate::stored::{self, Stored};
 use crate::teller::Teller;
+use crate::told::Told;
 use crate::transacting::Transacting;
 use crate::transaction::Transaction;
+use epaxos::host::Begun;
 use epaxos::{OwnedAnswer, OwnedCommand};
 use std::collections::{HashMap, HashSet, VecDeque};
 use std::io;
@@ -34,8 +33,6 @@ use std::sync::{Arc, Mutex, MutexGuard, PoisonError, Weak};
 use std::thread;
 use std::time::{Duration, Instant};
 
-/// A command in whose place a no-op was committed is proposed at most so often.
-pub(crate) const MOST_LOST: usize = 5;
 /// A comparison that finds another value is proposed at most so often.
 pub(crate) const MOST_TRIES: usize = 100;
 /// Where the fast quorum's round trip is so long at least, two commands of a key may be under way; and once one is done that was for several, its clients
@@ -69,23 +66,10 @@ pub(crate) struct State {
     pub(crate) launches: Vec<Launch>,
     /// What some keys had when their last command was done. Others may have changed it.
     pub(crate) known: HashMap<Vec<u8>, Option<Vec<u8>>>,
-    numbers: Arc<Mutex<Numbers>>,
     metrics: Arc<Metrics>,
     /// Where keys go that rest, with the end of that.
     resting: Sender<(Instant, Vec<u8>)>,
-    /// Clients of the protocol with nothing under way.
-    free: Vec<Client>,
-    /// The greatest stamp that was told here.
-    pub(crate) seen: u64,
     pub(crate) flights: u64,
-}
-
-/// A client of the protocol: one command of its is under way at a time.
-#[derive(Clone, Copy)]
-pub(crate) struct Client {
-    number: u32,
-    /// How many requests it has made.
-    requests: u32,
 }
 
 #[derive(Default)]
@@ -203,7 +187,6 @@ struct Flight {
     after: Option<Option<Vec<u8>>>,
     /// The time by which deadlines are judged.
     now: u64,
-    lost: usize,
     tries: usize,
     /// Whether its last command was proposed.
     begun: Arc<Begun>,
@@ -221,8 +204,8 @@ enum Step {
 /// A command that is to be proposed, or a read that is to be asked, once the state isn't locked any more.
 pub(crate) struct Launch {
     pub(crate) of: Of,
-    /// With its client, and the greatest stamp that was told here. None: the key is read.
-    pub(crate) command: Option<(Client, u64, OwnedCommand)>,
+    /// None: the key is read.
+    pub(crate) command: Option<OwnedCommand>,
     pub(crate) begun: Arc<Begun>,
 }
 
@@ -242,11 +225,7 @@ impl Of {
 }
 
 impl Keys {
-    pub fn start(
-        events: SyncSender<Event>,
-        numbers: Arc<Mutex<Numbers>>,
-        metrics: Arc<Metrics>,
-    ) -> io::Result<Arc<Keys>> {
+    pub fn start(events: SyncSender<Event>, metrics: Arc<Metrics>) -> io::Result<Arc<Keys>> {
         let (overflow, waiting) = channel();
         let later = events.clone();
         let hand_on = move || _ = waiting.into_iter().try_for_each(|event| later.send(event));
@@ -259,11 +238,8 @@ impl Keys {
             left: Vec::new(),
             launches: Vec::new(),
             known: HashMap::new(),
-            numbers,
             metrics,
             resting,
-            free: Vec::new(),
-            seen: 0,
             flights: 0,
         };
         let keys = Arc::new(Keys { state: Mutex::new(state), events, overflow, given: AtomicU64::new(0) });
@@ -354,15 +330,9 @@ impl Keys {
     /// Hands a command to the driver.
     fn launch(self: &Arc<Keys>, launch: Launch) {
         let Launch { of, command, begun } = launch;
-        let client = command.as_ref().map(|(client, ..)| *client);
-        let what = match command {
-            None => What::Get(of.key().clone()),
-            Some((Client { number: client, requests: request }, seen, command)) => {
-                What::Propose { client, request, seen, command }
-            }
-        };
+        let what = command.map_or_else(|| What::Get(of.key().clone()), What::Propose);
         let keys = self.clone();
-        let reply = Teller::of(begun, move |told| keys.take(of, client, told));
+        let reply = Teller::of(begun, move |told| keys.take(of, told));
         self.send(Ask { what, reply });
     }
 
@@ -377,12 +347,8 @@ impl Keys {
     }
 
     /// What became of a command, or of a read.
-    fn take(self: &Arc<Keys>, of: Of, client: Option<Client>, told: Told) {
+    fn take(self: &Arc<Keys>, of: Of, told: Told) {
         let mut state = self.state();
-        state.free.extend(client);
-        if let Told::Done { stamp, .. } | Told::DoneUnseen { stamp } = &told {
-            state.seen = state.seen.max(*stamp);
-        }
         let launch = match of {
             Of::Flight(key, flight) => state.take(key, flight, told),
             Of::Transaction(number, attempt, key) => {
@@ -520,25 +486,7 @@ impl State {
         let begun = flight.begun.clone();
         let of = Of::Flight(key.clone(), number);
         let Some(command) = command else { return Some(Launch { of, command: None, begun }) };
-        let client = match self.client() {
-            Ok(client) => client,
-            Err(fault) => {
-                warn(&fault.to_string());
-                return self.fail(key, number, CommandFault::Numbers(fault));
-            }
-        };
-        Some(Launch { of, command: Some((client, self.seen, command)), begun })
-    }
-
-    /// A client of the protocol with a new request. One whose requests are all made isn't used any more.
-    pub(crate) fn client(&mut self) -> Result<Client, NumbersFault> {
-        while let Some(client) = self.free.pop() {
-            if let Some(requests) = client.requests.checked_add(1) {
-                return Ok(Client { requests, ..client });
-            }
-        }
-        let number = self.numbers.lock().unwrap_or_else(PoisonError::into_inner).give()?;
-        Ok(Client { number, requests: 1 })
+        Some(Launch { of, command: Some(command), begun })
     }
 
     fn take(&mut self, key: Vec<u8>, number: u64, told: Told) -> Option<Launch> {
@@ -546,22 +494,11 @@ impl State {
         match told {
             Told::Value(value) if flight.is_reading => self.read(key, number, value),
             Told::Value(value) => self.done(key, number, value),
-            Told::Done { reply, .. } => match reply {
-                OwnedAnswer::Absent => self.done(key, number, None),
-                OwnedAnswer::Present(value) => self.done(key, number, Some(value)),
-                OwnedAnswer::Closed => self.propose_again(key, number),
-                OwnedAnswer::Lost | OwnedAnswer::Ordered => {
-                    flight.lost += 1;
-                    if flight.lost < MOST_LOST {
-                        self.propose_again(key, number)
-                    } else {
-                        self.fail(key, number, CommandFault::Lost)
-                    }
-                }
-                // (it wasn't one of several keys)
-                OwnedAnswer::Done(_) | OwnedAnswer::Undone(_) => self.fail(key, number, CommandFault::Doubtful),
-            },
-            Told::DoneUnseen { .. } if flight.step == Step::Write => self.done_unseen(key, number),
+            Told::Done(OwnedAnswer::Absent) => self.done(key, number, None),
+            Told::Done(OwnedAnswer::Present(value)) => self.done(key, number, Some(value)),
+            // (it was one of one key)
+            Told::Done(_) => self.fail(key, number, CommandFault::Doubtful),
+            Told::DoneUnseen if flight.step == Step::Write => self.done_unseen(key, number),
             told => self.fail(key, number, CommandFault::of(told)),
         }
     }
@@ -675,7 +612,6 @@ impl Flight {
             step: Step::Read,
             after: None,
             now: stored::now(),
-            lost: 0,
             tries: 0,
             begun: Arc::default(),
         }
@@ -739,29 +675,23 @@ pub(crate) mod tests {
     use crate::random::Random;
     use epaxos::Fault;
     use std::collections::BTreeSet;
-    use std::path::PathBuf;
     use std::sync::atomic::AtomicBool;
     use std::sync::mpsc::sync_channel;
 
-    /// The keys of a store, whose driver is the test; its folder is removed in the end.
+    /// The keys of a store, whose commands the test does.
     pub(crate) struct Store {
         pub(crate) keys: Arc<Keys>,
         metrics: Arc<Metrics>,
         events: Mutex<Receiver<Event>>,
-        folder: PathBuf,
         pub(crate) outbox: Arc<Outbox>,
     }
 
     impl Store {
         pub(crate) fn new() -> Store {
-            static STORES: AtomicU64 = AtomicU64::new(0);
-            let place = STORES.fetch_add(1, Ordering::Relaxed);
-            let folder = std::env::temp_dir().join(format!("store-keys-{}-{place}", std::process::id()));
-            std::fs::create_dir_all(&folder).unwrap();
             let (sender, events) = sync_channel(64);
             let metrics = Arc::<Metrics>::default();
-            let keys = Keys::start(sender, Arc::new(Mutex::new(Numbers::new(&folder, 0))), metrics.clone()).unwrap();
-            Store { keys, metrics, events: Mutex::new(events), folder, outbox: Arc::default() }
+            let keys = Keys::start(sender, metrics.clone()).unwrap();
+            Store { keys, metrics, events: Mutex::new(events), outbox: Arc::default() }
         }
 
         /// Asks; its reply is told under this number.
@@ -776,12 +706,12 @@ pub(crate) mod tests {
             id
         }
 
-        /// The next command that is proposed: its client, request and seen stamp.
-        pub(crate) fn proposed(&self) -> (u32, u32, u64, OwnedCommand, Teller) {
+        /// The next command that is proposed.
+        pub(crate) fn proposed(&self) -> (OwnedCommand, Teller) {
             match self.asked() {
-                (What::Propose { client, request, seen, command }, reply) => {
+                (What::Propose(command), reply) => {
                     assert!(reply.begun().begin());
-                    (client, request, seen, command, reply)
+                    (command, reply)
                 }
                 _ => panic!("no command"),
             }
@@ -829,14 +759,8 @@ pub(crate) mod tests {
         if let Message::Part(command, 0, reply) = message { (command, reply) } else { panic!() }
     }
 
-    impl Drop for Store {
-        fn drop(&mut self) {
-            std::fs::remove_dir_all(&self.folder).unwrap();
-        }
-    }
-
-    pub(crate) fn done(stamp: u64, reply: OwnedAnswer) -> Told {
-        Told::Done { stamp, reply }
+    pub(crate) fn done(reply: OwnedAnswer) -> Told {
+        Told::Done(reply)
     }
 
     fn present(value: &str) -> OwnedAnswer {
@@ -860,28 +784,28 @@ pub(crate) mod tests {
         let store = Store::new();
         (0..3).for_each(|number| _ = store.ask(number, "x", set("0")));
         let put = |value: &str| OwnedCommand::Put { key: b"x".to_vec(), value: value.into() };
-        let (client, request, seen, command, teller) = store.proposed();
-        assert_eq!((client, request, seen, command), (1, 1, 0, put("0")));
-        // Another key doesn't wait for it, and is another client's.
+        let (command, teller) = store.proposed();
+        assert_eq!(command, put("0"));
+        // Another key doesn't wait for it.
         store.ask(3, "y", Action::Delete);
-        let (client, request, seen, command, other) = store.proposed();
-        assert_eq!((client, request, seen, command), (9, 1, 0, OwnedCommand::Del { key: b"y".to_vec() }));
+        let (command, other) = store.proposed();
+        assert_eq!(command, OwnedCommand::Del { key: b"y".to_vec() });
         assert!(store.is_idle() && store.told().is_empty());
-        teller.send(done(7, present("1")));
+        teller.send(done(present("1")));
         assert_eq!(store.told(), [(0, Reply::Simple("OK"))]);
-        let (client, request, seen, command, teller) = store.proposed();
-        assert_eq!((client, request, seen, command), (1, 2, 7, put("0")));
-        other.send(done(3, OwnedAnswer::Absent));
+        let (command, teller) = store.proposed();
+        assert_eq!(command, put("0"));
+        other.send(done(OwnedAnswer::Absent));
         assert_eq!(store.told(), [(3, Reply::Integer(0))]);
         // What is written whatever was there is put, and what was asked before and after it is told by what was there.
         for (number, action) in [(4, Action::Add(1)), (5, set("5")), (6, Action::Add(2)), (7, Action::Get)] {
             store.ask(number, "x", action);
         }
-        teller.send(done(8, present("2")));
+        teller.send(done(present("2")));
         assert_eq!(store.told(), [(1, Reply::Simple("OK")), (2, Reply::Simple("OK"))]);
-        let (_, _, seen, command, teller) = store.proposed();
-        assert_eq!((seen, command), (8, put("7")));
-        teller.send(done(9, present("3")));
+        let (command, teller) = store.proposed();
+        assert_eq!(command, put("7"));
+        teller.send(done(present("3")));
         let expected =
             [(4, Reply::Integer(4)), (5, Reply::Simple("OK")), (6, Reply::Integer(7)), (7, Reply::text("7"))];
         assert_eq!(store.told(), expected);
@@ -893,28 +817,28 @@ pub(crate) mod tests {
         let store = Store::new();
         store.ask(0, "x", Action::Add(1));
         store.reads("x").send(Told::Value(None));
-        let (.., command, teller) = store.proposed();
+        let (command, teller) = store.proposed();
         assert_eq!(command, cas("x", None, Some("1")));
         // Another one was first. What came meanwhile is done with it.
         store.ask(1, "x", Action::Add(10));
-        teller.send(done(2, present("5")));
-        let (.., command, teller) = store.proposed();
+        teller.send(done(present("5")));
+        let (command, teller) = store.proposed();
         assert_eq!(command, cas("x", Some("5"), Some("16")));
         assert!(store.told().is_empty());
-        teller.send(done(3, present("5")));
+        teller.send(done(present("5")));
         assert_eq!(store.told(), [(0, Reply::Integer(6)), (1, Reply::Integer(16))]);
         // The next one begins with what is known, and takes what it is told.
         store.ask(2, "x", Action::Add(1));
-        let (.., command, teller) = store.proposed();
+        let (command, teller) = store.proposed();
         assert_eq!(command, cas("x", Some("16"), Some("17")));
-        teller.send(done(4, present("a")));
+        teller.send(done(present("a")));
         assert_eq!(store.told(), [(2, Reply::Error(CommandFault::NotAnInteger))]);
         // Where nothing is to change, the key is read.
         store.ask(3, "x", Action::Add(1));
         store.reads("x").send(value("1"));
-        let (.., command, teller) = store.proposed();
+        let (command, teller) = store.proposed();
         assert_eq!(command, cas("x", Some("1"), Some("2")));
-        teller.send(done(6, present("1")));
+        teller.send(done(present("1")));
         assert_eq!(store.told(), [(3, Reply::Integer(2))]);
     }
 
@@ -922,7 +846,7 @@ pub(crate) mod tests {
     fn what_only_reads_goes_by_itself() {
         let store = Store::new();
         store.ask_by(1, 0, "x", set("1"));
-        let writes = store.proposed().4;
+        let writes = store.proposed().1;
         // Others' reads don't wait for it, nor for one another; what its own connection reads does.
         store.ask_by(2, 1, "x", Action::Get);
         let second = store.reads("x");
@@ -934,16 +858,16 @@ pub(crate) mod tests {
         assert_eq!(store.told(), [(2, Reply::Integer(0))]);
         // What a connection writes waits until it has read; another one's goes as soon as there may be a command.
         store.ask_by(2, 4, "x", Action::Delete);
-        writes.send(done(1, OwnedAnswer::Absent));
+        writes.send(done(OwnedAnswer::Absent));
         assert_eq!(store.told(), [(0, Reply::Simple("OK"))]);
         store.reads("x").send(value("1"));
         assert_eq!(store.told(), [(3, Reply::text("1"))]);
         assert!(store.is_idle());
         second.send(value("1"));
         assert_eq!(store.told(), [(1, Reply::text("1"))]);
-        let (.., command, teller) = store.proposed();
+        let (command, teller) = store.proposed();
         assert_eq!(command, OwnedCommand::Del { key: b"x".to_vec() });
-        teller.send(done(2, present("1")));
+        teller.send(done(present("1")));
         assert_eq!(store.told(), [(4, Reply::Integer(1))]);
         // Who waits no longer for a read is told so, and the driver may let go of it.
         let id = store.ask(5, "x", Action::Get);
@@ -964,44 +888,28 @@ pub(crate) mod tests {
         let old = Stored::Value { content: b"v".to_vec(), deadline: Some(1) }.into_bytes();
         store.reads("x").send(Told::Value(Some(old.clone())));
         assert!(store.told().is_empty());
-        let (.., command, teller) = store.proposed();
+        let (command, teller) = store.proposed();
         assert_eq!(command, OwnedCommand::Cas { key: b"x".to_vec(), expected: Some(old.clone()), new: None });
         // Another one has given it a value.
-        teller.send(done(2, present("w")));
+        teller.send(done(present("w")));
         assert_eq!(store.told(), [(0, Reply::text("w"))]);
         store.ask(1, "x", Action::Get);
         store.reads("x").send(Told::Value(Some(old.clone())));
-        store.proposed().4.send(done(4, OwnedAnswer::Present(old)));
+        store.proposed().1.send(done(OwnedAnswer::Present(old)));
         assert_eq!(store.told(), [(1, Reply::Nil)]);
         assert!(store.is_idle());
     }
 
     #[test]
-    fn what_is_lost_is_proposed_again() {
+    fn what_others_are_before_is_tried_again() {
         let store = Store::new();
-        store.ask(0, "x", set("1"));
-        let put = OwnedCommand::Put { key: b"x".to_vec(), value: b"1".to_vec() };
-        // (what found the generation closed isn't counted)
-        for number in 0..20 {
-            let (client, request, seen, command, teller) = store.proposed();
-            assert_eq!((client, request, seen, &command), (1, number + 1, u64::from(number), &put));
-            teller.send(done(u64::from(number) + 1, OwnedAnswer::Closed));
-        }
-        for number in 0..MOST_LOST {
-            assert!(store.told().is_empty());
-            let (.., command, teller) = store.proposed();
-            assert_eq!(command, put);
-            teller.send(done(30 + number as u64, OwnedAnswer::Lost));
-        }
-        assert_eq!(store.told(), [(0, Reply::Error(CommandFault::Lost))]);
-        // So is a comparison that others are before each time.
         store.ask(1, "x", Action::Add(1));
         store.reads("x").send(value("0"));
         for number in 1..MOST_TRIES {
-            store.proposed().4.send(done(40, present(&number.to_string())));
+            store.proposed().1.send(done(present(&number.to_string())));
         }
         assert!(store.told().is_empty());
-        store.proposed().4.send(done(40, present("0")));
+        store.proposed().1.send(done(present("0")));
         assert_eq!(store.told(), [(1, Reply::Error(CommandFault::Contended))]);
         assert!(store.is_idle());
     }
@@ -1012,34 +920,34 @@ pub(crate) mod tests {
         for (number, action) in [(9, set("0")), (0, Action::Get), (1, set("1")), (2, Action::Add(1))] {
             store.ask(number, "x", action);
         }
-        store.proposed().4.send(done(5, OwnedAnswer::Absent));
+        store.proposed().1.send(done(OwnedAnswer::Absent));
         assert_eq!(store.told(), [(9, Reply::Simple("OK"))]);
-        let (_, _, seen, command, teller) = store.proposed();
-        assert_eq!((seen, command), (5, OwnedCommand::Put { key: b"x".to_vec(), value: b"2".to_vec() }));
-        teller.send(Told::DoneUnseen { stamp: 6 });
+        let (command, teller) = store.proposed();
+        assert_eq!(command, OwnedCommand::Put { key: b"x".to_vec(), value: b"2".to_vec() });
+        teller.send(Told::DoneUnseen);
         let unseen = Reply::Error(CommandFault::Unseen);
         assert_eq!(store.told(), [(1, Reply::Simple("OK")), (2, Reply::Integer(2)), (0, unseen.clone())]);
         for (number, action) in [(3, Action::Delete), (4, Action::Get)] {
             store.ask(number, "x", action);
         }
-        store.proposed().4.send(Told::DoneUnseen { stamp: 7 });
+        store.proposed().1.send(Told::DoneUnseen);
         assert_eq!(store.told(), [(3, unseen)]);
         store.reads("x").send(Told::Value(None));
         assert_eq!(store.told(), [(4, Reply::Nil)]);
         // Whether a comparison found what it expected nobody knows.
-        for told in [Told::DoneUnseen { stamp: 9 }, Told::Doubtful] {
+        for told in [Told::DoneUnseen, Told::Doubtful] {
             store.ask(5, "x", Action::Add(1));
             match store.asked() {
                 (What::Get(_), reply) => {
                     reply.send(Told::Value(None));
-                    store.proposed().4.send(told);
+                    store.proposed().1.send(told);
                 }
                 (_, reply) => reply.send(told),
             }
             assert_eq!(store.told(), [(5, Reply::Error(CommandFault::Doubtful))]);
         }
         store.ask(6, "y", set("1"));
-        store.proposed().4.send(Told::Doubtful);
+        store.proposed().1.send(Told::Doubtful);
         assert_eq!(store.told(), [(6, Reply::Error(CommandFault::Doubtful))]);
     }
 
@@ -1058,14 +966,14 @@ pub(crate) mod tests {
         ];
         for (told, fault) in refused {
             store.ask(0, "x", set("1"));
-            let teller = store.proposed().4;
+            let teller = store.proposed().1;
             store.ask(1, "x", set("2"));
             match told {
                 Some(told) => teller.send(told),
                 None => drop(teller),
             }
             assert_eq!(store.told(), [(0, Reply::Error(fault))]);
-            store.proposed().4.send(done(1, OwnedAnswer::Absent));
+            store.proposed().1.send(done(OwnedAnswer::Absent));
             assert_eq!(store.told(), [(1, Reply::Simple("OK"))]);
         }
     }
@@ -1075,7 +983,7 @@ pub(crate) mod tests {
         let store = Store::new();
         let first = store.ask(0, "x", set("1"));
         let second = store.ask(1, "x", set("2"));
-        let teller = store.proposed().4;
+        let teller = store.proposed().1;
         assert_eq!(store.keys.withdraw(second, b"x"), Some(CommandFault::Waiting));
         assert_eq!(store.keys.withdraw(second, b"x"), None);
         let third = store.ask(2, "x", Action::Add(1));
@@ -1083,7 +991,7 @@ pub(crate) mod tests {
         assert_eq!(store.keys.withdraw(first, b"x"), Some(CommandFault::Unanswered));
         let look = store.reads("x");
         // Its answer comes late, and is nobody's.
-        teller.send(done(1, OwnedAnswer::Absent));
+        teller.send(done(OwnedAnswer::Absent));
         assert!(store.told().is_empty());
         assert_eq!(store.keys.withdraw(third, b"x"), Some(CommandFault::NotInTime));
         assert!(look.begun().is_given_up());
@@ -1092,23 +1000,23 @@ pub(crate) mod tests {
         // What is withdrawn isn't proposed again, but what was proposed counts.
         let ids = [3, 4].map(|number| store.ask(number, "y", Action::Add(1)));
         store.reads("y").send(Told::Value(None));
-        let (.., command, teller) = store.proposed();
+        let (command, teller) = store.proposed();
         assert_eq!(command, cas("y", None, Some("2")));
         assert_eq!(store.keys.withdraw(ids[0], b"y"), Some(CommandFault::Unanswered));
-        teller.send(done(3, present("7")));
-        let (.., command, teller) = store.proposed();
+        teller.send(done(present("7")));
+        let (command, teller) = store.proposed();
         assert_eq!(command, cas("y", Some("7"), Some("8")));
-        teller.send(done(4, present("7")));
+        teller.send(done(present("7")));
         assert_eq!(store.told(), [(4, Reply::Integer(8))]);
         let ids = [5, 6].map(|number| store.ask(number, "y", Action::Add(1)));
-        let (.., command, teller) = store.proposed();
+        let (command, teller) = store.proposed();
         assert_eq!(command, cas("y", Some("8"), Some("9")));
         store.keys.withdraw(ids[0], b"y");
-        let (.., next, other) = store.proposed();
+        let (next, other) = store.proposed();
         assert_eq!(next, cas("y", Some("8"), Some("9")));
-        teller.send(done(5, present("8")));
-        other.send(done(6, present("9")));
-        store.proposed().4.send(done(7, present("9")));
+        teller.send(done(present("8")));
+        other.send(done(present("9")));
+        store.proposed().1.send(done(present("9")));
         assert_eq!(store.told(), [(6, Reply::Integer(10))]);
     }
 
@@ -1116,13 +1024,12 @@ pub(crate) mod tests {
     fn what_was_not_proposed_was_not_done() {
         let store = Store::new();
         let held = || match store.events.lock().unwrap().recv_timeout(Duration::from_secs(60)).unwrap() {
-            Event::Ask(Ask { what: What::Propose { command, .. }, reply }) => (command, reply),
+            Event::Ask(Ask { what: What::Propose(command), reply }) => (command, reply),
             _ => panic!(),
         };
         let put = |value: &str| OwnedCommand::Put { key: b"x".to_vec(), value: value.into() };
-        // Its first command found the generation closed. The next one waits for the next generation, and nobody for it any more.
+        // It waits for the next generation, and nobody for it any more.
         let id = store.ask(0, "x", set("1"));
-        store.proposed().4.send(done(1, OwnedAnswer::Closed));
         let (command, reply) = held();
         assert_eq!((command, store.keys.withdraw(id, b"x")), (put("1"), Some(CommandFault::Waiting)));
         assert!(!reply.begun().begin());
@@ -1140,7 +1047,7 @@ pub(crate) mod tests {
         // (what the given-up one is told is nobody's)
         first.send(Told::Late);
         assert_eq!(store.keys.withdraw(ids[1], b"x"), Some(CommandFault::Unanswered));
-        second.send(done(3, OwnedAnswer::Absent));
+        second.send(done(OwnedAnswer::Absent));
         assert_eq!(store.told(), [(3, Reply::Integer(2))]);
         assert_eq!(store.keys.withdraw(ids[2], b"x"), None);
         assert!(store.is_idle());
@@ -1153,7 +1060,7 @@ pub(crate) mod tests {
         store.ask_by(1, 0, "x", Action::Add(1));
         store.ask_by(2, 1, "x", Action::Add(1));
         store.reads("x").send(value("5"));
-        let (.., command, first) = store.proposed();
+        let (command, first) = store.proposed();
         assert_eq!(command, cas("x", Some("5"), Some("7")));
         assert!(store.is_idle());
         store.metrics.quorum_round_trip.set(20_000);
@@ -1161,26 +1068,26 @@ pub(crate) mod tests {
         store.ask_by(2, 2, "x", Action::Add(10));
         assert!(store.is_idle());
         store.ask_by(3, 3, "x", Action::Add(100));
-        let (client, .., command, second) = store.proposed();
-        assert_eq!((client, command), (9, cas("x", Some("7"), Some("107"))));
+        let (command, second) = store.proposed();
+        assert_eq!(command, cas("x", Some("7"), Some("107")));
         store.ask_by(4, 4, "x", Action::Add(1_000));
         assert!(store.is_idle());
         // The second one was done first: it is tried again, with what may go with it by now.
-        second.send(done(2, present("5")));
-        let (.., command, second) = store.proposed();
+        second.send(done(present("5")));
+        let (command, second) = store.proposed();
         assert_eq!(command, cas("x", Some("5"), Some("1105")));
-        first.send(done(3, present("5")));
+        first.send(done(present("5")));
         assert_eq!(store.told(), [(0, Reply::Integer(6)), (1, Reply::Integer(7))]);
         // Now nothing of that connection is under way.
-        let (.., command, third) = store.proposed();
+        let (command, third) = store.proposed();
         assert_eq!(command, cas("x", Some("1105"), Some("1115")));
-        second.send(done(4, present("7")));
-        let (.., command, second) = store.proposed();
+        second.send(done(present("7")));
+        let (command, second) = store.proposed();
         assert_eq!(command, cas("x", Some("7"), Some("1107")));
-        second.send(done(5, present("7")));
+        second.send(done(present("7")));
         assert_eq!(store.told(), [(3, Reply::Integer(107)), (4, Reply::Integer(1_107))]);
-        third.send(done(6, present("1107")));
-        store.proposed().4.send(done(7, present("1107")));
+        third.send(done(present("1107")));
+        store.proposed().1.send(done(present("1107")));
         assert_eq!(store.told(), [(2, Reply::Integer(1_117))]);
         assert!(store.is_idle());
     }
@@ -1201,12 +1108,8 @@ pub(crate) mod tests {
                     while !is_over.load(Ordering::Relaxed) {
                         let event = events.recv_timeout(Duration::from_millis(10));
                         let told = match event {
-                            Ok(Event::Ask(Ask { what: What::Propose { command, .. }, reply })) => {
-                                let told = match random.below(8) {
-                                    0 => OwnedAnswer::Closed,
-                                    _ => execute(&mut map.lock().unwrap(), &command),
-                                };
-                                (reply, done(1, told))
+                            Ok(Event::Ask(Ask { what: What::Propose(command), reply })) => {
+                                (reply, done(execute(&mut map.lock().unwrap(), &command)))
                             }
                             Ok(Event::Ask(Ask { what: What::Get(key), reply })) => {
                                 (reply, Told::Value(map.lock().unwrap().get(&key).cloned()))

@@ -1,12 +1,14 @@
 //! The keys that there are at this replica, after all that it knows to be committed.
+use crate::ask::{Ask, What};
 use crate::command_fault::CommandFault;
 use crate::commands::List;
-use crate::core::Pairs;
-use crate::driver::{Ask, Event, Told, What};
+use crate::event::Event;
 use crate::glob::fits;
 use crate::resp::Reply;
 use crate::stored::{Stored, now};
 use crate::teller::Teller;
+use crate::told::Pairs;
+use crate::told::Told;
 use std::sync::mpsc::{SyncSender, channel};
 use std::sync::{Arc, Mutex, PoisonError};
 use std::time::{Duration, Instant};

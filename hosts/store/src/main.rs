@@ -1,43 +1,37 @@
 //! One replica of the store.
-use epaxos::State;
-use epaxos::host::FolderFault;
+use epaxos::Cluster;
+use epaxos::host::{Host, HostFault, Member, Settings, StartFault};
+use epaxos::service::{Disk, Folder};
 use signal_hook::consts::{SIGINT, SIGTERM};
 use signal_hook::iterator::Signals;
 use std::fmt;
 use std::io::{self, Write};
 use std::net::TcpListener;
-use std::os::unix::process::CommandExt;
-use std::path::{Path, PathBuf};
-use std::process::{Command, ExitCode};
+use std::path::Path;
+use std::process::ExitCode;
+use std::sync::Arc;
 use std::sync::atomic::AtomicU64;
 use std::sync::mpsc::{SyncSender, sync_channel};
-use std::sync::{Arc, Mutex, PoisonError};
 use std::thread;
 use std::time::{Duration, Instant};
 use store::admin::{self, Operators};
 use store::clients::{self, Shared};
-use store::core::{Begin, Core};
 use store::directory::Directory;
 use store::directory_fault::DirectoryFault;
-use store::driver::{Driver, Event, Parts};
-use store::hosted::{Hosted, Hosting};
-use store::identities::Identities;
+use store::event::Event;
+use store::expiring::Expiring;
+use store::identities::{Identities, Identity};
 use store::identities_fault::IdentitiesFault;
-use store::joining::Joining;
 use store::keys::Keys;
 use store::listing::Listing;
-use store::members::Members;
 use store::memory::Memory;
 use store::metrics::{self, Metrics};
-use store::node_fault::NodeFault;
 use store::notify;
-use store::numbers::{Numbers, is_of};
-use store::numbers_fault::NumbersFault;
 use store::opening::Opening;
 use store::options::{self, Options, Words, help, read};
 use store::options_fault::OptionsFault;
 use store::password::Password;
-use store::peers::{MOST_REPLICAS, Membership, Near, Peers, Place, TcpReceiver};
+use store::peers::{MOST_REPLICAS, Membership, Near, Peers, TcpReceiver};
 use store::plants::Plant;
 use store::random::Random;
 use store::receipts::Receipts;
@@ -46,12 +40,17 @@ use store::recovery;
 use store::replies::Due;
 use store::say::{error, name, say, warn};
 use store::sealed::{Key, KeyFault};
+use store::seen::Seen;
+use store::serving::{Parts, Serving};
+use store::starts::{self, is_of};
+use store::starts_fault::StartsFault;
 use store::stop_fault::StopFault;
+use store::sum::SUMS;
 use store::sweep;
-use store::waiting::Waiting;
-use store::watch::Watch;
 
-/// How many events may wait for the driver.
+/// The host takes no more for the numbers after which a generation ends.
+const MOST_NUMBERS: u16 = 8_890;
+/// How many events may wait for the thread that serves.
 const WAITING_EVENTS: usize = 4_096;
 
 fn main() -> ExitCode {
@@ -85,7 +84,7 @@ fn main() -> ExitCode {
         Err(fault) => fault,
     };
     match fault {
-        StoreFault::Stop(StopFault::Asked | StopFault::Resized(..)) => say(&fault.to_string()),
+        StoreFault::Stop(StopFault::Asked) => say(&fault.to_string()),
         _ => error(&fault.to_string()),
     }
     if let StoreFault::Stop(_) = fault {
@@ -94,19 +93,7 @@ fn main() -> ExitCode {
         due.end(LAST_REPLIES);
         admin.remove();
     }
-    if let StoreFault::Stop(StopFault::Resized(..)) = fault {
-        error(&format!("it can't begin anew: {}", begin_anew()));
-    }
     ExitCode::from(fault.status())
-}
-
-/// Begins the program anew, with its words, in this process. What it tells is why that can't be.
-fn begin_anew() -> io::Error {
-    match std::env::current_exe() {
-        // (what was begun isn't begun once more)
-        Ok(program) => Command::new(program).args(std::env::args_os().skip(1).filter(|word| word != "--new")).exec(),
-        Err(error) => error,
-    }
 }
 
 /// How long the last replies may take on their way.
@@ -116,8 +103,10 @@ const LAST_REPLIES: Duration = Duration::from_secs(3);
 enum StoreFault {
     Directory(DirectoryFault),
     Identities(IdentitiesFault),
-    Numbers(NumbersFault),
-    Node(NodeFault),
+    Starts(StartsFault),
+    Start(StartFault),
+    /// A file of the folder can't be used.
+    File(io::Error),
     Stop(StopFault),
     Key(KeyFault),
     /// Neither `--peers` nor a seal says where this replica is.
@@ -143,11 +132,13 @@ impl StoreFault {
             StoreFault::Stop(StopFault::Asked) => return 0,
             StoreFault::Directory(fault) => fault.is_lasting(),
             StoreFault::Identities(_)
-            | StoreFault::Numbers(_)
+            | StoreFault::Starts(_)
             | StoreFault::Key(_)
             | StoreFault::Unguarded(_)
             | StoreFault::NoAddress(_) => true,
-            StoreFault::Node(fault) => fault.is_refusal(),
+            StoreFault::Start(StartFault::Disk(_)) | StoreFault::File(_) => false,
+            StoreFault::Start(StartFault::Folder(fault)) => fault.is_lasting(),
+            StoreFault::Start(_) => true,
             StoreFault::Stop(stop) => stop.is_lasting(),
             // (a path that is too long, or that something else has)
             StoreFault::Admin(_, error) => {
@@ -164,8 +155,9 @@ impl fmt::Display for StoreFault {
         match self {
             StoreFault::Directory(fault) => fault.fmt(f),
             StoreFault::Identities(fault) => fault.fmt(f),
-            StoreFault::Numbers(fault) => fault.fmt(f),
-            StoreFault::Node(fault) => fault.fmt(f),
+            StoreFault::Starts(fault) => fault.fmt(f),
+            StoreFault::Start(fault) => fault.fmt(f),
+            StoreFault::File(error) => error.fmt(f),
             StoreFault::Stop(stop) => stop.fmt(f),
             StoreFault::Key(fault) => fault.fmt(f),
             StoreFault::NoAddress(replica) => write!(f, "neither --peers nor a seal says where replica {replica} is"),
@@ -189,9 +181,9 @@ fn words() -> Result<Vec<String>, OptionsFault> {
     std::env::args_os().skip(1).map(|word| word.into_string().map_err(OptionsFault::NotText)).collect()
 }
 
-fn start(options: Options, due: Arc<Due>) -> Result<Driver<Hosted>, StoreFault> {
-    let mut place = Place { replicas: options.peers.len(), replica: options.replica };
-    let own = &options.peers[usize::from(place.replica)];
+fn start(options: Options, due: Arc<Due>) -> Result<Serving, StoreFault> {
+    let replica = options.replica;
+    let own = &options.peers[usize::from(replica)];
     let key = options.peer_key.as_deref().map(Key::read).transpose().map_err(StoreFault::Key)?;
     let for_peers = bind(own)?;
     if key.is_none() && !options.is_insecure && !is_local(&for_peers) {
@@ -208,11 +200,10 @@ fn start(options: Options, due: Arc<Due>) -> Result<Driver<Hosted>, StoreFault> 
     directory.prepare().map_err(StoreFault::Directory)?;
     let for_operators = options.admin.bind().map_err(|error| StoreFault::Admin(options.admin.to_string(), error))?;
     let (sender, events) = sync_channel(WAITING_EVENTS);
-    let numbers = Arc::new(Mutex::new(Numbers::new(&options.directory, place.replica)));
     let metrics = Arc::<Metrics>::default();
     let shared = Shared {
         events: sender.clone(),
-        keys: Keys::start(sender.clone(), numbers.clone(), metrics.clone()).map_err(StoreFault::Thread)?,
+        keys: Keys::start(sender.clone(), metrics.clone()).map_err(StoreFault::Thread)?,
         listing: Arc::new(Listing::new(sender.clone(), options.patience)),
         patience: options.patience,
         password: password(options.auth.as_deref())?,
@@ -228,93 +219,133 @@ fn start(options: Options, due: Arc<Due>) -> Result<Driver<Hosted>, StoreFault> 
         let (listener, metrics) = (bind(address)?, metrics.clone());
         spawn("metrics", move || metrics::listen(listener, &metrics)).map_err(StoreFault::Thread)?;
     }
-    // Who joins is connected first, and begins then; who is here begins, and is connected then: from now on a folder without a log
-    // has lost it.
     end_by_signals(sender.clone()).map_err(StoreFault::Thread)?;
-    let key = key.unwrap_or_else(Key::none);
-    let open = |place: Place, addresses: &[String], for_peers: TcpListener| {
-        let identities = Identities::open(&options.directory, MOST_REPLICAS, place.replica);
-        let identities = identities.map_err(StoreFault::Identities)?;
-        let membership = Arc::new(Membership { place, identities, key, waiting: Waiting::new(joins) });
-        let near = Arc::new(Near { membership: membership.clone(), events: sender.clone() });
-        let peers = Peers::start(&near, addresses).map_err(StoreFault::Thread)?;
-        let receiver = Arc::new(TcpReceiver::new(near));
-        spawn("peers", move || receiver.listen(&for_peers)).map_err(StoreFault::Thread)?;
-        Ok((membership, peers))
-    };
-    let password_of_operators = password(options.admin_auth.as_deref())?;
-    let serve = |for_clients: TcpListener, shared: Shared, membership: &Arc<Membership>| {
-        let (events, patience, due) = (shared.events.clone(), shared.patience, shared.due.clone());
-        let operators = Operators::new(events, patience, password_of_operators, due, membership.clone());
-        let (operators, shared) = (Arc::new(operators), Arc::new(shared));
-        let (listing, keys, metrics) = (shared.listing.clone(), shared.keys.clone(), shared.metrics.clone());
-        spawn("sweep", move || sweep::sweep(&listing, &keys, &metrics)).map_err(StoreFault::Thread)?;
-        spawn("operators", move || admin::listen(&for_operators, &operators)).map_err(StoreFault::Thread)?;
-        spawn("clients", move || clients::listen(for_clients, shared)).map_err(StoreFault::Thread)
-    };
-    let (mut node, state, receipts, membership, peers);
-    if joins {
-        (membership, peers) = open(place, &options.peers, for_peers)?;
-        serve(for_clients, shared, &membership)?;
-        let (membership, directory, peers, events) = (&membership, &directory, &peers, &events);
-        let joining = Joining { membership, directory, peers, events };
-        let begin = joining.wait().map_err(StoreFault::Stop)?;
-        let opening = match &begin {
-            Begin::Take(path) => {
-                Opening::read(path).map_err(|error| StoreFault::Stop(StopFault::File(path.clone(), error)))?
-            }
-            _ => Opening::default(),
-        };
-        let of = Place { replicas: opening.replicas.into(), ..place };
-        check_place(of, opening.generation)?;
-        (node, state) = start_core(&options, of, &directory, &begin)?;
-        receipts = open_receipts(&directory, state.generation)?;
-        directory.end_joining().map_err(StoreFault::Directory)?;
-        if of.replicas != place.replicas {
-            // (it has met the others as one of another number of replicas)
-            node.end();
-            return Err(StoreFault::Stop(StopFault::Resized(opening.generation, opening.replicas)));
+    let identities = Identities::open(&options.directory, MOST_REPLICAS, replica).map_err(StoreFault::Identities)?;
+    let mut disk = Folder::open(directory.generations()).map_err(StoreFault::File)?;
+    let newest = directory.newest().unwrap_or(1);
+    let mut receipts = open_receipts(&directory, newest)?;
+    starts::prepare(&directory.generations(), &disk, receipts.named.client).map_err(StoreFault::Starts)?;
+    let mut host = begin(&options, &directory, &disk, (identities.own(), joins))?;
+    (0..MOST_REPLICAS as u8).for_each(|peer| identities.of(peer).into_iter().for_each(|it| host.know(peer, it)));
+    let expiring = Expiring::default();
+    host.observe(Box::new(expiring.clone()));
+    let seen = Seen::open(directory.path(), &mut host);
+    // Who is here is connected once what it begins with is on the disk: from now on a folder without a log has lost it.
+    let generation = host.generation();
+    if !joins {
+        if generation != newest {
+            receipts = open_receipts(&directory, generation)?;
         }
-    } else {
-        let opening;
-        (node, state, opening) = start_again(&options, &directory)?;
-        place.replicas = opening.replicas.into();
-        receipts = open_receipts(&directory, state.generation)?;
-        Numbers::new(&options.directory, place.replica).check(receipts.named.client).map_err(StoreFault::Numbers)?;
+        begin_on_disk(&mut host, &mut disk).map_err(StoreFault::Stop)?;
+        let _ = std::fs::remove_file(directory.whole());
         if !is_forgetful {
-            let checked = directory.check_entries(state.generation, state.entries, receipts.named.entry);
+            let checked = directory.check_entries(generation, host.status().entries, receipts.named.entry);
             checked.map_err(StoreFault::Directory)?;
         }
-        directory.end_joining().map_err(StoreFault::Directory)?;
-        (membership, peers) = open(place, &addresses(&options, &opening)?, for_peers)?;
-        serve(for_clients, shared, &membership)?;
     }
-    let sealer = numbers.lock().unwrap_or_else(PoisonError::into_inner).give().map_err(StoreFault::Numbers)?;
-    let watch = Watch::new(place, Instant::now(), Random::new().below(u64::MAX));
-    let watch = watch.map_err(|fault| StoreFault::Node(FolderFault::Open(fault).into()))?;
-    let (replica, replicas, generation) = (place.replica, place.replicas, state.generation);
-    let (listen, process) = (&options.listen, std::process::id());
-    notify::ready(&format!("replica {replica} of {replicas} serves"));
-    say(&format!(
-        "replica {replica} of {replicas} in generation {generation}, clients at {listen}, peers at {own}, process {process}"
-    ));
-    let driver = Driver::new(Parts {
-        node,
-        state,
+    identities.keep().map_err(StoreFault::Identities)?;
+    if !joins {
+        directory.end_joining().map_err(StoreFault::Directory)?;
+    }
+    let addresses = if joins { options.peers.clone() } else { addresses(&options, &host)? };
+    let place = (replica, addresses.len() as u8);
+    let membership = Arc::new(Membership::new(place, identities, key.unwrap_or_else(Key::none), joins));
+    let near = Arc::new(Near { membership: membership.clone(), events: sender.clone() });
+    let peers = Peers::start(&near, &addresses).map_err(StoreFault::Thread)?;
+    let receiver = Arc::new(TcpReceiver::new(near));
+    spawn("peers", move || receiver.listen(&for_peers)).map_err(StoreFault::Thread)?;
+    let password_of_operators = password(options.admin_auth.as_deref())?;
+    let (patience, due) = (shared.patience, shared.due.clone());
+    let operators = Operators::new(sender.clone(), patience, password_of_operators, due, membership.clone());
+    let (operators, shared) = (Arc::new(operators), Arc::new(shared));
+    let (listing, keys, swept) = (shared.listing.clone(), shared.keys.clone(), shared.metrics.clone());
+    spawn("sweep", move || sweep::sweep(&listing, &keys, &swept)).map_err(StoreFault::Thread)?;
+    spawn("operators", move || admin::listen(&for_operators, &operators)).map_err(StoreFault::Thread)?;
+    spawn("clients", move || clients::listen(for_clients, shared)).map_err(StoreFault::Thread)?;
+    let place = format!("clients at {}, peers at {own}, process {}", options.listen, std::process::id());
+    if host.cut() > 0 {
+        let cut = host.cut();
+        warn(&format!("the core tells: log cut: {cut} bytes behind its last record were no whole one"));
+    }
+    let (own, plant) = (sender, options.plant);
+    let serving = Serving::new(Parts {
+        host,
+        disk,
         peers,
         directory,
         membership,
         receipts,
-        watch,
+        seen,
+        expiring,
         events,
-        plant: options.plant,
-        limits: options.limits,
-        kept: options.kept,
-        patience: options.patience,
-        sealer,
+        own,
         metrics,
+        plant,
+        place,
     });
-    Ok(driver.with_most_map(options.most_map).with_together(options.together))
+    serving.tell_start();
+    Ok(serving)
+}
+
+/// The host of a folder, as it is begun: for the first time, by an opening that recovery has made, by what is there, or in
+/// the place of a lost machine. Nothing of it is on the disk yet.
+fn begin(
+    options: &Options,
+    directory: &Directory,
+    disk: &Folder,
+    (identity, joins): (Identity, bool),
+) -> Result<Host, StoreFault> {
+    let (settings, now) = (settings(options, identity)?, Instant::now());
+    if joins {
+        return Host::join(&settings, disk, now).map_err(StoreFault::Start);
+    }
+    if options.start == options::Start::New {
+        return Host::begin(&settings, disk, now).map_err(StoreFault::Start);
+    }
+    let whole = directory.whole();
+    if whole.exists() {
+        let front = Opening::read_front_of(&whole).map_err(StoreFault::File)?;
+        check_place(options, front.generation, front.replicas)?;
+        let bytes = std::fs::read(&whole).map_err(StoreFault::File)?;
+        match Host::take(&settings, disk, &bytes, now).map_err(StoreFault::Start) {
+            // (one that is refused is of no use; any other fault may pass)
+            Err(fault) if fault.status() == LASTING => _ = std::fs::remove_file(&whole),
+            taken => return taken,
+        }
+    }
+    if let Some((generation, replicas)) = directory.newest_size().map_err(StoreFault::Directory)? {
+        check_place(options, generation, replicas)?;
+    }
+    Host::open(&settings, disk, now).map_err(StoreFault::Start)
+}
+
+/// How the host goes about, by what it is told.
+fn settings(options: &Options, identity: Identity) -> Result<Settings, StoreFault> {
+    let cluster = Cluster::try_from(options.peers.len() as u8);
+    let cluster = cluster.map_err(|_| StoreFault::Start(StartFault::OutOfRange))?;
+    Ok(Settings {
+        identity: Some(identity),
+        seed: Random::new().below(u64::MAX),
+        numbers: options.limits.numbers.min(MOST_NUMBERS),
+        dependencies: options.limits.dependencies,
+        log: options.limits.log,
+        checkpoint: options.checkpoint,
+        patience: options.patience,
+        together: if options.plant.is_some() { 1 } else { options.together },
+        most_map: options.most_map,
+        most: usize::MAX,
+        kept: options.kept as u32,
+        sums: SUMS,
+        plant: options.plant.and_then(Plant::in_host),
+        ..Settings::new(cluster, options.replica)
+    })
+}
+
+/// What a host begins with is on the disk, and how many entries it has is known.
+fn begin_on_disk(host: &mut Host, disk: &mut Folder) -> Result<(), StopFault> {
+    let Some(writes) = host.turn(Instant::now())?.writes else { return Ok(()) };
+    disk.carry_out(&writes.acts).map_err(StopFault::Disk)?;
+    Ok(host.synced(writes.number, Instant::now())?)
 }
 
 fn open_receipts(directory: &Directory, generation: u32) -> Result<Receipts, StoreFault> {
@@ -351,80 +382,15 @@ fn spawn(name: &str, work: impl FnOnce() + Send + 'static) -> io::Result<()> {
 }
 
 /// Where each replica is, as a seal or `--peers` says.
-fn addresses(options: &Options, opening: &Opening) -> Result<Vec<String>, StoreFault> {
-    let members = opening.members().unwrap_or(Members(Vec::new()));
-    let address = |replica: usize| {
-        let named = members.0.get(replica).and_then(|member| member.address.clone());
-        named.or_else(|| options.peers.get(replica).cloned()).ok_or(StoreFault::NoAddress(replica))
+fn addresses(options: &Options, host: &Host) -> Result<Vec<String>, StoreFault> {
+    let address = |(replica, member): (usize, Member)| {
+        member.address.or_else(|| options.peers.get(replica).cloned()).ok_or(StoreFault::NoAddress(replica))
     };
-    (0..opening.replicas.into()).map(address).collect()
-}
-
-/// Starts the core of a folder that has a replica, or is to have one by `--new`: what it is then, and what its generation opened with.
-/// Where it was ended while it took a peer's opening it takes that again. Where it closes a generation whose seal wants another number of
-/// replicas, which nobody knows before, that is taken back, and it closes it once more, for as many.
-fn start_again(options: &Options, directory: &Directory) -> Result<(Hosted, State, Opening), StoreFault> {
-    let whole = directory.whole();
-    let read = |path: PathBuf| Opening::read(&path).map_err(|error| StoreFault::Stop(StopFault::File(path, error)));
-    let mut begin = match options.start {
-        options::Start::New => Begin::New,
-        _ if whole.exists() => Begin::Take(whole.clone()),
-        _ => Begin::Again,
-    };
-    // Of a generation that was taken back: its number, and how many replicas it is to have.
-    let mut wanted = None;
-    loop {
-        let found = match &begin {
-            _ if wanted.is_some() => wanted.take(),
-            Begin::Take(path) => {
-                let front = Opening::read_front_of(path);
-                let front = front.map_err(|error| StoreFault::Stop(StopFault::File(path.clone(), error)))?;
-                Some((front.generation, front.replicas))
-            }
-            _ => directory.newest_size().map_err(StoreFault::Directory)?,
-        };
-        let (generation, replicas) = found.unwrap_or((1, options.peers.len() as u8));
-        let place = Place { replicas: replicas.into(), replica: options.replica };
-        check_place(place, generation)?;
-        match start_core(options, place, directory, &begin) {
-            Ok((mut node, state)) => {
-                // (where it stays it is refused at the next start, or is the very one that is there)
-                let _ = std::fs::remove_file(&whole);
-                let opening = node.opening().map_or_else(|| read(directory.opening(state.generation)), Ok)?;
-                if opening.wanted() == opening.replicas {
-                    return Ok((node, state, opening));
-                }
-                node.end();
-                wanted = Some((opening.generation, opening.wanted()));
-                check_place(Place { replicas: opening.wanted().into(), ..place }, opening.generation)?;
-                directory.take_back(opening.generation).map_err(StoreFault::Directory)?;
-            }
-            // (one that is refused is of no use; any other fault may pass)
-            Err(StoreFault::Node(fault)) if fault.is_refusal() && matches!(begin, Begin::Take(_)) => {
-                let _ = std::fs::remove_file(&whole);
-            }
-            Err(fault) => return Err(fault),
-        }
-        begin = Begin::Again;
-    }
+    host.members().into_iter().enumerate().map(address).collect()
 }
 
 /// Whether this replica is one of so many.
-fn check_place(place: Place, generation: u32) -> Result<(), StoreFault> {
-    let is_one = usize::from(place.replica) < place.replicas;
-    if is_one { Ok(()) } else { Err(StoreFault::Stop(StopFault::Left(generation))) }
-}
-
-/// Starts the core, and waits until it has read its log: what it is then.
-fn start_core(
-    options: &Options,
-    place: Place,
-    directory: &Directory,
-    begin: &Begin,
-) -> Result<(Hosted, State), StoreFault> {
-    let hosting = Hosting { place, folder: directory.generations(), checkpoint: options.checkpoint };
-    let mut hosted = Hosted::start(hosting, begin).map_err(StoreFault::Node)?;
-    let state = hosted.state().map_err(StoreFault::Node)?;
-    hosted.told().iter().for_each(|line| warn(&format!("the core tells: {line}")));
-    Ok((hosted, state))
+fn check_place(options: &Options, generation: u32, replicas: u8) -> Result<(), StoreFault> {
+    let left = StoreFault::Stop(StopFault::Host(HostFault::Left(generation)));
+    if options.replica < replicas { Ok(()) } else { Err(left) }
 }

@@ -75,7 +75,7 @@ pub struct Metrics {
     pub generation: Number,
     pub entries: Number,
     pub log_bytes: Number,
-    /// How often the node was asked, each time all that was to be asked then.
+    /// How many turns the host had, in each of which it asks the core all that there is to ask.
     pub asks: Number,
     pub syncs: Number,
     /// Commands of clients that went together with others.
@@ -113,7 +113,7 @@ impl Metrics {
         for (name, what, kind, number) in [
             ("epaxos_store_commands_answered_total", "Commands that were answered.", "counter", &self.answered),
             ("epaxos_store_commands_refused_total", "Commands that ended by an error.", "counter", &self.refused),
-            ("epaxos_store_asks_total", "Calls of the core.", "counter", &self.asks),
+            ("epaxos_store_asks_total", "Turns of the host, in each of which it asks the core.", "counter", &self.asks),
             ("epaxos_store_syncs_total", "Syncs of the log.", "counter", &self.syncs),
             (
                 "epaxos_store_proposals_total",

@@ -1,6 +1,6 @@
 //! What other threads have for connections, by which they wake the thread that serves these.
-use crate::driver::Told;
 use crate::resp::Reply;
+use crate::told::Told;
 use mio::Waker;
 use std::sync::{Mutex, MutexGuard, PoisonError};
 

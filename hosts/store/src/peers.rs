@@ -3,27 +3,23 @@
 //! A greeting tells the identity of who connects, and whether it waits to be let in, or only asks who is here; the
 //! answer tells whether its frames are taken, and the identity of who listens.
 use crate::connect_fault::ConnectFault;
-use crate::driver::Event;
+use crate::event::Event;
 use crate::identities::{Identities, Identity};
 use crate::link::Link;
 use crate::link_fault::LinkFault;
 use crate::say::{say, warn};
 use crate::sealed::{Hello, HmacSha256, Key, MAGIC, Magic};
-use crate::waiting::Waiting;
 use epaxos::parts::ends::Ends;
 use epaxos::parts::happened::Happened;
 use epaxos::parts::place;
-pub use epaxos::parts::place::Place;
+use epaxos::parts::place::Place;
 pub use epaxos::parts::tcp_receiver::TcpReceiver;
 use epaxos::parts::tcp_sender::{TcpSender, greet};
 use std::io;
 use std::sync::Arc;
+use std::sync::atomic::{AtomicBool, AtomicU8, Ordering};
 use std::sync::mpsc::SyncSender;
-use std::thread;
-use std::time::{Duration, Instant};
 
-/// Whether all was sent is looked at that often, where it is waited for.
-const BETWEEN_LOOKS: Duration = Duration::from_millis(1);
 /// What a greeting may say behind an identity: that the machine waits to be let in, or that it only asks who is here.
 const WAITS: u8 = 1;
 const ASKS: u8 = 2;
@@ -36,18 +32,40 @@ const NOT_LET_IN: u8 = 2;
 /// The most replicas that there may be.
 pub const MOST_REPLICAS: usize = place::MOST_REPLICAS as usize;
 
-/// What this replica is to the others: its place, whom it knows, the key that all share, and who waits to be let in.
+/// What this replica is to the others: its number, whom it knows, the key that all share, and whether it waits to be
+/// let in.
 pub struct Membership {
-    pub place: Place,
+    pub replica: u8,
     pub identities: Identities,
     pub key: Key,
-    pub waiting: Waiting,
+    waits: AtomicBool,
+    /// How many replicas there are now.
+    size: AtomicU8,
 }
 
 impl Membership {
+    pub fn new((replica, size): (u8, u8), identities: Identities, key: Key, waits: bool) -> Membership {
+        Membership { replica, identities, key, waits: waits.into(), size: size.into() }
+    }
+
+    fn size(&self) -> u8 {
+        self.size.load(Ordering::Relaxed)
+    }
+
+    /// Whether this machine waits until a generation names it.
+    pub fn waits(&self) -> bool {
+        self.waits.load(Ordering::Relaxed)
+    }
+
+    /// It is one of so many replicas. Whether that is new: it was one of another number, or had waited.
+    pub fn take_part(&self, size: u8) -> bool {
+        let is_resized = self.size.swap(size, Ordering::Relaxed) != size;
+        self.waits.swap(false, Ordering::Relaxed) || is_resized
+    }
+
     /// The hello to a peer.
     fn hello(&self, peer: u8) -> io::Result<Hello> {
-        Hello::new(MAGIC, [self.place.replicas as u8, self.place.replica, peer])
+        Hello::new(MAGIC, [self.size(), self.replica, peer])
     }
 
     /// What this replica greets by, and says of itself.
@@ -82,7 +100,7 @@ impl Ends for Near {
     const OF_KEYS: &'static str = " (--peer-key)";
 
     fn place(&self) -> Place {
-        self.membership.place
+        Place { replicas: self.membership.size().into(), replica: self.membership.replica }
     }
 
     fn key(&self) -> &Key {
@@ -90,7 +108,7 @@ impl Ends for Near {
     }
 
     fn greeting(&self) -> Vec<u8> {
-        self.membership.greeting(if self.membership.waiting.is_this() { &[WAITS] } else { &[] })
+        self.membership.greeting(if self.membership.waits() { &[WAITS] } else { &[] })
     }
 
     fn judge(&self, peer: u8, answer: &[u8]) -> Result<(), ConnectFault> {
@@ -107,7 +125,7 @@ impl Ends for Near {
         let (identity, membership) = (*identity, &self.membership);
         let answer = match says {
             [ASKS] => ACCEPTED,
-            [] if usize::from(from) < membership.place.replicas => {
+            [] if from < membership.size() => {
                 if membership.identities.meet(from, identity)? {
                     ACCEPTED
                 } else {
@@ -116,7 +134,7 @@ impl Ends for Near {
             }
             [] | [WAITS] => {
                 if says == [WAITS] {
-                    membership.waiting.note(from, identity);
+                    let _ = self.events.send(Event::Waits(from, identity));
                 }
                 // (who isn't one of the replicas, by now or yet, is known by a seal alone)
                 if membership.identities.of(from) == Some(identity) { ACCEPTED } else { NOT_LET_IN }
@@ -149,47 +167,47 @@ impl Ends for Near {
 
 /// The ways to all other replicas.
 pub struct Peers {
-    links: Vec<Option<Arc<dyn Link>>>,
+    links: Vec<Option<Arc<TcpSender<Near>>>>,
+    near: Arc<Near>,
 }
 
 impl Peers {
-    /// Those by these ways; there is none to this replica itself.
-    pub fn over(links: Vec<Option<Arc<dyn Link>>>) -> Peers {
-        Peers { links }
-    }
-
     /// Starts a thread for each other replica, which connects to it.
     pub fn start(near: &Arc<Near>, addresses: &[String]) -> io::Result<Peers> {
-        let is_other = |to: u8| to != near.membership.place.replica;
-        let start = |(to, address): (u8, &String)| {
-            let link = is_other(to).then(|| TcpSender::start(to, address.clone(), near.clone())).transpose()?;
-            Ok(link.map(|link| link as Arc<dyn Link>))
-        };
-        Ok(Peers::over((0..).zip(addresses).map(start).collect::<io::Result<_>>()?))
+        let mut peers = Peers { links: Vec::new(), near: near.clone() };
+        (0..).zip(addresses).try_for_each(|(to, address)| peers.set_address(to, address))?;
+        Ok(peers)
     }
 
-    fn link(&self, to: u8) -> Option<&dyn Link> {
+    fn link(&self, to: u8) -> Option<&TcpSender<Near>> {
         self.links.get(usize::from(to))?.as_deref()
     }
 
-    /// Sends this before what waits.
-    pub fn send_first(&self, to: u8, bytes: Vec<u8>) {
-        if let Some(link) = self.link(to) {
-            link.send_first(bytes);
-        }
-    }
-
     /// A replica listens at this address from now on.
-    pub fn set_address(&self, to: u8, address: &str) {
-        if let Some(link) = self.link(to) {
-            link.set_address(address);
+    pub fn set_address(&mut self, to: u8, address: &str) -> io::Result<()> {
+        let place = usize::from(to);
+        match self.link(to) {
+            Some(link) => link.set_address(address),
+            None if to != self.near.membership.replica => {
+                self.links.resize(self.links.len().max(place + 1), None);
+                self.links[place] = Some(TcpSender::start(to, address.into(), self.near.clone())?);
+            }
+            None => {}
         }
+        Ok(())
     }
 
     /// Another machine has this replica's number: the connection to the one before is closed.
     pub fn part(&self, to: u8) {
         if let Some(link) = self.link(to) {
             link.part(LinkFault::Replaced);
+        }
+    }
+
+    /// The replicas from this number on have left: they aren't connected to any more once they are lost.
+    pub fn end_from(&mut self, size: u8) {
+        for link in self.links.iter_mut().skip(size.into()) {
+            link.take_if(|link| !link.is_reached()).into_iter().for_each(|link| link.end());
         }
     }
 
@@ -200,79 +218,15 @@ impl Peers {
         }
     }
 
-    /// Sends a frame or a message of this host, or loses it.
-    pub fn send(&self, to: u8, bytes: Vec<u8>) {
-        if let Some(link) = self.link(to) {
-            link.send(bytes);
-        }
-    }
-
-    /// The same of several.
+    /// Sends frames and messages of this host, or loses them.
     pub fn send_several(&self, to: u8, all: Vec<Vec<u8>>) {
         if let Some(link) = self.link(to) {
             link.send_several(all);
         }
     }
 
-    pub fn is_reached(&self, replica: u8) -> bool {
-        self.link(replica).is_some_and(|link| link.is_reached())
-    }
-
-    /// Waits until all that can be sent was, for so long at most.
-    pub fn flush(&self, patience: Duration) {
-        let until = Instant::now() + patience;
-        while self.links.iter().flatten().any(|link| !link.is_idle()) && Instant::now() < until {
-            thread::sleep(BETWEEN_LOOKS);
-        }
-    }
-
     /// How many frames were lost for want of room.
     pub fn lost(&self) -> u64 {
         self.links.iter().flatten().map(|link| link.lost()).sum()
-    }
-}
-
-#[cfg(test)]
-mod tests {
-    use super::*;
-    use std::sync::atomic::{AtomicBool, Ordering};
-
-    /// A way that is reached, and to which all was sent, or not.
-    #[derive(Default)]
-    struct Way {
-        is_reached: AtomicBool,
-        is_sent: AtomicBool,
-    }
-
-    impl Link for Way {
-        fn send(&self, _: Vec<u8>) {}
-
-        fn send_first(&self, _: Vec<u8>) {}
-
-        fn is_reached(&self) -> bool {
-            self.is_reached.load(Ordering::Relaxed)
-        }
-
-        fn is_idle(&self) -> bool {
-            !self.is_reached() || self.is_sent.load(Ordering::Relaxed)
-        }
-    }
-
-    #[test]
-    fn what_can_be_sent_is_waited_for() {
-        let way = Arc::<Way>::default();
-        let peers = Peers::over(vec![None, Some(way.clone() as Arc<dyn Link>)]);
-        let took = |patience| {
-            let start = Instant::now();
-            peers.flush(patience);
-            start.elapsed()
-        };
-        let (short, long) = (Duration::from_millis(20), Duration::from_secs(60));
-        // (what goes to nobody isn't waited for)
-        assert!(took(long) < long);
-        way.is_reached.store(true, Ordering::Relaxed);
-        assert!(took(short) >= short);
-        way.is_sent.store(true, Ordering::Relaxed);
-        assert!(took(long) < long);
     }
 }

@@ -1,8 +1,7 @@
 //! Misbehaviours of a store, so that the trial can be seen to catch them. Never for use.
-use crate::random::Random;
 use crate::receipts::receipts;
 use epaxos::Answer;
-use epaxos::parts::reading;
+use epaxos::host;
 
 /// The misbehaviours.
 #[derive(Clone, Copy, PartialEq, Eq, Debug)]
@@ -47,15 +46,19 @@ impl Plant {
         }
     }
 
-    /// The one that is planted in reads.
-    pub fn in_reads(self) -> Option<reading::Plant> {
+    /// The one that is planted in the host; none of one that is the store's.
+    pub fn in_host(self) -> Option<host::Plant> {
         match self {
-            Plant::Fewer => Some(reading::Plant::Fewer),
-            Plant::Before => Some(reading::Plant::Before),
-            Plant::After => Some(reading::Plant::Later),
-            Plant::Partly => Some(reading::Plant::Partly),
-            Plant::Foreign => Some(reading::Plant::Foreign),
-            _ => None,
+            Plant::Early => Some(host::Plant::EarlyAnswer),
+            Plant::Forgetful => Some(host::Plant::Forgetful),
+            Plant::Changed => None,
+            Plant::Again => Some(host::Plant::DoneTwice),
+            Plant::Lacking => Some(host::Plant::WrongOpening),
+            Plant::Fewer => Some(host::Plant::ReadFewer),
+            Plant::Before => Some(host::Plant::ReadBefore),
+            Plant::After => Some(host::Plant::ReadLater),
+            Plant::Partly => Some(host::Plant::ReadPartly),
+            Plant::Foreign => Some(host::Plant::ReadForeign),
         }
     }
 }
@@ -76,38 +79,4 @@ pub fn changed(bytes: &[u8]) -> Vec<u8> {
         other.write(&mut out);
     }
     out
-}
-
-/// The bytes of an opening without one of its keys. None where it has none.
-pub fn lacking(opening: &[u8]) -> Option<Vec<u8>> {
-    crate::opening::lacking(opening, |count| Random::new().below(count.into()) as u32)
-}
-
-#[cfg(test)]
-mod tests {
-    use super::*;
-    use crate::opening::Opening;
-    use sha2::{Digest, Sha256};
-
-    #[test]
-    fn an_opening_lacks_a_key() {
-        let mut body = b"EPOP\x03\x03\0\0\0\x02\0\0\0\0\0\0\0\x05\x01\0\0\0\x01x\0\0\0\x02".to_vec();
-        for key in [b'a', b'b'] {
-            body.extend([1, 0, 0, 0, 1, key, b'1']);
-        }
-        body.extend([0, 0, 0, 1, 2, 0, 7]);
-        let opening = [&body[..], &Sha256::digest(&body)].concat();
-        let less = lacking(&opening).unwrap();
-        assert_eq!(less.len(), opening.len() - 7);
-        let path = std::env::temp_dir().join(format!("store-lacking-{}", std::process::id()));
-        let read = |bytes: &[u8]| {
-            std::fs::write(&path, bytes).unwrap();
-            Opening::read(&path).unwrap()
-        };
-        assert_eq!(read(&less), Opening { map: 7, ..read(&opening) });
-        let none = lacking(&less).unwrap();
-        assert_eq!((read(&none).map, lacking(&none)), (0, None));
-        assert_eq!(Sha256::digest(&none[..none.len() - 32])[..], none[none.len() - 32..]);
-        std::fs::remove_file(path).unwrap();
-    }
 }

@@ -3,21 +3,21 @@
 //! An opening tells all that the generations before it have done, whoever has it. So the next generation may begin by the newest one that is here,
 //! if nothing was done since: in a generation of which no majority ever acted nothing was.
 use crate::directory::{self, Directory};
-use crate::generations::sum_of;
 use crate::identities::{Identities, Identity, by_chance, digits};
 use crate::members::{Member, Members};
-use crate::node_fault::NodeFault;
 use crate::opening::Opening;
 use crate::peers::MOST_REPLICAS;
 use crate::planning::{first, newest};
 use crate::random::Random;
 use crate::recovery_fault::RecoveryFault;
 use crate::say::error;
+use crate::sum::sum_of;
 use epaxos::host::{FolderFault, Name};
 use epaxos::parts::files;
 use epaxos::parts::folder::{look, reference, whole};
 use epaxos::parts::follower::Follower;
-use epaxos::parts::opening::{self, map_of};
+use epaxos::parts::log_head::LogHead;
+use epaxos::parts::opening::{made, map_of, write_map};
 use epaxos::parts::plan_fault::PlanFault;
 use epaxos::{Cluster, Fault, Reference, Replica, Setup};
 use std::cell::RefCell;
@@ -47,9 +47,6 @@ Status 0: done, or the report without --write. 1: a file can't be read or writte
 const LEAP: u32 = 1_000_000;
 /// So many of a folder's openings are looked at for addresses.
 const LOOKED_AT: usize = 4;
-/// A log's header.
-const LOG_HEADER: usize = 43;
-const LOG_MAGIC: &[u8] = b"EPLG\x03";
 
 /// What is asked.
 #[derive(PartialEq, Eq, Debug)]
@@ -118,7 +115,7 @@ impl Left {
         let directory = Directory::look(path).map_err(RecoveryFault::Directory)?;
         directory.check_files().map_err(RecoveryFault::Directory)?;
         let none = || RecoveryFault::NoReplica(path.to_path_buf());
-        let refused = |fault: FolderFault| RecoveryFault::Node(NodeFault::Folder(fault));
+        let refused = |fault: FolderFault| RecoveryFault::Folder(fault);
         let held = look(&directory.folder()).map_err(refused)?;
         let refused = |fault: PlanFault| refused(fault.into());
         let newest = Some(newest(&held).map_err(refused)?).filter(|newest| *newest > 0).ok_or_else(none)?;
@@ -129,13 +126,11 @@ impl Left {
             return Err(RecoveryFault::Left(path.to_path_buf(), left));
         }
         let log = directory.log(*directory.generations_with("log").last().ok_or_else(none)?);
-        let mut header = [0; LOG_HEADER];
+        let mut header = [0; LogHead::BYTES];
         let read = File::open(&log).and_then(|mut file| file.read_exact(&mut header));
         read.map_err(|error| RecoveryFault::File(log.clone(), error))?;
-        let replica = header[6];
-        if !header.starts_with(LOG_MAGIC) || usize::from(replica) >= MOST_REPLICAS || !directory.has_identities() {
-            return Err(none());
-        }
+        let head = LogHead::read(&header).filter(|_| directory.has_identities());
+        let LogHead { replica, .. } = head.ok_or_else(none)?;
         // (nothing is written, as the file is there and tells who it is)
         let identities = Identities::open(path, MOST_REPLICAS, replica).map_err(RecoveryFault::Identities)?;
         let known = (0..MOST_REPLICAS as u8).map(|replica| identities.of(replica)).collect();
@@ -173,7 +168,7 @@ impl Left {
             return Ok(bytes.clone());
         }
         let opened = Follower { replica: self.replica }.opening_in(&self.directory.folder(), generation, sum_of);
-        let bytes = opened.map_err(|fault| RecoveryFault::Node(fault.into()))?.bytes;
+        let bytes = opened.map_err(RecoveryFault::Folder)?.bytes;
         self.replayed.borrow_mut().insert(generation, bytes.clone());
         Ok(bytes)
     }
@@ -183,7 +178,7 @@ impl Left {
         let folder = self.directory.folder();
         let is_there = folder.file(generation, Name::Reference).exists();
         let read = is_there.then(|| reference(&folder, generation)).transpose();
-        read.map_err(|fault| RecoveryFault::Node(fault.into()))
+        read.map_err(RecoveryFault::Folder)
     }
 
     /// What befell its core.
@@ -215,7 +210,7 @@ impl Left {
 
     /// How many commands are committed in the newest generation as far as its log tells, and the last stamp.
     fn look_into(&self) -> Result<(usize, u64), RecoveryFault> {
-        let Some(mut replica) = self.acting()? else { return Ok((0, self.opening(self.newest())?.1.since)) };
+        let Some(mut replica) = self.acting()? else { return Ok((0, self.opening(self.newest())?.1.base_stamp)) };
         let committed = replica.report(0, 0).map_err(self.core())?.committed().count();
         Ok((committed, replica.state().map_err(self.core())?.stamp))
     }
@@ -228,7 +223,7 @@ impl Left {
         replica.execute_all().map_err(self.core())?;
         replica.ready().and_then(|ready| ready.assume_synced().map(drop)).map_err(self.core())?;
         let contents: Vec<_> = replica.contents().map_err(self.core())?.collect();
-        Ok(opening::write_map(contents.into_iter()))
+        Ok(write_map(contents.into_iter()))
     }
 
     /// Whether it is one of those that take part in the generation of this opening.
@@ -277,7 +272,7 @@ fn recover(words: &Words, chance: u32) -> Result<String, RecoveryFault> {
             newest - 1
         ));
     }
-    let (mut since, mut most) = (opening.since, (0, of_newest[0]));
+    let (mut since, mut most) = (opening.base_stamp, (0, of_newest[0]));
     for left in &of_newest {
         let (committed, stamp) = left.look_into()?;
         since = since.max(stamp);
@@ -303,7 +298,7 @@ fn recover(words: &Words, chance: u32) -> Result<String, RecoveryFault> {
     let generation = newest.checked_add(LEAP + 1 + chance).ok_or(RecoveryFault::LastGeneration)?;
     let members = members_of(&all, size)?;
     let map = if committed > 0 { furthest.map()? } else { map_of(&bytes).unwrap_or_default().to_vec() };
-    let made = opening::write(size, (generation, since), &members, &map);
+    let made = opening_of(size, (generation, since), &members, &map)?;
     let numbers = all.iter().map(|left| left.replica.to_string()).collect::<Vec<_>>().join(", ");
     let keys = u32::from_be_bytes(map.first_chunk().copied().unwrap_or_default());
     let _ =
@@ -408,9 +403,21 @@ fn members_of(all: &[Left], size: u8) -> Result<Members, RecoveryFault> {
     Ok(members)
 }
 
+/// An opening of this generation, with these members and this map, and nothing that was executed before it.
+fn opening_of(
+    replicas: u8,
+    (generation, since): (u32, u64),
+    members: &Members,
+    map: &[u8],
+) -> Result<Vec<u8>, RecoveryFault> {
+    let made = made((replicas, generation, since), members.write().as_bytes(), map);
+    made.map_err(|fault| RecoveryFault::BadOpening(directory::WHOLE.into(), fault.to_string()))
+}
+
 #[cfg(test)]
 mod tests {
     use super::*;
+    use sha2::{Digest, Sha256};
 
     #[test]
     fn words() {
@@ -423,6 +430,39 @@ mod tests {
         assert_eq!(read("a --help").unwrap(), None);
         for line in ["", "--write", "--writ a", "a --node e"] {
             assert!(matches!(read(line), Err(RecoveryFault::Words(_))), "{line}");
+        }
+    }
+
+    /// By the second opening of tests/vectors/openings.txt.
+    #[test]
+    fn an_opening_keeps_the_map_and_has_other_members() {
+        let digits = |text: &str| -> Vec<u8> {
+            let digits: Vec<u8> = text.bytes().filter(|byte| !byte.is_ascii_whitespace()).collect();
+            let pair = |pair: &[u8]| u8::from_str_radix(std::str::from_utf8(pair).unwrap(), 16).unwrap();
+            digits.chunks(2).map(pair).collect()
+        };
+        let page = digits(
+            "45504f50 03 03 00000002 0000000000000005 01 00000001 78 00000001 01 00000001 61 31
+             00000002  00 0001  02 0007 ba4a4d800fb593e6b4257ad4a8286b173b475a92cf8b8c816f8b2f08e944b31a",
+        );
+        let map = map_of(&page).unwrap();
+        assert_eq!(map, digits("00000001 01 00000001 61 31"));
+        assert_eq!((0..page.len() - 40).find_map(|cut| map_of(&page[..cut])), None);
+        let one = Member { identity: Some([1; 16]), address: Some("a:7".into()) };
+        let members = Members(vec![one, Member::default(), Member::default()]);
+        let made = opening_of(3, (258, 7), &members, map).unwrap();
+        let (body, digest) = made.split_at(made.len() - 32);
+        let seal = format!("members 1\n0 {} a:7\n1 - -\n2 - -\n", "01".repeat(16));
+        let told = [
+            &digits("45504f50 03 03 00000102 0000000000000007 01")[..],
+            &(seal.len() as u32).to_be_bytes(),
+            seal.as_bytes(),
+            &digits("00000001 01 00000001 61 31 00000000"),
+        ];
+        assert_eq!(body, told.concat());
+        assert_eq!(Sha256::digest(body)[..], *digest);
+        for (replicas, generation, map) in [(4, 258, map), (3, 1, map), (3, 258, &map[1..]), (3, 258, &[])] {
+            assert!(matches!(opening_of(replicas, (generation, 7), &members, map), Err(RecoveryFault::BadOpening(..))));
         }
     }
 }

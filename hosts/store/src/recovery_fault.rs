@@ -1,7 +1,7 @@
 //! Why `store recover` refuses.
 use crate::directory_fault::DirectoryFault;
 use crate::identities_fault::IdentitiesFault;
-use crate::node_fault::NodeFault;
+use epaxos::host::FolderFault;
 use epaxos::{Fault, OpenFault};
 use std::fmt;
 use std::io;
@@ -27,7 +27,7 @@ pub enum RecoveryFault {
     /// The core ended while it read a log.
     Core(PathBuf, Fault),
     /// A copy of a replica's log can't be gone on with.
-    Node(NodeFault),
+    Folder(FolderFault),
     /// This opening was made before, and waits for a start.
     Made(PathBuf, u32),
     /// Two folders are of one number.
@@ -58,7 +58,7 @@ impl RecoveryFault {
     pub fn is_lasting(&self) -> bool {
         match self {
             RecoveryFault::Directory(fault) => fault.is_lasting(),
-            RecoveryFault::Node(fault) => fault.is_refusal(),
+            RecoveryFault::Folder(fault) => fault.is_lasting(),
             RecoveryFault::File(..) | RecoveryFault::Core(..) => false,
             _ => true,
         }
@@ -81,7 +81,7 @@ impl fmt::Display for RecoveryFault {
             RecoveryFault::BadOpening(path, why) => write!(f, "{} is damaged: {why}", path.display()),
             RecoveryFault::BadLog(path, fault) => write!(f, "{}: {fault}", path.display()),
             RecoveryFault::Core(path, fault) => write!(f, "{} can't be read: {fault}", path.display()),
-            RecoveryFault::Node(fault) => fault.fmt(f),
+            RecoveryFault::Folder(fault) => fault.fmt(f),
             RecoveryFault::Made(path, generation) => write!(
                 f,
                 "{} is there already, of generation {generation}, from an earlier recovery: start the stores; or, if none was started since, \

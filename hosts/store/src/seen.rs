@@ -1,5 +1,6 @@
 //! The file of what was seen of the other replicas.
-use epaxos::parts::others::Others;
+use epaxos::host::Host;
+use epaxos::parts::place::MOST_REPLICAS;
 use std::fs;
 use std::path::{Path, PathBuf};
 
@@ -13,22 +14,21 @@ pub struct Seen {
 }
 
 impl Seen {
-    /// That of a folder, of which `others` learn what was seen of them in this generation before this start.
-    pub fn open(folder: &Path, generation: u32, others: &mut Others) -> Seen {
+    /// That of a folder, of which a host learns what was seen of the others in its generation before this start.
+    pub fn open(folder: &Path, host: &mut Host) -> Seen {
         let path = folder.join(NAME);
         let text = fs::read_to_string(&path).unwrap_or_default();
         let saved: Vec<u32> = text.split_whitespace().filter_map(|word| word.parse().ok()).collect();
-        if let Some((of, seen)) = saved.split_first()
-            && *of == generation
-        {
-            (0..).zip(seen).for_each(|(replica, seen)| others.see(replica, *seen));
+        if let Some((generation, seen)) = saved.split_first() {
+            (0..).zip(seen).for_each(|(replica, seen)| host.see(*generation, replica, *seen));
         }
         Seen { path, saved }
     }
 
     /// Puts what was seen into it. It helps where it is there: it isn't forced to the disk.
-    pub fn save(&mut self, generation: u32, others: &Others) {
-        let numbers: Vec<u32> = std::iter::once(generation).chain(others.all_seen()).collect();
+    pub fn save(&mut self, host: &Host) {
+        let seen = (0..MOST_REPLICAS).map(|replica| host.seen_of(replica));
+        let numbers: Vec<u32> = std::iter::once(host.generation()).chain(seen).collect();
         if self.saved == numbers {
             return;
         }
@@ -42,23 +42,27 @@ impl Seen {
 #[cfg(test)]
 mod tests {
     use super::*;
+    use epaxos::Cluster;
+    use epaxos::host::Settings;
+    use epaxos::service::MemoryDisk;
+    use std::time::Instant;
 
     #[test]
     fn what_was_seen_is_kept_for_its_generation() {
         let folder = std::env::temp_dir().join(format!("store-seen-{}", std::process::id()));
         fs::create_dir_all(&folder).unwrap();
-        let opened = |generation| {
-            let mut others = Others::new(3);
-            (Seen::open(&folder, generation, &mut others), others)
+        let opened = || {
+            let settings = Settings::new(Cluster::Three, 0);
+            let mut host = Host::begin(&settings, &MemoryDisk::default(), Instant::now()).unwrap();
+            (Seen::open(&folder, &mut host), host)
         };
-        let (mut it, mut others) = opened(4);
-        others.see(1, 7);
-        it.save(4, &others);
-        assert_eq!([0, 1, 2].map(|replica| opened(4).1.seen(replica)), [0, 7, 0]);
-        assert_eq!(opened(5).1.seen(1), 0);
-        others.begin();
-        it.save(5, &others);
-        assert_eq!(opened(4).1.seen(1), 0);
+        let (mut it, mut host) = opened();
+        host.see(1, 1, 7);
+        it.save(&host);
+        assert_eq!([1, 2].map(|replica| opened().1.seen_of(replica)), [7, 0]);
+        // (of another generation)
+        fs::write(folder.join(NAME), "2 0 7 0").unwrap();
+        assert_eq!(opened().1.seen_of(1), 0);
         fs::remove_dir_all(&folder).unwrap();
     }
 }

@@ -1,11 +1,11 @@
 //! A connection of a client: what has come on it, what is done of that, and its replies. Nothing here waits: where a
 //! command has to, what comes behind it isn't taken before.
 use crate::actions::Action;
+use crate::ask::{Ask, What};
 use crate::clients::{Shared, Turn, about_server, tidy};
 use crate::command_fault::CommandFault;
 use crate::commands::{self, Asked, Hello, understand};
 use crate::connections::Connection;
-use crate::driver::{Ask, Told, What};
 use crate::keys::{Keys, Wanted};
 use crate::memory::Share;
 use crate::multi::{Judged, Multi};
@@ -17,6 +17,7 @@ use crate::step::Step;
 use crate::stored::{self, Stored};
 use crate::teller::Teller;
 use crate::timed::read_some;
+use crate::told::Told;
 use crate::transaction::Transaction;
 use crate::view::Values;
 use crate::watching::{Look, Looked};

@@ -1,16 +1,16 @@
 //! Where what is told goes.
-use crate::begun::Begun;
-use crate::driver::Told;
+use crate::told::Told;
+use epaxos::host::Begun;
 use std::sync::Arc;
 
-/// Tells whoever asked, once. Dropped without a word it tells that the driver has ended.
+/// Tells whoever asked, once. Dropped without a word it tells that the thread that serves has ended.
 pub struct Teller {
     tell: Option<Box<dyn FnOnce(Told) + Send>>,
     begun: Arc<Begun>,
 }
 
 impl Teller {
-    /// Tells by this function, which the driver's thread calls: it must not wait.
+    /// Tells by this function, which the thread that serves calls: it must not wait.
     pub fn new(tell: impl FnOnce(Told) + Send + 'static) -> Teller {
         Teller::of(Arc::default(), tell)
     }
@@ -23,6 +23,11 @@ impl Teller {
     /// Whether what is asked is proposed, or was given up.
     pub fn begun(&self) -> &Begun {
         &self.begun
+    }
+
+    /// The same, for the host.
+    pub fn shared(&self) -> Arc<Begun> {
+        self.begun.clone()
     }
 
     pub fn send(mut self, told: Told) {

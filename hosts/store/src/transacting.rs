@@ -1,18 +1,17 @@
 //! Transactions under way: one waits in the queue of each of its keys, in all of them since the same moment, and begins
 //! once it has them all; so no two wait for one another. While it has a key nothing else is done to that from here, but
 //! reads. It reads what it has to know, proposes its command, and tries again where others were first.
-use crate::begun::Begun;
 use crate::command_fault::CommandFault;
-use crate::driver::Told;
-use crate::keys::{Keys, Launch, MOST_LOST, MOST_TRIES, Of, Queued, State, Turn};
+use crate::keys::{Keys, Launch, MOST_TRIES, Of, Queued, State, Turn};
 use crate::replies::ReplyTo;
 use crate::resp::Reply;
-use crate::say::warn;
 use crate::step::Step;
 use crate::stored;
+use crate::told::Told;
 use crate::transaction::{Outcome, Plan, Proposal, Transaction, Undone};
 use crate::view::Values;
 use crate::{actions::Action, replies::Combine};
+use epaxos::host::Begun;
 use epaxos::{MOST_KEYS, OwnedAnswer, OwnedValues};
 use std::collections::BTreeSet;
 use std::sync::Arc;
@@ -31,7 +30,6 @@ pub(crate) struct Transacting {
     values: Values,
     /// What it replies once what was past its deadline is removed.
     reply: Option<Reply>,
-    lost: usize,
     tries: usize,
     begun: Arc<Begun>,
 }
@@ -91,7 +89,6 @@ impl State {
             attempt: 0,
             values: Values::new(),
             reply: None,
-            lost: 0,
             tries: 0,
             begun: Arc::default(),
         };
@@ -143,18 +140,11 @@ impl State {
     }
 
     fn propose_transaction(&mut self, number: u64, proposal: Proposal) {
-        let client = match self.client() {
-            Ok(client) => client,
-            Err(fault) => {
-                warn(&fault.to_string());
-                return self.fail_transaction(number, CommandFault::Numbers(fault));
-            }
-        };
         let Some(transacting) = self.transactions.get_mut(&number) else { return };
         transacting.attempt += 1;
         transacting.begun = Arc::default();
         let (of, begun) = (Of::Transaction(number, transacting.attempt, Vec::new()), transacting.begun.clone());
-        let command = Some((client, self.seen, proposal.command.clone()));
+        let command = Some(proposal.command.clone());
         transacting.stage = Stage::Proposed(proposal);
         self.launches.push(Launch { of, command, begun });
     }
@@ -164,20 +154,10 @@ impl State {
         let Some(transacting) = self.transactions.get_mut(&number).filter(|it| it.attempt == attempt) else { return };
         let fault = match told {
             Told::Value(value) => return self.take_value(number, key, value),
-            Told::Done { reply, .. } => match reply {
-                OwnedAnswer::Done(values) => return self.done_transaction(number, told_of(&values)),
-                OwnedAnswer::Undone(values) => return self.undone_transaction(number, told_of(&values)),
-                OwnedAnswer::Closed => return self.go_about(number),
-                OwnedAnswer::Lost => {
-                    transacting.lost += 1;
-                    if transacting.lost < MOST_LOST {
-                        return self.go_about(number);
-                    }
-                    CommandFault::Lost
-                }
-                _ => CommandFault::Doubtful,
-            },
-            Told::DoneUnseen { .. } => match &transacting.stage {
+            Told::Done(OwnedAnswer::Done(values)) => return self.done_transaction(number, told_of(&values)),
+            Told::Done(OwnedAnswer::Undone(values)) => return self.undone_transaction(number, told_of(&values)),
+            Told::Done(_) => CommandFault::Doubtful,
+            Told::DoneUnseen => match &transacting.stage {
                 Stage::Proposed(proposal) if proposal.is_told_blindly => {
                     return self.done_transaction(number, Vec::new());
                 }
@@ -316,7 +296,7 @@ mod tests {
 
     fn told(is_done: bool, values: &[Option<&str>]) -> Told {
         let values = OwnedValues::new(values.iter().copied()).unwrap();
-        done(1, if is_done { OwnedAnswer::Done(values) } else { OwnedAnswer::Undone(values) })
+        done(if is_done { OwnedAnswer::Done(values) } else { OwnedAnswer::Undone(values) })
     }
 
     fn array(replies: &[Reply]) -> Reply {
@@ -327,29 +307,29 @@ mod tests {
     fn it_has_all_its_keys_before_it_begins() {
         let store = Store::new();
         store.ask(0, "x", set("0"));
-        let first = store.proposed().4;
+        let first = store.proposed().1;
         transact(&store, 1, exec(&["SET x 1", "SET y 1"]));
         transact(&store, 2, exec(&["DEL y", "SET z 2"]));
         // What is asked of a key later waits behind it, and what is asked of others doesn't.
         (3..5).for_each(|number| _ = store.ask(number, "y", set("3")));
         store.ask(5, "w", set("5"));
-        let (.., command, other) = store.proposed();
+        let (command, other) = store.proposed();
         assert!(matches!(command, OwnedCommand::Put { key, .. } if key == b"w"));
-        other.send(done(1, OwnedAnswer::Absent));
+        other.send(done(OwnedAnswer::Absent));
         assert!(store.is_idle() && store.told() == [(5, Reply::Simple("OK"))]);
-        first.send(done(1, OwnedAnswer::Absent));
-        let (.., command, second) = store.proposed();
+        first.send(done(OwnedAnswer::Absent));
+        let (command, second) = store.proposed();
         assert_eq!(command, Command::tx().put(b"x", b"1").tell(b"x").put(b"y", b"1").tell(b"y").build().unwrap());
         assert!(store.is_idle());
         second.send(told(true, &[None, None]));
         assert_eq!(store.told(), [(0, Reply::Simple("OK")), (1, array(&[Reply::Simple("OK"), Reply::Simple("OK")]))]);
-        let (.., command, third) = store.proposed();
+        let (command, third) = store.proposed();
         assert_eq!(command, Command::tx().del(b"y").tell(b"y").put(b"z", b"2").tell(b"z").build().unwrap());
         third.send(told(true, &[Some("1"), None]));
         assert_eq!(store.told(), [(2, array(&[Reply::Integer(1), Reply::Simple("OK")]))]);
-        let (.., command, last) = store.proposed();
+        let (command, last) = store.proposed();
         assert!(matches!(command, OwnedCommand::Put { key, .. } if key == b"y"));
-        last.send(done(1, OwnedAnswer::Absent));
+        last.send(done(OwnedAnswer::Absent));
         assert_eq!(store.told(), [(3, Reply::Simple("OK")), (4, Reply::Simple("OK"))]);
         assert!(store.is_idle());
     }
@@ -359,28 +339,23 @@ mod tests {
         let store = Store::new();
         transact(&store, 0, exec(&["INCR x", "GET y"]));
         store.reads("x").send(value("5"));
-        let (.., command, teller) = store.proposed();
+        let (command, teller) = store.proposed();
         let of = |before: &[u8], after: &[u8]| {
             Command::tx().require(b"x", before).tell(b"x").put(b"x", after).tell(b"y").build().unwrap()
         };
         assert_eq!(command, of(b"5", b"6"));
         teller.send(told(false, &[Some("7"), None]));
-        let (.., command, teller) = store.proposed();
+        let (command, teller) = store.proposed();
         assert_eq!(command, of(b"7", b"8"));
-        // A no-op took its place, and then it stood behind a seal.
-        teller.send(done(1, OwnedAnswer::Lost));
-        let (.., command, teller) = store.proposed();
-        assert_eq!(command, of(b"7", b"8"));
-        teller.send(done(1, OwnedAnswer::Closed));
-        store.proposed().4.send(told(true, &[Some("7"), Some("z")]));
+        teller.send(told(true, &[Some("7"), Some("z")]));
         assert_eq!(store.told(), [(0, array(&[Reply::Integer(8), Reply::text("z")]))]);
         // What is known is tried at once, and others are before it each time.
         transact(&store, 1, exec(&["INCR x", "DEL y"]));
         for number in 1..MOST_TRIES {
-            store.proposed().4.send(told(false, &[Some(&number.to_string()), None]));
+            store.proposed().1.send(told(false, &[Some(&number.to_string()), None]));
         }
         assert!(store.told().is_empty());
-        store.proposed().4.send(told(false, &[Some("0"), None]));
+        store.proposed().1.send(told(false, &[Some("0"), None]));
         assert_eq!(store.told(), [(1, Reply::Error(CommandFault::Contended))]);
         assert!(store.is_idle());
     }
@@ -389,7 +364,7 @@ mod tests {
     fn a_watched_key_that_has_changed_ends_it() {
         let store = Store::new();
         transact(&store, 0, watching("x", Some("5"), &["INCR x", "SET y 1"]));
-        let (.., command, teller) = store.proposed();
+        let (command, teller) = store.proposed();
         let whole = Command::tx().require(b"x", b"5").tell(b"x").put(b"x", b"6").put(b"y", b"1").tell(b"y");
         assert_eq!(command, whole.build().unwrap());
         teller.send(told(false, &[Some("5"), None]));
@@ -398,9 +373,9 @@ mod tests {
         let long = "v".repeat(2_000);
         transact(&store, 1, watching("x", Some(&long), &["APPEND y 1"]));
         store.reads("y").send(Told::Value(None));
-        store.proposed().4.send(told(false, &[Some("a")]));
+        store.proposed().1.send(told(false, &[Some("a")]));
         store.reads("x").send(value(&long));
-        let (.., command, teller) = store.proposed();
+        let (command, teller) = store.proposed();
         assert!(matches!(command, OwnedCommand::Tx(tx) if tx.items().any(|it| it.written == Some(Some(b"a1")))));
         teller.send(told(false, &[Some("a")]));
         store.reads("x").send(value("other"));
@@ -414,16 +389,16 @@ mod tests {
         transact(&store, 0, exec(&["GET x", "SET y 1"]));
         let over = Stored::Value { content: b"old".to_vec(), deadline: Some(1) }.into_bytes();
         let values = OwnedValues::new([Some(&over[..]), None]).unwrap();
-        store.proposed().4.send(done(1, OwnedAnswer::Done(values.clone())));
+        store.proposed().1.send(done(OwnedAnswer::Done(values.clone())));
         assert!(store.told().is_empty());
-        let (.., command, teller) = store.proposed();
+        let (command, teller) = store.proposed();
         assert_eq!(command, Command::tx().require(b"x", &over).tell(b"x").del(b"x").build().unwrap());
-        teller.send(done(1, OwnedAnswer::Done(values.clone())));
+        teller.send(done(OwnedAnswer::Done(values.clone())));
         assert_eq!(store.told(), [(0, array(&[Reply::Nil, Reply::Simple("OK")]))]);
         // Where it isn't known to be removed, nothing is told of what was done.
         transact(&store, 1, exec(&["GET x", "SET y 1"]));
-        store.proposed().4.send(done(1, OwnedAnswer::Done(values)));
-        store.proposed().4.send(Told::Alone);
+        store.proposed().1.send(done(OwnedAnswer::Done(values)));
+        store.proposed().1.send(Told::Alone);
         assert_eq!(store.told(), [(1, Reply::Error(CommandFault::Unseen))]);
         assert!(store.is_idle());
     }
@@ -434,13 +409,13 @@ mod tests {
         let withdraw = |number| store.keys.withdraw_transaction(number);
         // While it waits for a key,
         store.ask(0, "x", set("0"));
-        let first = store.proposed().4;
+        let first = store.proposed().1;
         let waits = transact(&store, 1, exec(&["SET x 1", "SET y 1"]));
         store.ask(2, "y", set("2"));
         assert!(store.is_idle());
         assert_eq!((withdraw(waits), withdraw(waits)), (Some(CommandFault::Waiting), None));
-        store.proposed().4.send(done(1, OwnedAnswer::Absent));
-        first.send(done(1, OwnedAnswer::Absent));
+        store.proposed().1.send(done(OwnedAnswer::Absent));
+        first.send(done(OwnedAnswer::Absent));
         assert_eq!(store.told(), [(2, Reply::Simple("OK")), (0, Reply::Simple("OK"))]);
         // while it reads,
         let reads = transact(&store, 3, exec(&["INCR z", "SET y 1"]));
@@ -451,12 +426,12 @@ mod tests {
         assert!(store.is_idle() && store.told().is_empty());
         // and once it was proposed. What is told of it then is nobody's.
         let proposed = transact(&store, 4, exec(&["SET y 1", "SET v 1"]));
-        let teller = store.proposed().4;
+        let teller = store.proposed().1;
         store.ask(5, "v", set("2"));
         assert_eq!(withdraw(proposed), Some(CommandFault::Unanswered));
-        let next = store.proposed().4;
+        let next = store.proposed().1;
         teller.send(told(true, &[]));
-        next.send(done(1, OwnedAnswer::Absent));
+        next.send(done(OwnedAnswer::Absent));
         assert_eq!(store.told(), [(5, Reply::Simple("OK"))]);
         assert!(store.is_idle());
     }
@@ -465,12 +440,8 @@ mod tests {
     fn what_nobody_knows_and_what_is_refused() {
         let store = Store::new();
         let all: [(&[&str], Told, Reply); 7] = [
-            (
-                &["SET x 1", "SET y 1"],
-                Told::DoneUnseen { stamp: 1 },
-                array(&[Reply::Simple("OK"), Reply::Simple("OK")]),
-            ),
-            (&["SET x 1", "DEL y"], Told::DoneUnseen { stamp: 1 }, Reply::Error(CommandFault::Unseen)),
+            (&["SET x 1", "SET y 1"], Told::DoneUnseen, array(&[Reply::Simple("OK"), Reply::Simple("OK")])),
+            (&["SET x 1", "DEL y"], Told::DoneUnseen, Reply::Error(CommandFault::Unseen)),
             (&["SET x 1", "DEL y"], Told::Doubtful, Reply::Error(CommandFault::Doubtful)),
             (&["SET x 1"], Told::Refused(Fault::Memory), Reply::Error(CommandFault::Node(Fault::Memory))),
             (&["SET x 1"], Told::MapFull, Reply::Error(CommandFault::MapFull)),
@@ -479,12 +450,12 @@ mod tests {
         ];
         for (lines, what, reply) in all {
             transact(&store, 0, exec(lines));
-            store.proposed().4.send(what);
+            store.proposed().1.send(what);
             assert_eq!(store.told(), [(0, reply)]);
         }
         // Whether a command that required something was done nobody knows then.
         transact(&store, 1, watching("x", None, &["SET x 1"]));
-        store.proposed().4.send(Told::DoneUnseen { stamp: 1 });
+        store.proposed().1.send(Told::DoneUnseen);
         assert_eq!(store.told(), [(1, Reply::Error(CommandFault::Doubtful))]);
         let many = (0..1_025).map(|key| format!("GET {key}")).collect::<Vec<_>>();
         transact(&store, 2, exec(&many.iter().map(String::as_str).collect::<Vec<_>>()));

@@ -1,15 +1,16 @@
 //! What watched keys have: by reads that see all that was acknowledged before.
 use crate::actions::Action;
-use crate::begun::Begun;
+use crate::ask::{Ask, What};
 use crate::command_fault::CommandFault;
-use crate::driver::{Ask, Told, What};
 use crate::keys::Keys;
 use crate::outbox::{Message, Outbox};
 use crate::replies::ReplyTo;
 use crate::resp::Reply;
 use crate::stored::{self, Stored};
 use crate::teller::Teller;
+use crate::told::Told;
 use crate::view::Values;
+use epaxos::host::Begun;
 use std::collections::BTreeSet;
 use std::sync::Arc;
 use std::time::Instant;

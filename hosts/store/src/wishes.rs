@@ -1,11 +1,6 @@
 //! What operators ask for: changes of the cluster, which come with the next generation.
 use crate::identities::Identity;
-use crate::teller::Teller;
 use epaxos::parts::wishes::Asked;
-pub use epaxos::parts::wishes::Machines;
-
-/// What was asked for, with whom to tell.
-pub type Wishes = epaxos::parts::wishes::Wishes<Teller>;
 
 /// What somebody who runs the store asks for.
 #[derive(Clone, PartialEq, Eq, Debug)]

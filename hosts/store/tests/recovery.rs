@@ -174,3 +174,32 @@ fn what_may_be_lost_is_accepted_first() {
     new.tells(SERVES);
     has_all(&new, 0..40);
 }
+
+#[test]
+fn two_of_three_are_lost() {
+    let places = Places::new("last");
+    let [mut last, one, other] = [0, 1, 2].map(|replica| places.start(replica));
+    set(&[&last, &one, &other], 0..120);
+    set_more(&last);
+    has_all(&last, 0..120);
+    drop((one, other));
+    let others = Places::new("copied");
+    let new = [0, 1, 2].map(|replica| others.start(replica));
+    let mut copy = Command::new("python3");
+    copy.arg(concat!(env!("CARGO_MANIFEST_DIR"), "/examples/copy_keys.py"));
+    copy.args([&places, &others].map(|it| format!("127.0.0.1:{}", it.port(0))));
+    let Output { status, stdout, stderr } = copy.output().unwrap();
+    assert!(status.success() && stdout == b"121 keys are copied\n", "{}", String::from_utf8_lossy(&stderr));
+    has_all(&new[1], 0..120);
+    let Reply::Integer(left) = new[2].ask("PTTL late") else { panic!() };
+    assert!((1..=500_000).contains(&left));
+    assert_eq!(new[0].ask("TYPE lock"), Reply::Simple("none".into()));
+    last.end("TERM");
+    refused(&places, &["--accept-loss"], &[0], "too few folders: 1 is no majority of 3");
+}
+
+/// A key with a deadline, and a lock.
+fn set_more(store: &Store) {
+    assert_eq!(store.ask("SET late 1 EX 500"), Reply::Simple("OK".into()));
+    assert!(matches!(store.ask("EPAXOS LOCK lock me 60000"), Reply::Integer(1)));
+}

@@ -5,7 +5,8 @@ use crate::Instance;
 use std::error::Error;
 use std::fmt;
 
-/// Why a call was refused. Whatever is refused has changed nothing, but for [`Ended`](Fault::Ended).
+/// Why a call was refused. Whatever is refused has changed nothing, but for [`Ended`](Fault::Ended). A client or a
+/// request of 0, a key of no bytes or of more than 255, and an instance that there isn't are out of range.
 ///
 /// ```
 /// use epaxos::{Fault, Instance};
@@ -17,16 +18,16 @@ use std::fmt;
 #[derive(Clone, PartialEq, Eq, Hash, Debug)]
 #[non_exhaustive]
 pub enum Fault {
-    /// There is no memory. Call again later.
+    // `tools/generate` writes what follows: the refusals of a replica.
+    /// There is no memory: the same call may succeed later.
     Memory,
-    /// A number or a length is out of its range: a client or a request of 0, a key of no bytes or of more than 255, an instance that
-    /// there isn't.
+    /// A number or a length is out of its range.
     OutOfRange,
     /// The replica's numbers of this generation are used up: propose at another one, or propose a seal.
     SpaceFull,
     /// The numbers that order commands are used up.
     SeqExhausted,
-    /// The replica doesn't lead the instance, or does no longer.
+    /// The replica doesn't lead the instance, or doesn't any more.
     NotLeading,
     /// Fewer than a slow quorum has answered: wait on, and send the proposal's frames again.
     TooFewAnswers,
@@ -34,16 +35,17 @@ pub enum Fault {
     AlreadyCommitted,
     /// The instance was recovered too often.
     BallotsExhausted,
-    /// It waits for this instance, which isn't committed here.
+    /// It waits for an instance that isn't committed here.
     NotCommitted(Instance),
     /// The frame is for another replica.
     NotMine,
-    /// The bytes are no frame of this generation.
+    /// The bytes are no frame of this version and generation.
     BadFrame,
-    /// The seen stamp is absurd, or the replica's stamps are used up.
+    /// The seen stamp is too far ahead, or the replica's stamps are used up.
     StampFull,
-    /// What was taken, or what was lent to be written, isn't on the disk yet, as the log isn't behind a start: [`ready`](crate::Replica::ready) and
-    /// [`commit`](crate::Ready::commit) first.
+    // What `tools/generate` writes ends here.
+    /// What was taken, or what was lent to be written, isn't on the disk yet, as the log isn't behind a start:
+    /// [`ready`](crate::Replica::ready) and [`commit`](crate::Ready::commit) first.
     Unsynced,
     /// The library has no replica behind its handle: another thread is in a call with it, which safe code keeps out.
     NoReplica,
@@ -64,6 +66,7 @@ impl Fault {
     /// By the number of its name: 4 for E4. None where it has none, or where it lacks its instance.
     pub(crate) fn of(number: u8, instance: Option<Instance>) -> Option<Fault> {
         Some(match number {
+            // `tools/generate` writes what follows: their numbers.
             1 => Fault::Memory,
             3 => Fault::OutOfRange,
             4 => Fault::SpaceFull,
@@ -76,6 +79,7 @@ impl Fault {
             13 => Fault::NotMine,
             14 => Fault::BadFrame,
             15 => Fault::StampFull,
+            // What `tools/generate` writes ends here.
             _ => return None,
         })
     }

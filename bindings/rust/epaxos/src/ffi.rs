@@ -7,7 +7,9 @@ mod header;
 
 use crate::{Call, Command, Instance, Reference, Succession, Waits};
 use header::*;
-pub(crate) use header::{FrameHead, HeldGeneration, Pair, Place, ReferenceHead, StartPlan, StartWish, VERSION};
+pub(crate) use header::{
+    FrameHead, HeldGeneration, LogHead, OpeningHead, Pair, Place, ReferenceHead, StartPlan, StartWish, VERSION,
+};
 use std::{ptr, slice};
 
 impl Bytes {
@@ -73,11 +75,85 @@ pub(crate) fn pair(pairs: &[u8]) -> Option<Pair> {
     (status == 0).then_some(pair)
 }
 
-/// What a reference says, where the bytes are one.
-pub(crate) fn read_reference(reference: &[u8]) -> Option<ReferenceHead> {
+/// What a reference says, where the bytes are one; or the status, and where they are wrong.
+pub(crate) fn read_reference(reference: &[u8]) -> Result<ReferenceHead, (u8, Place)> {
     let (mut head, mut place) = (ReferenceHead::default(), Place::default());
-    let status = unsafe { ep_read_reference(reference.as_ptr(), reference.len(), &mut head, &mut place) };
+    match unsafe { ep_read_reference(reference.as_ptr(), reference.len(), &mut head, &mut place) } {
+        0 => Ok(head),
+        status => Err((status, place)),
+    }
+}
+
+/// Copies what binds the opening of this digest to the reference of that one: the status.
+pub(crate) fn binding(reference: &[u8; 32], opening: &[u8; 32], out: &mut [u8]) -> u8 {
+    let mut len = 0;
+    unsafe {
+        ep_binding(
+            reference.as_ptr(),
+            reference.len(),
+            opening.as_ptr(),
+            opening.len(),
+            out.as_mut_ptr(),
+            out.len(),
+            &mut len,
+        )
+    }
+}
+
+/// What an opening says before its map, by its first bytes; or the status.
+pub(crate) fn opening_head(opening: &[u8]) -> Result<OpeningHead, u8> {
+    let mut head = OpeningHead::default();
+    match unsafe { ep_opening_head(opening.as_ptr(), opening.len(), &mut head) } {
+        0 => Ok(head),
+        status => Err(status),
+    }
+}
+
+/// Whether the bytes are an opening's; else the status, and where they are wrong.
+pub(crate) fn check_opening(opening: &[u8]) -> Result<(), (u8, Place)> {
+    let mut place = Place::default();
+    match unsafe { ep_check_opening(opening.as_ptr(), opening.len(), &mut place) } {
+        0 => Ok(()),
+        status => Err((status, place)),
+    }
+}
+
+/// Copies the opening of a generation of so many replicas, with this map, from whose stamp clocks go on: how many bytes
+/// it has; or the status, and where the parts are wrong.
+pub(crate) fn opening(
+    (replicas, generation, base_stamp): (u8, u32, u64),
+    seal: &[u8],
+    map: &[u8],
+    out: &mut [u8],
+) -> Result<usize, (u8, Place)> {
+    let parts = OpeningParts { seal: Bytes::of(seal), map: Bytes::of(map), base_stamp, generation, replicas };
+    let (mut len, mut place) = (0, Place::default());
+    match unsafe { ep_opening(&parts, out.as_mut_ptr(), out.len(), &mut len, &mut place) } {
+        0 => Ok(len),
+        status => Err((status, place)),
+    }
+}
+
+/// Whose log it is, by its first bytes.
+pub(crate) fn log_head(log: &[u8]) -> Option<LogHead> {
+    let mut head = LogHead::default();
+    let status = unsafe { ep_log_head(log.as_ptr(), log.len(), &mut head) };
     (status == 0).then_some(head)
+}
+
+/// How many bytes the first record has of those of a log.
+pub(crate) fn record(records: &[u8]) -> Option<u64> {
+    let mut length = 0;
+    let status = unsafe { ep_record(records.as_ptr(), records.len(), &mut length) };
+    (status == 0).then_some(length)
+}
+
+/// The SHA-256 of the bytes.
+pub(crate) fn sum(bytes: &[u8]) -> [u8; 32] {
+    let (mut sum, mut len) = ([0; 32], 0);
+    // (there is room, so nothing is refused)
+    unsafe { ep_sum(bytes.as_ptr(), bytes.len(), sum.as_mut_ptr(), sum.len(), &mut len) };
+    sum
 }
 
 /// The greatest generation that is there; or the status.
@@ -177,6 +253,13 @@ impl Handle {
     /// Ends the replica: each call answers then that there is none.
     pub(crate) fn free(&mut self) {
         unsafe { ep_free(self.held()) };
+    }
+
+    /// What was cut off the log that it was opened from.
+    pub(crate) fn cut(&mut self) -> (u8, Place) {
+        let mut place = Place::default();
+        let status = unsafe { ep_cut(self.held(), &mut place) };
+        (status, place)
     }
 
     /// The replica, of which nothing is lent any more.

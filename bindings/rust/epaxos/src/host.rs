@@ -76,6 +76,7 @@ mod act;
 mod acting;
 mod applying;
 mod asking;
+mod begun;
 mod calling;
 mod changing;
 mod ending;
@@ -89,6 +90,8 @@ mod ids;
 mod key_change;
 mod machine;
 mod members;
+mod observer;
+mod observing;
 mod plant;
 mod reading;
 mod reply;
@@ -98,6 +101,7 @@ mod start;
 mod starting;
 mod status;
 mod stored;
+mod sums;
 mod trail;
 mod turn;
 mod work;
@@ -107,9 +111,11 @@ pub use crate::parts::identity::Identity;
 pub use crate::parts::members::Member;
 pub use crate::parts::wishes::{Asked as Wish, ChangeFault as WishFault};
 pub use act::{Act, Name, Writes};
+pub use begun::Begun;
 pub use fault::{HostFault, StartFault};
 pub use key_change::KeyChange;
 pub use machine::{Machine, Ordered};
+pub use observer::Observer;
 pub use plant::Plant;
 pub use reply::{Refusal, Reply, Told};
 pub use settings::Settings;
@@ -117,6 +123,7 @@ pub use span::Span;
 pub use start::Start;
 pub use status::Status;
 pub use stored::Stored;
+pub use sums::{Summing, Sums};
 pub use trail::Trail;
 pub use turn::{Done, Turn};
 pub use work::Work;
@@ -154,6 +161,8 @@ const TICK: Duration = Duration::from_secs(1);
 const STARTING: Duration = Duration::from_secs(2);
 /// What others have proposed is executed so often, where something was committed.
 const BETWEEN_EXECUTIONS: Duration = Duration::from_millis(200);
+/// And so often with what is written anyway: a seal is executed after all of it, and clients wait for that.
+const BETWEEN_EXECUTIONS_ASIDE: Duration = Duration::from_millis(20);
 
 /// What the disk is doing, and what follows once that is done.
 struct Busy {
@@ -202,15 +211,16 @@ pub struct Host {
     progress: Progress,
     /// None where the host joins, and has no generation yet.
     acting: Option<Acting>,
-    /// The machine, where there is one.
+    /// The machine, where there is one, and whoever observes.
     applying: Option<Applying>,
+    observer: Option<Box<dyn Observer>>,
     reads: Reading<u64>,
     here: Vec<Here>,
     /// The machines whom the last seal named; of the others whom this host has met first; and those that wait to be let
     /// in, with when they told so.
     named: Members,
     met: Vec<Option<Identity>>,
-    outside: BTreeMap<u8, (Identity, Instant)>,
+    outside: BTreeMap<(u8, Identity), Instant>,
     wishes: Wishes<u64>,
     ids: Ids,
     calls: Calls<Held>,
@@ -227,6 +237,7 @@ pub struct Host {
     acts: Vec<Act>,
     executions: Executions,
     next_execution: Instant,
+    next_aside: Instant,
     next_tick: Instant,
     files: Files,
     /// Who wants an opening that isn't written yet, who waits for a part of one, and when one was wanted last.
@@ -239,6 +250,9 @@ pub struct Host {
     gathering: BTreeMap<u64, (u8, Piece)>,
     gathered: u64,
     drops_below: Option<u32>,
+    /// What was said to be dropped last, and the generation for which room was made last.
+    dropped: u32,
+    prepared: u32,
     /// An opening that is on its way, or what leads to one; what has come and is being gone through; and an opening
     /// that has come.
     fetch: Option<Fetch<Vec<u8>>>,
@@ -256,6 +270,11 @@ pub struct Host {
     counts: Counts,
     out: Turn,
     tells_changes: bool,
+    /// When the seal of the present generation was executed, or an opening came, and how long the last change took.
+    changes_since: Option<Instant>,
+    changed_in: Duration,
+    /// How many bytes of the log a start has cut off.
+    cut: u64,
     /// Whether it was told to end.
     ends: bool,
 }
@@ -264,6 +283,8 @@ pub struct Host {
 #[derive(Default)]
 struct Counts {
     changes: u64,
+    /// Openings that were taken from peers.
+    taken: u64,
     syncs: u64,
     proposals: u64,
 }
@@ -336,6 +357,62 @@ impl Host {
     /// ```
     pub fn join(settings: &Settings, stored: &impl Stored, now: Instant) -> Result<Host, StartFault> {
         Host::start(settings, Start::Join, stored, None, now)
+    }
+
+    /// The host that goes on with a later opening than its disk has, which somebody hands it who runs the cluster: one
+    /// that was made of what is left of it, after its majority was lost. Where the disk has it already, as by a `take`
+    /// before, the host goes on with it.
+    ///
+    /// # Errors
+    ///
+    /// [`StartFault`] says why. Nothing was changed.
+    ///
+    /// ```
+    /// use epaxos::host::{Host, Settings, StartFault};
+    /// # use epaxos::{Cluster, service::MemoryDisk};
+    /// # use std::time::Instant;
+    ///
+    /// let settings = Settings::new(Cluster::Three, 0);
+    /// let taken = Host::take(&settings, &MemoryDisk::default(), b"no opening", Instant::now());
+    /// assert!(matches!(taken, Err(StartFault::Folder(_))));
+    /// ```
+    pub fn take(settings: &Settings, stored: &impl Stored, opening: &[u8], now: Instant) -> Result<Host, StartFault> {
+        check(settings)?;
+        Host::started(settings, starting::take(settings, stored, opening)?, now)
+    }
+
+    /// How many bytes behind the last whole record of the log this start has cut off: what a crash had left.
+    ///
+    /// ```
+    /// # use epaxos::{Cluster, host::{Host, Settings}, service::MemoryDisk};
+    /// # use std::time::Instant;
+    /// # fn main() -> Result<(), Box<dyn std::error::Error>> {
+    /// let host = Host::begin(&Settings::new(Cluster::Three, 0), &MemoryDisk::default(), Instant::now())?;
+    /// assert_eq!(host.cut(), 0);
+    /// # Ok(()) }
+    /// ```
+    pub fn cut(&self) -> u64 {
+        self.cut
+    }
+
+    /// This entry of a peer was seen in this generation before the start, by what a program keeps beside the disk:
+    /// where that peer has fewer, it has forgotten what it promised, and is told so. (What the log has handled is known
+    /// without it.) To be called before the first turn.
+    ///
+    /// ```
+    /// # use epaxos::{Cluster, host::{Host, Settings}, service::MemoryDisk};
+    /// # use std::time::Instant;
+    /// # fn main() -> Result<(), Box<dyn std::error::Error>> {
+    /// let mut host = Host::begin(&Settings::new(Cluster::Three, 0), &MemoryDisk::default(), Instant::now())?;
+    /// host.see(1, 1, 7);
+    /// host.see(2, 2, 9); // (of another generation)
+    /// assert_eq!((host.seen_of(1), host.seen_of(2)), (7, 0));
+    /// # Ok(()) }
+    /// ```
+    pub fn see(&mut self, generation: u32, peer: u8, entry: u32) {
+        if generation == self.progress.generation.number {
+            self.progress.others.see(peer, entry);
+        }
     }
 
     /// The host of a replica with a [`Machine`], which does the opaque commands, begun as [`begin`](Host::begin),
@@ -439,7 +516,8 @@ impl Host {
                 Err(_) => return Err(StartFault::Replaced(acting.generation)),
             }
         }
-        (host.acting, host.files) = (Some(acting), files);
+        (host.cut, host.files) = (acting.replica.cut(), files);
+        host.acting = Some(acting);
         host.out.executed = if settings.tells_executed { executed } else { Vec::new() };
         host.writes += 1;
         let (requests, done) = (Vec::new(), Vec::new());
@@ -463,6 +541,7 @@ impl Host {
             progress: Progress { measures: !settings.has(Plant::FixedWaits), ..progress },
             acting: None,
             applying: None,
+            observer: None,
             reads,
             here: Vec::new(),
             named: Members(Vec::new()),
@@ -480,6 +559,7 @@ impl Host {
             acts: Vec::new(),
             executions: Executions::new(place.replicas),
             next_execution: now,
+            next_aside: now,
             next_tick: now,
             files: Files::default(),
             wanting: BTreeSet::new(),
@@ -489,6 +569,8 @@ impl Host {
             gathering: BTreeMap::new(),
             gathered: 0,
             drops_below: None,
+            dropped: 0,
+            prepared: 0,
             fetch: None,
             going: None,
             taken: None,
@@ -501,6 +583,9 @@ impl Host {
             counts: Counts::default(),
             out: Turn::default(),
             tells_changes: false,
+            changes_since: None,
+            changed_in: Duration::ZERO,
+            cut: 0,
             ends: false,
         })
     }
@@ -685,6 +770,7 @@ impl Host {
         let mut batch = self.take_pending(now);
         self.release(&mut batch, now);
         self.seal(&mut batch, now);
+        self.prepare_next();
         if !self.progress.generation.is_sealed() {
             self.look(now)?;
             self.remedy_late(&mut batch, now);
@@ -767,7 +853,8 @@ impl Host {
     fn finish(&mut self, busy: Busy, now: Instant) -> Result<(), HostFault> {
         let Busy { requests, done, is_core, change, .. } = busy;
         if let Some(acting) = self.acting.as_mut().filter(|_| is_core) {
-            let mut outcome = acting.synced(self.tells_changes)?;
+            let is_observed = matches!(change, None | Some(Change::Sealed(..)));
+            let mut outcome = acting.synced(self.tells_changes, self.observer.as_mut().filter(|_| is_observed))?;
             let mut proposed = std::mem::take(&mut outcome.proposed).into_iter();
             for (request, done) in requests.into_iter().zip(done) {
                 self.accept((request, done), &mut proposed, now)?;
@@ -780,7 +867,12 @@ impl Host {
         }
         match change {
             None => Ok(()),
-            Some(change) => self.begin_generation(change, now),
+            Some(change) => {
+                if matches!(change, Change::Start | Change::Taken(..)) {
+                    self.begin_observing()?;
+                }
+                self.begin_generation(change, now)
+            }
         }
     }
 }

@@ -60,6 +60,20 @@ impl Library {
         })
     }
 
+    /// How many bytes of the log that it was opened from stood behind the last whole record, and were cut off.
+    pub(crate) fn cut(&mut self) -> Result<u64, OpenFault> {
+        match self.handle.cut() {
+            (DONE, place) => Ok(place.by),
+            (NONE, _) => Ok(0),
+            (status, place) => Err(open_fault(status, place)),
+        }
+    }
+
+    /// Ends it.
+    pub(crate) fn end(&mut self) {
+        self.handle.free();
+    }
+
     /// While something is lent nothing is told. (A refused call of the library would end the lending of the bytes.)
     fn check_not_lent(&self) -> Result<(), Fault> {
         if self.lent > 0 { Err(Fault::Unsynced) } else { Ok(()) }
@@ -334,7 +348,7 @@ fn bad_answers() -> Fault {
 }
 
 /// Why nothing is opened, in the words of the programs.
-fn open_fault(status: u8, Place { at, by }: Place) -> OpenFault {
+pub(crate) fn open_fault(status: u8, Place { at, by }: Place) -> OpenFault {
     let log = |why: String| OpenFault::BadLog(why);
     let opening = |why: String| OpenFault::BadOpening(why);
     match status {

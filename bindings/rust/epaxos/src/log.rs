@@ -2,8 +2,7 @@
 #![forbid(unsafe_code)]
 
 use crate::Ready;
-use crate::place::Place;
-use crate::records::{self, HEADER};
+use crate::place::{Kept, Place};
 use std::io;
 
 /// A place for a replica's log: a file ([`LogFile`](crate::LogFile)), memory (`Vec<u8>`, for tests), or a disk of your own.
@@ -65,8 +64,8 @@ pub trait Log {
 /// In memory: for tests, and for replicas that don't outlive the program.
 impl Log for Vec<u8> {
     fn keep(&mut self, ready: &Ready) -> io::Result<()> {
-        let header = &self[..HEADER.min(self.len())];
-        match Place::of(ready, header, records::whole(self).0 as u64) {
+        let is_found = ready.is_anew() && self[..] != *ready.log();
+        match Place::of(ready, &Kept::of(self, is_found)) {
             Some(Place::Instead) => self.clear(),
             Some(Place::Behind) => {}
             Some(Place::There) => return Ok(()),

@@ -1,9 +1,9 @@
 //! A log in a file.
 #![forbid(unsafe_code)]
 
+use crate::ffi::{self, LogHead};
 use crate::lock::Lock;
-use crate::place::Place;
-use crate::records::{self, HEADER};
+use crate::place::{Kept, Place};
 use crate::{Log, Ready};
 use std::fs::{self, File, OpenOptions, TryLockError};
 use std::io::{self, ErrorKind, Read, Seek, SeekFrom, Write};
@@ -37,9 +37,7 @@ pub struct LogFile {
     path: PathBuf,
     /// None before the log begins: then no file is there, or none that was ever told of.
     file: Option<File>,
-    /// What it begins with, and how many bytes it has: header and whole records.
-    header: Vec<u8>,
-    bytes: u64,
+    kept: Kept,
     /// Which of the replicas that this process has opened wrote to it last.
     writer: Option<u64>,
     /// Whether a write or a sync has failed: then nobody knows what the file has.
@@ -101,21 +99,20 @@ impl LogFile {
     }
 
     fn of(path: &Path, file: Option<File>, log: &[u8], lock: Lock) -> LogFile {
-        let (header, bytes) = (log[..HEADER.min(log.len())].to_vec(), records::whole(log).0 as u64);
-        LogFile { path: path.into(), file, header, bytes, writer: None, has_failed: false, _lock: lock }
+        let kept = Kept::of(log, file.is_some());
+        LogFile { path: path.into(), file, kept, writer: None, has_failed: false, _lock: lock }
     }
 
     /// Where the bytes go, if it is the log that they are for.
     fn place(&self, ready: &Ready) -> io::Result<Place> {
         let is_writer = ready.is_anew() || self.writer == Some(ready.own_log().opened);
-        let place = Place::of(ready, &self.header, self.bytes).filter(|_| is_writer);
+        let place = Place::of(ready, &self.kept).filter(|_| is_writer);
         place.ok_or_else(|| {
-            let has = match (self.header.get(6), self.header.get(7..HEADER).and_then(|it| it.first_chunk())) {
-                (Some(replica), Some(generation)) => {
-                    let generation = u32::from_be_bytes(*generation);
-                    format!("replica {replica} in generation {generation}, with {} bytes", self.bytes)
+            let has = match ffi::log_head(&self.kept.header) {
+                Some(LogHead { replica, generation, .. }) => {
+                    format!("replica {replica} in generation {generation}, with {} bytes", self.kept.bytes)
                 }
-                _ => "none so far".to_string(),
+                None => "none so far".to_string(),
             };
             let (replica, generation, at) = (ready.replica(), ready.generation(), ready.at());
             let what = if ready.is_anew() { "a whole log".into() } else { format!("what follows byte {at}") };
@@ -178,9 +175,10 @@ impl Log for LogFile {
         self.has_failed = kept.is_err();
         kept?;
         if is_anew {
-            (self.header, self.writer) = (ready.own_log().header.clone(), Some(ready.own_log().opened));
+            self.kept = Kept { header: ready.own_log().header.clone(), ..Kept::default() };
+            self.writer = Some(ready.own_log().opened);
         }
-        self.bytes = ready.at() + ready.log().len() as u64;
+        self.kept.bytes = ready.at() + ready.log().len() as u64;
         Ok(())
     }
 }

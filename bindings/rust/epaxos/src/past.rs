@@ -13,16 +13,11 @@ pub(crate) struct Past {
 }
 
 impl Past {
-    /// That of this log, of which so many entries were told, or all; of a new replica where there is none.
-    pub(crate) fn of(log: Option<&[u8]>, told: Option<u32>) -> Result<Past, OpenFault> {
-        let (mut entries, mut cut) = (0, 0);
-        if let Some(log) = log {
-            if log.is_empty() {
-                return Err(OpenFault::NoLog);
-            }
-            let (whole, count) = records::whole(log);
-            (entries, cut) = (count, (log.len() - whole) as u64);
-        }
+    /// That of this log, of which the library has cut off so many bytes, and so many entries were told, or all; of a
+    /// new replica where there is none.
+    pub(crate) fn of(log: Option<&[u8]>, cut: u64, told: Option<u32>) -> Result<Past, OpenFault> {
+        let log = log.unwrap_or_default();
+        let entries = records::count(&log[..log.len().saturating_sub(cut as usize)]);
         match told.unwrap_or(entries) {
             told if told > entries => Err(OpenFault::Forgotten { entries, told }),
             told => Ok(Past { told, cut }),

@@ -3,10 +3,12 @@
 
 use crate::ffi;
 use crate::records::HEADER;
+use crate::status::DONE;
 use crate::{Cluster, OutOfRange, Sum};
+use std::alloc::{Layout, handle_alloc_error};
 
-const BINDING: &[u8; 4] = b"EPOB";
-const VERSION: u8 = 3;
+/// How many bytes a binding has.
+const BINDING: usize = 69;
 /// Where the log's sum stands.
 const SUM_AT: usize = 18;
 
@@ -92,7 +94,7 @@ impl Reference {
         let mut bytes = vec![0; Reference::BYTES];
         let Reference { cluster, generation, length, sum } = *self;
         // (its ranges were looked at as it was made)
-        ffi::reference((cluster.replicas(), generation, length), &sum, &mut bytes);
+        had_memory(ffi::reference((cluster.replicas(), generation, length), &sum, &mut bytes));
         bytes
     }
 
@@ -102,7 +104,7 @@ impl Reference {
     /// assert_eq!(epaxos::Reference::read(b"EPOR"), None);
     /// ```
     pub fn read(bytes: &[u8]) -> Option<Reference> {
-        let head = ffi::read_reference(bytes)?;
+        let head = ffi::read_reference(bytes).ok()?;
         let sum = *bytes.get(SUM_AT..)?.first_chunk()?;
         Reference::new(Cluster::try_from(head.replicas).ok()?, head.generation, head.length, sum).ok()
     }
@@ -141,5 +143,14 @@ impl Reference {
 
 /// What says that the opening of the second digest is what the reference of the first one stood for.
 pub(crate) fn binding(reference: &[u8; 32], opening: &[u8; 32]) -> Vec<u8> {
-    [&BINDING[..], &[VERSION], reference, opening].concat()
+    let mut bytes = vec![0; BINDING];
+    had_memory(ffi::binding(reference, opening, &mut bytes));
+    bytes
+}
+
+/// Ends the program where a call was refused a few bytes of memory, as `Vec` does: such bytes mustn't reach a disk.
+fn had_memory(status: u8) {
+    if status != DONE {
+        handle_alloc_error(Layout::new::<[u8; Reference::BYTES]>());
+    }
 }

@@ -110,8 +110,8 @@ impl Replica {
         if let Some(reference) = reference {
             begin.check(&reference)?;
         }
-        let library = Library::open(&begin)?;
-        let Past { told, cut } = Past::of(log, told)?;
+        let mut library = Library::open(&begin)?;
+        let Past { told, cut } = Past::of(log, library.cut()?, told)?;
         Ok(Replica {
             library,
             told,
@@ -219,10 +219,16 @@ impl Replica {
         if Some(reference.generation()) != own.generation.checked_add(1) || reference.length() != own.bytes {
             return Err(SucceedFault::OtherReference);
         }
-        let past = Past::of(log, told).map_err(SucceedFault::Log)?;
+        if log.is_some_and(<[u8]>::is_empty) {
+            return Err(SucceedFault::Log(OpenFault::NoLog));
+        }
+        // (what a crash has left may look like a record, which the library alone tells)
+        Past::of(log, 0, told).map_err(SucceedFault::Log)?;
         let checkpoint = Checkpoint::of(self.library.succeed(succession)?);
+        let past = self.library.cut().and_then(|cut| Past::of(log, cut, told));
+        let past = past.inspect_err(|_| self.library.end()).map_err(SucceedFault::Log)?;
         (self.told, self.cut) = (past.told, past.cut);
-        (self.own_log, self.end) = (OwnLog::begun(me, reference.generation()), 0);
+        (self.own_log, self.end) = (OwnLog::begun(me, reference.generation(), log), 0);
         self.replicas = cluster.replicas();
         Ok(checkpoint)
     }
@@ -319,7 +325,7 @@ impl Replica {
     ///
     /// # Errors
     ///
-    /// As [`take`](Replica::take). A frame that was refused for want of memory may be treated as lost.
+    /// As [`take`](Replica::take). A frame that was refused when out of memory may be treated as lost.
     ///
     /// ```
     /// # use epaxos::{Call, Cluster, Command, Replica};

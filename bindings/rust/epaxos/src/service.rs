@@ -629,13 +629,14 @@ impl<D: Disk, L: Link, C: Clock> Driver<D, L, C> {
                 Err(RecvTimeoutError::Timeout) => None,
                 Err(RecvTimeoutError::Disconnected) => return Ok(()),
             };
-            for _ in 0..MOST {
-                let Some(one) = next else { break };
+            let mut count = 0;
+            while let Some(one) = next {
                 if matches!(one, Came::End) {
                     return Ok(());
                 }
                 self.take(one)?;
-                next = came.try_recv().ok();
+                count += 1;
+                next = if count < MOST { came.try_recv().ok() } else { None };
             }
         }
     }
@@ -669,6 +670,7 @@ impl<D: Disk, L: Link, C: Clock> Driver<D, L, C> {
             }
             Came::Members(reply) => reply.tell((self.host.members(), self.host.waiting_machines())),
             Came::Written(generation, digest, bytes) => self.host.opening_written(generation, &digest, bytes, now),
+            Came::NotWritten(generation) => self.host.opening_failed(generation, now),
             Came::Part(generation, offset, part) => self.host.opening_read(generation, offset, part, now),
             Came::LetGo(generation, checkpoint) => self.host.let_go(generation, checkpoint, now),
             Came::Gathered(number, bytes) => self.host.gathered(number, bytes, now),
@@ -728,7 +730,7 @@ impl<D: Disk, L: Link, C: Clock> Driver<D, L, C> {
 
     /// The link learns where the members of a generation are, once it has begun.
     fn meet(&mut self) {
-        let generation = self.host.status_generation();
+        let generation = self.host.generation();
         if generation == self.addressed {
             return;
         }
@@ -793,10 +795,12 @@ impl<D: Disk, L: Link, C: Clock> Driver<D, L, C> {
             Work::Write { generation, machine, checkpoint } => {
                 let put = machine.map(|bytes| Act::Put { generation, name: Name::Machine, bytes });
                 let written = disk.carry_out(put.as_slice()).and_then(|()| disk.write_opening(generation, checkpoint));
-                if let Ok((digest, bytes)) = written {
-                    let _ = own.send(Came::Written(generation, digest, bytes));
-                }
+                let _ = own.send(match written {
+                    Ok((digest, bytes)) => Came::Written(generation, digest, bytes),
+                    Err(_) => Came::NotWritten(generation),
+                });
             }
+            Work::Prepare { generation } => _ = disk.prepare(generation),
             Work::Read { generation, offset, length } => {
                 if let Ok(part) = disk.read_opening(generation, offset, length) {
                     let _ = own.send(Came::Part(generation, offset, part));

@@ -1,7 +1,7 @@
 //! How a replica is begun.
 #![forbid(unsafe_code)]
 
-use crate::{Cluster, OpenFault, Reference, Replica};
+use crate::{Cluster, OpenFault, Reference, Replica, ffi};
 
 /// How a replica is begun, or gone on with, where [`Replica::new`] and [`Replica::open`] don't say enough.
 ///
@@ -90,15 +90,16 @@ pub(crate) struct Begin<'a> {
 }
 
 impl Begin<'_> {
-    /// The generation that the opening begins, as it tells; 1 where there is none.
+    /// The generation that the opening begins, as it tells; 1 where there is none. (One that tells nothing is refused.)
     pub(crate) fn generation(&self) -> u32 {
-        let told = self.opening.and_then(|opening| opening.get(6..10)?.first_chunk());
-        told.map_or(1, |bytes| u32::from_be_bytes(*bytes))
+        let head = self.opening.and_then(|opening| ffi::opening_head(opening).ok());
+        head.map_or(1, |head| head.generation)
     }
 
-    /// Whether the opening may be what this reference stood for.
+    /// Whether the opening may be what this reference stood for. (The library says why one is none.)
     pub(crate) fn check(&self, reference: &Reference) -> Result<(), OpenFault> {
-        if (reference.generation(), reference.cluster()) != (self.generation(), self.cluster) {
+        let is_one = self.opening.is_none_or(|opening| ffi::opening_head(opening).is_ok());
+        if is_one && (reference.generation(), reference.cluster()) != (self.generation(), self.cluster) {
             return Err(OpenFault::BadOpening("the reference is that of another generation".into()));
         }
         Ok(())

@@ -3,14 +3,17 @@
 
 #[path = "common/calls.rs"]
 mod calls;
+#[path = "common/net.rs"]
+mod net;
 #[path = "common/ports.rs"]
 mod ports;
 
 use calls::{raise, told};
-use epaxos::host::{FolderFault, Host, Name, Refusal, Reply, Settings, StartFault, Stored, Told, Work};
+use epaxos::host::{Act, FolderFault, Host, Name, Refusal, Settings, StartFault, Stored, Told, Wish};
 use epaxos::service::{Disk, Folder, MemoryDisk, Service, Start, TcpLink};
 use epaxos::sim::{Plan, Trouble, What, leave, run};
 use epaxos::{Cluster, OwnedAnswer, OwnedCommand};
+use net::Net;
 use ports::Ports;
 use std::fs;
 use std::io;
@@ -152,85 +155,6 @@ fn what_is_lost_after_long_waits_is_waited_for_no_longer() {
     }
 }
 
-/// Three hosts in memory, whose frames all come, but for those of one that is away.
-struct Net {
-    hosts: Vec<Host>,
-    disks: Vec<MemoryDisk>,
-    now: Instant,
-    calls: u64,
-    away: Option<u8>,
-    /// How many times one of them has had an opening written, and has gone through a peer's logs.
-    written: usize,
-    followed: usize,
-}
-
-impl Net {
-    fn begin(settings: &Settings) -> Net {
-        let (now, disks) = (Instant::now(), vec![MemoryDisk::default(), MemoryDisk::default(), MemoryDisk::default()]);
-        let of = |me: u8| Settings { me, seed: me.into(), ..settings.clone() };
-        let begin = |(me, disk): (u8, &MemoryDisk)| Host::begin(&of(me), disk, now).unwrap();
-        let mut hosts: Vec<Host> = (0..).zip(&disks).map(begin).collect();
-        for (me, host) in (0..).zip(&mut hosts) {
-            (0..3).filter(|peer| *peer != me).for_each(|peer| host.link_opened(peer, now));
-        }
-        Net { hosts, disks, now, calls: 0, away: None, written: 0, followed: 0 }
-    }
-
-    /// A turn of each: who is told what.
-    fn turn(&mut self) -> Vec<Reply> {
-        let (mut frames, mut replies) = (Vec::new(), Vec::new());
-        for ((me, host), disk) in (0..).zip(&mut self.hosts).zip(&mut self.disks) {
-            let turn = host.turn(self.now).unwrap();
-            frames.extend(turn.frames.into_iter().map(|(to, bytes)| (me, to, bytes)));
-            replies.extend(turn.replies);
-            if let Some(writes) = turn.writes {
-                disk.carry_out(&writes.acts).unwrap();
-                host.synced(writes.number, self.now).unwrap();
-            }
-            for work in turn.work {
-                match work {
-                    Work::Gather { number, spans } => {
-                        let bytes = spans.iter().flat_map(|span| disk.read_span(span).unwrap()).collect();
-                        host.gathered(number, Some(bytes), self.now);
-                    }
-                    Work::Follow { generation, trail } => {
-                        self.followed += 1;
-                        host.followed(generation, Some(trail.opening().unwrap()), self.now);
-                    }
-                    Work::LetGo { generation, checkpoint } => host.let_go(generation, checkpoint, self.now),
-                    Work::Write { .. } | Work::Read { .. } => self.written += 1,
-                }
-            }
-        }
-        for (from, to, bytes) in frames {
-            if ![from, to].map(Some).contains(&self.away) {
-                self.hosts[usize::from(to)].receive(from, bytes, self.now).unwrap();
-            }
-        }
-        self.now += Duration::from_millis(1);
-        replies
-    }
-
-    /// What the first one's client is told of a command.
-    fn ask(&mut self, command: OwnedCommand) -> Told {
-        self.hosts[0].call(self.calls + 1, command, self.now);
-        self.told()
-    }
-
-    /// What is told of the next call, which was asked.
-    fn told(&mut self) -> Told {
-        self.calls += 1;
-        for _ in 0..10_000 {
-            let mut replies = self.turn();
-            if let Some(reply) = replies.pop() {
-                assert!(replies.is_empty() && reply.token == self.calls);
-                return reply.told;
-            }
-        }
-        panic!("nothing is told");
-    }
-}
-
 /// Who lags goes through the logs that a peer hands it, from the last whole opening there: nothing is written for it.
 #[test]
 fn who_lags_goes_through_the_logs_of_a_peer() {
@@ -242,7 +166,11 @@ fn who_lags_goes_through_the_logs_of_a_peer() {
     };
     done(&mut net, 0..10);
     net.away = Some(2);
-    done(&mut net, 10..120);
+    for keys in [10..40, 40..70, 70..100, 100..120] {
+        done(&mut net, keys);
+        net.hosts[0].wish(net.calls + 1, Wish::Seal, net.now);
+        assert!(matches!(net.told(), Told::Changed(_)));
+    }
     let newest = net.hosts[0].status().generation;
     assert!(newest >= 4 && net.hosts[2].status().generation == 1, "{newest}");
     net.away = None;
@@ -262,6 +190,53 @@ fn who_lags_goes_through_the_logs_of_a_peer() {
     again.synced(writes.number, net.now).unwrap();
     assert_eq!(again.look_up(&[60]), Ok(Some(vec![60; 3_000])));
     done(&mut net, 120..121);
+}
+
+/// The files of this replica in tests/vectors/folders.txt, as a disk that has them. Lines that are indented further go
+/// on with the one before.
+fn older(replica: u8) -> MemoryDisk {
+    let text = include_str!("../../../../tests/vectors/folders.txt");
+    let (mut disk, mut files) = (MemoryDisk::default(), Vec::<(String, String)>::new());
+    for line in text.lines().filter_map(|line| line.strip_prefix("    ")) {
+        match (line.strip_prefix(' '), line.split_once(' '), files.last_mut()) {
+            (Some(more), _, Some((_, hex))) => hex.push_str(more.trim()),
+            (_, Some((name, hex)), _) => files.push((name.into(), hex.trim().into())),
+            other => panic!("{other:?}"),
+        }
+    }
+    for (name, hex) in files {
+        let [of, generation, file] = name.split('/').collect::<Vec<_>>()[..] else { panic!("{name}") };
+        let name = [Name::Opening, Name::Log, Name::Left].into_iter().find(|it| it.letters() == file).unwrap();
+        let bytes =
+            hex.as_bytes().chunks(2).map(|it| u8::from_str_radix(std::str::from_utf8(it).unwrap(), 16).unwrap());
+        let put = Act::Put { generation: generation.parse().unwrap(), name, bytes: bytes.collect() };
+        disk.carry_out(if of == replica.to_string() { std::slice::from_ref(&put) } else { &[] }).unwrap();
+    }
+    disk
+}
+
+/// Folders of a time without references are gone on from, and left by a reference.
+#[test]
+fn older_folders_are_gone_on_from() {
+    let now = Instant::now();
+    let settings = |me| Settings { seed: me, numbers: 20, checkpoint: 1, ..Settings::new(Cluster::Three, me as u8) };
+    // (the third one is away)
+    let disks: Vec<MemoryDisk> = (0..2).map(older).collect();
+    let mut hosts: Vec<Host> = (0..).zip(&disks).map(|(me, it)| Host::open(&settings(me), it, now).unwrap()).collect();
+    hosts[0].link_opened(1, now);
+    hosts[1].link_opened(0, now);
+    let mut net = Net { hosts, disks, now, calls: 0, away: Some(2), written: 0, followed: 0, writes: false };
+    let put = |key: &[u8], value: u8| OwnedCommand::Put { key: key.into(), value: vec![value] };
+    assert_eq!(net.ask(put(b"x", b'6')), Told::Done(OwnedAnswer::Present(b"5".into())));
+    assert_eq!(net.hosts[0].status().generation, 2);
+    for value in 0..60 {
+        assert!(matches!(net.ask(put(b"w", value)), Told::Done(_)));
+    }
+    let newest = net.hosts[0].status().generation;
+    assert!(newest > 2 && net.disks[0].read(3, Name::Reference).unwrap().is_some(), "{newest}");
+    for (key, value) in [(b"x", b"6"), (b"y", b"2"), (b"z", b"3")] {
+        assert_eq!(net.hosts[0].look_up(key), Ok(Some(value.into())));
+    }
 }
 
 /// Each generation shares out the room that is left, while that is worth it; then deletes and reads go on.

@@ -114,6 +114,40 @@ fn a_log_is_not_begun_anew() {
     assert_eq!(replica.ready().unwrap().commit(&mut file).unwrap().entries(), 1);
 }
 
+/// What a crash has left goes with the first write of a replica that was opened from just these bytes, and of no other.
+#[test]
+fn what_a_crash_left_is_replaced() {
+    let folder = Folder::new("torn");
+    let path = folder.file("zero");
+    let mut file = LogFile::begin(&path).unwrap();
+    let mut replica = setup(0).begin().unwrap();
+    for request in 0..2 {
+        replica.ready().unwrap().commit(&mut file).unwrap();
+        replica.propose(Call::new(1, request + 1), PUT).unwrap();
+    }
+    drop((file, replica));
+    let whole = fs::read(&path).unwrap();
+    fs::write(&path, [&whole[..], b"torn"].concat()).unwrap();
+    let (mut file, log) = LogFile::open(&path).unwrap();
+    let lost = [&whole[..43], &vec![7; log.len() - 43]].concat();
+    for (other, cut) in [(&lost, log.len() - 43), (&whole, 0)] {
+        let mut replica = setup(0).open(other).unwrap();
+        assert_eq!(replica.cut(), cut as u64);
+        check_refused(&mut replica, &mut file, &path);
+    }
+    let mut replica = setup(0).open(&log).unwrap();
+    assert_eq!(replica.cut(), 4);
+    assert_eq!(replica.ready().unwrap().commit(&mut file).unwrap().entries(), 1);
+    assert_eq!(fs::read(&path).unwrap(), whole);
+    // (in memory too)
+    let mut held = log.clone();
+    let mut other = setup(0).open(&lost).unwrap();
+    assert!(matches!(other.ready().unwrap().commit(&mut held), Err(CommitFault::Log(_))));
+    assert_eq!(held, log);
+    assert_eq!(setup(0).open(&log).unwrap().ready().unwrap().commit(&mut held).unwrap().entries(), 1);
+    assert_eq!(held, whole);
+}
+
 /// What is written and not told of isn't written twice; what was said to be there and isn't is missed.
 #[test]
 fn bytes_are_written_once_and_in_order() {

@@ -1,21 +1,22 @@
 //! A store's clients' side over a map in memory, in the place of a driver and its node.
 use std::net::TcpListener;
 use std::path::PathBuf;
+use std::sync::Arc;
 use std::sync::atomic::{AtomicU64, Ordering};
 use std::sync::mpsc::{Receiver, sync_channel};
-use std::sync::{Arc, Mutex};
 use std::thread;
 use std::time::{Duration, Instant};
+use store::ask::{Ask, What};
 use store::client::Client;
 use store::clients::{Shared, listen};
-use store::driver::{Ask, Event, Told, What};
+use store::event::Event;
 use store::keys::Keys;
 use store::listing::Listing;
 use store::map::{Map, execute};
 use store::memory::Memory as Bytes;
 use store::metrics::Metrics;
-use store::numbers::Numbers;
 use store::stored::deadline_in;
+use store::told::Told;
 
 const PATIENCE: Duration = Duration::from_secs(60);
 
@@ -39,8 +40,7 @@ impl Memory {
         let port = listener.local_addr().unwrap().port();
         let (events, asked) = sync_channel(4_096);
         let metrics = Arc::<Metrics>::default();
-        let keys =
-            Keys::start(events.clone(), Arc::new(Mutex::new(Numbers::new(&folder, 0))), metrics.clone()).unwrap();
+        let keys = Keys::start(events.clone(), metrics.clone()).unwrap();
         let listing = Arc::new(Listing::new(events.clone(), PATIENCE));
         metrics.takes_part.set(1);
         let mut shared = Shared {
@@ -86,12 +86,12 @@ fn drive(asked: &Receiver<Event>, takes: Duration) {
         thread::sleep(takes);
         for event in events {
             let Event::Ask(Ask { what, reply }) = event else { continue };
-            let is_given_up = matches!(what, What::Propose { .. }) && !reply.begun().begin();
+            let is_given_up = matches!(what, What::Propose(_)) && !reply.begun().begin();
             reply.send(match what {
                 _ if is_given_up => Told::Late,
-                What::Propose { command, .. } => {
+                What::Propose(command) => {
                     EXECUTED.fetch_add(1, Ordering::Relaxed);
-                    Told::Done { stamp: 1, reply: execute(&mut map, &command) }
+                    Told::Done(execute(&mut map, &command))
                 }
                 What::Get(key) | What::Read(key) => Told::Value(map.get(&key).cloned()),
                 What::Contents => {

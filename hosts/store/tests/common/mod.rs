@@ -1,9 +1,6 @@
 //! Stores that a test starts.
 #![allow(dead_code)] // (each test uses a part)
-pub mod drivers;
 pub mod memory;
-pub mod plain;
-pub mod three;
 
 use std::fs;
 use std::path::PathBuf;

@@ -2,7 +2,7 @@
 #![allow(dead_code)]
 
 /// What the header is of.
-pub(crate) const VERSION: u32 = 8;
+pub(crate) const VERSION: u32 = 9;
 
 /// `struct ep_replica`
 #[repr(C)]
@@ -109,17 +109,37 @@ pub(crate) struct Leading {
     pub(crate) answers: u8,
 }
 
+/// `struct ep_log_head`
+#[repr(C)]
+#[derive(Clone, Copy, Debug, Default)]
+pub(crate) struct LogHead {
+    pub(crate) generation: u32,
+    pub(crate) replicas: u8,
+    pub(crate) replica: u8,
+}
+
 /// `struct ep_opening_head`
 #[repr(C)]
 #[derive(Clone, Copy, Debug, Default)]
 pub(crate) struct OpeningHead {
-    pub(crate) since: u64,
+    pub(crate) base_stamp: u64,
     pub(crate) map_at: u64,
     pub(crate) generation: u32,
     pub(crate) seal_len: u32,
     pub(crate) keys: u32,
     pub(crate) replicas: u8,
     pub(crate) has_seal: u8,
+}
+
+/// `struct ep_opening_parts`
+#[repr(C)]
+#[derive(Clone, Copy, Debug)]
+pub(crate) struct OpeningParts {
+    pub(crate) seal: Bytes,
+    pub(crate) map: Bytes,
+    pub(crate) base_stamp: u64,
+    pub(crate) generation: u32,
+    pub(crate) replicas: u8,
 }
 
 /// `struct ep_pair`
@@ -272,6 +292,15 @@ unsafe extern "C" {
     pub(crate) fn ep_leads(replica: *mut Replica, instance: Instance, leading: *mut Leading) -> u8;
     pub(crate) fn ep_close(replica: *mut Replica, replicas: u8, opening: *mut Bytes) -> u8;
     pub(crate) fn ep_reference(closed: *const ClosedLog, out: *mut u8, out_len: usize, len: *mut usize) -> u8;
+    pub(crate) fn ep_binding(
+        reference: *const u8,
+        reference_len: usize,
+        opening: *const u8,
+        opening_len: usize,
+        out: *mut u8,
+        out_len: usize,
+        len: *mut usize,
+    ) -> u8;
     pub(crate) fn ep_succeed(
         replica: *mut Replica,
         checkpoint: *mut Checkpoint,
@@ -304,12 +333,22 @@ unsafe extern "C" {
     pub(crate) fn ep_patience_due(patience: *mut Patience, due: *mut u64) -> u8;
     pub(crate) fn ep_frame_head(frame: *const u8, frame_len: usize, head: *mut FrameHead) -> u8;
     pub(crate) fn ep_opening_head(opening: *const u8, opening_len: usize, head: *mut OpeningHead) -> u8;
+    pub(crate) fn ep_check_opening(opening: *const u8, opening_len: usize, place: *mut Place) -> u8;
+    pub(crate) fn ep_opening(
+        parts: *const OpeningParts,
+        out: *mut u8,
+        out_len: usize,
+        len: *mut usize,
+        place: *mut Place,
+    ) -> u8;
     pub(crate) fn ep_read_reference(
         reference: *const u8,
         reference_len: usize,
         read: *mut ReferenceHead,
         place: *mut Place,
     ) -> u8;
+    pub(crate) fn ep_log_head(log: *const u8, log_len: usize, head: *mut LogHead) -> u8;
+    pub(crate) fn ep_record(records: *const u8, records_len: usize, len: *mut u64) -> u8;
     pub(crate) fn ep_pair(pairs: *const u8, pairs_len: usize, pair: *mut Pair) -> u8;
     pub(crate) fn ep_plan(
         held: *const HeldGeneration,

@@ -1,9 +1,9 @@
 //! A replica in its generation, with what is known of its log.
 use crate::host::key_change::changes;
-use crate::host::{Done, KeyChange};
+use crate::host::{Done, KeyChange, Observer, Settings, Summing, Sums};
 use crate::parts::members::Members;
 use crate::parts::room::growth;
-use crate::{Cluster, Command, Executed, Fault, Instance, OwnedAnswer, Proposed, Reference, Replica, Sum};
+use crate::{Cluster, Command, Executed, Fault, Instance, OwnedAnswer, Proposed, Reference, Replica};
 use std::collections::HashSet;
 
 /// A receipt, with its answer.
@@ -40,10 +40,11 @@ pub(super) struct Acting {
     pub(super) generation: u32,
     /// How many bytes the log has, with those that are lent.
     pub(super) length: u64,
-    sum: Sum,
+    sums: Sums,
+    sum: Box<dyn Summing>,
     tells_executed: bool,
-    /// How many bytes the map had when the generation began, and has, where they are counted.
-    map: Option<(u64, u64)>,
+    /// How many bytes the map had when the generation began, and has.
+    map: (u64, u64),
     /// Whom the seal names that was executed, where one was, and names some.
     pub(super) members: Option<Members>,
 }
@@ -54,27 +55,22 @@ pub(super) fn done(generation: u32, executed: &Executed) -> Done {
     Done { generation, instance: executed.instance, command, answer }
 }
 
-/// The value of the seal that ends a generation.
-fn seal<'a>(executed: Executed<'a>) -> Option<&'a [u8]> {
-    match executed.command {
-        Some(Command::Seal { value }) if executed.answer.is_done() => Some(value),
-        _ => None,
-    }
-}
-
 impl Acting {
-    pub(super) fn new(replica: Replica, generation: u32, tells_executed: bool) -> Acting {
-        Acting { replica, generation, length: 0, sum: Sum::new(), tells_executed, map: None, members: None }
+    /// That of a generation which begins with a map of so many bytes.
+    pub(super) fn new(replica: Replica, generation: u32, map: u64, settings: &Settings) -> Acting {
+        let (sums, tells_executed) = (settings.sums, settings.tells_executed);
+        let sum = (sums.begin)();
+        Acting { replica, generation, length: 0, sums, sum, tells_executed, map: (map, map), members: None }
     }
 
-    /// The same, of a generation that begins with a map of so many bytes, where these are to be counted.
-    pub(super) fn counting(self, map: Option<u64>) -> Acting {
-        Acting { map: map.map(|map| (map, map)), ..self }
+    /// The same, which tells what was executed where a machine is there to do it.
+    pub(super) fn telling(self, has_machine: bool) -> Acting {
+        Acting { tells_executed: self.tells_executed || has_machine, ..self }
     }
 
-    /// How many bytes the map had when the generation began, where they are counted.
+    /// How many bytes the map had when the generation began.
     pub(super) fn map(&self) -> u64 {
-        self.map.map_or(0, |(begun, _)| begun)
+        self.map.0
     }
 
     /// Lends what is to be written next, and whether it takes the place of the whole log. None: nothing is.
@@ -82,15 +78,19 @@ impl Acting {
         let ready = self.replica.ready()?;
         let (bytes, is_anew) = (ready.log().to_vec(), ready.is_anew());
         if is_anew {
-            (self.sum, self.length) = (Sum::new(), 0);
+            (self.sum, self.length) = ((self.sums.begin)(), 0);
         }
         self.sum.add(&bytes);
         self.length += bytes.len() as u64;
         Ok((!bytes.is_empty()).then_some((bytes, is_anew)))
     }
 
-    /// What was lent is on the disk. What was written is told, where that is wanted.
-    pub(super) fn synced(&mut self, tells_changes: bool) -> Result<Outcome, Fault> {
+    /// What was lent is on the disk. What was written is told, where that is wanted, and what was executed an observer.
+    pub(super) fn synced(
+        &mut self,
+        tells_changes: bool,
+        mut observer: Option<&mut Box<dyn Observer>>,
+    ) -> Result<Outcome, Fault> {
         let (generation, tells_executed) = (self.generation, self.tells_executed);
         let output = self.replica.ready()?.assume_synced()?;
         let mut outcome = Outcome {
@@ -102,13 +102,14 @@ impl Acting {
             is_sealed: output.is_sealed(),
             ..Outcome::default()
         };
-        if outcome.is_sealed && self.members.is_none() {
-            self.members = output.executed().find_map(seal).and_then(Members::read);
-        }
-        if let Some((_, now)) = &mut self.map {
-            let done = output.executed().filter(|it| it.answer.is_done());
-            let grown = done.filter_map(|it| Some(growth(&it.command?, &it.answer)));
-            grown.for_each(|grown| *now = now.saturating_add_signed(grown));
+        for it in output.executed() {
+            if let Some(command) = it.command.as_ref().filter(|_| it.answer.is_done()) {
+                if let Command::Seal { value } = command {
+                    self.members = Members::read(value);
+                }
+                self.map.1 = self.map.1.saturating_add_signed(growth(command, &it.answer));
+            }
+            observer.iter_mut().for_each(|observer| observer.note(&it));
         }
         for receipt in output.receipts() {
             outcome.bytes.extend(receipt.bytes);
@@ -135,7 +136,7 @@ impl Acting {
 
     /// The replica has gone on in the next generation, whose log it begins.
     pub(super) fn begin(&mut self, generation: u32) {
-        (self.generation, self.length, self.sum, self.members) = (generation, 0, Sum::new(), None);
-        self.map = self.map.map(|(_, now)| (now, now));
+        (self.generation, self.length, self.sum, self.members) = (generation, 0, (self.sums.begin)(), None);
+        self.map.0 = self.map.1;
     }
 }

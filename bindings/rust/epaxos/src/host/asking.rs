@@ -1,7 +1,7 @@
 //! What the core is asked, and what comes of it.
 use super::acting::{Outcome, Told as Receipt};
 use super::held::{Batch, Request};
-use super::{BETWEEN_EXECUTIONS, Host, HostFault, Plant};
+use super::{BETWEEN_EXECUTIONS, BETWEEN_EXECUTIONS_ASIDE, Host, HostFault, Plant};
 use crate::host::{Act, Done, KeyChange, Name, Refusal, Told};
 use crate::parts::calls::Accepted;
 use crate::parts::commits::Committed;
@@ -18,7 +18,8 @@ impl Host {
     pub(super) fn carry_out(&mut self, batch: Batch, now: Instant) -> Result<(), HostFault> {
         let is_wanted = self.reads_want(&batch);
         let is_closing = self.progress.generation.stage == Stage::Committed;
-        let is_due = self.executions.is_due() && (now >= self.next_execution || is_closing);
+        let is_aside = !batch.0.is_empty() && now >= self.next_aside;
+        let is_due = self.executions.is_due() && (now >= self.next_execution || is_closing || is_aside);
         let executes_all = is_wanted || is_due || !self.here.is_empty();
         self.here.iter_mut().for_each(|here| here.is_due = true);
         let Some(acting) = self.acting.as_mut().filter(|_| executes_all || !batch.0.is_empty()) else { return Ok(()) };
@@ -59,7 +60,7 @@ impl Host {
 
     /// Executes what is to be tried, others' too.
     fn execute_due(&mut self, now: Instant) -> Result<(), HostFault> {
-        self.next_execution = now + BETWEEN_EXECUTIONS;
+        (self.next_aside, self.next_execution) = (now + BETWEEN_EXECUTIONS_ASIDE, now + BETWEEN_EXECUTIONS);
         let Some(acting) = &mut self.acting else { return Ok(()) };
         let tried = self.executions.take();
         let events: Vec<Event> = tried.iter().copied().map(Event::Execute).collect();

@@ -1,11 +1,12 @@
 //! Calls: from when they are asked until they are proposed.
 use super::Host;
 use super::held::{Batch, Held, Request};
-use crate::host::{Refusal, Reply, Told};
-use crate::parts::calls::{self, Released};
+use crate::host::{Begun, Refusal, Reply, Told};
+use crate::parts::calls::{self, Called, Released};
 use crate::parts::together::Whole;
 use crate::{Call, OwnedCommand};
 use std::cell::Cell;
+use std::sync::Arc;
 use std::time::Instant;
 
 impl Host {
@@ -30,7 +31,33 @@ impl Host {
     /// # Ok(()) }
     /// ```
     pub fn call(&mut self, token: u64, command: OwnedCommand, now: Instant) {
-        let refusal = match &command {
+        self.hold(Held { since: now, token, command, is_given_up: false, begun: None });
+    }
+
+    /// The same, and another thread may [give it up](Begun::give_up) by `begun`, and knows at once whether it was
+    /// proposed by then. (A reply comes all the same.)
+    ///
+    /// ```
+    /// # use epaxos::{Cluster, host::{Host, Settings}, service::MemoryDisk};
+    /// # use std::{sync::Arc, time::Instant};
+    /// use epaxos::OwnedCommand;
+    /// use epaxos::host::Begun;
+    ///
+    /// # fn main() -> Result<(), Box<dyn std::error::Error>> {
+    /// let now = Instant::now();
+    /// let mut host = Host::begin(&Settings::new(Cluster::Three, 0), &MemoryDisk::default(), now)?;
+    /// let begun = Arc::<Begun>::default();
+    /// host.call_with(7, OwnedCommand::Del { key: b"x".into() }, begun.clone(), now);
+    /// assert!(begun.give_up()); // nobody else is there, so that it wasn't proposed
+    /// # Ok(()) }
+    /// ```
+    pub fn call_with(&mut self, token: u64, command: OwnedCommand, begun: Arc<Begun>, now: Instant) {
+        self.hold(Held { since: now, token, command, is_given_up: false, begun: Some(begun) });
+    }
+
+    fn hold(&mut self, held: Held) {
+        self.due = self.due.min(held.since);
+        let refusal = match &held.command {
             _ if self.acting.is_none() => Some(Refusal::Joining),
             _ if self.has_left() => Some(Refusal::Left),
             _ if self.ends => Some(Refusal::Ending),
@@ -39,10 +66,9 @@ impl Host {
             _ => None,
         };
         match refusal {
-            Some(refusal) => self.tell(token, Told::Refused(refusal)),
-            None => self.calls.held.push_back(Held { since: now, token, command, is_given_up: false }),
+            Some(refusal) => self.tell(held.token, Told::Refused(refusal)),
+            None => self.calls.held.push_back(held),
         }
-        self.due = self.due.min(now);
     }
 
     /// Whoever asked under this number waits no more: a client that went away, or whose patience has ended. It is told
@@ -108,7 +134,7 @@ impl Host {
         }
         let Released { wholes, refused, is_alone } = self.calls.release(&mut self.progress, now);
         for (held, why) in refused {
-            let why = if held.is_given_up { Refusal::GivenUp } else { why.into() };
+            let why = if held.is_given_up() { Refusal::GivenUp } else { why.into() };
             self.tell(held.token, Told::Refused(why));
         }
         if is_alone {

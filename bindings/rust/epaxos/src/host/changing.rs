@@ -20,12 +20,24 @@ impl Host {
         self.catch_up(now)
     }
 
+    /// Where a seal is under way: has room made for the next generation.
+    pub(super) fn prepare_next(&mut self) {
+        let next = self.progress.generation.number.saturating_add(1);
+        if self.progress.generation.stage != Stage::Open && self.prepared != next {
+            self.prepared = next;
+            self.out.work.push(Work::Prepare { generation: next });
+        }
+    }
+
     fn put(generation: u32, name: Name, bytes: Vec<u8>) -> Act {
         Act::Put { generation, name, bytes }
     }
 
     /// The next generation begins in memory, and on the disk by a reference to the log that is left.
     fn change(&mut self) -> Result<(), HostFault> {
+        if let Stage::Sealed(since) = self.progress.generation.stage {
+            self.changes_since = Some(since);
+        }
         let Some(acting) = &self.acting else { return Ok(()) };
         let (left, members) = (acting.generation, acting.members.clone());
         if let Some(members) = &members {
@@ -86,7 +98,9 @@ impl Host {
             self.progress.others.begin();
         }
         let state = State { generation: number, ..State::default() };
-        self.progress.generation = Generation::new(state, Duration::ZERO, now);
+        let took = self.changes_since.take().map(|since| now.saturating_duration_since(since));
+        self.changed_in = took.unwrap_or(self.changed_in);
+        self.progress.generation = Generation::new(state, took.unwrap_or_default(), now);
         self.progress.watch.begin(now);
         if self.settings.has(Plant::FixedWaits) {
             self.progress.peers().for_each(|peer| self.progress.watch.measure(peer, Duration::ZERO));
@@ -116,6 +130,7 @@ impl Host {
         }
         self.progress.generation.is_asked |= !self.wishes.is_empty();
         self.greet_all();
+        self.note_left();
         if self.files.is_due(self.settings.checkpoint) {
             self.write_opening();
         }
@@ -127,7 +142,7 @@ impl Host {
         if let Some((generation, bytes)) = self.taken.take()
             && generation > self.progress.generation.number
         {
-            return self.take_opening(generation, bytes);
+            return self.take_opening(generation, bytes, now);
         }
         if self.going.is_some() {
             self.say_going(now);
@@ -158,7 +173,7 @@ impl Host {
     }
 
     /// Begins the generation of an opening that a peer has handed.
-    fn take_opening(&mut self, generation: u32, bytes: Vec<u8>) -> Result<(), HostFault> {
+    fn take_opening(&mut self, generation: u32, bytes: Vec<u8>, now: Instant) -> Result<(), HostFault> {
         self.fetch = None;
         self.lag.end();
         // (the state of the machine comes before the opening)
@@ -203,9 +218,8 @@ impl Host {
                 Some(told) => members.iter().for_each(|held| self.tell(held.token, told.clone())),
             }
         }
-        let map = self.settings.most_map.map(|_| opening.map);
-        let tells_executed = self.settings.tells_executed || self.applying.is_some();
-        let mut acting = Acting::new(replica, generation, tells_executed).counting(map);
+        let acting = Acting::new(replica, generation, opening.map, &self.settings);
+        let mut acting = acting.telling(self.applying.is_some());
         let log = acting.lend()?.map(|(bytes, _)| Host::put(generation, Name::Log, bytes));
         let length = bytes.len() as u64;
         // (the opening last: before it is there, the generation isn't)
@@ -216,9 +230,10 @@ impl Host {
             self.acts.push(Host::put(before, Name::Left, generation.to_string().into()));
         }
         self.acting = Some(acting);
+        self.changes_since = Some(now);
         // (what it has beyond what was executed here isn't known by command)
         self.tell_changes(Vec::new(), self.tells_changes);
-        self.counts.changes += 1;
+        (self.counts.changes, self.counts.taken) = (self.counts.changes + 1, self.counts.taken + 1);
         self.write(Vec::new(), Vec::new(), (true, Some(Change::Taken(length, next))));
         Ok(())
     }

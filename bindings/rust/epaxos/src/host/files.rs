@@ -43,6 +43,16 @@ impl Files {
     /// Whether an opening is to be written: where the logs since the last one have so many bytes, and as many as that
     /// one.
     pub(super) fn is_due(&self, least: u64) -> bool {
-        self.unwritten.is_some() && self.logs.values().sum::<u64>() >= self.whole.1.max(least)
+        self.unwritten.is_some() && self.logs() >= self.whole.1.max(least)
+    }
+
+    /// How many bytes of logs lead to the present generation.
+    pub(super) fn logs(&self) -> u64 {
+        self.logs.values().sum()
+    }
+
+    /// Whether the opening of the present generation is being written, or can be.
+    pub(super) fn can_be_whole(&self) -> bool {
+        self.unwritten.is_some() || self.letting.is_some() || self.writing.is_some()
     }
 }

@@ -8,6 +8,10 @@ use std::time::{Duration, Instant};
 /// Who gets an opening asks for its pieces, and has all of it once it hasn't asked for so long.
 const HANDING: Duration = Duration::from_secs(1);
 
+/// For a peer an opening is written where the logs in its place have so many bytes, and so many times its own.
+const LONG_LOGS: u64 = 4 << 20;
+const PARTS_OF_LOGS: u64 = 2;
+
 /// A peer is told that what it handed is still needed, so often.
 const BETWEEN_WORDS: Duration = Duration::from_millis(250);
 
@@ -108,13 +112,53 @@ impl Host {
         self.due = self.due.min(now);
         self.acts.push(Act::Put { generation, name: Name::Whole, bytes: reference.binding(digest) });
         self.files.keep(generation, bytes, Some(reference));
-        let below = generation.saturating_sub(self.settings.kept);
-        if below > 1 {
-            self.drops_below = Some(below);
-        }
+        self.note_left();
         if generation == self.progress.generation.number {
-            let wanting = std::mem::take(&mut self.wanting);
-            wanting.into_iter().for_each(|peer| self.hand_piece(peer, (0, 0), now));
+            self.hand_wanted(now);
+        } else if !self.wanting.is_empty() {
+            self.write_opening();
+        }
+    }
+
+    /// The opening of this generation can't be written ([`Work::Write`]): the logs are there, and the next one may be.
+    ///
+    /// ```
+    /// use epaxos::host::{Host, Work};
+    /// use epaxos::service::Disk;
+    /// use std::time::Instant;
+    ///
+    /// fn write(host: &mut Host, disk: &mut impl Disk, work: Work) {
+    ///     if let Work::Write { generation, checkpoint, .. } = work {
+    ///         match disk.write_opening(generation, checkpoint) {
+    ///             Ok((digest, bytes)) => host.opening_written(generation, &digest, bytes, Instant::now()),
+    ///             Err(_) => host.opening_failed(generation, Instant::now()),
+    ///         }
+    ///     }
+    /// }
+    /// ```
+    pub fn opening_failed(&mut self, generation: u32, now: Instant) {
+        if self.files.writing.take_if(|it| it.generation() == generation).is_some() {
+            self.due = self.due.min(now);
+            self.hand_wanted(now);
+        }
+    }
+
+    /// Hands what was wanted before it was written.
+    fn hand_wanted(&mut self, now: Instant) {
+        for peer in std::mem::take(&mut self.wanting) {
+            match self.applying {
+                Some(_) => self.hand_piece(peer, (0, 0), now),
+                None => self.hand_part(peer, ((0, 0), 0), now),
+            }
+        }
+    }
+
+    /// What may be dropped: all but the last generations that are to stay, and those on which the present one rests.
+    pub(super) fn note_left(&mut self) {
+        let kept = self.progress.generation.number.saturating_sub(self.settings.kept);
+        let below = self.files.whole.0.min(kept);
+        if below > self.dropped.max(1) {
+            (self.drops_below, self.dropped) = (Some(below), below);
         }
     }
 
@@ -197,13 +241,24 @@ impl Host {
         }
     }
 
+    /// Whether the opening of the present generation is so much shorter than the logs that lead to it that it is
+    /// written for a peer.
+    fn is_better_written(&self) -> bool {
+        let logs = self.files.logs();
+        self.files.can_be_whole() && logs >= LONG_LOGS && self.calls.room.map <= logs / PARTS_OF_LOGS
+    }
+
     /// Hands a peer the piece that it wants of what leads to the present generation: of what was begun for it, as long
-    /// as that is there. Nothing is written for it.
+    /// as that is there. Nothing is written for it, but where logs are long and the map is short.
     pub(super) fn hand_part(&mut self, to: u8, (ends, offset): ((u32, u32), u64), now: Instant) {
         if self.acting.is_none() {
             return;
         }
         self.handed = Some(now);
+        if ends == (0, 0) && self.is_better_written() {
+            self.wanting.insert(to);
+            return self.write_opening();
+        }
         let begun = self.lead.begun(to, ends, offset);
         let piece = begun.unwrap_or_else(|| self.lead.begin(to, self.files.way(), (ends, offset)));
         self.gathered += 1;
@@ -273,7 +328,7 @@ impl Host {
                 let word = fetch.word().write();
                 self.send(from, word.clone());
                 self.going = Some(Going { from, generation, word, told: now });
-                let trail = Trail::of(from, fetch.into_sink());
+                let trail = Trail::of(from, fetch.into_sink(), self.settings.sums);
                 self.out.work.push(Work::Follow { generation, trail });
             }
             Ok(Step::Ignored) => {}

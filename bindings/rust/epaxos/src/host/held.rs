@@ -1,7 +1,9 @@
 //! A call that a host was asked.
 use crate::OwnedCommand;
+use crate::host::Begun;
 use crate::parts::calls::Called;
 use crate::parts::together::Asked;
+use std::sync::Arc;
 use std::time::Instant;
 
 /// A call, with its token.
@@ -11,6 +13,8 @@ pub(super) struct Held {
     pub(super) command: OwnedCommand,
     /// It isn't to be proposed, or not once more.
     pub(super) is_given_up: bool,
+    /// By which another thread knows whether it was proposed, where one wants to.
+    pub(super) begun: Option<Arc<Begun>>,
 }
 
 impl Asked for Held {
@@ -25,11 +29,15 @@ impl Called for Held {
     }
 
     fn is_given_up(&self) -> bool {
-        self.is_given_up
+        self.is_given_up || self.begun.as_ref().is_some_and(|begun| begun.is_given_up())
     }
 
     fn begin(&self) -> bool {
-        !self.is_given_up
+        !self.is_given_up && self.begun.as_ref().is_none_or(|begun| begun.begin())
+    }
+
+    fn take_back(&self) {
+        self.begun.iter().for_each(|begun| begun.take_back());
     }
 }
 

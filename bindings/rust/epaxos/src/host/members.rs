@@ -1,6 +1,6 @@
 //! Who takes part: machines that wait to be let in, what is wished, and what seals say.
 use super::{Host, HostFault, Plant};
-use crate::host::{Identity, Refusal, Told, Wish};
+use crate::host::{Identity, Refusal, Told, Wish, WishFault};
 use crate::parts::members::{Member, Members};
 use crate::parts::messages::Message;
 use crate::parts::place::Place;
@@ -10,6 +10,8 @@ use std::time::{Duration, Instant};
 
 /// A machine that waits to be let in and hasn't said so for so long isn't there any more.
 const WAITS: Duration = Duration::from_secs(5);
+/// At most so many that wait are known.
+const MOST_WAITING: usize = 64;
 
 impl Machines for Host {
     fn place(&self) -> Place {
@@ -32,8 +34,7 @@ impl Machines for Host {
     }
 
     fn is_waiting(&self, replica: u8, identity: &Identity) -> bool {
-        let is_it = |(waits, _): &(Identity, Instant)| waits == identity;
-        self.outside.get(&replica).is_some_and(is_it) || self.settings.has(Plant::ResizesAlone)
+        self.outside.contains_key(&(replica, *identity)) || self.settings.has(Plant::ResizesAlone)
     }
 }
 
@@ -90,6 +91,28 @@ impl Host {
         }
     }
 
+    /// Whether a wish would be granted now, and isn't so by now: what [`wish`](Host::wish) would be told at once is
+    /// `Ok(false)`, or the refusal.
+    ///
+    /// # Errors
+    ///
+    /// Why it isn't granted.
+    ///
+    /// ```
+    /// use epaxos::host::{Host, Settings, Wish, WishFault};
+    /// # use epaxos::{Cluster, service::MemoryDisk};
+    /// # use std::time::Instant;
+    ///
+    /// # fn main() -> Result<(), Box<dyn std::error::Error>> {
+    /// let settings = Settings { identity: Some([7; 16]), ..Settings::new(Cluster::Three, 0) };
+    /// let host = Host::begin(&settings, &MemoryDisk::default(), Instant::now())?;
+    /// assert_eq!(host.judge(Wish::Seal), Err(WishFault::Alone { reached: 1, replicas: 3 }));
+    /// # Ok(()) }
+    /// ```
+    pub fn judge(&self, wish: Wish) -> Result<bool, WishFault> {
+        self.wishes.change(wish, self).map(|change| change.is_some())
+    }
+
     /// The machines that wait to be let in, each with the number that it is to have.
     ///
     /// ```
@@ -101,7 +124,45 @@ impl Host {
     /// # Ok(()) }
     /// ```
     pub fn waiting_machines(&self) -> Vec<(u8, Identity)> {
-        self.outside.iter().map(|(replica, (identity, _))| (*replica, *identity)).collect()
+        self.outside.keys().copied().collect()
+    }
+
+    /// A machine of this identity waits to be let in under this number, as whoever carries frames has heard before
+    /// there is a link to it. It is one that waits for some seconds, and is to be told of again and again.
+    ///
+    /// ```
+    /// # use epaxos::{Cluster, host::{Host, Settings}, service::MemoryDisk};
+    /// # use std::time::Instant;
+    /// # fn main() -> Result<(), Box<dyn std::error::Error>> {
+    /// let now = Instant::now();
+    /// let mut host = Host::begin(&Settings::new(Cluster::Three, 0), &MemoryDisk::default(), now)?;
+    /// host.note_waiting(3, [7; 16], now);
+    /// assert_eq!(host.waiting_machines(), [(3, [7; 16])]);
+    /// # Ok(()) }
+    /// ```
+    pub fn note_waiting(&mut self, replica: u8, identity: Identity, now: Instant) {
+        self.forget_gone(now);
+        if self.outside.len() < MOST_WAITING || self.outside.contains_key(&(replica, identity)) {
+            self.outside.insert((replica, identity), now);
+        }
+    }
+
+    /// The machine that has a number, where none was met under it yet: what a program keeps beside the disk.
+    ///
+    /// ```
+    /// # use epaxos::{Cluster, host::{Host, Settings}, service::MemoryDisk};
+    /// # use std::time::Instant;
+    /// # fn main() -> Result<(), Box<dyn std::error::Error>> {
+    /// let settings = Settings { identity: Some([7; 16]), ..Settings::new(Cluster::Three, 0) };
+    /// let mut host = Host::begin(&settings, &MemoryDisk::default(), Instant::now())?;
+    /// host.know(1, [8; 16]);
+    /// assert_eq!(host.members()[1].identity, Some([8; 16]));
+    /// # Ok(()) }
+    /// ```
+    pub fn know(&mut self, replica: u8, identity: Identity) {
+        if let Some(met) = self.met.get_mut(usize::from(replica)) {
+            met.get_or_insert(identity);
+        }
     }
 
     /// Who takes part in the present generation, as far as is known, by number.
@@ -121,7 +182,7 @@ impl Host {
 
     /// Lets go of machines that don't wait any more.
     pub(super) fn forget_gone(&mut self, now: Instant) {
-        self.outside.retain(|_, (_, since)| now < *since + WAITS);
+        self.outside.retain(|_, since| now < *since + WAITS);
     }
 
     /// A peer tells which machine it is.
@@ -129,14 +190,14 @@ impl Host {
         if waits {
             // (what was heard before was another machine's)
             self.progress.others.forget(from);
-            self.outside.insert(from, (identity, now));
+            self.note_waiting(from, identity, now);
             // (two machines that wait have nothing to tell one another: they would answer without end)
             if self.acting.is_some() {
                 self.say_hello(from);
             }
             return;
         }
-        self.outside.remove(&from);
+        self.outside.remove(&(from, identity));
         if self.known(from).is_none()
             && let Some(met) = self.met.get_mut(usize::from(from))
         {
@@ -177,8 +238,7 @@ impl Host {
         let waiting = self.calls.waiting.take().flat_map(|waiting| waiting.members);
         let held = waiting.chain(std::mem::take(&mut self.calls.held)).map(|held| held.token);
         let wishes: Vec<u64> = self.wishes.take().map(|(token, _)| token).collect();
-        let here = std::mem::take(&mut self.here).into_iter().map(|here| here.token);
-        let all: Vec<u64> = held.chain(self.reads.take()).chain(here).chain(wishes).collect();
+        let all: Vec<u64> = held.chain(self.reads.take()).chain(wishes).collect();
         all.into_iter().for_each(|token| self.tell(token, Told::Refused(Refusal::Left)));
     }
 

@@ -31,6 +31,8 @@ pub enum Plant {
     ReadLater,
     /// A read doesn't wait for the last instance that was found.
     ReadPartly,
+    /// What interferes with a read is told of another generation, and taken.
+    ReadForeign,
     /// Of commands that were done some are taken for closed, so that they are done twice.
     DoneTwice,
     /// Of two receipts that come together each one's client is told the other's answer.
@@ -83,7 +85,7 @@ impl Plant {
     ///
     /// assert!(Plant::ALL.iter().all(|plant| Plant::read(&plant.to_string()) == Some(*plant)));
     /// ```
-    pub const ALL: [Plant; 31] = [
+    pub const ALL: [Plant; 32] = [
         Plant::EarlyAnswer,
         Plant::BeforeSync,
         Plant::Forgetful,
@@ -94,6 +96,7 @@ impl Plant {
         Plant::ReadBefore,
         Plant::ReadLater,
         Plant::ReadPartly,
+        Plant::ReadForeign,
         Plant::DoneTwice,
         Plant::Swapped,
         Plant::ToldTwice,

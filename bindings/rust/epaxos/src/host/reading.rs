@@ -39,7 +39,8 @@ impl Host {
     }
 
     /// A client asks what a key has here, after all that this replica knows to be committed: that may be old, and is
-    /// told at once, without the others. It is told under this number, once: [`Told::Value`].
+    /// told at once, without the others, also by a replica that takes part no more, as long as it is there. It is told
+    /// under this number, once: [`Told::Value`].
     ///
     /// ```
     /// # use epaxos::{Cluster, host::{Host, Settings}, service::MemoryDisk};
@@ -84,7 +85,6 @@ impl Host {
         self.due = self.due.min(now);
         let refusal = match () {
             () if self.acting.is_none() => Refusal::Joining,
-            () if self.has_left() => Refusal::Left,
             () if self.ends => Refusal::Ending,
             () if self.here.len() >= self.settings.most => Refusal::Full,
             () => return self.here.push(Here { token, key, is_due: false }),

@@ -1,5 +1,5 @@
 //! How a host goes about its replica.
-use crate::host::{Identity, Plant};
+use crate::host::{Identity, Plant, Sums};
 use crate::parts::generation::Limits;
 use crate::parts::reading;
 use crate::{Cluster, MOST_COMMANDS};
@@ -14,7 +14,7 @@ use std::time::Duration;
 /// let settings = Settings { seed: 7, ..Settings::new(Cluster::Three, 0) };
 /// assert_eq!(settings.me, 0);
 /// ```
-#[derive(Clone, PartialEq, Debug)]
+#[derive(Clone, Debug)]
 pub struct Settings {
     /// How many replicas there are when it begins, or joins; then what the disk has counts, and what seals say.
     pub cluster: Cluster,
@@ -50,6 +50,8 @@ pub struct Settings {
     pub kept: u32,
     /// Whether [`Turn::executed`](super::Turn::executed) tells what was executed.
     pub tells_executed: bool,
+    /// How the SHA-256 of logs is found.
+    pub sums: Sums,
     /// A fault that is planted, which is none without the feature `plants`. Never for use.
     pub plant: Option<Plant>,
 }
@@ -80,6 +82,7 @@ impl Settings {
             most: 100_000,
             kept: 0,
             tells_executed: false,
+            sums: Sums::default(),
             plant: None,
         }
     }
@@ -101,6 +104,7 @@ impl Settings {
             Plant::ReadBefore => Some(reading::Plant::Before),
             Plant::ReadLater => Some(reading::Plant::Later),
             Plant::ReadPartly => Some(reading::Plant::Partly),
+            Plant::ReadForeign => Some(reading::Plant::Foreign),
             _ => None,
         }
     }

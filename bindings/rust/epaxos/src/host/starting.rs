@@ -6,9 +6,10 @@ use crate::host::{Act, Done, FolderFault, Name, Plant, Settings, StartFault, Sto
 use crate::parts::folder::{self, look};
 use crate::parts::follower::{Begun, Follower, cluster};
 use crate::parts::members::Members;
+use crate::parts::opening::Opening;
 use crate::parts::plan_fault::PlanFault;
 use crate::parts::planning::{LogStart, Wish, newest, plan};
-use crate::{Cluster, Executed, Reference, Replica, Setup, Sum};
+use crate::{Cluster, Executed, Reference, Replica, Setup};
 
 /// What a host goes on with.
 pub(super) struct Started {
@@ -62,8 +63,7 @@ pub(super) fn begin(
     let (start, counted) = count(settings, stored)?;
     let replica = Setup { told: Some(0), ..Setup::new(settings.cluster, settings.me) }.begin();
     let replica = replica.map_err(|fault| FolderFault::of(fault, None))?;
-    let tells_executed = settings.tells_executed || applying.is_some();
-    let mut acting = Acting::new(replica, 1, tells_executed).counting(settings.most_map.map(|_| 0));
+    let mut acting = Acting::new(replica, 1, 0, settings).telling(applying.is_some());
     let put = |name, bytes| Act::Put { generation: 1, name, bytes };
     let mut acts = vec![counted];
     if let Some(applying) = applying {
@@ -120,7 +120,7 @@ pub(super) fn go_on(
             executed.append(&mut more);
         }
     };
-    let log_of = |next: &Reference| folder::log_of(stored, next, Sum::of);
+    let log_of = |next: &Reference| folder::log_of(stored, next, settings.sums.of);
     let follower = Follower { replica: settings.me };
     let Begun { replica, opening, mut unwritten } = follower.begin(&found, log.as_deref(), log_of, each)?;
     let mut files = Files::default();
@@ -129,13 +129,43 @@ pub(super) fn go_on(
     files.unwritten = unwritten;
     files.keep(whole, found.first.bytes.len() as u64, found.first.reference);
     found.references.iter().for_each(|next| files.leave(*next));
-    let map = settings.most_map.map(|_| opening.map);
-    let mut acting = Acting::new(replica, plan.generation, tells_executed).counting(map);
+    let mut acting = Acting::new(replica, plan.generation, opening.map, settings).telling(applying.is_some());
     acts.extend(acting.lend().map_err(FolderFault::Core)?.map(|(bytes, _)| put(plan.generation, Name::Log, bytes)));
     let earlier = held.iter().filter(|one| one.number < plan.generation && one.left_for < plan.generation);
     acts.extend(earlier.map(|one| put(one.number, Name::Left, plan.generation.to_string().into())));
     let (cluster, members) = (cluster(opening.replicas)?, opening.members());
     Ok(Started { acting, files, acts, start, executed, cluster, members })
+}
+
+/// Goes on with a later opening, which somebody hands who runs the cluster.
+pub(super) fn take(settings: &Settings, stored: &impl Stored, bytes: &[u8]) -> Result<Started, StartFault> {
+    let opened = folder::opened(bytes.to_vec()).map_err(|why| FolderFault::BadOpening(None, why))?;
+    let (generation, cluster) = (opened.generation, cluster(opened.replicas)?);
+    // (nothing of it comes to the disk before the core has judged it)
+    let setup = Setup { opening: Some(bytes), told: Some(0), ..Setup::new(cluster, settings.me) };
+    let replica = setup.begin().map_err(|fault| FolderFault::of(fault, None))?;
+    let held = look(stored)?;
+    let is_same = newest(&held)? == generation && stored.read(generation, Name::Opening)?.is_some_and(|it| it == bytes);
+    let plan = plan(&held, Wish::Take { generation, is_same })?;
+    if !plan.writes {
+        return go_on(settings, stored, None);
+    }
+    if plan.log == LogStart::New && stored.read(generation, Name::Log)?.is_some_and(|log| !log.is_empty()) {
+        return Err(FolderFault::HasLog.into());
+    }
+    let (start, counted) = count(settings, stored)?;
+    let opening = Opening::of(bytes).unwrap_or_default();
+    let mut acting = Acting::new(replica, generation, opening.map, settings);
+    let mut acts = vec![counted];
+    let put = |generation, name, bytes| Act::Put { generation, name, bytes };
+    // (the opening behind the log: before it is there, the generation isn't)
+    acts.extend(acting.lend().map_err(FolderFault::Core)?.map(|(log, _)| put(generation, Name::Log, log)));
+    acts.push(put(generation, Name::Opening, bytes.to_vec()));
+    let earlier = held.iter().filter(|one| one.number < generation && one.left_for < generation);
+    acts.extend(earlier.map(|one| put(one.number, Name::Left, generation.to_string().into())));
+    let mut files = Files::default();
+    files.keep(generation, bytes.len() as u64, None);
+    Ok(Started { acting, files, acts, start, executed: Vec::new(), cluster, members: opening.members() })
 }
 
 /// The machine, where there is one, gets the state with which a whole generation begins.

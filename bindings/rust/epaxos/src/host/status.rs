@@ -24,7 +24,7 @@ pub struct Status {
     pub log: u64,
     /// The most dependencies that a command of this replica has in it.
     pub dependencies: u16,
-    /// How many bytes the map had when it began, where the map is bounded; else 0.
+    /// How many bytes the map had when it began.
     pub map: u64,
     /// The last number of its own that was used.
     pub used: u16,
@@ -44,8 +44,21 @@ pub struct Status {
     pub far: Vec<(u8, Option<Duration>)>,
     /// The generations that the farthest peer is ahead.
     pub behind: u32,
-    /// Changes of generation since the start.
+    /// How many of those that wait are reads.
+    pub reads: usize,
+    /// Whether the replica takes part no more, once the present generation is over; and whether it waits until a
+    /// majority of the others has left that.
+    pub leaves: bool,
+    /// See [`leaves`](Status::leaves).
+    pub waits_for_majority: bool,
+    /// How many replicas there are in the next generation, once it is known.
+    pub next_replicas: Option<usize>,
+    /// Changes of generation since the start,
     pub changes: u64,
+    /// how long the last one took, from when the seal was executed, or an opening had come,
+    pub changed_in: Duration,
+    /// and how many of them took an opening from a peer.
+    pub taken: u64,
     /// Second phases that were begun since the start.
     pub accepts: u64,
     /// Recoveries that were begun since the start.
@@ -97,7 +110,13 @@ impl Host {
             quorum: self.progress.distances.quorum(),
             far: self.progress.peers().map(|peer| (peer, self.progress.distances.shortest(peer))).collect(),
             behind: ahead.saturating_sub(self.progress.generation.number),
+            reads: self.reads.count(),
+            leaves: self.progress.leaves(),
+            waits_for_majority: self.progress.waits_for_majority(),
+            next_replicas: self.progress.generation.next_size,
             changes: self.counts.changes,
+            changed_in: self.changed_in,
+            taken: self.counts.taken,
             accepts: self.progress.counts.accepts,
             recoveries: self.progress.counts.recoveries,
             sent_again: self.progress.counts.sent_again,
@@ -181,8 +200,17 @@ impl Host {
         is_idle && is_known && self.reads.is_empty() && self.here.is_empty() && self.pending.batch.0.is_empty()
     }
 
-    /// The generation that it is in.
-    pub(crate) fn status_generation(&self) -> u32 {
+    /// The generation that it is in; 0 of a host that joins.
+    ///
+    /// ```
+    /// # use epaxos::{Cluster, host::{Host, Settings}, service::MemoryDisk};
+    /// # use std::time::Instant;
+    /// # fn main() -> Result<(), Box<dyn std::error::Error>> {
+    /// let host = Host::join(&Settings::new(Cluster::Three, 2), &MemoryDisk::default(), Instant::now())?;
+    /// assert_eq!(host.generation(), 0);
+    /// # Ok(()) }
+    /// ```
+    pub fn generation(&self) -> u32 {
         self.progress.generation.number
     }
 
@@ -194,6 +222,35 @@ impl Host {
     /// How many recoveries were begun since the start.
     pub(crate) fn status_recoveries(&self) -> u64 {
         self.progress.counts.recoveries
+    }
+
+    /// Whether it does something for clients: it has a generation, takes part in the next one too, and reaches a
+    /// majority.
+    ///
+    /// ```
+    /// # use epaxos::{Cluster, host::{Host, Settings}, service::MemoryDisk};
+    /// # use std::time::Instant;
+    /// # fn main() -> Result<(), Box<dyn std::error::Error>> {
+    /// let host = Host::begin(&Settings::new(Cluster::Three, 0), &MemoryDisk::default(), Instant::now())?;
+    /// assert!(!host.takes_part()); // nobody else is there
+    /// # Ok(()) }
+    /// ```
+    pub fn takes_part(&self) -> bool {
+        self.generation() > 0 && !self.progress.is_alone() && !self.progress.leaves()
+    }
+
+    /// The generation that a peer has told last.
+    ///
+    /// ```
+    /// # use epaxos::{Cluster, host::{Host, Settings}, service::MemoryDisk};
+    /// # use std::time::Instant;
+    /// # fn main() -> Result<(), Box<dyn std::error::Error>> {
+    /// let host = Host::begin(&Settings::new(Cluster::Three, 0), &MemoryDisk::default(), Instant::now())?;
+    /// assert_eq!(host.generation_of(1), 0);
+    /// # Ok(()) }
+    /// ```
+    pub fn generation_of(&self, peer: u8) -> u32 {
+        self.progress.others.generation(peer)
     }
 
     /// The greatest entry of a peer that was seen in the present generation.

@@ -1,7 +1,6 @@
 //! What a peer has handed that leads to a generation.
-use crate::Sum;
-use crate::host::FolderFault;
-use crate::parts::way::{Handed, Source};
+use crate::host::{FolderFault, Sums};
+use crate::parts::way::Handed;
 use std::fmt;
 
 /// What a peer has handed that leads to a generation: an opening, and the logs since.
@@ -19,6 +18,7 @@ use std::fmt;
 pub struct Trail {
     replica: u8,
     bytes: Vec<u8>,
+    sums: Sums,
 }
 
 impl fmt::Debug for Trail {
@@ -29,8 +29,20 @@ impl fmt::Debug for Trail {
 
 impl Trail {
     /// What this replica has handed.
-    pub(super) fn of(replica: u8, bytes: Vec<u8>) -> Trail {
-        Trail { replica, bytes }
+    pub(super) fn of(replica: u8, bytes: Vec<u8>, sums: Sums) -> Trail {
+        Trail { replica, bytes, sums }
+    }
+
+    /// The replica that has handed it.
+    ///
+    /// ```
+    /// /// Whether this peer has handed it.
+    /// fn is_of(trail: &epaxos::host::Trail, peer: u8) -> bool {
+    ///     trail.from() == peer
+    /// }
+    /// ```
+    pub fn from(&self) -> u8 {
+        self.replica
     }
 
     /// Goes through all of it, as the replica that it is of: the opening that it leads to, byte for byte the one that
@@ -48,7 +60,7 @@ impl Trail {
     /// ```
     pub fn opening(self) -> Result<Vec<u8>, FolderFault> {
         let mut opening = Vec::new();
-        for piece in Handed::open(Source::Bytes(self.bytes))?.through(self.replica, Sum::of, || true)? {
+        for piece in Handed::open(self.bytes)?.through(self.replica, self.sums.of)? {
             opening.extend(piece?);
         }
         Ok(opening)

@@ -26,6 +26,12 @@ pub enum Work {
         /// The pieces.
         checkpoint: Checkpoint,
     },
+    /// The folder of a generation that is about to begin is made, so that its begin takes less. Nothing is told of it,
+    /// and nothing depends on it.
+    Prepare {
+        /// The generation.
+        generation: u32,
+    },
     /// A part of `G/opening` is read, and [`Host::opening_read`](super::Host::opening_read) is told: `length` bytes
     /// from `offset` on, or as many as there are.
     Read {

@@ -54,23 +54,27 @@ fn fill_beside<T>(folder: &Path, name: &str, fill: impl FnOnce(&mut Paced) -> io
 
 /// Moves what was written so into its place.
 pub fn move_in(folder: &Path, name: &str) -> io::Result<()> {
-    fs::rename(folder.join(format!("{name}.new")), folder.join(name))?;
+    rename_in(folder, name)?;
     sync(folder)
 }
 
-/// Makes a folder, where it isn't there, and those above it; each is on the disk before anything lies in it.
+/// The same, which a crash may undo before the folder is synced.
+pub fn rename_in(folder: &Path, name: &str) -> io::Result<()> {
+    fs::rename(folder.join(format!("{name}.new")), folder.join(name))
+}
+
+/// Makes a folder, where it isn't there, and those above it; each is on the disk before anything lies in it. (Of one
+/// that is there nobody knows whether its name outlasts a crash.)
 pub fn create(path: &Path) -> io::Result<()> {
     let above = path.parent().filter(|above| !above.as_os_str().is_empty()).unwrap_or(Path::new("."));
     let made = match fs::create_dir(path) {
         Err(error) if error.kind() == ErrorKind::NotFound && above != path => {
             create(above).and_then(|()| fs::create_dir(path))
         }
+        Err(error) if error.kind() == ErrorKind::AlreadyExists && path.is_dir() => Ok(()),
         made => made,
     };
-    match made {
-        Err(error) if error.kind() == ErrorKind::AlreadyExists && path.is_dir() => Ok(()),
-        made => made.and_then(|()| sync(above)),
-    }
+    made.and_then(|()| sync(above))
 }
 
 /// What this folder has under which names is on the disk then.

@@ -1,15 +1,13 @@
 //! What a folder has of a replica's generations (docs/FORMATS.md, section 13), as a start reads it.
+use crate::ffi::{self, OpeningHead, Place};
 use crate::host::{Name, Stored};
 use crate::parts::folder_fault::FolderFault;
 use crate::parts::planning::{Held, first, left_in};
 use crate::reference::binding;
-use crate::{Cluster, Reference, Sum};
+use crate::{Reference, status};
 
-/// What an opening begins with, up to its version, and how long it is at least.
-const MAGIC: &[u8] = b"EPOP\x03";
+/// How long an opening is at least.
 const SHORTEST: usize = 59;
-/// What a reference begins with.
-const REFERENCE: &[u8] = b"EPOR\x03";
 
 /// What gives the SHA-256 of bytes.
 pub type SumOf = fn(&[u8]) -> [u8; 32];
@@ -80,7 +78,7 @@ fn opening(stored: &impl Stored, generation: u32) -> Result<Opened, FolderFault>
     let opened = opened(stored.read(generation, Name::Opening)?.unwrap_or_default()).map_err(bad)?;
     match opened.generation {
         here if here == generation => Ok(opened),
-        other => damage(&opened.bytes).map_err(bad).and(Err(FolderFault::OfAnother(generation, other))),
+        other => check(&opened.bytes).map_err(bad).and(Err(FolderFault::OfAnother(generation, other))),
     }
 }
 
@@ -102,21 +100,16 @@ pub fn reference_of(bytes: &[u8], generation: u32) -> Result<Reference, FolderFa
 
 /// Why these bytes are no reference, in the words of the programs.
 fn no_reference(bytes: &[u8]) -> String {
-    let wrong = |at: usize| format!("wrong field at byte {at}");
-    let whole = Some(bytes).filter(|bytes| bytes.len() >= Reference::BYTES);
-    let Some((body, digest)) = whole.and_then(|bytes| bytes.split_last_chunk::<32>()) else {
-        return format!("cut short at byte {}", bytes.len());
-    };
-    let field = |at: usize| body.get(at..).unwrap_or_default();
-    let generation = u32::from_be_bytes(*field(6).first_chunk().unwrap_or(&[0; 4]));
-    match REFERENCE.iter().zip(bytes).position(|(wanted, byte)| wanted != byte) {
-        Some(4) => wrong(4),
-        Some(_) => wrong(0),
-        None if Sum::of(body) != *digest => format!("damaged: no digest of the bytes before it at byte {}", body.len()),
-        None if Cluster::try_from(body[REFERENCE.len()]).is_err() => wrong(5),
-        None if generation < 2 => wrong(6),
-        None if bytes.len() > Reference::BYTES => wrong(Reference::BYTES - 32),
-        None => wrong(10),
+    ffi::read_reference(bytes).err().map(why).unwrap_or_default()
+}
+
+/// Why bytes are none of an opening or a reference, by the status that tells it.
+fn why((status, Place { at, .. }): (u8, Place)) -> String {
+    match status {
+        status::OPENING_SHORT => format!("cut short at byte {at}"),
+        status::OPENING_DAMAGED => format!("damaged: no digest of the bytes before it at byte {at}"),
+        status::OPENING_WRONG => format!("wrong field at byte {at}"),
+        _ => "out of memory".into(),
     }
 }
 
@@ -134,44 +127,32 @@ pub fn named(mut log: Vec<u8>, next: &Reference, sum: SumOf) -> Result<Vec<u8>, 
     if sum(&log) == next.sum() { Ok(log) } else { Err(FolderFault::OtherLog(generation)) }
 }
 
-/// The opening of these bytes, or why they are none, in the words of the programs. All behind its header is the core's
-/// to judge, as is its digest, where the header may be an opening's.
+/// The opening of these bytes, or why they are none, in the words of the programs. From its map on it is the core's to
+/// judge, as is its digest, where what stands before may be an opening's.
 pub fn opened(bytes: Vec<u8>) -> Result<Opened, String> {
-    let header = bytes.get(MAGIC.len()..).and_then(|body| body.first_chunk()).filter(|_| bytes.len() >= SHORTEST);
-    let Some(&[replicas, a, b, c, d]) = header else {
-        return Err(format!("cut short at byte {}", bytes.len()));
-    };
-    let generation = u32::from_be_bytes([a, b, c, d]);
-    let wrong = |at: usize| Err(format!("wrong field at byte {at}"));
-    match MAGIC.iter().zip(&bytes).position(|(wanted, byte)| wanted != byte) {
-        Some(4) => wrong(4),
-        Some(_) => wrong(0),
-        None if [3, 5, 7].contains(&replicas) && generation > 0 => {
+    match ffi::opening_head(&bytes) {
+        Ok(OpeningHead { generation, replicas, .. }) if bytes.len() >= SHORTEST => {
             Ok(Opened { generation, replicas, bytes, reference: None })
         }
-        None => damage(&bytes).and(wrong(if generation > 0 { 5 } else { 6 })),
+        Ok(_) | Err(_) => Err(ffi::check_opening(&bytes).err().map(why).unwrap_or_default()),
     }
 }
 
-/// The opening of these bytes, whose digest is theirs; or why they are none.
+/// The opening of these bytes, all of which were looked at; or why they are none.
 pub fn whole(bytes: Vec<u8>) -> Result<Opened, String> {
-    damage(&bytes)?;
+    check(&bytes)?;
     opened(bytes)
 }
 
-/// Whether the digest of an opening isn't that of its other bytes.
-fn damage(bytes: &[u8]) -> Result<(), String> {
-    match bytes.split_last_chunk::<32>() {
-        Some((body, digest)) if Sum::of(body) != *digest => {
-            Err(format!("damaged: no digest of the bytes before it at byte {}", body.len()))
-        }
-        _ => Ok(()),
-    }
+/// Whether these bytes are an opening.
+fn check(bytes: &[u8]) -> Result<(), String> {
+    ffi::check_opening(bytes).map_err(why)
 }
 
 #[cfg(test)]
 mod tests {
     use super::*;
+    use crate::{Cluster, Sum};
 
     fn digested(body: &[u8]) -> Vec<u8> {
         [body, &Sum::of(body)].concat()

@@ -127,9 +127,9 @@ fn replay(
 /// What the generation of this reference opens with, by what its replica has done in the one before: clocks go on from
 /// the last stamp there.
 pub fn opening_of(replica: &mut Replica, reference: &Reference, tally: Tally) -> Result<Opening, FolderFault> {
-    let since = replica.state()?.stamp;
+    let base_stamp = replica.state()?.stamp;
     let (generation, replicas) = (reference.generation(), reference.cluster().replicas());
-    Ok(Opening { since, generation, replicas, seal: tally.seal, map: tally.map, executed: tally.executed })
+    Ok(Opening { base_stamp, generation, replicas, seal: tally.seal, map: tally.map, executed: tally.executed })
 }
 
 /// Why the logs don't lead to the generation of this reference.

@@ -133,16 +133,6 @@ impl Generation {
         }
         is_new
     }
-
-    /// What the node tells of itself.
-    pub fn learn(&mut self, state: State, now: Instant) {
-        self.used = self.used.max(state.used);
-        self.dependencies = self.dependencies.max(state.dependencies);
-        self.entries = self.entries.max(state.entries);
-        if state.is_sealed && !self.is_sealed() {
-            self.stage = Stage::Sealed(now);
-        }
-    }
 }
 
 #[cfg(test)]
@@ -201,8 +191,7 @@ mod tests {
         assert!(it.commit_seal() && !it.commit_seal());
         it.lose_seal();
         assert!(it.is_holding() && !it.wants_seal(&LIMITS, false, later));
-        it.learn(State { is_sealed: true, entries: 9, ..State::default() }, later);
-        assert!(it.is_sealed() && it.entries == 9);
+        it.stage = Stage::Sealed(later);
         assert!(!it.commit_seal() && it.is_sealed());
     }
 

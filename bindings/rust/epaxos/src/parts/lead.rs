@@ -1,13 +1,9 @@
 //! What is handed to peers that lag: the bytes that lead to a generation, of each peer those that it was told of first,
 //! for as long as they are there.
 use crate::host::Span;
-use crate::parts::folder_fault::FolderFault;
 use crate::parts::messages::{LONGEST_PIECE, Message};
-use crate::parts::plan_fault::PlanFault;
-use crate::parts::read_folder::ReadFolder;
 use crate::parts::way::Way;
 use std::collections::BTreeMap;
-use std::path::Path;
 
 #[derive(Default)]
 pub struct Lead {
@@ -37,12 +33,6 @@ impl Piece {
         front.extend(rest);
         Message::Part { first, generation, total, offset, bytes: front }
     }
-
-    /// The same, of a folder. None where it can't be read.
-    fn read(self, folder: &ReadFolder) -> Option<Message> {
-        let rest = self.spans.iter().map(|span| folder.span(span)).collect::<Result<Vec<_>, _>>().ok()?;
-        Some(self.with(&rest.concat()))
-    }
 }
 
 impl Lead {
@@ -59,30 +49,6 @@ impl Lead {
         let piece = Piece::of(&way, if way.ends() == ends { offset } else { 0 });
         self.ways.insert(to, way);
         piece
-    }
-
-    /// The piece that a peer asks for, or the first one of those that lead to `newest`, by what the folder of
-    /// generations has.
-    pub fn part(
-        &mut self,
-        folder: &Path,
-        newest: u32,
-        to: u8,
-        (ends, offset): ((u32, u32), u64),
-    ) -> Result<Message, FolderFault> {
-        let files = ReadFolder(folder.to_path_buf());
-        if let Some(part) = self.begun(to, ends, offset).and_then(|piece| piece.read(&files)) {
-            return Ok(part);
-        }
-        let way = Way::to(folder, newest)?;
-        let broken = FolderFault::Plan(PlanFault::Broken(way.ends().0));
-        self.begin(to, way, (ends, offset)).read(&files).ok_or(broken)
-    }
-
-    /// How many bytes of logs lead to a generation of this folder from the last whole one; none where it is whole
-    /// itself.
-    pub fn logs(folder: &Path, generation: u32) -> u64 {
-        Way::to(folder, generation).map_or(0, |way| way.logs())
     }
 
     /// What was begun for a peer isn't there any more.

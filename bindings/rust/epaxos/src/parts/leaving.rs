@@ -21,11 +21,6 @@ fn is_none_of(replica: u8, size: usize) -> bool {
     usize::from(replica) >= size
 }
 
-/// Whether a replica takes part no more behind a seal of this value.
-pub fn is_left_out(replica: u8, seal: &[u8]) -> bool {
-    Members::read(seal).is_some_and(|members| is_none_of(replica, members.0.len()))
-}
-
 impl Progress {
     /// A seal was executed, and names these: so many go on. (What was only committed may be another seal, and count for
     /// nothing.)
@@ -171,9 +166,6 @@ mod tests {
             it.note_sealed(Some(&of(executed)));
             assert_eq!(it.leaves(), executed == 3);
         }
-        let plain = of(5).write();
-        assert!(is_left_out(3, of(3).write().as_bytes()) && !is_left_out(2, of(3).write().as_bytes()));
-        assert!(!is_left_out(4, plain.as_bytes()) && !is_left_out(6, b"another value"));
     }
 
     #[test]

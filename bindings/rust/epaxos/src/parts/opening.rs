@@ -1,16 +1,28 @@
 //! What a file tells that a generation opens with.
-use crate::contents::pair;
+use crate::ffi::{self, OpeningHead};
+use crate::library::open_fault;
 use crate::parts::members::Members;
-use crate::{Fields, Instance, Sum};
+use crate::{Fields, Instance, LONGEST_KEY, LONGEST_VALUE, OpenFault, Sum};
 use std::collections::HashSet;
 use std::fs::File;
-use std::io::{self, BufReader, Read};
+use std::io::{self, Read};
 use std::path::Path;
 
 /// What a key takes besides its own bytes and its value's.
 pub const OF_A_KEY: u64 = 5;
 
-const MAGIC: [u8; 5] = *b"EPOP\x03";
+/// What stands before the map has so many bytes at most, with how many keys that has, and a key with its value.
+const LONGEST_FRONT: usize = 65_562;
+const LONGEST_PAIR: usize = OF_A_KEY as usize + LONGEST_KEY + LONGEST_VALUE;
+/// Where the seal's value stands; how many bytes a count, an instance and the digest have; and an opening besides those
+/// of its map and of a seal's value.
+const SEAL_AT: usize = 23;
+const COUNT: usize = 4;
+const INSTANCE: usize = 3;
+const DIGEST: usize = 32;
+const LEAST: usize = 59;
+/// So many bytes are read at once.
+const CHUNK: usize = 1 << 18;
 
 /// An opening, but for its map. The node has looked at its digest.
 #[derive(Clone, Default, PartialEq, Eq, Debug)]
@@ -18,7 +30,7 @@ pub struct Opening {
     pub replicas: u8,
     pub generation: u32,
     /// The stamp that clocks go on from.
-    pub since: u64,
+    pub base_stamp: u64,
     /// The value of the seal that began the generation. None of generation 1.
     pub seal: Option<Vec<u8>>,
     /// How many bytes all keys with their values take here.
@@ -41,11 +53,12 @@ impl Opening {
 
     /// What a file tells before its map.
     pub fn read_front_of(path: &Path) -> io::Result<Opening> {
-        Opening::read_front(&mut BufReader::new(File::open(path)?))
+        let mut input = Window::new(File::open(path)?);
+        Opening::front(input.look(LONGEST_FRONT)?).ok_or_else(bad)
     }
 
     pub fn read(path: &Path) -> io::Result<Opening> {
-        Opening::from(BufReader::with_capacity(1 << 16, File::open(path)?))
+        Opening::from(File::open(path)?)
     }
 
     /// The same of a file's bytes. None where they are none.
@@ -54,84 +67,68 @@ impl Opening {
     }
 
     /// What an opening tells before its map, by its first bytes. None where they are too few, or none's.
-    pub fn front(mut bytes: &[u8]) -> Option<Opening> {
-        Opening::read_front(&mut bytes).ok()
+    pub fn front(bytes: &[u8]) -> Option<Opening> {
+        Opening::with_head(bytes).map(|(opening, _)| opening)
     }
 
-    fn from(mut input: impl Read) -> io::Result<Opening> {
-        let mut opening = Opening::read_front(&mut input)?;
-        let keys = u32::from_be_bytes(array(&mut input)?);
-        for _ in 0..keys {
-            let [key] = array(&mut input)?;
-            let length = u64::from(key) + u64::from(u32::from_be_bytes(array(&mut input)?));
-            skip(&mut input, length)?;
-            opening.map += OF_A_KEY + length;
+    fn with_head(bytes: &[u8]) -> Option<(Opening, OpeningHead)> {
+        let head = ffi::opening_head(bytes).ok()?;
+        let OpeningHead { replicas, generation, base_stamp, seal_len, has_seal, .. } = head;
+        let value = bytes.get(SEAL_AT..)?.get(..seal_len as usize)?;
+        let seal = (has_seal == 1).then(|| value.to_vec());
+        Some((Opening { replicas, generation, base_stamp, seal, ..Opening::default() }, head))
+    }
+
+    fn from(input: impl Read) -> io::Result<Opening> {
+        let mut input = Window::new(input);
+        let (mut opening, head) = Opening::with_head(input.look(LONGEST_FRONT)?).ok_or_else(bad)?;
+        input.skip(head.map_at as usize + COUNT);
+        for _ in 0..head.keys {
+            let pair = ffi::pair(input.look(LONGEST_PAIR)?).ok_or_else(bad)?;
+            input.skip(pair.len as usize);
+            opening.map += pair.len;
         }
-        let count = u32::from_be_bytes(array(&mut input)?);
+        let count = Fields::new(input.look(COUNT)?).u32().ok_or_else(bad)?;
+        input.skip(COUNT);
         for _ in 0..count {
-            let [replica, high, low] = array(&mut input)?;
-            opening.executed.insert(Instance { replica, number: u16::from_be_bytes([high, low]) });
+            opening.executed.insert(Instance::read(&mut Fields::new(input.look(INSTANCE)?)).ok_or_else(bad)?);
+            input.skip(INSTANCE);
         }
-        array::<32>(&mut input)?;
-        Ok(opening)
-    }
-
-    fn read_front(mut input: &mut impl Read) -> io::Result<Opening> {
-        if array(&mut input)? != MAGIC {
-            return Err(bad());
-        }
-        let [replicas] = array(&mut input)?;
-        let generation = u32::from_be_bytes(array(&mut input)?);
-        let since = u64::from_be_bytes(array(&mut input)?);
-        let seal = match array(&mut input)? {
-            [0] => None,
-            [1] => {
-                let length = u32::from_be_bytes(array(&mut input)?);
-                Some(run(&mut input, length)?)
-            }
-            _ => return Err(bad()),
-        };
-        Ok(Opening { replicas, generation, since, seal, ..Opening::default() })
+        if input.look(DIGEST + 1)?.len() == DIGEST { Ok(opening) } else { Err(bad()) }
     }
 }
 
-/// The fields of an opening from its map on: how many keys that has, and then each. None where it is cut short.
-fn from_map(opening: &[u8]) -> Option<Fields<'_>> {
-    let (body, _) = opening.split_last_chunk::<32>()?;
-    let mut fields = Fields::new(body);
-    fields.run(18)?;
-    if fields.u8()? == 1 {
-        let length = fields.u32()?;
-        fields.run(length as usize)?;
+/// The bytes of an opening from its map on, up to its digest, and how many keys the map has. None where it is cut
+/// short.
+fn from_map(opening: &[u8]) -> Option<(&[u8], u32)> {
+    let (body, _) = opening.split_last_chunk::<DIGEST>()?;
+    let head = ffi::opening_head(opening).ok()?;
+    Some((body.get(head.map_at as usize..)?, head.keys))
+}
+
+/// How many bytes a map's first keys have, with how many keys it has.
+fn length_of(map: &[u8], keys: u32) -> Option<usize> {
+    let mut length = COUNT;
+    for _ in 0..keys {
+        length += ffi::pair(map.get(length..)?)?.len as usize;
     }
-    Some(fields)
+    Some(length)
 }
 
 /// The bytes of an opening's map.
 pub fn map_of(opening: &[u8]) -> Option<&[u8]> {
-    let mut fields = from_map(opening)?;
-    let from = fields.rest();
-    for _ in 0..fields.u32()? {
-        pair(&mut fields)?;
-    }
-    from.get(..from.len() - fields.rest().len())
+    let (map, keys) = from_map(opening)?;
+    map.get(..length_of(map, keys)?)
 }
 
-/// The bytes of an opening: of so many replicas, of this generation, whose clocks go on from a stamp, with these
-/// members and the bytes of a map. Nothing was executed before it.
-pub fn write(replicas: u8, (generation, since): (u32, u64), members: &Members, map: &[u8]) -> Vec<u8> {
-    let seal = members.write().into_bytes();
-    let mut bytes = MAGIC.to_vec();
-    bytes.push(replicas);
-    bytes.extend(generation.to_be_bytes());
-    bytes.extend(since.to_be_bytes());
-    bytes.push(1);
-    bytes.extend((seal.len() as u32).to_be_bytes());
-    bytes.extend(seal);
-    bytes.extend(map);
-    bytes.extend(0_u32.to_be_bytes());
-    bytes.extend(Sum::of(&bytes));
-    bytes
+/// The opening of a generation of so many replicas, in which clocks go on from this stamp, with the value of a seal and
+/// a map's bytes; nothing was executed before it. Else why they make none.
+pub fn made((replicas, generation, base_stamp): (u8, u32, u64), seal: &[u8], map: &[u8]) -> Result<Vec<u8>, OpenFault> {
+    let mut bytes = vec![0; LEAST + seal.len() + map.len()];
+    let made = ffi::opening((replicas, generation, base_stamp), seal, map, &mut bytes);
+    let length = made.map_err(|(status, place)| open_fault(status, place))?;
+    bytes.truncate(length);
+    Ok(bytes)
 }
 
 /// The bytes of a map that has these keys with their values, in their order.
@@ -146,30 +143,15 @@ pub fn write_map<'a>(pairs: impl ExactSizeIterator<Item = (&'a [u8], &'a [u8])>)
     map
 }
 
-/// Tells each key of an opening's map, with its value. None where it is cut short.
-pub fn tell_map_of(opening: &[u8], mut each: impl FnMut(&[u8], &[u8])) -> Option<()> {
-    let mut fields = from_map(opening)?;
-    for _ in 0..fields.u32()? {
-        let (key, value) = pair(&mut fields)?;
-        each(key, value);
-    }
-    Some(())
-}
-
 /// The bytes of an opening without one of its keys, of which `which` says by how many there are: a fault that is
 /// planted. None where it has none.
 pub fn lacking(opening: &[u8], which: impl Fn(u32) -> u32) -> Option<Vec<u8>> {
-    let mut fields = from_map(opening)?;
-    let at = |fields: &Fields| opening.len() - 32 - fields.rest().len();
-    let before = at(&fields);
-    let count = fields.u32()?;
-    let rest = count.checked_sub(1)?;
-    for _ in 0..which(count) {
-        pair(&mut fields)?;
-    }
-    let start = at(&fields);
-    pair(&mut fields)?;
-    let mut out = [&opening[..before], &rest.to_be_bytes(), &opening[before + 4..start], fields.rest()].concat();
+    let (map, keys) = from_map(opening)?;
+    let rest = keys.checked_sub(1)?;
+    let start = length_of(map, which(keys))?;
+    let behind = map.get(start + ffi::pair(map.get(start..)?)?.len as usize..)?;
+    let front = &opening[..opening.len() - DIGEST - map.len()];
+    let mut out = [front, &rest.to_be_bytes(), &map[COUNT..start], behind].concat();
     out.extend(Sum::of(&out));
     Some(out)
 }
@@ -178,27 +160,42 @@ fn bad() -> io::Error {
     io::ErrorKind::InvalidData.into()
 }
 
-fn array<const N: usize>(input: &mut impl Read) -> io::Result<[u8; N]> {
-    let mut bytes = [0; N];
-    input.read_exact(&mut bytes)?;
-    Ok(bytes)
+/// Bytes that come one after the other, of which those in front are looked at together.
+struct Window<R> {
+    input: R,
+    held: Vec<u8>,
+    /// How many of those that are held were passed over.
+    at: usize,
+    /// Whether no more come.
+    is_over: bool,
 }
 
-fn skip(input: &mut impl Read, length: u64) -> io::Result<()> {
-    let skipped = io::copy(&mut input.take(length), &mut io::sink())?;
-    if skipped == length { Ok(()) } else { Err(io::ErrorKind::UnexpectedEof.into()) }
-}
+impl<R: Read> Window<R> {
+    fn new(input: R) -> Window<R> {
+        Window { input, held: Vec::new(), at: 0, is_over: false }
+    }
 
-fn run(input: &mut impl Read, length: u32) -> io::Result<Vec<u8>> {
-    let mut bytes = Vec::new();
-    input.take(length.into()).read_to_end(&mut bytes)?;
-    if bytes.len() == length as usize { Ok(bytes) } else { Err(io::ErrorKind::UnexpectedEof.into()) }
+    /// The bytes in front: so many at least, where there are so many.
+    fn look(&mut self, least: usize) -> io::Result<&[u8]> {
+        if self.held.len() - self.at < least && !self.is_over {
+            self.held.drain(..self.at);
+            self.at = 0;
+            let wanted = CHUNK.max(least) - self.held.len();
+            let read = (&mut self.input).take(wanted as u64).read_to_end(&mut self.held)?;
+            self.is_over = read < wanted;
+        }
+        Ok(&self.held[self.at..])
+    }
+
+    /// Passes over so many of them.
+    fn skip(&mut self, count: usize) {
+        self.at += count;
+    }
 }
 
 #[cfg(test)]
 mod tests {
     use super::*;
-    use crate::parts::members::Member;
 
     /// The examples of docs/FORMATS.md, section 12.2.
     #[test]
@@ -219,41 +216,11 @@ mod tests {
              00000002  00 0001  02 0007 ba4a4d800fb593e6b4257ad4a8286b173b475a92cf8b8c816f8b2f08e944b31a",
         );
         let executed = [(0, 1), (2, 7)].map(|(replica, number)| Instance { replica, number }).into();
-        let told = Opening { replicas: 3, generation: 2, since: 5, seal: Some(b"x".to_vec()), map: 7, executed };
+        let told = Opening { replicas: 3, generation: 2, base_stamp: 5, seal: Some(b"x".to_vec()), map: 7, executed };
         assert_eq!(Opening::from(&second[..]).unwrap(), told);
         for cut in 0..second.len() {
             assert!(Opening::from(&second[..cut]).is_err());
         }
-    }
-
-    /// By the second opening of tests/vectors/openings.txt.
-    #[test]
-    fn an_opening_keeps_the_map_and_has_other_members() {
-        let digits = |text: &str| -> Vec<u8> {
-            let digits: Vec<u8> = text.bytes().filter(|byte| !byte.is_ascii_whitespace()).collect();
-            let pair = |pair: &[u8]| u8::from_str_radix(std::str::from_utf8(pair).unwrap(), 16).unwrap();
-            digits.chunks(2).map(pair).collect()
-        };
-        let page = digits(
-            "45504f50 03 03 00000002 0000000000000005 01 00000001 78 00000001 01 00000001 61 31
-             00000002  00 0001  02 0007 ba4a4d800fb593e6b4257ad4a8286b173b475a92cf8b8c816f8b2f08e944b31a",
-        );
-        let map = map_of(&page).unwrap();
-        assert_eq!(map, digits("00000001 01 00000001 61 31"));
-        assert_eq!((0..page.len() - 40).find_map(|cut| map_of(&page[..cut])), None);
-        let one = Member { identity: Some([1; 16]), address: Some("a:7".into()) };
-        let members = Members(vec![one, Member::default(), Member::default()]);
-        let made = write(3, (258, 7), &members, map);
-        let (body, digest) = made.split_at(made.len() - 32);
-        let seal = format!("members 1\n0 {} a:7\n1 - -\n2 - -\n", "01".repeat(16));
-        let told = [
-            &digits("45504f50 03 03 00000102 0000000000000007 01")[..],
-            &(seal.len() as u32).to_be_bytes(),
-            seal.as_bytes(),
-            &digits("00000001 01 00000001 61 31 00000000"),
-        ];
-        assert_eq!(body, told.concat());
-        assert_eq!(Sum::of(body), *digest);
     }
 
     #[test]
@@ -261,6 +228,53 @@ mod tests {
         assert_eq!(write_map([].into_iter()), [0; 4]);
         let map = write_map([(&b"a"[..], &b"1"[..]), (b"bc", b"")].into_iter());
         assert_eq!(map, b"\0\0\0\x02\x01\0\0\0\x01a1\x02\0\0\0\0bc");
-        assert_eq!(map_of(&write(3, (2, 5), &Members(Vec::new()), &map)), Some(&map[..]));
+        assert_eq!(map_of(&made((3, 2, 5), b"", &map).unwrap()), Some(&map[..]));
+    }
+
+    /// Gives few bytes at once.
+    struct Slow<'a>(&'a [u8]);
+
+    impl Read for Slow<'_> {
+        fn read(&mut self, out: &mut [u8]) -> io::Result<usize> {
+            let most = out.len().min(977);
+            self.0.read(&mut out[..most])
+        }
+    }
+
+    /// Maps of more bytes than are read at once, with keys and values as short and as long as can be.
+    #[test]
+    fn a_long_map() {
+        let lengths = [0, 1, 65_535, 40_000, 7].into_iter().cycle().take(100).chain([0; 900]);
+        let mut map = 1_000_u32.to_be_bytes().to_vec();
+        for (number, length) in (0_u16..).zip(lengths) {
+            let key = [&number.to_be_bytes()[..], &vec![b'k'; if number % 3 == 0 { 253 } else { 0 }]].concat();
+            map.push(key.len() as u8);
+            map.extend(u32::to_be_bytes(length));
+            map.extend(key);
+            map.extend(vec![b'v'; length as usize]);
+        }
+        let bytes = made((5, 258, 7), b"seal", &map).unwrap();
+        assert_eq!(bytes.len(), LEAST + 4 + map.len());
+        let told = Opening {
+            replicas: 5,
+            generation: 258,
+            base_stamp: 7,
+            seal: Some(b"seal".into()),
+            map: map.len() as u64 - 4,
+            ..Opening::default()
+        };
+        assert_eq!(Opening::of(&bytes), Some(told.clone()));
+        assert_eq!(Opening::from(Slow(&bytes)).unwrap(), told);
+        assert_eq!(map_of(&bytes).unwrap(), map);
+        let less = lacking(&bytes, |count| count - 1).unwrap();
+        assert_eq!(less.len(), bytes.len() - 7 - 253);
+        crate::ffi::check_opening(&less).unwrap();
+        for cut in [bytes.len() - 1, bytes.len() / 2, 300_000, 70_000] {
+            assert!(Opening::from(Slow(&bytes[..cut])).is_err());
+        }
+        assert!(
+            made((4, 258, 7), b"seal", &map).is_err() && made((5, 258, 7), b"seal", &map[..map.len() - 1]).is_err()
+        );
+        assert!(made((5, 258, 7), &[0; 65_536], &map).is_err());
     }
 }

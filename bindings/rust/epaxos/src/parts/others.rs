@@ -44,11 +44,6 @@ impl Others {
         self.all.iter_mut().for_each(|other| (other.seen, other.sees) = (0, 0));
     }
 
-    /// What was seen of each.
-    pub fn all_seen(&self) -> impl Iterator<Item = u32> {
-        self.all.iter().map(|other| other.seen)
-    }
-
     /// An entry of a replica was seen in the present generation.
     pub fn see(&mut self, replica: u8, entry: u32) {
         if let Some(other) = self.all.get_mut(usize::from(replica))

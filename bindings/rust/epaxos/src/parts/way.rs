@@ -1,16 +1,11 @@
 //! What a peer needs to come to a generation: the opening of the last whole one up to there, and the logs since, each
 //! up to the length that the next reference names. All of it is one run of bytes: a head, the opening, and the logs.
 use crate::host::{Name, Span};
-use crate::parts::files::unusable;
-use crate::parts::folder::{Opened, Started, SumOf, look, named, opened, reference, reference_of};
+use crate::parts::folder::{Opened, Started, SumOf, named, opened, reference_of};
 use crate::parts::folder_fault::FolderFault;
 use crate::parts::follower::Follower;
-use crate::parts::planning::first;
-use crate::parts::read_folder::{ReadFolder, part};
 use crate::{Fault, Reference};
-use std::fs::{self, File};
-use std::io::{self, BufReader, Read};
-use std::path::{Path, PathBuf};
+use std::io::Read;
 
 const MAGIC: [u8; 5] = *b"ESWY\x01";
 
@@ -102,23 +97,6 @@ impl Way {
         Way { head, written, files, total }
     }
 
-    /// Those that lead to a generation of the folder of generations.
-    pub fn to(folder: &Path, generation: u32) -> Result<Way, FolderFault> {
-        let folder = &ReadFolder(folder.to_path_buf());
-        let held = look(folder)?;
-        let first = first(&held, generation)?;
-        let is_bound = held.iter().any(|one| one.number == first && one.has_reference);
-        let own = is_bound.then(|| reference(folder, first)).transpose()?;
-        let later = (first..generation).map(|before| reference(folder, before + 1));
-        let references: Vec<Reference> = later.collect::<Result<_, _>>()?;
-        let opening = folder.file(first, Name::Opening);
-        let opening = fs::metadata(&opening).map_err(unusable(&opening))?.len();
-        let way = Way::of((first, opening), own, references);
-        let is_short = |file: &&Span| folder.length(file.generation, file.name) < file.length;
-        way.files.iter().find(is_short).map_or(Ok(()), |file| Err(FolderFault::ShortLog(file.generation)))?;
-        Ok(way)
-    }
-
     /// The generation of the opening, and the one that is led to.
     pub fn ends(&self) -> (u32, u32) {
         (self.head.first, self.head.generation())
@@ -126,11 +104,6 @@ impl Way {
 
     pub fn total(&self) -> u64 {
         self.total
-    }
-
-    /// How many of them are of logs.
-    pub fn logs(&self) -> u64 {
-        self.head.references.iter().map(Reference::length).sum()
     }
 
     /// As many of the bytes from this place on, or as many as there are: those of the head, and where the others are.
@@ -151,54 +124,31 @@ impl Way {
     }
 }
 
-/// Where such bytes are that a peer has handed.
-pub enum Source {
-    File(PathBuf),
-    Bytes(Vec<u8>),
-}
-
 /// Such bytes, which a peer has handed.
 pub struct Handed {
-    source: Source,
+    bytes: Vec<u8>,
     head: Head,
     /// Where the opening begins.
     opening: u64,
 }
 
 impl Handed {
-    pub fn open(source: Source) -> Result<Handed, FolderFault> {
-        let (head, length) = match &source {
-            Source::File(path) => {
-                let file = File::open(path).map_err(unusable(path))?;
-                let length = file.metadata().map_err(unusable(path))?.len();
-                (Head::read(&mut BufReader::new(file))?, length)
-            }
-            Source::Bytes(bytes) => (Head::read(&mut &bytes[..])?, bytes.len() as u64),
-        };
+    pub fn open(bytes: Vec<u8>) -> Result<Handed, FolderFault> {
+        let head = Head::read(&mut &bytes[..])?;
         match head.lengths() {
-            Some((opening, all)) if all == length => Ok(Handed { source, head, opening }),
+            Some((opening, all)) if all == bytes.len() as u64 => Ok(Handed { bytes, head, opening }),
             _ => Err(FolderFault::BadWay("it has more bytes, or fewer, than its head says")),
         }
     }
 
-    /// The generation that is led to.
-    pub fn generation(&self) -> u32 {
-        self.head.generation()
-    }
-
-    /// Goes through all that this replica has handed: the pieces of the opening that it leads to. `is_wanted` is asked
-    /// before each log.
-    pub fn through<F: Fn() -> bool>(
+    /// Goes through all that this replica has handed: the pieces of the opening that it leads to.
+    pub fn through(
         &self,
         replica: u8,
         sum: SumOf,
-        is_wanted: F,
-    ) -> Result<impl Iterator<Item = Result<Vec<u8>, Fault>> + use<F>, FolderFault> {
+    ) -> Result<impl Iterator<Item = Result<Vec<u8>, Fault>> + use<>, FolderFault> {
         let started = self.started()?;
-        let log_of = |next: &Reference| match is_wanted() {
-            true => self.log_of(next, sum),
-            false => Err(io::Error::from(io::ErrorKind::Interrupted).into()),
-        };
+        let log_of = |next: &Reference| self.log_of(next, sum);
         let last = started.references.last().copied();
         let led = last.map(|last| Follower { replica }.opening_of(&started, last, log_of)).transpose()?;
         let whole = led.is_none().then_some(Ok(started.first.bytes));
@@ -208,7 +158,7 @@ impl Handed {
     /// What a start would read of a folder that has these files.
     fn started(&self) -> Result<Started, FolderFault> {
         let Head { first, own, references, .. } = &self.head;
-        let bytes = self.run(self.opening, self.head.opening)?;
+        let bytes = self.run(self.opening, self.head.opening);
         let bad = |why| FolderFault::BadOpening(Some(*first), why);
         let opening = opened(bytes).map_err(bad)?;
         if opening.generation != *first {
@@ -221,16 +171,11 @@ impl Handed {
     fn log_of(&self, next: &Reference, sum: SumOf) -> Result<Vec<u8>, FolderFault> {
         let before = self.head.references.iter().take_while(|it| it.generation() < next.generation());
         let at = before.map(Reference::length).sum::<u64>() + self.opening + self.head.opening;
-        named(self.run(at, next.length())?, next, sum)
+        named(self.run(at, next.length()), next, sum)
     }
 
-    fn run(&self, at: u64, length: u64) -> io::Result<Vec<u8>> {
-        match &self.source {
-            Source::File(path) => part(path, at, length).map_err(unusable(path)),
-            Source::Bytes(bytes) => {
-                let from = usize::try_from(at).ok().and_then(|at| bytes.get(at..)).unwrap_or_default();
-                Ok(from.iter().take(length as usize).copied().collect())
-            }
-        }
+    fn run(&self, at: u64, length: u64) -> Vec<u8> {
+        let from = usize::try_from(at).ok().and_then(|at| self.bytes.get(at..)).unwrap_or_default();
+        from.iter().take(length as usize).copied().collect()
     }
 }

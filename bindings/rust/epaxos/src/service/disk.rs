@@ -51,6 +51,16 @@ pub trait Disk: Stored + Clone + Send + 'static {
         Ok(span.of(&file).ok_or(io::ErrorKind::UnexpectedEof)?.to_vec())
     }
 
+    /// Makes room for a generation that is about to begin, beside all else, so that its begin takes less. Nothing
+    /// depends on it.
+    ///
+    /// # Errors
+    ///
+    /// What the disk says.
+    fn prepare(&mut self, _generation: u32) -> io::Result<()> {
+        Ok(())
+    }
+
     /// Keeps receipts for an audit, if it is wanted.
     ///
     /// # Errors

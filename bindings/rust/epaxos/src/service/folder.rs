@@ -3,11 +3,12 @@ use crate::Checkpoint;
 use crate::host::{Act, Identity, Name, Span, Stored};
 use crate::lock::Lock;
 use crate::log_file::named;
-use crate::parts::files::{create, fill, sync, unusable, write};
+use crate::parts::files::{create, fill, move_in, rename_in, sync, unusable, write, write_beside};
 use crate::parts::identity::{by_chance, digits, identity};
 use crate::parts::read_folder::{ReadFolder, part};
 use crate::parts::receipts::Receipts;
 use crate::service::Disk;
+use std::collections::BTreeSet;
 use std::fs::{self, File, OpenOptions, TryLockError};
 use std::io::{self, ErrorKind, Write};
 use std::path::{Path, PathBuf};
@@ -41,6 +42,8 @@ pub struct Folder {
     /// The log that bytes were appended to last.
     log: Option<(u32, Arc<File>)>,
     receipts: Option<Arc<Mutex<Receipts>>>,
+    /// The generations whose folders have names that are on the disk.
+    made: Arc<Mutex<BTreeSet<u32>>>,
 }
 
 impl Folder {
@@ -65,12 +68,12 @@ impl Folder {
     pub fn open(path: impl AsRef<Path>) -> io::Result<Folder> {
         let path = path.as_ref().to_path_buf();
         create(&path).map_err(|error| named(&path, &error))?;
-        let place = path.join("host.lock");
+        let place = path.join("node.lock");
         let lock = Lock::take(&place).map_err(|refusal| match refusal {
             TryLockError::WouldBlock => io::Error::new(ErrorKind::WouldBlock, format!("{} is in use", path.display())),
             TryLockError::Error(error) => named(&place, &error),
         })?;
-        Ok(Folder { files: ReadFolder(path), _lock: Arc::new(lock), log: None, receipts: None })
+        Ok(Folder { files: ReadFolder(path), _lock: Arc::new(lock), log: None, receipts: None, made: Arc::default() })
     }
 
     /// The same, with the file `receipts`, to which what clients are told is appended: for an audit. One that a crash
@@ -127,13 +130,17 @@ impl Folder {
         }
     }
 
-    /// Makes the folder of a generation, where it isn't there.
+    /// Makes the folder of a generation, where it isn't there. Its name is on the disk then, even if another thread is
+    /// just making it.
     fn make(&self, generation: u32) -> io::Result<PathBuf> {
         let folder = self.files.folder_of(generation);
-        match fs::create_dir(&folder) {
-            Ok(()) => sync(self.files.path()).map_err(unusable(self.files.path()))?,
-            Err(error) if error.kind() == ErrorKind::AlreadyExists => {}
-            Err(error) => return Err(named(&folder, &error)),
+        let mut made = self.made.lock().unwrap_or_else(PoisonError::into_inner);
+        if !made.contains(&generation) {
+            match fs::create_dir(&folder) {
+                Err(error) if error.kind() != ErrorKind::AlreadyExists => return Err(named(&folder, &error)),
+                _ => sync(self.files.path()).map_err(unusable(self.files.path()))?,
+            }
+            made.insert(generation);
         }
         Ok(folder)
     }
@@ -149,12 +156,16 @@ impl Folder {
         Ok(())
     }
 
-    fn put(&mut self, generation: u32, name: Name, bytes: &[u8]) -> io::Result<()> {
+    fn put(&mut self, generation: u32, name: Name, bytes: &[u8], is_synced: bool) -> io::Result<()> {
         let folder = self.make(generation)?;
         if name == Name::Log {
             self.log = None;
         }
-        write(&folder, name.letters(), bytes).map_err(|error| named(&folder.join(name.letters()), &error))
+        let written = write_beside(&folder, name.letters(), bytes);
+        let moved = written.and_then(|()| {
+            if is_synced { move_in(&folder, name.letters()) } else { rename_in(&folder, name.letters()) }
+        });
+        moved.map_err(|error| named(&folder.join(name.letters()), &error))
     }
 
     fn drop_below(&mut self, below: u32) -> io::Result<()> {
@@ -166,6 +177,8 @@ impl Folder {
                     _ => {}
                 }
             }
+            let mut made = self.made.lock().unwrap_or_else(PoisonError::into_inner);
+            made.remove(&generation);
             fs::remove_dir_all(&folder).map_err(|error| named(&folder, &error))?;
         }
         sync(self.files.path()).map_err(unusable(self.files.path()))
@@ -188,11 +201,19 @@ impl Stored for Folder {
 
 impl Disk for Folder {
     fn carry_out(&mut self, acts: &[Act]) -> io::Result<()> {
-        acts.iter().try_for_each(|act| match act {
+        (1..).zip(acts).try_for_each(|(next, act)| match act {
             Act::Append { generation, bytes } => self.append(*generation, bytes),
-            Act::Put { generation, name, bytes } => self.put(*generation, *name, bytes),
+            Act::Put { generation, name, bytes } => {
+                // (clients wait for a change: a log without its reference is nothing, so that one sync does for both)
+                let is_followed = *name == Name::Reference && acts.get(next).is_some_and(|it| is_log(it, *generation));
+                self.put(*generation, *name, bytes, !is_followed)
+            }
             Act::Drop { below } => self.drop_below(*below),
         })
+    }
+
+    fn prepare(&mut self, generation: u32) -> io::Result<()> {
+        self.make(generation).map(drop)
     }
 
     fn write_opening(&mut self, generation: u32, checkpoint: Checkpoint) -> io::Result<([u8; 32], u64)> {
@@ -215,6 +236,11 @@ impl Disk for Folder {
         let Some(file) = &self.receipts else { return Ok(()) };
         Ok(file.lock().unwrap_or_else(PoisonError::into_inner).append(receipts)?)
     }
+}
+
+/// Whether the log of this generation gets its place by it.
+fn is_log(act: &Act, of: u32) -> bool {
+    matches!(act, Act::Put { generation, name: Name::Log, .. } if *generation == of)
 }
 
 /// Opens a file to append to it.

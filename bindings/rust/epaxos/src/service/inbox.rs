@@ -21,6 +21,7 @@ pub(super) enum Came {
     Wish(Wish, Promise<Told>),
     Members(Promise<Taking>),
     Written(u32, [u8; 32], u64),
+    NotWritten(u32),
     Part(u32, u64, (u64, Vec<u8>)),
     LetGo(u32, Checkpoint),
     Gathered(u64, Option<Vec<u8>>),

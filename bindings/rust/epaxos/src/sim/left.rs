@@ -51,11 +51,13 @@ pub(super) fn put(folder: &Path, machines: &[Vec<Content>], told: &BTreeMap<u32,
     let newest = all().flat_map(Content::keys).map(|(generation, _)| *generation).max().unwrap_or_default();
     let mut whole = Vec::new();
     for generation in 1..=newest {
-        let has_log = |content: &&Content| content.contains_key(&(generation, Name::Log));
+        let has = |content: &Content, name| content.contains_key(&(generation, name));
+        // (a log without either was begun for an opening that a crash took)
+        let is_here = |content: &Content| has(content, Name::Opening) || has(content, Name::Reference);
         let mut logs = 0;
         for (replica, of) in (0_u8..).zip(machines) {
             // (a generation is of one machine)
-            let Some(content) = of.iter().find(has_log) else { continue };
+            let Some(content) = of.iter().find(|it| has(it, Name::Log) && is_here(it)) else { continue };
             put_generation(&folder.join(replica.to_string()), content, generation)?;
             logs |= 1_u32 << replica;
         }

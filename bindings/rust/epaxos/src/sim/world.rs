@@ -611,7 +611,7 @@ impl<'a> World<'a> {
         let (now, count) = (self.now, self.operator.size);
         let is_up = |it: &Machine| it.host.is_some() && it.paused <= now;
         let up: Vec<bool> = self.machines.iter().map(is_up).collect();
-        let generation = |it: &Machine| it.host.as_ref().map_or(0, |host| host.status_generation());
+        let generation = |it: &Machine| it.host.as_ref().map_or(0, |host| host.generation());
         let generations: Vec<u32> = self.machines.iter().map(generation).collect();
         let newest = generations.iter().take(count.into()).copied().max().unwrap_or_default();
         // (who takes part no more, or doesn't yet, is held to nothing)
@@ -740,7 +740,7 @@ impl<'a> World<'a> {
         let start = it.start;
         let Some(host) = &mut it.host else { return Ok(()) };
         // (receipts are of the generation before the turn, if it changes)
-        let generation = host.status_generation();
+        let generation = host.generation();
         let before = host.status_together();
         let Turn { frames, writes, replies, work, executed, receipts, .. } = match host.turn(now) {
             Ok(turn) => turn,
@@ -766,6 +766,9 @@ impl<'a> World<'a> {
             return self.part(machine);
         }
         for work in work {
+            if let Work::Prepare { .. } = work {
+                continue;
+            }
             if let Work::LetGo { generation, mut checkpoint } = work {
                 checkpoint.let_go();
                 self.after(self.plan.sync, Event::LetGo { machine, start, generation, checkpoint });
@@ -773,7 +776,7 @@ impl<'a> World<'a> {
             }
             let wait = 1 + self.random.below(self.plan.sync * 20);
             match work {
-                Work::LetGo { .. } => {}
+                Work::LetGo { .. } | Work::Prepare { .. } => {}
                 Work::Write { generation, machine: state, checkpoint } => {
                     if let Some(bytes) = state {
                         self.after(wait / 2, Event::Kept { machine, start, generation, bytes });

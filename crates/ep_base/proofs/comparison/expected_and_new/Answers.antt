@@ -1,6 +1,6 @@
 use Rattle.std.proofs.Common.{◌-◌, Some, None, length, take, drop, subst}
 use Rattle.std.proofs.lemmas.List.{take_rest}
-use Rattle.ep_base.specs.Parts.{IsPartLen}
+use Rattle.ep_base.specs.CommandParts.{IsPartLen}
 use Rattle.ep_base.proofs.Runs.{second_there}
 use Rattle.ep_base.proofs.comparison.expected_and_new.Goals as goal
 

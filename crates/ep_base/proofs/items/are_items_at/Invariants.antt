@@ -1,5 +1,5 @@
 use Rattle.std.proofs.Common.{◌≡◌}
-use Rattle.ep_base.specs.Parts.{are_items_at}
+use Rattle.ep_base.specs.CommandParts.{are_items_at}
 use Rattle.ep_base.proofs.items.are_items_at.Given as goal
 
 abbrev pub invariant-loop-left : goal.invariant-loop-left

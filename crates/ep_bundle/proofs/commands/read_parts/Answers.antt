@@ -1,5 +1,5 @@
 use Rattle.std.proofs.Common.{Ok, Err, sym, ◌∙◌}
-use Rattle.ep_base.specs.Parts.{body_said}
+use Rattle.ep_base.specs.CommandParts.{body_said}
 use Rattle.ep_bundle.proofs.ReadCommands.{parts_read, parts_unread, run_fails, second_as}
 use Rattle.ep_bundle.proofs.Readings.{fails, goes_on}
 use Rattle.ep_bundle.proofs.commands.read_parts.Goals as goal

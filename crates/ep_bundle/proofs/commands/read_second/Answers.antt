@@ -1,5 +1,5 @@
 use Rattle.std.proofs.Common.{sym, ◌∙◌}
-use Rattle.ep_base.specs.Parts.{is_twice}
+use Rattle.ep_base.specs.CommandParts.{is_twice}
 use Rattle.ep_bundle.proofs.Journeys.{mapped}
 use Rattle.ep_bundle.proofs.ReadCommands.{run_fails}
 use Rattle.ep_bundle.proofs.Readings.{stops}

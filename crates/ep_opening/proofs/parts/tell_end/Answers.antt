@@ -1,7 +1,7 @@
 use Rattle.std.proofs.Common.{None, refl}
 use Rattle.ep_bundle.specs.Journals.{ended}
 use Rattle.ep_opening.specs.declared.opening_field.OpeningField.TheVariants.{Rest}
-use Rattle.ep_opening.proofs.Tellings.{told_fault, told_read}
+use Rattle.ep_opening.proofs.FileReadings.{told_fault, told_read}
 use Rattle.ep_opening.proofs.parts.tell_end.Goals as goal
 
 pub returns-in-Ok : goal.returns-in-Ok

@@ -1,6 +1,6 @@
 use Rattle.std.proofs.Common.{None}
 use Rattle.ep_opening.specs.Reading.{front, front_field}
-use Rattle.ep_opening.proofs.Tellings.{told_fault, told_read}
+use Rattle.ep_opening.proofs.FileReadings.{told_fault, told_read}
 use Rattle.ep_opening.proofs.parts.tell_front.Goals as goal
 
 pub returns-in-Ok : goal.returns-in-Ok

@@ -1,6 +1,6 @@
 use Rattle.std.proofs.Common.{None}
 use Rattle.ep_opening.specs.Reading.{lead, lead_field}
-use Rattle.ep_opening.proofs.Tellings.{told_fault, told_read}
+use Rattle.ep_opening.proofs.FileReadings.{told_fault, told_read}
 use Rattle.ep_opening.proofs.parts.tell_lead.Goals as goal
 
 pub returns-in-Ok : goal.returns-in-Ok

@@ -2,7 +2,7 @@ use Rattle.std.proofs.Common.{None, refl}
 use Rattle.ep_base.specs.declared.version_kind.VersionKind.TheVariants.{V3}
 use Rattle.ep_bundle.specs.Headers.{map_in}
 use Rattle.ep_opening.specs.declared.opening_field.OpeningField.TheVariants.{Map}
-use Rattle.ep_opening.proofs.Tellings.{told_fault, told_read}
+use Rattle.ep_opening.proofs.FileReadings.{told_fault, told_read}
 use Rattle.ep_opening.proofs.parts.tell_map.Goals as goal
 
 pub returns-in-Ok : goal.returns-in-Ok

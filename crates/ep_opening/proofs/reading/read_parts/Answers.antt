@@ -1,5 +1,5 @@
 use Rattle.ep_opening.specs.Reading.{file_of}
-use Rattle.ep_opening.proofs.Tellings.{fails_told, goes_on_told, made_told}
+use Rattle.ep_opening.proofs.FileReadings.{fails_told, goes_on_told, made_told}
 use Rattle.ep_opening.proofs.reading.read_parts.Goals as goal
 
 pub returns-in_err-front : goal.returns-in_err-front

@@ -1,4 +1,4 @@
-use Rattle.ep_opening.proofs.Tellings.{fails_told, goes_on_told}
+use Rattle.ep_opening.proofs.FileReadings.{fails_told, goes_on_told}
 use Rattle.ep_opening.proofs.reference_reading.read_parts.Goals as goal
 
 pub returns-in_err-reference : goal.returns-in_err-reference

@@ -1,7 +1,7 @@
 use Rattle.std.proofs.Common.{None}
 use Rattle.ep_opening.specs.Reading.{lead_field}
 use Rattle.ep_opening.specs.ReferenceReading.{lead}
-use Rattle.ep_opening.proofs.Tellings.{told_fault, told_read}
+use Rattle.ep_opening.proofs.FileReadings.{told_fault, told_read}
 use Rattle.ep_opening.proofs.reference_reading.tell_lead.Goals as goal
 
 pub returns-in-Ok : goal.returns-in-Ok

@@ -1,6 +1,6 @@
 use Rattle.std.proofs.Common.{None}
 use Rattle.ep_opening.specs.ReferenceReading.{name, name_field}
-use Rattle.ep_opening.proofs.Tellings.{told_fault, told_read}
+use Rattle.ep_opening.proofs.FileReadings.{told_fault, told_read}
 use Rattle.ep_opening.proofs.reference_reading.tell_name.Goals as goal
 
 pub returns-in-Ok : goal.returns-in-Ok

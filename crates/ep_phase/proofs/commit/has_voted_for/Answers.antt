@@ -1,5 +1,5 @@
 use Rattle.ep_frame.specs.Meaning.{decree_at}
-use Rattle.ep_phase.specs.Known.{record_of}
+use Rattle.ep_phase.specs.InstanceViews.{record_of}
 use Rattle.ep_phase.proofs.Settled.{same_settled}
 use Rattle.ep_phase.proofs.commit.has_voted_for.Goals as goal
 

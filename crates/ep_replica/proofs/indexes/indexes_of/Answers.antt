@@ -1,11 +1,11 @@
 use Rattle.std.proofs.Common.{subst, arith}
-use Rattle.ep_replica.specs.Firsts.{AreFirsts}
-use Rattle.ep_replica.specs.Slots.{Tells}
+use Rattle.ep_replica.specs.FirstExecutions.{AreFirsts}
+use Rattle.ep_replica.specs.Slots.{HoldsProposals}
 use Rattle.ep_replica.proofs.indexes.indexes_of.Goals as goal
 
 pub returns-clause-slots : goal.returns-clause-slots
 returns-clause-slots c =
-    subst (λ es. Tells c.args.journal.now.me es c.in_ok-slots.slots) c.entries-2.ensures.entries (subst (λ r. Tells r c.entries-2.result.now c.in_ok-slots.slots) c.me.ensures c.in_ok-slots.ensures)
+    subst (λ es. HoldsProposals c.args.journal.now.me es c.in_ok-slots.slots) c.entries-2.ensures.entries (subst (λ r. HoldsProposals r c.entries-2.result.now c.in_ok-slots.slots) c.me.ensures c.in_ok-slots.ensures)
 
 pub returns-clause-some : goal.returns-clause-some
 returns-clause-some c =

@@ -10,5 +10,5 @@ returns c =
     let t : List ℕ = c.push_parts.new.text.items in
     let n : c.number.result ≡ l.generation = c.number.ensures.value ∙ c.generation-generation.ensures in
     ended c.push_parts.result t o (generation_line l) (codes "\n")
-    (subst (λ x. OnOk c.push_parts.result (t ≡ o ++ (codes "generation " ++ decimal l.generation ++ codes " since " ++ decimal x ++ codes "\n"))) c.since.ensures
-    (subst (λ x. OnOk c.push_parts.result (t ≡ o ++ (codes "generation " ++ decimal x ++ codes " since " ++ decimal c.since.result ++ codes "\n"))) n c.push_parts.ensures))
+    (subst (λ x. OnOk c.push_parts.result (t ≡ o ++ (codes "generation " ++ decimal l.generation ++ codes " since " ++ decimal x ++ codes "\n"))) c.base_stamp.ensures
+    (subst (λ x. OnOk c.push_parts.result (t ≡ o ++ (codes "generation " ++ decimal x ++ codes " since " ++ decimal c.base_stamp.result ++ codes "\n"))) n c.push_parts.ensures))

@@ -14,8 +14,8 @@ returns c =
     let n : c.number.result ≡ l.generation = c.number.ensures.value ∙ c.generation.ensures in
     let start : t1 ≡ o ++ g =
     c.in_ok-push_parts.ensures
-    ∙ ap (λ (x : ℕ). o ++ (codes "generation " ++ decimal x ++ codes " since " ++ decimal c.since.result ++ codes " committed " ++ decimal c.args.committed ++ codes " history " ++ decimal c.args.history ++ codes " ")) n
-    ∙ ap (λ (x : ℕ). o ++ (codes "generation " ++ decimal l.generation ++ codes " since " ++ decimal x ++ codes " committed " ++ decimal c.args.committed ++ codes " history " ++ decimal c.args.history ++ codes " ")) c.since.ensures
+    ∙ ap (λ (x : ℕ). o ++ (codes "generation " ++ decimal x ++ codes " since " ++ decimal c.base_stamp.result ++ codes " committed " ++ decimal c.args.committed ++ codes " history " ++ decimal c.args.history ++ codes " ")) n
+    ∙ ap (λ (x : ℕ). o ++ (codes "generation " ++ decimal l.generation ++ codes " since " ++ decimal x ++ codes " committed " ++ decimal c.args.committed ++ codes " history " ++ decimal c.args.history ++ codes " ")) c.base_stamp.ensures
     in
     link_told c.push_contents_line.result o g (closing_line l.closing) (contents_line l.contents) t1 t2 c.push_contents_line.new.text.items
     start

@@ -1,5 +1,5 @@
 use Rattle.std.proofs.Common.{◌≡◌, ◌++◌, drop}
-use Rattle.ep_base.specs.Parts.{items_bytes}
+use Rattle.ep_base.specs.CommandParts.{items_bytes}
 use Rattle.ep_script.proofs.tx_items.push_items.Given as goal
 
 abbrev pub invariant-loop-item : goal.invariant-loop-item

@@ -7,11 +7,11 @@ loop-index-init g c = record { same = refl; some = some_none c.args.node.now.rep
 
 pub returns-then-not-swept-clause-ok : goal.returns-then-not-swept-clause-ok
 returns-then-not-swept-clause-ok g c =
-    every_stops c.args.node.now.replica c.loop-index.node.replica c.execute_led.new.node.replica c.known.result c.in_ok-swept.swept c.if-not-swept.true c.loop-index.invariant.some c.in_ok-swept.ensures.ok
+    every_stops c.args.node.now.replica c.loop-index.node.replica c.execute_led.new.node.replica c.from_valid.result c.in_ok-swept.swept c.if-not-swept.true c.loop-index.invariant.some c.in_ok-swept.ensures.ok
 
 pub loop-index-preserved : goal.loop-index-preserved
 loop-index-preserved g c =
-    let next = every_next c.args.node.now.replica c.loop-index.node.replica c.execute_led.new.node.replica c.loop-index.index c.known.result c.in_ok-swept.swept c.if-not-swept.false c.known.ensures c.loop-index.invariant.some c.loop-index.invariant.wait c.in_ok-swept.ensures.ok in
+    let next = every_next c.args.node.now.replica c.loop-index.node.replica c.execute_led.new.node.replica c.loop-index.index c.from_valid.result c.in_ok-swept.swept c.if-not-swept.false c.from_valid.ensures c.loop-index.invariant.some c.loop-index.invariant.wait c.in_ok-swept.ensures.ok in
     record {
       same = c.execute_led.ensures.same ∙ (λ t. record (c.loop-index.invariant.same t) { replica = c.execute_led.new.node.replica });
       some = next.0;
@@ -23,4 +23,4 @@ returns-clause-ok g c = every_all c.args.node.now.replica c.loop-index.node.repl
 
 pub returns-in_err-swept-clause-err : goal.returns-in_err-swept-clause-err
 returns-in_err-swept-clause-err g c =
-    at_error _ (every_short c.args.node.now.replica c.loop-index.node.replica c.execute_led.new.node.replica c.loop-index.index c.known.result c.known.ensures c.loop-index.invariant.some c.loop-index.invariant.wait c.in_err-swept.ensures.err)
+    at_error _ (every_short c.args.node.now.replica c.loop-index.node.replica c.execute_led.new.node.replica c.loop-index.index c.from_valid.result c.from_valid.ensures c.loop-index.invariant.some c.loop-index.invariant.wait c.in_err-swept.ensures.err)

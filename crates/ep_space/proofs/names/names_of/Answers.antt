@@ -1,6 +1,6 @@
 use Rattle.std.proofs.Common.{ap, subst, sym}
 use Rattle.ep_base.specs.Interference.{is_many}
-use Rattle.ep_base.specs.Parts.{IsInRange}
+use Rattle.ep_base.specs.CommandParts.{IsInRange}
 use Rattle.ep_space.proofs.Once.{many_once}
 use Rattle.ep_space.proofs.names.names_of.Goals as goal
 

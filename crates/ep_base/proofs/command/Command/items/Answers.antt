@@ -1,5 +1,5 @@
 use Rattle.std.proofs.Common.{◌∙◌, ap, sym}
-use Rattle.ep_base.specs.Parts.{items_in, is_tx}
+use Rattle.ep_base.specs.CommandParts.{items_in, is_tx}
 use Rattle.ep_base.proofs.Many.{many_items, no_items}
 use Rattle.ep_base.proofs.command.Command.items.Goals as goal
 

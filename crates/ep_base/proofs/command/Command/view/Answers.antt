@@ -1,6 +1,6 @@
 use Rattle.std.proofs.Common.{◌∙◌, ap, sym, subst}
 use Rattle.ep_base.specs.Commands.{Cas}
-use Rattle.ep_base.specs.Parts.{expected_in, new_in, is_comparison, are_items, items_in, IsInRange}
+use Rattle.ep_base.specs.CommandParts.{expected_in, new_in, is_comparison, are_items, items_in, IsInRange}
 use Rattle.ep_base.proofs.Many.{tx_ranged}
 use Rattle.ep_base.proofs.Runs.{cas_body, cas_said, view_lens, view_fits, view_range}
 use Rattle.ep_base.proofs.command.Command.view.Goals as goal

@@ -1,6 +1,6 @@
 use Rattle.std.proofs.Common.{◌-◌, ◌∷◌, length, take, drop, sym, ◌∙◌, arith}
 use Rattle.std.proofs.lemmas.List.{take_rest}
-use Rattle.ep_base.specs.Parts.{items_at}
+use Rattle.ep_base.specs.CommandParts.{items_at}
 use Rattle.ep_base.proofs.Saying.{never_none, rest_there, first_and_rest}
 use Rattle.ep_base.proofs.items.Items.next.Goals as goal
 

@@ -1,6 +1,6 @@
 use Rattle.std.proofs.Common.{List, ℕ, subst}
 use Rattle.ep_replay.specs.Replays.{Gives}
-use Rattle.ep_replay.specs.Tables.{Leads}
+use Rattle.ep_replay.specs.Tables.{LeadsTo}
 use Rattle.ep_replay.proofs.Leading.{starts, gives, gave_more, gave_all}
 use Rattle.ep_replay.proofs.player.Player.deliver.Goals as goal
 
@@ -13,5 +13,5 @@ loop-message-preserved c =
 
 pub returns : goal.returns
 returns c =
-    subst (λ (ms : List ℕ). Leads (λ p q. Gives p c.args.line ms q) c.args.self.now c.loop-message.self) c.as_slice-message-items.ensures
+    subst (λ (ms : List ℕ). LeadsTo (λ p q. Gives p c.args.line ms q) c.args.self.now c.loop-message.self) c.as_slice-message-items.ensures
     (gave_all c.args.line c.as_slice-message-items.result.now c.loop-message.message-index c.args.self.now c.loop-message.self c.loop-message-test.false c.loop-message.invariant)

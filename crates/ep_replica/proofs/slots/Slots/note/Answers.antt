@@ -2,7 +2,7 @@ use Rattle.ep_replica.proofs.Noted.{own_place, tells_more, still_tells, others_t
 use Rattle.std.proofs.Common.{◌∙◌, sym, subst, List, Option, arith}
 use Rattle.std.proofs.lemmas.Bool.{eqb-true, eqb-false}
 use Rattle.ep_base.specs.Instances.{instance_of}
-use Rattle.ep_replica.specs.Slots.{HasPlace, Tells}
+use Rattle.ep_replica.specs.Slots.{HasPlace, HoldsProposals}
 use Rattle.ep_replica.specs.declared.proposal.Proposal.{Proposal}
 use Rattle.ep_replica.proofs.slots.Slots.note.Goals as goal
 
@@ -16,7 +16,7 @@ index_mut-requires c =
 pub returns-then-eq-clause-told : goal.returns-then-eq-clause-told
 returns-then-eq-clause-told c = λ es tells.
     tells_more c.args.me es c.args.entry.now c.self.inside.items.items _ c.number.result _ (own_place c.args.me c.args.entry.now c.self.inside.items.items _ c.number.result _ (subst (λ (xs : List (Option Proposal)). HasPlace c.args.me c.args.entry.now xs) (sym c.self.view_is) c.requires.room) (sym c.replica.ensures ∙ eqb-true c.replica.result c.args.me (sym c.eq.ensures ∙ c.if-eq.true)) c.number.ensures.value c.number.ensures.in_range.2 c.in-Some.ensures)
-    (sym c.replica.ensures ∙ eqb-true c.replica.result c.args.me (sym c.eq.ensures ∙ c.if-eq.true)) c.number.ensures.value c.number.ensures.in_range.2 c.in-Some.ensures (subst (λ (xs : List (Option Proposal)). Tells c.args.me es xs) (sym c.self.view_is) tells)
+    (sym c.replica.ensures ∙ eqb-true c.replica.result c.args.me (sym c.eq.ensures ∙ c.if-eq.true)) c.number.ensures.value c.number.ensures.in_range.2 c.in-Some.ensures (subst (λ (xs : List (Option Proposal)). HoldsProposals c.args.me es xs) (sym c.self.view_is) tells)
 
 pub returns-in_default-clause-told : goal.returns-in_default-clause-told
 returns-in_default-clause-told c = λ es tells. still_tells c.args.me es c.args.entry.now c.args.self.now (λ number limit. c.in_default.ensures (instance_of c.args.me number)) tells

@@ -1,0 +1,19 @@
+use Rattle.std.proofs.Common.{◌≡◌, ◌+◌, [], ◌∷◌, ◌++◌, ◌∙◌, None, List, Option, length, arith, ap}
+use Rattle.std.proofs.lemmas.List.{length_push}
+use Rattle.ep_replica.specs.FirstExecutions.{spot_at}
+use Rattle.ep_replica.specs.declared.execution_place.ExecutionPlace.{ExecutionPlace}
+use Rattle.ep_replica.proofs.Waking.{pushed_none}
+use Rattle.ep_replica.proofs.first_executions.FirstExecutions.make_room.Goals as goal
+
+pub loop-preserved : goal.loop-preserved
+loop-preserved c =
+    let was = c.loop.self-inside.items.items in
+    let more : c.push.new.self.items ≡ was ++ None ∷ [] = c.in_ok-push.ensures.items in
+    let longer : length c.push.new.self.items ≡ length was + 1 = ap length more ∙ length_push was None in
+    record {
+      long = (let h = c.loop.invariant.long in omega arith);
+      same = λ n. ap (λ (xs : List (Option ExecutionPlace)). spot_at xs n) more ∙ pushed_none was n ∙ c.loop.invariant.same n;
+    }
+
+pub returns-clause-firsts : goal.returns-clause-firsts
+returns-clause-firsts c = λ me es firsts number low. c.loop.invariant.same number ∙ firsts number low
