@@ -20,6 +20,7 @@ mod dialect;
 mod draft;
 mod draft_event;
 mod draft_frames;
+mod earlier;
 mod entries;
 mod events;
 mod fields;

@@ -54,7 +54,7 @@ pub record IsAskedRead (at : Place) (r : Read) (given : List ℕ) (y : Reply) : 
   pub looks : (q n : ℕ) → r.looked q ≡ Some n → IsLook at n q r.command given
   pub answer : IsAnswer at r.answered r.reader r.command given y
 
--- Whatever crashes, and whatever disk is lost, what such a read is reported takes effect between its question and its
+-- Whatever crashes, and whatever disk is lost, what such a read answers takes effect between its question and its
 -- answer in the life that stands in the end: it is right, or says that the map is closed.
 abbrev pub AskedReadsAreLinearizable : Type 0
 AskedReadsAreLinearizable =

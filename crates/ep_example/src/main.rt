@@ -30,7 +30,7 @@ fn play(rt: &impl Print, alloc: Global, cluster: &mut Cluster) -> Result<(), Exa
     let zero = ReplicaId::new(0)?;
     let one = ReplicaId::new(1)?;
 
-    // The client's first request: it knows of no stamp yet, and is reported one.
+    // The client's first request: it knows of no stamp yet, and is given one.
     let put = Command::put(alloc, b"x", b"1")?;
     let first = cluster.propose(zero, request(1, put, 0))?;
     cluster.deliver()?;

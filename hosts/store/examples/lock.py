@@ -1,6 +1,7 @@
 #!/usr/bin/env python3
 """A lock that holds: taking it, renewing it, giving it back, losing it, and the token by which a resource tells an old holder from the
-new one. Needs redis-py (Debian: python3-redis) and a cluster at the ports 7000, 7001, 7002, or at those that are named:
+new one; at whichever store answers. Needs redis-py (Debian: python3-redis) and a cluster at the ports 7000, 7001, 7002, or at those
+that are named:
 
     python3 lock.py [PORT ..]
 """
@@ -22,23 +23,25 @@ class Lost(Exception):
 class Lock:
     """A lock that is taken for `time` seconds, and renewed by `renew` before they are over.
 
-    `token` rises with each holder. Hand it to whatever the lock guards, which refuses a token below one that it has seen.
+    `token` rises with each holder. Hand it to whatever the lock guards, which refuses a token below one that it has seen. Of the clients,
+    one for each store, the first is asked, and the next one where it can't be reached.
     """
 
-    def __init__(self, client, name, time):
-        self.client, self.name, self.time = client, name, time
+    def __init__(self, clients, name, time):
+        self.clients, self.name, self.time = list(clients), name, time
         # No other holder has this name, nor this one at another time.
         self.owner = uuid.uuid4().hex
         self.token = None
         self.until = 0.0
 
     def _ask(self, command, *words):
-        """Asks until it is told. All of these commands may be asked twice: they name the owner."""
+        """Asks until there is an answer. All of these commands may be asked twice: they name the owner."""
         while True:
             try:
-                return self.client.execute_command("EPAXOS", command, self.name, self.owner, *words)
-            except redis.TimeoutError:
-                pass
+                return self.clients[0].execute_command("EPAXOS", command, self.name, self.owner, *words)
+            except (redis.ConnectionError, redis.TimeoutError):
+                self.clients.append(self.clients.pop(0))
+                time.sleep(0.01)
             except redis.ResponseError as error:
                 if not str(error).startswith("TRYAGAIN"):
                     raise
@@ -86,12 +89,17 @@ class Resource:
             self.greatest, self.value = token, value
 
 
-def work(port, resource, rounds):
+def stores(first):
+    """A client for each store, that of this number first. (What takes longer than a second is asked at the next store.)"""
+    return [redis.Redis(port=port, socket_timeout=1) for port in PORTS[first:] + PORTS[:first]]
+
+
+def work(first, resource, rounds):
     """Adds 1 to the resource, under the lock, so many times."""
-    client = redis.Redis(port=port)
+    clients = stores(first)
     done = 0
     while done < rounds:
-        lock = Lock(client, "worked-example", time=2)
+        lock = Lock(clients, "worked-example", time=2)
         lock.take()
         try:
             value = resource.value
@@ -106,12 +114,12 @@ def work(port, resource, rounds):
             lock.give_back()
 
 
-def sleep_and_lose(port, resource):
+def sleep_and_lose(resource):
     """Takes the lock, sleeps for too long, and then doesn't harm: its token is old."""
-    lock = Lock(redis.Redis(port=port), "worked-example", time=1)
+    lock = Lock(stores(0), "worked-example", time=1)
     lock.take()
     time.sleep(1.5)
-    other = Lock(redis.Redis(port=port), "worked-example", time=60)
+    other = Lock(stores(0), "worked-example", time=60)
     other.take()
     assert other.token > lock.token, (other.token, lock.token)
     resource.write(other.token, resource.value)
@@ -131,13 +139,13 @@ def sleep_and_lose(port, resource):
 
 def main():
     resource = Resource()
-    workers = [threading.Thread(target=work, args=(port, resource, 10)) for port in PORTS]
+    workers = [threading.Thread(target=work, args=(first, resource, 10)) for first in range(len(PORTS))]
     for worker in workers:
         worker.start()
     for worker in workers:
         worker.join()
     assert resource.value == 10 * len(PORTS), resource.value
-    sleep_and_lose(PORTS[0], resource)
+    sleep_and_lose(resource)
     print(f"{resource.value} steps, each under the lock; the last token was {resource.greatest}")
 
 

@@ -17,6 +17,7 @@ pub fn info(replica: u8, it: &Status, frames_lost: u64) -> String {
     line("replica", &replica);
     line("replicas", &it.replicas);
     line("process_id", &std::process::id());
+    line("core_proved", &u8::from(epaxos::IS_PROVED));
     line("generation", &it.generation);
     line("generation_entries", &it.entries);
     line("generation_sealed", &u8::from(it.is_sealed));

@@ -225,6 +225,15 @@ pub use tx_fault::TxFault;
 pub use values::{OwnedValues, Values, ValuesOf};
 pub use writing::{Writing, Written};
 
+/// Whether the library that this program is built with was proved; one that was built with `--unproved` wasn't.
+///
+/// ```
+/// let replica = epaxos::Replica::new(epaxos::Cluster::Three, 0)?;
+/// assert_eq!(epaxos::IS_PROVED, replica.said().is_empty());
+/// # Ok::<(), epaxos::OpenFault>(())
+/// ```
+pub const IS_PROVED: bool = !cfg!(library_is_unproved);
+
 /// A replica proposes so many commands in a generation at most. Its numbers above are for seals.
 ///
 /// ```

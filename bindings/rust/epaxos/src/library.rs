@@ -16,7 +16,7 @@ const NOTHING: u32 = u32::MAX;
 const LENGTH: usize = 4;
 
 /// What the library says.
-pub(crate) const SAID: &str = if cfg!(library_is_unproved) { "not proved: built with --unproved" } else { "" };
+pub(crate) const SAID: &str = if crate::IS_PROVED { "" } else { "not proved: built with --unproved" };
 
 pub(crate) struct Library {
     handle: Handle,
