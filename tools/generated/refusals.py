@@ -1,10 +1,10 @@
 """The refusals of a replica, by the sources of crates/: codes, names and comments, which Rust, Python and pages have
 from here.
 
-A refusal is a variant of StepFault (ep_journal), whose text begins with its code: `E4 space full`. These words as one
-are its name, SpaceFull, and the name of its status (ep_library), SPACE_FULL, whose number is the code's. Looked at,
-too: that all crates print a code with the same words; that ep_wire has the same numbers; and that pages name each
-refusal and say something of it. What they say is written by hand.
+A refusal is a variant of StepFault (ep_journal), which has the table of codes and words: `SpaceFull => (4, "space
+full")`. These words as one are its name, SpaceFull, and the name of its status (ep_library), SPACE_FULL, whose number
+is the code's. Looked at, too: that all crates print a code with the same words; and that pages name each refusal and
+say something of it. What they say is written by hand.
 """
 
 import glob
@@ -31,9 +31,18 @@ def check(is_so, what):
         raise header.Unknown(what)
 
 
+def rows():
+    """The table: each variant of StepFault, whether it has an instance, its code and its words."""
+    text = header.read(f"{CRATES}/ep_journal/src/step_fault.rt")
+    found = re.findall(r'StepFault::(\w+)(\(_\))? => \((\d+), "([a-z ]+)"\),', text)
+    variants = re.findall(r"^    (\w+)(?:\(InstanceId\))?,$", text, re.M)
+    check({it[0] for it in found} == {*variants}, "the table of StepFault doesn't have its variants")
+    return found
+
+
 def words_of_codes():
-    """The words of each code that the text of a fault begins with."""
-    words = {}
+    """The words of each code: those of the table, and those that the text of a fault begins with."""
+    words = {f"E{code}": said for _, _, code, said in rows()}
     for path in sorted(glob.glob(f"{CRATES}/*/src/*.rt")):
         for code, said in re.findall(r'"(E\d+) ([a-z]+(?: [a-z]+)*)', header.read(path)):
             known = words.setdefault(code, said)
@@ -45,15 +54,10 @@ def words_of_codes():
 def table():
     """The refusals, by rising numbers."""
     words, statuses, known = words_of_codes(), {it[1]: it for it in header.found_statuses()}, {}
-    wired = dict(re.findall(r"StepFault::(\w+)(?:\(_\))? => (\d+),", header.read(f"{CRATES}/ep_wire/src/answers.rt")))
-    text = header.read(f"{CRATES}/ep_journal/src/step_fault.rt")
-    variants = re.findall(r'#\[error\("E(\d+) .*"\)\]\n +(\w+)(\(InstanceId\))?,', text)
-    check({*wired} == {it[1] for it in variants}, "the variants of StepFault aren't those that ep_wire has numbers for")
-    for code, variant, has_instance in variants:
+    for _, has_instance, code, _ in rows():
         said = words[f"E{code}"]
         about, _, number = statuses.get(said.upper().replace(" ", "_"), ("", "", None))
         check(number == code, f"E{code} {said}: no status of ep_library has this name and this number")
-        check(wired.get(variant) == code, f"E{code} {said}: ep_wire has another number for {variant}")
         known[int(code)] = Refusal(int(code), said.title().replace(" ", ""), bool(has_instance), header.doc(about))
     return [known[it] for it in sorted(known)]
 

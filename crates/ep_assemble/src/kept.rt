@@ -10,7 +10,7 @@ use crate::generation_fault::GenerationFault;
 use crate::logs::{Logs, read_one};
 use crate::opened_cluster::OpenedCluster;
 use crate::opened_log::OpenedLog;
-use ep_log::{Beginning, ReadLog};
+use ep_log::{Origin, ReadLog};
 use std::alloc::{AllocError, Global};
 
 /// Reads the logs of the cluster, each of which names what its machine opened with.
@@ -64,13 +64,9 @@ fn is_of_size(cluster: &OpenedCluster, log: &ReadLog) -> bool
 }
 
 /// What the replica begins with whose log names what it opened with by this digest.
-fn origin_of(
-    alloc: Global,
-    cluster: &OpenedCluster,
-    digest: [u8; 32],
-) -> Result<Beginning, AllocError>
+fn origin_of(alloc: Global, cluster: &OpenedCluster, digest: [u8; 32]) -> Result<Origin, AllocError>
     ensures { IfOk result (λ o. o ≡ record { version = V3 cluster.now.generation; opening = cluster.now.opening; digest = digest }) }
 {
     let opening = cluster.opening.copy(alloc)?;
-    Ok(Beginning::of(cluster.generation, opening, digest))
+    Origin::of(alloc, cluster.generation, opening, digest)
 }

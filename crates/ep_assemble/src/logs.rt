@@ -8,7 +8,7 @@ ghost use Rattle.ep_log.specs.Reading.{IsRead};
 use crate::assemble_fault::AssembleFault;
 use crate::assembled::End;
 use ep_journal::Journal;
-use ep_log::{Beginning, LogFault, ReadLog, read_log};
+use ep_log::{LogFault, Origin, ReadLog, read_log};
 use std::alloc::Global;
 
 /// What the logs hold: the journal of each, and where its whole records end.
@@ -42,7 +42,7 @@ fn read_second(alloc: Global, place: usize, bytes: &[u8]) -> Result<ReadLog, Ass
     ensures ok { IfOk result (λ log. IsRead second bytes.now log.version log.journal log.whole log.behind) }
     ensures err { IfErr result (λ e. IsNotRead second place bytes.now e) }
 {
-    let origin = Beginning::second(alloc);
+    let origin = Origin::second(alloc);
     read_one(alloc, place, bytes, &origin)
 }
 
@@ -51,7 +51,7 @@ pub(crate) fn read_one(
     alloc: Global,
     place: usize,
     bytes: &[u8],
-    origin: &Beginning,
+    origin: &Origin,
 ) -> Result<ReadLog, AssembleFault>
     ensures ok { IfOk result (λ log. IsRead origin.now bytes.now log.version log.journal log.whole log.behind) }
     ensures err { IfErr result (λ e. IsNotRead origin.now place bytes.now e) }

@@ -13,7 +13,7 @@ use crate::show_fault::ShowFault;
 use crate::shown::Shown;
 use ep_base::Generation;
 use ep_journal::{Journal, Opening};
-use ep_log::{Beginning, LogFault, ReadLog, read_log};
+use ep_log::{LogFault, Origin, ReadLog, read_log};
 use ep_opening::{OpeningFault, OpeningFile, read_opening};
 use std::alloc::{AllocError, Global};
 
@@ -113,11 +113,11 @@ fn log_fault(fault: LogFault) -> ShowFault
 }
 
 /// What the replica with this file, which its log names by this digest, began with.
-fn origin_with(alloc: Global, file: &OpeningFile, digest: [u8; 32]) -> Result<Beginning, AllocError>
+fn origin_with(alloc: Global, file: &OpeningFile, digest: [u8; 32]) -> Result<Origin, AllocError>
     ensures { IfOk result (λ o. o ≡ origin_of file.now digest) }
 {
     let opening = file.opening().copy(alloc)?;
-    Ok(Beginning::of(file.generation(), opening, digest))
+    Origin::of(alloc, file.generation(), opening, digest)
 }
 
 /// The map of the file.

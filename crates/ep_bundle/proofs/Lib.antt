@@ -21,7 +21,6 @@ pub mod WrittenEntries
 pub mod WrittenJournals
 pub mod WrittenHeaders
 pub mod PairLoops
-pub mod Beginning
 pub mod WrittenBundles
 pub mod WrittenRanges
 pub mod WrittenOnce

@@ -3,14 +3,7 @@ use Rattle.std.specs.Prelude.{◌≡◌}
 use base.Stored.{coded×, Coded-set}
 use Rattle.ep_base.specs.contracts.version.Version as version_facts
 use Rattle.ep_base.specs.declared.version.Version.{Version}
-use Rattle.ep_base.specs.declared.version_kind.VersionKind.TheVariants.{V1, V2, V3}
-use Rattle.ep_journal.specs.Openings.{Opening, opening_code, no_opening}
-
--- no replica of a host is of version 1, and one of version 2 opens with nothing
-abbrev pub CanStart : Version → Opening → Type 0
-CanStart V1 o = ⊥
-CanStart V2 o = o ≡ no_opening
-CanStart (V3 g) o = Unit {0}
+use Rattle.ep_journal.specs.Openings.{Opening, opening_code}
 
 -- each has one equality at most, so it may stand in a type
 pub one_version : (a b : Version) (p q : a ≡ b) → p ≡ q

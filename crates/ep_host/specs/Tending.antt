@@ -5,7 +5,7 @@ use Rattle.ep_journal.specs.declared.event.Event.{Event}
 use Rattle.ep_journal.specs.declared.event.Event.TheVariants as event
 use Rattle.ep_journal.specs.declared.event.Event.TheVariants.{Handle}
 use Rattle.ep_journal.specs.declared.step_fault.StepFault.{StepFault}
-use Rattle.ep_journal.specs.declared.step_fault.StepFault.TheVariants.{Memory, OtherVersion, OtherGeneration, OutOfRange, NotMine, StampFull, SpaceFull, SeqExhausted, NotLeading, TooFewAnswers, AlreadyCommitted, BallotsExhausted, NotCommitted}
+use Rattle.ep_journal.specs.declared.step_fault.StepFault.TheVariants.{Memory}
 use Rattle.ep_journal.specs.Entries.{frames_of}
 use Rattle.ep_replica.specs.Applied.{Applied, IsDeclined}
 use Rattle.ep_replica.specs.Kept.{Kept}
@@ -23,18 +23,7 @@ event_of (Recover i) = event.Recover i
 -- a frame that is refused when out of memory is lost; one that is refused otherwise isn't
 abbrev pub lost_by : StepFault → ℕ
 lost_by Memory = 1
-lost_by OtherVersion = 0
-lost_by OtherGeneration = 0
-lost_by OutOfRange = 0
-lost_by NotMine = 0
-lost_by StampFull = 0
-lost_by SpaceFull = 0
-lost_by SeqExhausted = 0
-lost_by NotLeading = 0
-lost_by TooFewAnswers = 0
-lost_by AlreadyCommitted = 0
-lost_by BallotsExhausted = 0
-lost_by (NotCommitted i) = 0
+lost_by _ = 0
 
 -- nothing is given; or the frame has made its entry, or was refused, and so many are lost
 abbrev pub Handled : Option (List ℕ) → Kept → ℕ → Kept → Type 0

@@ -38,7 +38,6 @@ mod host_replica;
 mod host_sender;
 mod link;
 mod lock_host;
-mod making;
 mod outlet;
 mod outlets;
 mod putting;

@@ -1,10 +1,11 @@
 //! Replicas behind locks.
 
-ghost use Rattle.std.specs.Prelude.{◌≡◌, ◌+◌, IfOk, OnOk, vec_len, All};
+ghost use Rattle.std.specs.Prelude.{◌≡◌, ◌≤◌, ◌+◌, IfOk, OnOk, vec_len, All};
 ghost use Rattle.ep_base.specs.Quorums.{size};
+ghost use Rattle.ep_base.specs.Versions.{version_number};
 ghost use Rattle.ep_host.specs.Finishing.{StartAs};
 ghost use Rattle.ep_host.specs.Rooms.{HaveRoom};
-ghost use Rattle.ep_host.specs.Starts.{CanStart, one_opening, one_version};
+ghost use Rattle.ep_host.specs.Starts.{one_opening, one_version};
 ghost use Rattle.ep_journal.specs.Openings.{Opening as Opened};
 ghost use Rattle.ep_replica.specs.Kept.{start_of};
 
@@ -14,17 +15,16 @@ use crate::finishing::finished;
 use crate::frames_out::FramesOut;
 use crate::host_fault::HostFault;
 use crate::host_frame::HostFrame;
-use crate::making;
 use crate::seat::{Seat, inboxes_of, send};
 use crate::second::Second;
 use crate::start::Start;
 use crate::tended::Tended;
 use crate::turn::Turn;
 use crate::weather::{Weather, is_weather};
-use ep_base::{Command, Generation, InstanceId, ReplicaId, Size, Version};
+use ep_base::{Command, InstanceId, ReplicaId, Size, Version};
 use ep_inbox::Port;
-use ep_journal::{Journal, Opening};
-use ep_replica::Proposal;
+use ep_journal::{Beginning, Journal, Opening};
+use ep_replica::{Proposal, Replica};
 use ep_rules::Receipt;
 use std::alloc::{AllocError, Global};
 use std::sync::Wait;
@@ -92,35 +92,34 @@ fn add_seats<S: Start>(
     seats: &mut Vec<Seat<S>>,
     inboxes: &Vec<Port<HostFrame>>,
     cluster: Size,
-    version: Version,
-    opening: &Opening,
+    beginning: &Beginning,
 ) -> Result<Opening, AllocError>
     requires inboxes { vec_len inboxes.now ≡ size cluster }
-    requires can_start { CanStart version opening.now }
-    requires start { S.start ≡ (version, opening.now) }
+    requires known { 2 ≤ version_number beginning.now.version }
+    requires start { S.start ≡ (beginning.now.version, beginning.now.opening) }
     requires room { HaveRoom S.room inboxes.now.items }
     ensures count { OnOk result (vec_len seats.new ≡ vec_len seats.old + size cluster) }
-    ensures opening { IfOk result (λ (o : Opened). o ≡ opening.now) }
+    ensures opening { IfOk result (λ (o : Opened). o ≡ beginning.now.opening) }
 {
     let alloc = *inboxes.allocator();
     for number in 0..cluster.count() {
-        let replica = making::replica(alloc, cluster, number, version, opening)?;
+        let replica = Replica::member(alloc, cluster, number, beginning)?;
         seats.push(Seat::new(alloc, replica, inboxes.as_slice())?)?;
     }
-    opening.copy(alloc)
+    beginning.opening().copy(alloc)
 }
 
 impl<S: Start> LockHost<S> {
     ghost use Rattle.std.specs.Prelude.{◌≡◌, ◌≤◌, ◌<◌, Some, None, IfOk, IfErr, IfSome, OnOk};
     ghost use Rattle.ep_base.specs.Quorums.{size};
-    ghost use Rattle.ep_base.specs.declared.version_kind.VersionKind.TheVariants.{V2, V3};
+    ghost use Rattle.ep_base.specs.Versions.{version_number};
+    ghost use Rattle.ep_base.specs.declared.version_kind.VersionKind.TheVariants.{V2};
     ghost use Rattle.ep_journal.specs.Openings.{no_opening};
     ghost use Rattle.ep_journal.specs.declared.event.Event.TheVariants.{Propose};
     ghost use Rattle.ep_host.specs.Asking.{IsTaken, IsSubmitted, IsPumped, IsRefused, IsUntold, AreTold, IsOutcomeIn};
     ghost use Rattle.ep_host.specs.Finishing.{IsFinished};
     ghost use Rattle.ep_host.specs.Rooms.{HasRoom};
     ghost use Rattle.ep_host.specs.Setting.{IsUnset};
-    ghost use Rattle.ep_host.specs.Starts.{CanStart};
     ghost use Rattle.ep_host.specs.Tending.{event_of};
     ghost use Rattle.ep_host.specs.Weathers.{IsWeather};
     ghost use Rattle.ep_host.specs.declared.host_fault.HostFault.TheVariants.{OutOfRange};
@@ -134,56 +133,38 @@ impl<S: Start> LockHost<S> {
         ensures version { IfOk result (λ host. host.version ≡ V2) }
         ensures opening { IfOk result (λ host. host.opening ≡ no_opening) }
     {
-        let opening = Opening::none(alloc);
-        let made = LockHost::of(alloc, cluster, capacity, Version::V2, &opening);
-        drop(opening);
-        made
+        LockHost::opened(
+            alloc,
+            cluster,
+            capacity,
+            &Beginning::new(alloc, Version::V2),
+        )
     }
 
-    /// The replicas of a cluster of this size, of version 3 and this generation, all with this opening, before any event, each with an inbox for so
-    /// many frames.
+    /// The replicas of a cluster of this size, all of which begin so, in version 2 or 3, before any event, each with an inbox
+    /// for so many frames.
     pub fn opened(
         alloc: Global,
         cluster: Size,
         capacity: usize,
-        generation: Generation,
-        opening: &Opening,
+        beginning: &Beginning,
     ) -> Result<LockHost<S>, AllocError>
         requires capacity { (1 ≤ capacity) × (capacity ≤ 4096) }
-        requires start { S.start ≡ (V3 generation, opening.now) }
+        requires known { 2 ≤ version_number beginning.now.version }
+        requires start { S.start ≡ (beginning.now.version, beginning.now.opening) }
         requires room { HasRoom S.room capacity }
         ensures cluster { IfOk result (λ host. host.cluster ≡ cluster) }
-        ensures version { IfOk result (λ host. host.version ≡ V3 generation) }
-        ensures opening { IfOk result (λ host. host.opening ≡ opening.now) }
-    {
-        let version = Version::of_generation(generation);
-        LockHost::of(alloc, cluster, capacity, version, opening)
-    }
-
-    /// The replicas in this version, which is 2 or 3, with this opening, which is none in version 2.
-    pub fn of(
-        alloc: Global,
-        cluster: Size,
-        capacity: usize,
-        version: Version,
-        opening: &Opening,
-    ) -> Result<LockHost<S>, AllocError>
-        requires capacity { (1 ≤ capacity) × (capacity ≤ 4096) }
-        requires can_start { CanStart version opening.now }
-        requires start { S.start ≡ (version, opening.now) }
-        requires room { HasRoom S.room capacity }
-        ensures cluster { IfOk result (λ host. host.cluster ≡ cluster) }
-        ensures version { IfOk result (λ host. host.version ≡ version) }
-        ensures opening { IfOk result (λ host. host.opening ≡ opening.now) }
+        ensures version { IfOk result (λ host. host.version ≡ beginning.now.version) }
+        ensures opening { IfOk result (λ host. host.opening ≡ beginning.now.opening) }
     {
         let inboxes = inboxes_of(alloc, cluster, capacity)?;
         let mut seats = Vec::new(alloc);
-        let added = add_seats(&mut seats, &inboxes, cluster, version, opening);
+        let added = add_seats(&mut seats, &inboxes, cluster, beginning);
         drop(inboxes);
         match added {
             Ok(opening) => Ok(LockHost {
                 cluster,
-                version,
+                version: beginning.version(),
                 opening,
                 seats,
                 alloc,

@@ -1,19 +1,19 @@
 //! How the nodes of a host are made.
 
-ghost use Rattle.std.specs.Prelude.{◌≡◌, [], All, OnOk};
+ghost use Rattle.std.specs.Prelude.{◌≡◌, ◌≤◌, [], All, OnOk};
+ghost use Rattle.ep_base.specs.Versions.{version_number};
 ghost use Rattle.ep_host.specs.Host.{IsHost, IsFresh, StartsAs};
 ghost use Rattle.ep_host.specs.Joins.{Joins, CanJoin};
-ghost use Rattle.ep_host.specs.Starts.{CanStart};
 
 use crate::held_frames::HeldFrames;
 use crate::host_fault::HostFault;
 use crate::link::Link;
-use crate::making;
 use crate::ring_node::RingNode;
 use crate::task::Task;
 use crate::weather::Weather;
-use ep_base::{Generation, Size, Version};
-use ep_journal::Opening;
+use ep_base::{Size, Version};
+use ep_journal::Beginning;
+use ep_replica::Replica;
 use rtrb::RingBuffer;
 use std::alloc::{AllocError, Global};
 
@@ -52,18 +52,17 @@ fn add_nodes(
     nodes: &mut Vec<RingNode>,
     cluster: Size,
     capacity: usize,
-    version: Version,
-    opening: &Opening,
+    beginning: &Beginning,
 ) -> Result<(), AllocError>
     requires none { nodes.old.items ≡ [] }
-    requires start { CanStart version opening.now }
+    requires known { 2 ≤ version_number beginning.now.version }
     ensures host { OnOk result (IsHost cluster nodes.new.items) }
     ensures fresh { OnOk result (All (IsFresh capacity) nodes.new.items) }
-    ensures start { OnOk result (All (StartsAs version opening.now) nodes.new.items) }
+    ensures start { OnOk result (All (StartsAs beginning.now.version beginning.now.opening) nodes.new.items) }
 {
     let alloc = *nodes.allocator();
     for number in 0..cluster.count() {
-        let replica = making::replica(alloc, cluster, number, version, opening)?;
+        let replica = Replica::member(alloc, cluster, number, beginning)?;
         let mut node = RingNode::new(alloc, replica);
         for place in 0..nodes.len() {
             match join_nodes(alloc, &mut nodes[place], &mut node, capacity) {
@@ -84,12 +83,12 @@ pub struct RingHost;
 
 impl RingHost {
     ghost use Rattle.std.specs.Prelude.{◌≤◌, ◌<◌, ◌≡◌, ℕ, length, IfOk, IfErr, OnOk, OnErr, All};
-    ghost use Rattle.ep_base.specs.declared.version_kind.VersionKind.TheVariants.{V2, V3};
+    ghost use Rattle.ep_base.specs.Versions.{version_number};
+    ghost use Rattle.ep_base.specs.declared.version_kind.VersionKind.TheVariants.{V2};
     ghost use Rattle.ep_journal.specs.Openings.{no_opening};
     ghost use Rattle.ep_host.specs.Host.{IsHost, IsFresh, StartsAs};
     ghost use Rattle.ep_host.specs.Pointwise.{Each};
     ghost use Rattle.ep_host.specs.Setting.{SetsWeatherAt, IsUnsetAt, IsReleased};
-    ghost use Rattle.ep_host.specs.Starts.{CanStart};
     ghost use Rattle.ep_host.specs.Turns.{AssignsAt};
 
     /// The nodes of a cluster of this size, of version 2, before any event and without tasks. Each ring has room for so many frames.
@@ -99,46 +98,30 @@ impl RingHost {
         ensures fresh { IfOk result (λ nodes. All (IsFresh capacity) nodes.items) }
         ensures start { IfOk result (λ nodes. All (StartsAs V2 no_opening) nodes.items) }
     {
-        let opening = Opening::none(alloc);
-        let made = RingHost::of(alloc, cluster, capacity, Version::V2, &opening);
-        drop(opening);
-        made
+        RingHost::opened(
+            alloc,
+            cluster,
+            capacity,
+            &Beginning::new(alloc, Version::V2),
+        )
     }
 
-    /// The nodes of a cluster of this size, of version 3 and this generation, all with this opening, before any event and without tasks. Each ring has
-    /// room for so many frames.
+    /// The nodes of a cluster of this size, all of which begin so, in version 2 or 3, before any event and without tasks. Each
+    /// ring has room for so many frames.
     pub fn opened(
         alloc: Global,
         cluster: Size,
         capacity: usize,
-        generation: Generation,
-        opening: &Opening,
-    ) -> Result<Vec<RingNode>, AllocError>
-        requires { (1 ≤ capacity) × (capacity ≤ 4096) }
-        ensures host { IfOk result (λ nodes. IsHost cluster nodes.items) }
-        ensures fresh { IfOk result (λ nodes. All (IsFresh capacity) nodes.items) }
-        ensures start { IfOk result (λ nodes. All (StartsAs (V3 generation) opening.now) nodes.items) }
-    {
-        let version = Version::of_generation(generation);
-        RingHost::of(alloc, cluster, capacity, version, opening)
-    }
-
-    /// The nodes in this version, which is 2 or 3, with this opening, which is none in version 2.
-    pub fn of(
-        alloc: Global,
-        cluster: Size,
-        capacity: usize,
-        version: Version,
-        opening: &Opening,
+        beginning: &Beginning,
     ) -> Result<Vec<RingNode>, AllocError>
         requires capacity { (1 ≤ capacity) × (capacity ≤ 4096) }
-        requires start { CanStart version opening.now }
+        requires known { 2 ≤ version_number beginning.now.version }
         ensures host { IfOk result (λ nodes. IsHost cluster nodes.items) }
         ensures fresh { IfOk result (λ nodes. All (IsFresh capacity) nodes.items) }
-        ensures start { IfOk result (λ nodes. All (StartsAs version opening.now) nodes.items) }
+        ensures start { IfOk result (λ nodes. All (StartsAs beginning.now.version beginning.now.opening) nodes.items) }
     {
         let mut nodes = Vec::new(alloc);
-        match add_nodes(&mut nodes, cluster, capacity, version, opening) {
+        match add_nodes(&mut nodes, cluster, capacity, beginning) {
             Ok(()) => Ok(nodes),
             Err(fault) => {
                 drop(nodes);

@@ -8,7 +8,7 @@ use Rattle.ep_replica.specs.Kept.{Kept}
 use Rattle.ep_serve.specs.Acting.{TakesNear}
 use Rattle.ep_serve.specs.declared.pending_answer.PendingAnswer.{PendingAnswer}
 use Rattle.ep_serve.specs.declared.pending_answer.PendingAnswer.TheVariants.{Taken, Refused, Value, Open, Leads, Synced, State, Ready, Handled, Interfering, Read, Malformed}
-use Rattle.ep_wire.specs.declared.take_fault.TakeFault.{TakeFault}
+use Rattle.ep_journal.specs.declared.refusal.Refusal.{Refusal}
 use Rattle.ep_hosted.specs.Taking.{refusal_of}
 
 -- it was taken, where the answer is no refusal
@@ -38,13 +38,13 @@ taken k event (Malformed m) k' (inl far) none = absurd (let e = far.1 in cc)
 taken k event (Malformed m) k' (inr near) none = absurd near.1
 
 -- the answer is the refusal, and then nothing has changed
-refused : (k : Kept) (event : Happening) (due : PendingAnswer) (refusal : TakeFault) (k' : Kept) → TakesNear k event due k' → refusal_of due ≡ Some refusal → TakesNear k event (Refused refusal) k × (k' ≡ k)
+refused : (k : Kept) (event : Happening) (due : PendingAnswer) (refusal : Refusal) (k' : Kept) → TakesNear k event due k' → refusal_of due ≡ Some refusal → TakesNear k event (Refused refusal) k × (k' ≡ k)
 refused k event (Refused r) refusal k' (inl far) is =
     let same : r ≡ refusal = (let e : Some r ≡ Some refusal = is in cc) in
-    (subst (λ (x : TakeFault). TakesNear k event (Refused x) k) same (inl (far.0, far.1, refl)), far.2)
+    (subst (λ (x : Refusal). TakesNear k event (Refused x) k) same (inl (far.0, far.1, refl)), far.2)
 refused k event (Refused r) refusal k' (inr near) is =
     let same : r ≡ refusal = (let e : Some r ≡ Some refusal = is in cc) in
-    (subst (λ (x : TakeFault). TakesNear k event (Refused x) k) same (inr (near.0, (near.1.0, refl))), near.1.1)
+    (subst (λ (x : Refusal). TakesNear k event (Refused x) k) same (inr (near.0, (near.1.0, refl))), near.1.1)
 refused k event (Taken from count) refusal k' so is = absurd (let e : None ≡ Some refusal = is in cc)
 refused k event (Value key) refusal k' so is = absurd (let e : None ≡ Some refusal = is in cc)
 refused k event (Open after) refusal k' so is = absurd (let e : None ≡ Some refusal = is in cc)
@@ -57,11 +57,11 @@ refused k event (Interfering key) refusal k' so is = absurd (let e : None ≡ So
 refused k event (Read key found) refusal k' so is = absurd (let e : None ≡ Some refusal = is in cc)
 refused k event (Malformed m) refusal k' so is = absurd (let e : None ≡ Some refusal = is in cc)
 
-pub taken_if : (k : Kept) (event : Happening) (due : PendingAnswer) (result : Result Unit TakeFault) (k' : Kept) → TakesNear k event due k' → OnOk result (refusal_of due ≡ None) → OnOk result (TakesNear k event (Taken (length k.entries) 1) k')
+pub taken_if : (k : Kept) (event : Happening) (due : PendingAnswer) (result : Result Unit Refusal) (k' : Kept) → TakesNear k event due k' → OnOk result (refusal_of due ≡ None) → OnOk result (TakesNear k event (Taken (length k.entries) 1) k')
 taken_if k event due (Ok _) k' so none = taken k event due k' so none
 taken_if k event due (Err refusal) k' so none = tt
 
-pub refused_if : (n n' : Logged HostDevice) (event : Happening) (due : PendingAnswer) (result : Result Unit TakeFault) → n' ≡ record n { replica = n'.replica } → TakesNear n.replica event due n'.replica → IfErr result (λ refusal. refusal_of due ≡ Some refusal)
+pub refused_if : (n n' : Logged HostDevice) (event : Happening) (due : PendingAnswer) (result : Result Unit Refusal) → n' ≡ record n { replica = n'.replica } → TakesNear n.replica event due n'.replica → IfErr result (λ refusal. refusal_of due ≡ Some refusal)
     → IfErr result (λ refusal. TakesNear n.replica event (Refused refusal) n.replica × (n' ≡ n))
 refused_if n n' event due (Ok _) rest so is = tt
 refused_if n n' event due (Err refusal) rest so is =

@@ -16,7 +16,7 @@ use Rattle.ep_replica.specs.Kept.{Kept}
 use Rattle.ep_replica.specs.Pending.{IsHeldUp}
 use Rattle.ep_serve.specs.Answering.{AllAnswered}
 use Rattle.ep_serve.specs.declared.pending_answer.PendingAnswer.{PendingAnswer}
-use Rattle.ep_wire.specs.declared.take_fault.TakeFault.TheVariants.{Step}
+use Rattle.ep_journal.specs.declared.refusal.Refusal.TheVariants.{Step}
 use Rattle.ep_hosted.specs.Hosting.{AreRecords, Buffer, Grows, Hosting, IsHosted, IsLent, IsOnDisk}
 use Rattle.ep_hosted.specs.Taking.{IsNotExecuted}
 use Rattle.ep_hosted.specs.Telling.{HasClosed, HasLent, HasNoted, HasPrepared, HasTold, IsUnnoted, IsWritten, LendsNow, MayTell}

@@ -8,8 +8,8 @@ use Rattle.ep_replica.specs.Pending.{IsHeldUp, TriesNext}
 use Rattle.ep_serve.specs.Acting.{ExecutesAll, ExecutesSo, StopsShort, TakesNear}
 use Rattle.ep_serve.specs.declared.pending_answer.PendingAnswer.{PendingAnswer}
 use Rattle.ep_serve.specs.declared.pending_answer.PendingAnswer.TheVariants as due
-use Rattle.ep_wire.specs.declared.take_fault.TakeFault.{TakeFault}
-use Rattle.ep_wire.specs.declared.take_fault.TakeFault.TheVariants.{BadFrame, Step}
+use Rattle.ep_journal.specs.declared.refusal.Refusal.{Refusal}
+use Rattle.ep_journal.specs.declared.refusal.Refusal.TheVariants.{BadFrame, NoSuchMessage, Step}
 use Rattle.ep_hosted.specs.Hosting.{Hosting, with_replica}
 use Rattle.ep_hosted.specs.declared.taking_fault.TakingFault.{TakingFault}
 use Rattle.ep_hosted.specs.declared.taking_fault.TakingFault.TheVariants.{Lent, Refused}
@@ -25,7 +25,7 @@ pub record IsBusy (h h' : Hosting) : Type 0 where
   pub same : h' ≡ h
 
 -- why an event was refused, where that is the answer
-abbrev pub refusal_of : PendingAnswer → Option TakeFault
+abbrev pub refusal_of : PendingAnswer → Option Refusal
 refusal_of (due.Taken from count) = None
 refusal_of (due.Refused refusal) = Some refusal
 refusal_of (due.Value key) = None
@@ -52,6 +52,7 @@ IsNotTaken h event (Refused refusal) h' = (h.is_anew ≡ false) × TakesNear h.n
 abbrev pub IsUnheard : Hosting → List ℕ → TakingFault → Hosting → Type 0
 IsUnheard h bytes Lent h' = IsBusy h h'
 IsUnheard h bytes (Refused BadFrame) h' = (h.is_anew ≡ false) × (¬ IsFrame bytes) × (h' ≡ h)
+IsUnheard h bytes (Refused (NoSuchMessage message)) h' = ⊥
 IsUnheard h bytes (Refused (Step fault)) h' = IsNotTaken h (Handle bytes) (Refused (Step fault)) h'
 
 -- Executing own instances.
@@ -64,6 +65,7 @@ HasExecuted h executed h' = Moves h h' × TriesNext h.node.replica (Ok executed)
 abbrev pub IsNotExecuted : Hosting → TakingFault → Hosting → Type 0
 IsNotExecuted h Lent h' = IsBusy h h'
 IsNotExecuted h (Refused BadFrame) h' = ⊥
+IsNotExecuted h (Refused (NoSuchMessage message)) h' = ⊥
 IsNotExecuted h (Refused (Step fault)) h' = (h.is_anew ≡ false) × IsHeldUp h.node.replica fault × (h' ≡ h)
 
 -- all that were ready were executed, and then none is
@@ -74,6 +76,7 @@ HasAdvanced h h' = Moves h h' × ((times : ℕ) × ExecutesSo times h.node.repli
 abbrev pub HasStopped : Hosting → TakingFault → Hosting → Type 0
 HasStopped h Lent h' = IsBusy h h'
 HasStopped h (Refused BadFrame) h' = ⊥
+HasStopped h (Refused (NoSuchMessage message)) h' = ⊥
 HasStopped h (Refused (Step fault)) h' = Moves h h' × ((times : ℕ) × ExecutesSo times h.node.replica h'.node.replica × IsHeldUp h'.node.replica fault)
 
 -- Executing all instances that are ready.
@@ -85,4 +88,5 @@ HasSwept h h' = Moves h h' × ((told : PendingAnswer) × ExecutesAll h.node.repl
 abbrev pub HasLeftOff : Hosting → TakingFault → Hosting → Type 0
 HasLeftOff h Lent h' = IsBusy h h'
 HasLeftOff h (Refused BadFrame) h' = ⊥
+HasLeftOff h (Refused (NoSuchMessage message)) h' = ⊥
 HasLeftOff h (Refused (Step fault)) h' = Moves h h' × (fault ≡ Memory) × StopsShort h.node.replica h'.node.replica

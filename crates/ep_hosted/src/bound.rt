@@ -12,7 +12,7 @@ use crate::hosted::Hosted;
 use crate::opening::{begun_as, is_same_size};
 use crate::start_fault::StartFault;
 use ep_base::Size;
-use ep_log::Beginning;
+use ep_log::Origin;
 use ep_node::Whose;
 use ep_opening::{OpeningFile, SpelledFile};
 use std::alloc::Global;
@@ -42,10 +42,11 @@ fn begun_with(
     ensures err { IfErr result (IsUnbegunWith heir.now file (option_map (λ v. v.items) log)) }
 {
     let generation = file.generation();
+    let origin = Origin::of(alloc, generation, file.into_opening(), heir.digest)?;
     let whose = Whose {
         cluster: heir.cluster,
         me: heir.me,
-        origin: Beginning::of(generation, file.into_opening(), heir.digest),
+        origin,
     };
     match begun_as(alloc, whose, log) {
         Ok(hosted) => Ok(hosted),

@@ -14,7 +14,7 @@ use crate::seat::Seat;
 use crate::start_fault::StartFault;
 use ep_base::Size;
 use ep_device::{HostDevice, MemoryDevice};
-use ep_log::Beginning;
+use ep_log::Origin;
 use ep_node::{Begin, Node, OpenFault, Whose};
 use ep_opening::SpelledFile;
 use std::alloc::Global;
@@ -27,7 +27,7 @@ pub(crate) fn is_same_size(size: Size, other: Size) -> bool
 }
 
 /// What a replica of a cluster of this size begins with, by this file.
-fn beginning_by(cluster: Size, spelled: SpelledFile) -> Result<Beginning, StartFault>
+fn beginning_by(alloc: Global, cluster: Size, spelled: SpelledFile) -> Result<Origin, StartFault>
     ensures ok { IfOk result (IsFileOf cluster (opening_bytes spelled)) }
     ensures err { IfErr result (IsUnfounded cluster (Some (opening_bytes spelled))) }
 {
@@ -39,16 +39,17 @@ fn beginning_by(cluster: Size, spelled: SpelledFile) -> Result<Beginning, StartF
         return Err(StartFault::OtherSize(found.count()));
     }
     let generation = file.generation();
-    Ok(Beginning::of(generation, file.into_opening(), digest))
+    let origin = Origin::of(alloc, generation, file.into_opening(), digest)?;
+    Ok(origin)
 }
 
 /// What a replica of a cluster of this size begins with, by the file of these bytes.
-fn beginning_in(alloc: Global, cluster: Size, bytes: Vec<u8>) -> Result<Beginning, StartFault>
+fn beginning_in(alloc: Global, cluster: Size, bytes: Vec<u8>) -> Result<Origin, StartFault>
     ensures ok { IfOk result (IsFileOf cluster bytes.items) }
     ensures err { IfErr result (IsUnfounded cluster (Some bytes.items)) }
 {
     match SpelledFile::read(alloc, bytes) {
-        Ok(spelled) => beginning_by(cluster, spelled),
+        Ok(spelled) => beginning_by(alloc, cluster, spelled),
         Err(fault) => Err(StartFault::from(fault)),
     }
 }
@@ -58,12 +59,12 @@ fn beginning_of(
     alloc: Global,
     cluster: Size,
     opening: Option<Vec<u8>>,
-) -> Result<Beginning, StartFault>
+) -> Result<Origin, StartFault>
     ensures ok { IfOk result (IsOriginOf cluster (option_map (λ v. v.items) opening)) }
     ensures err { IfErr result (IsUnfounded cluster (option_map (λ v. v.items) opening)) }
 {
     match opening {
-        None => Ok(Beginning::second(alloc)),
+        None => Ok(Origin::second(alloc)),
         Some(bytes) => beginning_in(alloc, cluster, bytes),
     }
 }

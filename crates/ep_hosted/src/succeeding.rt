@@ -8,7 +8,7 @@ use crate::heir::Heir;
 use crate::hosted::Hosted;
 use crate::opening::begun_as;
 use crate::succeed_fault::SucceedFault;
-use ep_log::Beginning;
+use ep_log::Origin;
 use ep_node::Whose;
 use ep_opening::OpeningFile;
 use std::alloc::Global;
@@ -24,10 +24,11 @@ fn begun(
     ensures err { IfErr result (IsUnbegunBy heir.now file.now (option_map (λ v. v.items) log)) }
 {
     let opening = file.opening().copy(alloc)?;
+    let origin = Origin::of(alloc, file.generation(), opening, heir.digest)?;
     let whose = Whose {
         cluster: heir.cluster,
         me: heir.me,
-        origin: Beginning::of(file.generation(), opening, heir.digest),
+        origin,
     };
     match begun_as(alloc, whose, log) {
         Ok(hosted) => Ok(hosted),

@@ -13,14 +13,14 @@ use crate::taking_fault::TakingFault;
 use ep_base::{Command, CommandFault, InstanceId};
 use ep_device::HostDevice;
 use ep_frame::Frame;
-use ep_journal::{Event, StepFault};
+use ep_journal::{Event, Refusal, StepFault};
 use ep_node::Node;
 use ep_serve::{PendingAnswer, act, advance_own, execute_own};
-use ep_wire::{Request, TakeFault};
+use ep_wire::Request;
 use std::alloc::{AllocError, Global};
 
 /// Why an event was refused, where that is the answer.
-fn refusal_of(due: &PendingAnswer) -> Option<TakeFault>
+fn refusal_of(due: &PendingAnswer) -> Option<Refusal>
     ensures { result ≡ refusal_of due.now }
 {
     match due {
@@ -40,7 +40,7 @@ fn refusal_of(due: &PendingAnswer) -> Option<TakeFault>
 }
 
 /// What came of an event whose answer this is.
-fn came_of(due: PendingAnswer) -> Result<(), TakeFault>
+fn came_of(due: PendingAnswer) -> Result<(), Refusal>
     ensures ok { OnOk result (refusal_of due ≡ None) }
     ensures err { IfErr result (λ refusal. refusal_of due ≡ Some refusal) }
 {
@@ -54,7 +54,7 @@ fn came_of(due: PendingAnswer) -> Result<(), TakeFault>
 
 /// The node takes an event, or refuses it.
 #[tactic(auto, using(crate::proofs::Refusals::taken_if, crate::proofs::Refusals::refused_if, crate::proofs::Longer::takes_grow))]
-fn take_event(node: &mut Node<HostDevice>, event: Event) -> Result<(), TakeFault>
+fn take_event(node: &mut Node<HostDevice>, event: Event) -> Result<(), Refusal>
     requires { node.old.closed ≡ false }
     ensures ok { OnOk result (TakesNear node.old.replica event (Taken (length node.old.replica.entries) 1) node.new.replica) }
     ensures same { node.new ≡ record node.old { replica = node.new.replica } }
@@ -140,11 +140,11 @@ impl Hosted {
             return Err(TakingFault::Lent);
         }
         let Ok(bytes) = self.blocks.copy(alloc, bytes) else {
-            return Err(TakingFault::Refused(TakeFault::Step(StepFault::Memory)));
+            return Err(TakingFault::Refused(Refusal::Step(StepFault::Memory)));
         };
         match Frame::read(bytes) {
             Ok(frame) => self.take(Event::Handle(frame)),
-            Err(_) => Err(TakingFault::Refused(TakeFault::BadFrame)),
+            Err(_) => Err(TakingFault::Refused(Refusal::BadFrame)),
         }
     }
 
@@ -182,7 +182,7 @@ impl Hosted {
         }
         let executed = match execute_own(&mut self.node) {
             Ok(executed) => executed,
-            Err(fault) => return Err(TakingFault::Refused(TakeFault::Step(fault))),
+            Err(fault) => return Err(TakingFault::Refused(Refusal::Step(fault))),
         };
         Ok(executed)
     }
@@ -211,7 +211,7 @@ impl Hosted {
         }
         match sweep_at(&mut self.node) {
             Ok(()) => Ok(()),
-            Err(_) => Err(TakingFault::Refused(TakeFault::Step(StepFault::Memory))),
+            Err(_) => Err(TakingFault::Refused(Refusal::Step(StepFault::Memory))),
         }
     }
 }

@@ -2,10 +2,9 @@
 
 ghost use Rattle.std.specs.Prelude.{◌≡◌};
 ghost use Rattle.ep_hosted.specs.declared.taking_fault.TakingFault.TheVariants.{Refused};
-ghost use Rattle.ep_wire.specs.declared.take_fault.TakeFault.TheVariants.{Step};
+ghost use Rattle.ep_journal.specs.declared.refusal.Refusal.TheVariants.{Step};
 
-use ep_journal::StepFault;
-use ep_wire::TakeFault;
+use ep_journal::{Refusal, StepFault};
 use thiserror::Error;
 
 /// Why a node took nothing.
@@ -15,15 +14,15 @@ pub enum TakingFault {
     #[error("the log that is lent isn't on the disk")]
     Lent,
     /// The replica refused it, or the bytes are no frame.
-    #[error("{0:?}")]
-    Refused(TakeFault),
+    #[error("{0}")]
+    Refused(Refusal),
 }
 
-impl From<TakeFault> for TakingFault {
-    ghost from_gives = { λ fault e. e ≡ Refused fault };
+impl From<Refusal> for TakingFault {
+    ghost from_gives = { λ refusal e. e ≡ Refused refusal };
 
-    fn from(fault: TakeFault) -> TakingFault {
-        TakingFault::Refused(fault)
+    fn from(refusal: Refusal) -> TakingFault {
+        TakingFault::Refused(refusal)
     }
 }
 
@@ -31,6 +30,6 @@ impl From<StepFault> for TakingFault {
     ghost from_gives = { λ fault e. e ≡ Refused (Step fault) };
 
     fn from(fault: StepFault) -> TakingFault {
-        TakingFault::Refused(TakeFault::Step(fault))
+        TakingFault::Refused(Refusal::Step(fault))
     }
 }

@@ -1,5 +1,5 @@
 -- To commands that a version knows its map gives answers that the version has, and stays one that it has.
-use Rattle.std.proofs.Common.{◌≡◌, ℕ, ◌≤◌, length, ltb, nltb→le, Bool, true, false, not, T, ◌||◌, cond, List, [], ◌∷◌, Option, Some, None, refl, sym, subst, ◌∙◌, true≢false, arith}
+use Rattle.std.proofs.Common.{◌≡◌, ℕ, ◌≤◌, length, ltb, nltb→le, Bool, true, false, not, T, ◌||◌, cond, List, [], ◌∷◌, Option, Some, None, refl, sym, ap, subst, ◌∙◌, true≢false, arith}
 use Rattle.std.specs.List.{AllByRecursion}
 use Rattle.ep_base.specs.Sameness.{is_noop}
 use Rattle.ep_base.specs.Versions.{knows, IsVoteIn}
@@ -19,6 +19,7 @@ use Rattle.ep_rules.specs.OneMap.{Contents, Store, opened, empty, value_at, with
 use Rattle.ep_rules.specs.States.{command_of}
 use Rattle.ep_journal.specs.Entries.{IsEarlyAnswer, IsAnswerIn}
 use Rattle.ep_journal.specs.Holding.{IsEarly, IsStoreIn}
+use Rattle.ep_journal.specs.Openings.{Opening, opens, OpensIn}
 
 pub knows_noop : (v : Version) → knows v Noop ≡ true
 knows_noop V1 = refl
@@ -133,7 +134,7 @@ module _ (v : Version) (c : ℕ → Command) (known : (i : ℕ) → knows v (c i
 pub empty_early : IsEarly (opened empty)
 empty_early = record { unsealed = refl; short = λ k x h. absurd (let n : value_at empty k ≡ None = get-empty _ k in cc) }
 
-pub begins_in : (v : Version) → IsStoreIn v (opened empty)
-begins_in V1 = empty_early
-begins_in V2 = empty_early
-begins_in (V3 g) = tt
+pub opens_in : (v : Version) (o : Opening) (s : Store) → OpensIn v o → s ≡ opens o → IsStoreIn v s
+opens_in V1 o s none is = subst IsEarly (sym (is ∙ ap opens none)) empty_early
+opens_in V2 o s none is = subst IsEarly (sym (is ∙ ap opens none)) empty_early
+opens_in (V3 g) o s any is = tt

@@ -47,7 +47,7 @@ use Rattle.ep_journal.specs.declared.event.Event.TheVariants.{Propose, Handle, G
 use Rattle.ep_journal.specs.declared.mark.Mark.{Mark}
 use Rattle.ep_journal.specs.declared.replica_state.ReplicaState.{ReplicaState}
 use Rattle.ep_journal.specs.declared.step_fault.StepFault.{StepFault}
-use Rattle.ep_journal.specs.declared.step_fault.StepFault.TheVariants.{Memory, OutOfRange, NotMine, OtherVersion, OtherGeneration, StampFull, SpaceFull, SeqExhausted, NotLeading, TooFewAnswers, AlreadyCommitted, BallotsExhausted, NotCommitted}
+use Rattle.ep_journal.specs.declared.step_fault.StepFault.TheVariants.{Memory, OutOfRange, OtherGeneration, StampFull, SpaceFull, SeqExhausted, NotLeading, TooFewAnswers, AlreadyCommitted, BallotsExhausted, NotCommitted}
 use Rattle.ep_journal.proofs.Asked.{request_full}
 use Rattle.ep_journal.proofs.Answering.{answers_given}
 use Rattle.ep_journal.proofs.Holding.{acts_in, command_known, leaves_held}
@@ -180,18 +180,13 @@ ruled s event mark m fault why given name a = inr (inr (inr (inr (
 -- what is asked by an event and refused refuses the event
 refused_rule : (s : Standing) (event : Happening) (mark : Option Mark) (m : Mark) (fault : StepFault) (r : Result (ℕ × Change) Refusal) → mark ≡ Some m → IsAsked s event r → parts.IsRefused r fault → IsRefused s event mark fault
 refused_rule s event mark m Memory r given a why = inl refl
-refused_rule s event mark m OutOfRange r given a why = absurd why
-refused_rule s event mark m NotMine r given a why = absurd why
-refused_rule s event mark m OtherVersion r given a why = absurd why
-refused_rule s event mark m OtherGeneration r given a why = absurd why
-refused_rule s event mark m StampFull r given a why = absurd why
 refused_rule s event mark m SpaceFull r given a why = ruled s event mark m SpaceFull _ given refl (subst (IsAsked s event) why a)
 refused_rule s event mark m SeqExhausted r given a why = ruled s event mark m SeqExhausted _ given refl (subst (IsAsked s event) why a)
 refused_rule s event mark m NotLeading r given a why = ruled s event mark m NotLeading _ given refl (subst (IsAsked s event) why a)
 refused_rule s event mark m TooFewAnswers r given a why = ruled s event mark m TooFewAnswers _ given refl (subst (IsAsked s event) why a)
 refused_rule s event mark m AlreadyCommitted r given a why = ruled s event mark m AlreadyCommitted _ given refl (subst (IsAsked s event) why a)
 refused_rule s event mark m BallotsExhausted r given a why = ruled s event mark m BallotsExhausted _ given refl (subst (IsAsked s event) why a)
-refused_rule s event mark m (NotCommitted i) r given a why = absurd why
+refused_rule s event mark m _ r given a why = absurd why
 
 -- a request that finds no number of the version refuses the event
 full_by : (p : ReplicaState) (client request seen : ℕ) (c : Command) (named : Option ℕ) (mark : Option Mark) (m : Mark) (o : Option ℕ) → mark ≡ Some m → IsLet (standing_of p) (Propose client request c seen named) → free_number p.space.records p.me ≡ o →
@@ -287,19 +282,9 @@ executed_steps p p' root mark m out done given none sound h me space lead x =
 -- why the root isn't executed
 pub refused_root : (p : ReplicaState) (root : ℕ) (mark : Option Mark) (m : Mark) (fault : StepFault) → mark ≡ Some m → IsLet (standing_of p) (Execute root) → IsUnexecuted p.space root p.executed.list fault → IsRefused (standing_of p) (Execute root) mark fault
 refused_root p root mark m Memory given h why = inl refl
-refused_root p root mark m OutOfRange given h why = absurd why
-refused_root p root mark m NotMine given h why = absurd why
-refused_root p root mark m OtherVersion given h why = absurd why
-refused_root p root mark m OtherGeneration given h why = absurd why
-refused_root p root mark m StampFull given h why = absurd why
-refused_root p root mark m SpaceFull given h why = absurd why
-refused_root p root mark m SeqExhausted given h why = absurd why
-refused_root p root mark m NotLeading given h why = absurd why
-refused_root p root mark m TooFewAnswers given h why = absurd why
-refused_root p root mark m AlreadyCommitted given h why = absurd why
-refused_root p root mark m BallotsExhausted given h why = absurd why
 refused_root p root mark m (NotCommitted i) given h why =
     inr (inr (inr (inr (_, record { readable = tt; versioned = h.versioned; room = λ _. tt; named = refl; refuses = inr (h.unscreened, inr (i, refl, why)); marked = λ none. absurd (cc) }))))
+refused_root p root mark m _ given h why = absurd why
 
 -- What is handled fits.
 

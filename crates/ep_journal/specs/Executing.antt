@@ -9,7 +9,7 @@ use Rattle.ep_rules.specs.States.{command_in, graph_in}
 use Rattle.ep_rules.specs.Steps.{order_of, answers_in}
 use Rattle.ep_space.specs.Records.{Records}
 use Rattle.ep_journal.specs.declared.step_fault.StepFault.{StepFault}
-use Rattle.ep_journal.specs.declared.step_fault.StepFault.TheVariants.{Memory, OutOfRange, NotMine, OtherVersion, OtherGeneration, StampFull, SpaceFull, SeqExhausted, NotLeading, TooFewAnswers, AlreadyCommitted, BallotsExhausted, NotCommitted}
+use Rattle.ep_journal.specs.declared.step_fault.StepFault.TheVariants.{Memory, NotCommitted}
 
 -- the instances, each with its answer, where their commands are done in turn
 abbrev pub done_by : (ℕ → Command) → Store → List ℕ → List (ℕ × Answer)
@@ -31,15 +31,5 @@ pub record IsExecuted (s : Records) (root : ℕ) (done : List (ℕ × Answer)) (
 -- why the root was not executed: out of memory, or i is the least instance for which it waits
 abbrev pub IsUnexecuted : Records → ℕ → List ℕ → StepFault → Type 0
 IsUnexecuted s root executed Memory = Unit {0}
-IsUnexecuted s root executed OutOfRange = ⊥
-IsUnexecuted s root executed NotMine = ⊥
-IsUnexecuted s root executed OtherVersion = ⊥
-IsUnexecuted s root executed OtherGeneration = ⊥
-IsUnexecuted s root executed StampFull = ⊥
-IsUnexecuted s root executed SpaceFull = ⊥
-IsUnexecuted s root executed SeqExhausted = ⊥
-IsUnexecuted s root executed NotLeading = ⊥
-IsUnexecuted s root executed TooFewAnswers = ⊥
-IsUnexecuted s root executed AlreadyCommitted = ⊥
-IsUnexecuted s root executed BallotsExhausted = ⊥
 IsUnexecuted s root executed (NotCommitted i) = IsBlocked (graph_in s.records) executed root i
+IsUnexecuted s root executed _ = ⊥

@@ -1,6 +1,7 @@
 pub mod Holding
 pub mod Executing
 pub mod Events
+pub mod Refusals
 pub mod Refused
 pub mod ReplicaStates
 pub mod Inputs

@@ -1,6 +1,7 @@
--- What the replicas of a generation open with.
+-- What the replicas of a generation open with, and what a replica begins with.
 use Rattle.std.specs.Prelude.{◌≡◌, ℕ, refl}
 use Rattle.std.specs.Coded.{Coded, code_by, coded×, coded_ℕ}
+use Rattle.ep_base.specs.contracts.version.Version as version_facts
 use Rattle.ep_base.specs.declared.version.Version.{Version}
 use Rattle.ep_base.specs.declared.version_kind.VersionKind.TheVariants.{V1, V2, V3}
 use Rattle.ep_exec.specs.Table.{contents_code}
@@ -27,3 +28,13 @@ abbrev pub OpensIn : Version → Opening → Type 0
 OpensIn V1 o = o ≡ no_opening
 OpensIn V2 o = o ≡ no_opening
 OpensIn (V3 g) o = Unit {0}
+
+-- a version, and an opening
+pub record Beginning : Type 0 where
+  pub version : Version
+  pub opening : Opening
+
+abbrev pub beginning_code : Coded Beginning
+beginning_code =
+    code_by (Version × Opening) (coded× version_facts.the_row.coded opening_code) (λ b. (b.version, b.opening))
+    (λ p. record { version = p.0; opening = p.1 }) (λ _. refl)

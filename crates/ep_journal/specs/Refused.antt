@@ -7,7 +7,7 @@ use Rattle.ep_phase.specs.declared.decision_fault.DecisionFault.TheVariants as d
 use Rattle.ep_rules.specs.Cells as rules
 use Rattle.ep_rules.specs.Cells.{Refusal}
 use Rattle.ep_journal.specs.declared.step_fault.StepFault.{StepFault}
-use Rattle.ep_journal.specs.declared.step_fault.StepFault.TheVariants.{Memory, OutOfRange, NotMine, OtherVersion, OtherGeneration, StampFull, SpaceFull, SeqExhausted, NotLeading, TooFewAnswers, AlreadyCommitted, BallotsExhausted, NotCommitted}
+use Rattle.ep_journal.specs.declared.step_fault.StepFault.TheVariants.{Memory, OutOfRange, NotMine, SpaceFull, SeqExhausted, NotLeading, TooFewAnswers, AlreadyCommitted, BallotsExhausted, NotCommitted}
 
 abbrev pub of_decision : DecisionFault → StepFault
 of_decision decision.Memory = Memory
@@ -23,12 +23,8 @@ of_plan (PlanNotCommitted i) = NotCommitted i
 
 -- the refusal of the rule book that the fault names; none when out of memory, another version or generation and a full stamp, which the rule book doesn't know
 abbrev pub named : StepFault → Option Refusal
-named Memory = None
 named OutOfRange = Some rules.OutOfRange
 named NotMine = Some rules.NotMine
-named OtherVersion = None
-named OtherGeneration = None
-named StampFull = None
 named SpaceFull = Some rules.SpaceFull
 named SeqExhausted = Some rules.SeqExhausted
 named NotLeading = Some rules.NotLeading
@@ -36,19 +32,15 @@ named TooFewAnswers = Some rules.TooFewAnswers
 named AlreadyCommitted = Some rules.AlreadyCommitted
 named BallotsExhausted = Some rules.BallotsExhausted
 named (NotCommitted i) = Some (rules.NotCommitted i)
+named _ = None
 
 -- a rule refuses for the reason that the fault names; or there is no memory
 abbrev pub IsRefused : {X : Type 0} → Result X Refusal → StepFault → Type 0
 IsRefused o Memory = Unit {0}
-IsRefused o OutOfRange = ⊥
-IsRefused o NotMine = ⊥
-IsRefused o OtherVersion = ⊥
-IsRefused o OtherGeneration = ⊥
-IsRefused o StampFull = ⊥
 IsRefused o SpaceFull = o ≡ Err rules.SpaceFull
 IsRefused o SeqExhausted = o ≡ Err rules.SeqExhausted
 IsRefused o NotLeading = o ≡ Err rules.NotLeading
 IsRefused o TooFewAnswers = o ≡ Err rules.TooFewAnswers
 IsRefused o AlreadyCommitted = o ≡ Err rules.AlreadyCommitted
 IsRefused o BallotsExhausted = o ≡ Err rules.BallotsExhausted
-IsRefused o (NotCommitted i) = ⊥
+IsRefused o _ = ⊥

@@ -1,7 +1,8 @@
 //! One step of a replica, and journals: each entry is the step from what the earlier ones leave.
 //!
 //! `ep_replica` steps a `State` and appends to a `Journal`; `ep_bundle` steps one again as it reads a journal's bytes. The
-//! step is `IsStep` of `ep_rules`, with every refusal in its order, and a refusal leaves the state as it was.
+//! step is `IsStep` of `ep_rules`, with every refusal in its order, and a refusal leaves the state as it was. Their codes
+//! and words are in `step_fault.rt` and specs/Refusals.antt.
 //!
 //! Start with `event.rt`, `entry.rt` and `state.rt` (`State::step`), then specs/Standing.antt (`Advances`, `IsRefused`). A
 //! `Journal` is a local run by its type, so whoever holds one knows it.
@@ -12,6 +13,7 @@
 //! are tried first, and kept or taken back together. Nothing else is ever undone: keep it so.
 #![tactic(auto)]
 
+mod beginning;
 mod blocked;
 mod chosen;
 mod deciding;
@@ -26,6 +28,7 @@ mod journals;
 mod mark;
 mod naming;
 mod opening;
+mod refusal;
 mod remainder;
 mod replica_state;
 mod screen;
@@ -34,6 +37,7 @@ mod step_fault;
 mod taken;
 mod versioned;
 
+pub use beginning::Beginning;
 pub use entry::Entry;
 pub use event::Event;
 pub use executions::Executions;
@@ -42,6 +46,7 @@ pub use journal::Journal;
 pub use journals::Journals;
 pub use mark::Mark;
 pub use opening::Opening;
+pub use refusal::Refusal;
 pub use remainder::Remainder;
 pub use state::State;
 pub use step_fault::StepFault;

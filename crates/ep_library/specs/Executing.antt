@@ -5,12 +5,12 @@ use Rattle.ep_hosted.specs.Hosting.{Hosting}
 use Rattle.ep_hosted.specs.Taking.{HasTaken, IsNotTaken}
 use Rattle.ep_hosted.specs.declared.taking_fault.TakingFault.{TakingFault}
 use Rattle.ep_hosted.specs.declared.taking_fault.TakingFault.TheVariants.{Lent, Refused}
+use Rattle.ep_journal.specs.Refusals.{names}
 use Rattle.ep_journal.specs.declared.event.Event.TheVariants.{Execute}
 use Rattle.ep_library.specs.Arguments.{instance_in, IsPlace}
 use Rattle.ep_library.specs.Calls.{Stays, Unless}
 use Rattle.ep_library.specs.Statuses.{done, out_of_range, taking_status}
 use Rattle.ep_library.specs.declared.instance.Instance.{Instance}
-use Rattle.ep_wire.specs.Answers.{names}
 
 -- an instance, as C has it
 abbrev pub instance_out : ℕ → Instance

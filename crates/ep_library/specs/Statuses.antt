@@ -18,6 +18,7 @@ use Rattle.ep_hosted.specs.declared.taking_fault.TakingFault.{TakingFault}
 use Rattle.ep_hosted.specs.declared.taking_fault.TakingFault.TheVariants as taking
 use Rattle.ep_hosted.specs.declared.tell_fault.TellFault.{TellFault}
 use Rattle.ep_hosted.specs.declared.tell_fault.TellFault.TheVariants as tell
+use Rattle.ep_journal.specs.Refusals.{code_of}
 use Rattle.ep_log.specs.declared.log_fault.LogFault.{LogFault}
 use Rattle.ep_log.specs.declared.log_fault.LogFault.TheVariants as log
 use Rattle.ep_node.specs.declared.close_fault.CloseFault.{CloseFault}
@@ -26,7 +27,6 @@ use Rattle.ep_node.specs.declared.open_fault.OpenFault.{OpenFault}
 use Rattle.ep_node.specs.declared.open_fault.OpenFault.TheVariants as opened
 use Rattle.ep_opening.specs.declared.opening_fault.OpeningFault.{OpeningFault}
 use Rattle.ep_opening.specs.declared.opening_fault.OpeningFault.TheVariants as opening
-use Rattle.ep_wire.specs.Answers.{code_of}
 
 abbrev pub done : ℕ
 done = 0

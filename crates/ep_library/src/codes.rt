@@ -4,10 +4,10 @@ ghost use Rattle.std.specs.Prelude.{◌≡◌, ◌≢◌};
 ghost use Rattle.ep_library.specs.Statuses.{ask_status, bundle_status, close_status, command_status, log_status, open_status, opening_status, prepare_status, start_status, succeed_status, sync_status, taking_status, tell_status};
 
 use crate::status::{
-    BAD_BUNDLE, BAD_CHECKSUM, BAD_ENTRY, BAD_FRAME, BAD_LENGTH, LAST_GENERATION, LENT, LOG_EXISTS,
-    MEMORY, NO_HEADER, NO_LOG, NOT_A_RUN, NOT_ALL, NOT_CLOCKED, NOT_LENT, NOT_NEXT, NOT_ONE,
-    NOT_SEALED, OPENING_DAMAGED, OPENING_SHORT, OPENING_WRONG, OTHER_GENERATION, OTHER_LOG,
-    OTHER_OPENING, OTHER_VERSION, OUT_OF_RANGE, TURNED, UNSYNCED, UNTOLD,
+    BAD_BUNDLE, BAD_CHECKSUM, BAD_ENTRY, BAD_LENGTH, LAST_GENERATION, LENT, LOG_EXISTS, MEMORY,
+    NO_HEADER, NO_LOG, NOT_A_RUN, NOT_ALL, NOT_CLOCKED, NOT_LENT, NOT_NEXT, NOT_ONE, NOT_SEALED,
+    OPENING_DAMAGED, OPENING_SHORT, OPENING_WRONG, OTHER_GENERATION, OTHER_LOG, OTHER_OPENING,
+    OTHER_VERSION, OUT_OF_RANGE, TURNED, UNSYNCED, UNTOLD,
 };
 use ep_base::CommandFault;
 use ep_bundle::BundleFault;
@@ -17,7 +17,6 @@ use ep_hosted::{
 use ep_log::LogFault;
 use ep_node::{CloseFault, OpenFault};
 use ep_opening::OpeningFault;
-use ep_wire::{TakeFault, step_code};
 
 /// Why no command was made.
 pub(crate) fn command_status(fault: CommandFault) -> u8
@@ -37,8 +36,7 @@ pub(crate) fn taking_status(fault: TakingFault) -> u8
 {
     match fault {
         TakingFault::Lent => LENT,
-        TakingFault::Refused(TakeFault::BadFrame) => BAD_FRAME,
-        TakingFault::Refused(TakeFault::Step(fault)) => step_code(fault),
+        TakingFault::Refused(refusal) => refusal.code(),
     }
 }
 

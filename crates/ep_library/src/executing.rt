@@ -11,8 +11,6 @@ use crate::status::{DONE, NO_REPLICA, OUT_OF_RANGE};
 use ep_base::InstanceId;
 use ep_handle::Handle;
 use ep_hosted::{Hosted, TakingFault};
-use ep_journal::StepFault;
-use ep_wire::TakeFault;
 use std::alloc::Global;
 use std::mem;
 
@@ -21,10 +19,12 @@ fn tell_named(fault: &TakingFault, waits_for: &mut Instance)
     ensures { waits_for.new ≡ named fault.now waits_for.old }
 {
     match fault {
-        TakingFault::Refused(TakeFault::Step(StepFault::NotCommitted(instance))) => {
-            *waits_for = instance_out(*instance);
+        TakingFault::Lent => {}
+        TakingFault::Refused(refusal) => {
+            if let Some(instance) = refusal.instance() {
+                *waits_for = instance_out(instance);
+            }
         }
-        _ => {}
     }
 }
 

@@ -10,7 +10,7 @@ use Rattle.ep_journal.specs.Openings.{opens}
 use Rattle.ep_report.specs.Judging.{accepted_text, refusal_text}
 use Rattle.ep_report.specs.Lives.{Life}
 use Rattle.ep_report.specs.Reports.{chain_refusal_lines, replay_lines, run_lines, text_of}
-use Rattle.ep_report.specs.declared.event_fault.EventFault.{EventFault}
+use Rattle.ep_journal.specs.declared.refusal.Refusal.{Refusal}
 use Rattle.ep_report_json.specs.Chains.{chain_refusal_json}
 use Rattle.ep_report_json.specs.JsonReports.{refusal_json, replay_json, run_json}
 use Rattle.ep_report_json.specs.Judging as json
@@ -30,12 +30,12 @@ refusal_in Lines fault = refusal_text fault
 refusal_in Json fault = refusal_json fault
 
 -- of a replay
-abbrev pub report_in : Form → Option Life → List (ℕ × Decree) → List Happening → List Receipt → List (ℕ × EventFault) → List ℕ
+abbrev pub report_in : Form → Option Life → List (ℕ × Decree) → List Happening → List Receipt → List (ℕ × Refusal) → List ℕ
 report_in Lines life committed history receipts refused = text_of (replay_lines life committed history receipts refused)
 report_in Json life committed history receipts refused = replay_json life committed history receipts refused
 
 -- of a run in threads
-abbrev pub run_report_in : Form → Option Life → List (ℕ × Decree) → List Happening → List Receipt → List (ℕ × EventFault) → ℕ → List ℕ
+abbrev pub run_report_in : Form → Option Life → List (ℕ × Decree) → List Happening → List Receipt → List (ℕ × Refusal) → ℕ → List ℕ
 run_report_in Lines life committed history receipts refused lost = text_of (run_lines life committed history receipts refused lost)
 run_report_in Json life committed history receipts refused lost = run_json life committed history receipts refused lost
 

@@ -7,10 +7,8 @@ ghost use Rattle.ep_main.specs.Forms.{IsJudgedIn, chain_refusal_in, refusal_in, 
 
 use crate::form::Form;
 use ep_audit::{AuditFault, ChainFault};
-use ep_journal::Journals;
-use ep_report::{
-    EventFault, Findings, Judgement, Losses, chain_refusal, judge, refusal, report, run_report,
-};
+use ep_journal::{Journals, Refusal};
+use ep_report::{Findings, Judgement, Losses, chain_refusal, judge, refusal, report, run_report};
 use ep_report_json::{chain_refusal_json, judge_json, refusal_json, report_json, run_report_json};
 use ep_rules::Receipt;
 use std::alloc::{AllocError, Global};
@@ -35,7 +33,7 @@ pub(crate) fn report_in(
     alloc: Global,
     form: Form,
     found: &Findings<'_>,
-    refused: &[(u32, EventFault)],
+    refused: &[(u32, Refusal)],
 ) -> Result<Vec<u8>, AllocError>
     ensures { IfOk result (λ t. t.items ≡ report_in form (option_copied found.now.life) found.now.committed.now found.now.history.now found.now.receipts.now refused.now) }
 {

@@ -5,7 +5,7 @@ use Rattle.ep_base.specs.Places.{Has}
 use Rattle.ep_base.specs.declared.decree.Decree.{Decree}
 use Rattle.ep_journal.specs.declared.event.Event.TheVariants.{Execute}
 use Rattle.ep_journal.specs.declared.step_fault.StepFault.{StepFault}
-use Rattle.ep_journal.specs.declared.step_fault.StepFault.TheVariants as step
+use Rattle.ep_journal.specs.declared.step_fault.StepFault.TheVariants.{NotCommitted}
 use Rattle.ep_replica.specs.Applied.{IsDeclined}
 use Rattle.ep_replica.specs.Kept.{Kept}
 use Rattle.ep_replica.specs.Pending.{IsWaiting, state_of}
@@ -16,19 +16,8 @@ use Rattle.ep_node.specs.declared.node_fault.NodeFault.TheVariants.{Refused, Mem
 
 -- the fault says that an execution waits for an instance that isn't committed
 abbrev pub is_uncommitted : StepFault → Bool
-is_uncommitted step.Memory = false
-is_uncommitted step.OtherVersion = false
-is_uncommitted step.OtherGeneration = false
-is_uncommitted step.OutOfRange = false
-is_uncommitted step.NotMine = false
-is_uncommitted step.StampFull = false
-is_uncommitted step.SpaceFull = false
-is_uncommitted step.SeqExhausted = false
-is_uncommitted step.NotLeading = false
-is_uncommitted step.TooFewAnswers = false
-is_uncommitted step.AlreadyCommitted = false
-is_uncommitted step.BallotsExhausted = false
-is_uncommitted (step.NotCommitted i) = true
+is_uncommitted (NotCommitted i) = true
+is_uncommitted _ = false
 
 -- an instance that is committed and not executed
 pub record IsOutstanding (k : Kept) (i : ℕ) : Type 0 where

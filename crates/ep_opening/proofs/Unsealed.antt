@@ -10,7 +10,7 @@ use Rattle.ep_journal.specs.Holding.{Holds, IsEarly, IsStoreIn}
 use Rattle.ep_journal.specs.Leaving.{state_left}
 use Rattle.ep_journal.specs.Openings.{Opening, opens, OpensIn}
 use Rattle.ep_journal.specs.declared.entry.Entry.{Entry}
-use Rattle.ep_journal.proofs.Answering.{begins_in}
+use Rattle.ep_journal.proofs.Answering.{empty_early}
 use Rattle.ep_journal.proofs.Holding.{fresh_held, leaves_held}
 use Rattle.ep_journal.proofs.Whole.{event_had}
 use Rattle.ep_rules.specs.Journals.{left}
@@ -28,8 +28,8 @@ held_left v f me s (e ∷ es) h r i =
     held_left v f me (leaves f me s (event_of e.event) e.done) es (leaves_held v f me s (event_of e.event) e.done h (event_had v e.event r.0 i.0.event) i.1) r.2 i.2
 
 opening_in : (v : Version) (o : Opening) → OpensIn v o → IsStoreIn v (opens o)
-opening_in V1 o is = subst (λ (p : Opening). IsStoreIn V1 (opens p)) (sym is) (begins_in V1)
-opening_in V2 o is = subst (λ (p : Opening). IsStoreIn V2 (opens p)) (sym is) (begins_in V2)
+opening_in V1 o is = subst (λ (p : Opening). IsStoreIn V1 (opens p)) (sym is) empty_early
+opening_in V2 o is = subst (λ (p : Opening). IsStoreIn V2 (opens p)) (sym is) empty_early
 opening_in (V3 g) o is = tt
 
 store_in : (v : Version) (o : Opening) (f me : ℕ) (es : List Entry) → OpensIn v o → IsJournal v o f me es → IsStoreIn v (state_left o f me es).store

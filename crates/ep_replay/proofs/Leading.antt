@@ -8,18 +8,16 @@ use Rattle.ep_rules.specs.declared.receipt.Receipt.{Receipt}
 use Rattle.ep_journal.specs.Entries.{entry_of}
 use Rattle.ep_journal.specs.declared.step_fault.StepFault.TheVariants.{Memory}
 use Rattle.ep_replica.specs.Receipts.{receipts_of}
-use Rattle.ep_report.specs.declared.event_fault.EventFault.{EventFault}
+use Rattle.ep_journal.specs.declared.refusal.Refusal.{Refusal}
 use Rattle.ep_script.specs.Heads.{Head}
 use Rattle.ep_script.specs.Plan.{Plan}
 use Rattle.ep_script.specs.declared.line.Line.{Line}
 use Rattle.ep_script.specs.declared.line.Line.TheVariants as asked
 use Rattle.ep_world.specs.Played.{Played, journals_in, collected}
 use Rattle.ep_world.specs.Playing.{Happens, IsNotEnabled}
-use Rattle.ep_world.specs.declared.world_fault.WorldFault.{WorldFault as Refusal}
-use Rattle.ep_world.specs.declared.world_fault.WorldFault.TheVariants.{Step}
+use Rattle.ep_journal.specs.declared.refusal.Refusal.TheVariants.{Step}
 use Rattle.ep_world.specs.declared.world_event.WorldEvent.{WorldEvent}
 use Rattle.ep_world.specs.declared.world_event.WorldEvent.TheVariants as event
-use Rattle.ep_replay.specs.Causes.{cause_of}
 use Rattle.ep_replay.specs.Clients.{times, greatest}
 use Rattle.ep_replay.specs.Outcome.{HasEnded, IsReplay}
 use Rattle.ep_replay.specs.Replays.{Replay, one_tried, refusal, refusals, IsOpening, Tries, Gives, Plays, PlayAll, AreUngiven, above, with_given, was_sent, with_proposer, proposal}
@@ -39,7 +37,7 @@ use Rattle.ep_replay.proofs.Receiving.{own_still}
 
 refusals_more : (ts : List Tried) (t : Tried) → refusals (ts ++ t ∷ []) ≡ refusals ts ++ refusal t.line t.outcome
 refusals_more [] t = append-nil (refusal t.line t.outcome)
-refusals_more (x ∷ ts) t = ap (λ (rs : List (ℕ × EventFault)). refusal x.line x.outcome ++ rs) (refusals_more ts t) ∙ sym (append_assoc (refusal x.line x.outcome) (refusals ts) (refusal t.line t.outcome))
+refusals_more (x ∷ ts) t = ap (λ (rs : List (ℕ × Refusal)). refusal x.line x.outcome ++ rs) (refusals_more ts t) ∙ sym (append_assoc (refusal x.line x.outcome) (refusals ts) (refusal t.line t.outcome))
 
 -- the event happened
 pub took : (s s' : Player) (line : ℕ) (event : WorldEvent) (h : Happens s.world event s'.world)
@@ -77,18 +75,18 @@ took_so line first k event copied o w v h old new same at is kept =
     kept ∙ (λ i. old ++ one_tried line (same i) (outcome i) ∷ [])
 
 -- and of one that was refused
-pub refused_so : (line : ℕ) (event copied : WorldEvent) (cause : Refusal) (named : EventFault) (old new : List Tried) → copied ≡ event → named ≡ cause_of cause → new ≡ old ++ one_tried line copied (Refused named) ∷ []
-    → new ≡ old ++ one_tried line event (Refused (cause_of cause)) ∷ []
-refused_so line event copied cause named old new same is kept = kept ∙ (λ i. old ++ one_tried line (same i) (Refused (is i)) ∷ [])
+pub refused_so : (line : ℕ) (event copied : WorldEvent) (cause : Refusal) (old new : List Tried) → copied ≡ event
+    → new ≡ old ++ one_tried line copied (Refused cause) ∷ [] → new ≡ old ++ one_tried line event (Refused cause) ∷ []
+refused_so line event copied cause old new same kept = kept ∙ (λ i. old ++ one_tried line (same i) (Refused cause) ∷ [])
 
 -- the event was listed
 pub listed : (s s' : Player) (line : ℕ) (event : WorldEvent) (cause : Refusal) → IsNotEnabled s.world event cause → cause ≢ Step Memory
-    → s'.refused.items ≡ s.refused.items ++ (line, cause_of cause) ∷ []
+    → s'.refused.items ≡ s.refused.items ++ (line, cause) ∷ []
     → s'.world ≡ s.world → s'.clients ≡ s.clients → s'.receipts.items ≡ s.receipts.items → s'.given ≡ s.given → s'.keeps ≡ s.keeps
-    → (s.keeps ≡ true → s'.tried.items ≡ s.tried.items ++ one_tried line event (Refused (cause_of cause)) ∷ [])
+    → (s.keeps ≡ true → s'.tried.items ≡ s.tried.items ++ one_tried line event (Refused cause) ∷ [])
     → LeadsTo (λ p q. Tries p line event q) s s'
 listed s s' line event cause why is refused world clients receipts given keeps kept b t =
-    let one : Tried = one_tried line event (Refused (cause_of cause)) in
+    let one : Tried = one_tried line event (Refused cause) in
     record {
       behind = record { proposers = b.proposers; given = b.given; tried = b.tried ++ one ∷ [] };
       related = inr (record { cause = cause; refused = why; told = is; becomes = (λ i. record { world = world i; proposers = b.proposers; given = b.given; receipts = receipts i; tried = b.tried ++ one ∷ [] }) });
@@ -96,7 +94,7 @@ listed s s' line event cause why is refused world clients receipts given keeps k
         clients = subst (λ (ts : List Receipt). AreCounted s'.clients b.proposers ts) (sym receipts) (subst (λ (cs : Clients). AreCounted cs b.proposers s.receipts.items) (sym clients) t.clients);
         flags = subst (λ (g : Given). AreFlagged g b.given) (sym given) t.flags;
         own = subst (λ (ts : List Receipt). AreOwn s'.world ts) (sym receipts) (subst (λ (w : Played). AreOwn w s.receipts.items) (sym world) t.own);
-        refused = refused ∙ ap (λ (rs : List (ℕ × EventFault)). rs ++ (line, cause_of cause) ∷ []) t.refused ∙ sym (refusals_more b.tried one);
+        refused = refused ∙ ap (λ (rs : List (ℕ × Refusal)). rs ++ (line, cause) ∷ []) t.refused ∙ sym (refusals_more b.tried one);
         log = (λ k. kept (sym keeps ∙ k) ∙ ap (λ (ts : List Tried). ts ++ one ∷ []) (t.log (sym keeps ∙ k)));
       };
       keeps = keeps;

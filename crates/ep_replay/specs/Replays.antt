@@ -14,13 +14,11 @@ use Rattle.ep_script.specs.declared.line.Line.{Line}
 use Rattle.ep_script.specs.declared.line.Line.TheVariants.{Agenda, Execute, Deliver, Flush}
 use Rattle.ep_world.specs.Played.{Played, entries_in, journals_in}
 use Rattle.ep_world.specs.Playing.{Happens, IsNotEnabled}
-use Rattle.ep_world.specs.declared.world_fault.WorldFault.{WorldFault as Refusal}
-use Rattle.ep_world.specs.declared.world_fault.WorldFault.TheVariants.{Step}
+use Rattle.ep_journal.specs.declared.refusal.Refusal.{Refusal}
+use Rattle.ep_journal.specs.declared.refusal.Refusal.TheVariants.{Step}
 use Rattle.ep_world.specs.declared.world_event.WorldEvent.{WorldEvent}
 use Rattle.ep_world.specs.declared.world_event.WorldEvent.TheVariants as event
-use Rattle.ep_replay.specs.Causes.{cause_of}
 use Rattle.ep_replay.specs.Clients.{times, greatest}
-use Rattle.ep_report.specs.declared.event_fault.EventFault.{EventFault}
 use Rattle.ep_replay.specs.Heads.{opening_of}
 use Rattle.ep_replay.specs.declared.outcome.Outcome.{Outcome}
 use Rattle.ep_replay.specs.declared.outcome.Outcome.TheVariants.{Took, Refused}
@@ -42,12 +40,12 @@ pub record Replay : Type 0 where
   pub tried : List Tried
 
 -- the event of this line, where it was refused
-abbrev pub refusal : ℕ → Outcome → List (ℕ × EventFault)
+abbrev pub refusal : ℕ → Outcome → List (ℕ × Refusal)
 refusal line (Took replica entry first) = []
 refusal line (Refused cause) = (line, cause) ∷ []
 
 -- the events that were refused, each by its line and the cause
-abbrev pub refusals : List Tried → List (ℕ × EventFault)
+abbrev pub refusals : List Tried → List (ℕ × Refusal)
 refusals [] = []
 refusals (t ∷ ts) = refusal t.line t.outcome ++ refusals ts
 
@@ -81,7 +79,7 @@ pub record IsListed (p : Replay) (line : ℕ) (event : WorldEvent) (p' : Replay)
   pub cause : Refusal
   pub refused : IsNotEnabled p.world event cause
   pub told : cause ≢ Step Memory
-  pub becomes : p' ≡ record p { tried = p.tried ++ one_tried line event (Refused (cause_of cause)) ∷ [] }
+  pub becomes : p' ≡ record p { tried = p.tried ++ one_tried line event (Refused cause) ∷ [] }
 
 abbrev pub Tries : Replay → ℕ → WorldEvent → Replay → Type 0
 Tries p line event p' = Takes p line event p' ⊎ IsListed p line event p'

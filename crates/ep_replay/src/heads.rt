@@ -1,16 +1,16 @@
 //! What the head of a script says, as a world has it.
 
 ghost use Rattle.std.specs.Prelude.{◌≡◌, ◌≤◌, [], ℕ, IfOk, OnOk};
-ghost use Rattle.ep_base.specs.declared.version_kind.VersionKind.TheVariants.{V3};
+ghost use Rattle.ep_base.specs.Versions.{version_number};
 ghost use Rattle.std.specs.FinMap.{from_entries};
 ghost use Rattle.ep_base.specs.Commands.{Put};
 ghost use Rattle.ep_rules.specs.OneMap.{after};
 ghost use Rattle.ep_world.specs.Played.{entries_in};
 ghost use Rattle.ep_replay.specs.Heads.{opening_of};
 
-use ep_base::{Command, CommandFault, Generation, Key, Value, VersionKind};
+use ep_base::{Command, CommandFault, Key, Value};
 use ep_exec::{Contents, Store};
-use ep_journal::Opening;
+use ep_journal::{Beginning, Opening};
 use ep_script::{Head, ScriptOpening as Said};
 use ep_world::World;
 use std::alloc::{AllocError, Global};
@@ -50,7 +50,7 @@ fn contents(alloc: Global, entries: &[(Key, Value)]) -> Result<Contents, AllocEr
 }
 
 /// What the replicas open with, as journals have it. (No script has as many keys as an opening has no room for: there is no memory for them.)
-pub fn opening_of(alloc: Global, said: &Said) -> Result<Opening, AllocError>
+fn opening_of(alloc: Global, said: &Said) -> Result<Opening, AllocError>
     ensures { IfOk result (λ o. o ≡ opening_of said.now) }
 {
     let contents = contents(alloc, said.entries())?;
@@ -58,6 +58,16 @@ pub fn opening_of(alloc: Global, said: &Said) -> Result<Opening, AllocError>
         Ok(opening) => Ok(opening),
         Err(_) => Err(AllocError),
     }
+}
+
+/// What the replicas begin with that the head tells of.
+pub fn beginning_of(alloc: Global, head: &Head) -> Result<Beginning, AllocError>
+    ensures version { IfOk result (λ b. b.version ≡ head.now.version) }
+    ensures opening { IfOk result (λ b. b.opening ≡ opening_of head.now.opening) }
+    ensures known { IfOk result (λ b. 2 ≤ version_number b.version) }
+{
+    let opening = opening_of(alloc, head.opening())?;
+    Beginning::opened(alloc, head.version(), opening)
 }
 
 /// The world that the head tells of, before any event.
@@ -69,26 +79,6 @@ pub fn begun(alloc: Global, head: &Head) -> Result<World, AllocError>
     ensures steps { IfOk result (λ w. w.steps ≡ []) }
     ensures messages { IfOk result (λ w. w.messages ≡ []) }
 {
-    match head.version().kind() {
-        VersionKind::V1 => unreachable!(),
-        VersionKind::V2 => World::new(alloc, head.size()),
-        VersionKind::V3(number) => of_generation(alloc, head, number),
-    }
-}
-
-/// The world of this generation, which opens as the head says.
-fn of_generation(alloc: Global, head: &Head, number: u32) -> Result<World, AllocError>
-    requires { 1 ≤ number }
-    ensures version { IfOk result (λ w. w.version ≡ V3 number) }
-    ensures faults { IfOk result (λ w. w.faults ≡ head.now.faults) }
-    ensures opening { IfOk result (λ w. w.opening ≡ opening_of head.now.opening) }
-    ensures entries { IfOk result (λ w. (r : ℕ) → entries_in w r ≡ []) }
-    ensures steps { IfOk result (λ w. w.steps ≡ []) }
-    ensures messages { IfOk result (λ w. w.messages ≡ []) }
-{
-    let Ok(generation) = Generation::new(number) else {
-        unreachable!()
-    };
-    let opening = opening_of(alloc, head.opening())?;
-    World::opened(alloc, head.size(), generation, &opening)
+    let beginning = beginning_of(alloc, head)?;
+    World::opened(alloc, head.size(), &beginning)
 }

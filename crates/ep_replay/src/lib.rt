@@ -21,10 +21,9 @@ mod player;
 mod replayed;
 mod tried;
 
-pub use causes::step_cause;
 pub use clients::{Client, Clients};
 pub use ended::Ended;
-pub use heads::{begun, opening_of};
+pub use heads::{beginning_of, begun};
 pub use outcome::Outcome;
 pub use player::{play, replay};
 pub use replayed::Replayed;

@@ -1,7 +1,7 @@
 //! What comes of an event that is tried.
 
 use ep_base::ReplicaId;
-use ep_report::EventFault;
+use ep_journal::Refusal;
 
 /// What came of an event that was tried.
 #[derive(Drop)]
@@ -13,5 +13,5 @@ pub enum Outcome {
         first: u64,
     },
     /// It was refused, for this cause.
-    Refused(EventFault),
+    Refused(Refusal),
 }

@@ -26,7 +26,7 @@ use crate::outcome::Outcome;
 use crate::replayed::Replayed;
 use crate::tried::Tried;
 use ep_base::{Command, ReplicaId};
-use ep_report::EventFault;
+use ep_journal::{Refusal, StepFault};
 use ep_rules::Receipt;
 use ep_script::{AgendaLine, Head, Line, Messages, Script};
 use ep_world::{World, WorldEvent};
@@ -108,7 +108,7 @@ fn last_step(world: &World, first: u64) -> Outcome
             entry: *entry,
             first,
         },
-        None => Outcome::Refused(EventFault::OutOfRange),
+        None => Outcome::Refused(Refusal::Step(StepFault::OutOfRange)),
     }
 }
 
@@ -136,7 +136,7 @@ pub(crate) struct Player {
     clients: Clients,
     given: Given,
     receipts: Vec<Receipt>,
-    refused: Vec<(u32, EventFault)>,
+    refused: Vec<(u32, Refusal)>,
     /// Whether each event that is tried is kept.
     keeps: bool,
     tried: Vec<Tried>,
@@ -192,7 +192,8 @@ impl Player {
                 Ok(())
             }
             Err(refusal) => {
-                let cause = list(&mut self.refused, line, refusal)?;
+                let cause = refusal;
+                list(&mut self.refused, line, refusal)?;
                 keep(&mut self.tried, line, copy, Outcome::Refused(cause))?;
                 Ok(())
             }
@@ -215,7 +216,7 @@ impl Player {
                 Ok(())
             }
             Err(refusal) => {
-                let _cause = list(&mut self.refused, line, refusal)?;
+                list(&mut self.refused, line, refusal)?;
                 Ok(())
             }
         }
@@ -310,7 +311,7 @@ impl Player {
         match self.world.deliver(message) {
             Ok(()) => Ok(()),
             Err(refusal) => {
-                let _cause = list(&mut self.refused, line, refusal)?;
+                list(&mut self.refused, line, refusal)?;
                 Ok(())
             }
         }

@@ -21,7 +21,6 @@ mod execution_place;
 mod first_executions;
 mod flags;
 mod indexes;
-mod opened_fault;
 mod pending;
 mod proposal;
 mod proposing;
@@ -35,7 +34,6 @@ mod slots;
 mod span;
 
 pub use ep_phase::LeadPhase;
-pub use opened_fault::OpenedFault;
 pub use proposal::Proposal;
 pub use reading::Reading;
 pub use receipt_view::ReceiptView;

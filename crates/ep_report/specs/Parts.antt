@@ -1,19 +1,15 @@
 -- What instances, commands and answers are printed as.
 use Rattle.std.specs.Prelude.{ℕ, Bool, true, false, List, [], ◌∷◌, ◌++◌, Option, Some, None, codes, decimal}
-use Rattle.ep_base.specs.Instances.{leader_of, number_of}
 use Rattle.ep_base.specs.Commands.{Command, Noop, Get, Put, Del, Swap, Cas, Seal, Opaque, Tx}
 use Rattle.ep_base.specs.Items.{Item}
 use Rattle.ep_base.specs.declared.reply.Reply.{Reply}
 use Rattle.ep_base.specs.declared.reply.Reply.TheVariants.{Absent, Present, Closed, Ordered, Done, Undone}
 use Rattle.ep_base.specs.declared.reply.Answer.{Answer}
 use Rattle.ep_base.specs.declared.reply.Answer.TheVariants.{Lost, Replied}
+pub use Rattle.ep_journal.specs.Refusals.{instance_text}
 use Rattle.ep_report.specs.declared.part.Part.{Part}
 use Rattle.ep_report.specs.declared.part.Part.TheVariants as part
 use Rattle.ep_script.specs.Word.{word_of}
-
--- the replica that leads it, a dot, and its number
-abbrev pub instance_text : ℕ → List ℕ
-instance_text i = decimal (leader_of i) ++ codes "." ++ decimal (number_of i)
 
 -- further instances, each after a comma
 abbrev pub more_deps : List ℕ → List ℕ

@@ -1,13 +1,14 @@
 -- What the program prints of a run.
 use Rattle.std.specs.Prelude.{ℕ, ◌+◌, List, [], ◌∷◌, ◌++◌, Option, length, map, codes, decimal}
 use Rattle.ep_base.specs.declared.decree.Decree.{Decree}
+use Rattle.ep_journal.specs.Refusals.{refusal_text}
+use Rattle.ep_journal.specs.declared.refusal.Refusal.{Refusal}
 use Rattle.ep_rules.specs.Audits.{Fault}
 use Rattle.ep_rules.specs.declared.receipt.Receipt.{Receipt}
 use Rattle.ep_report.specs.Lives.{Life, generation_lines, closing_lines}
 use Rattle.ep_report.specs.Parts.{instance_text, deps_text, command_text, reply_text, answer_text}
 use Rattle.ep_audit.specs.Faults.{fault_text}
-use Rattle.ep_report.specs.Refusals.{cause_text, chain_fault_text}
-use Rattle.ep_report.specs.declared.event_fault.EventFault.{EventFault}
+use Rattle.ep_report.specs.Refusals.{chain_fault_text}
 use Rattle.ep_audit.specs.declared.chain_fault.ChainFault.{ChainFault}
 use Rattle.ep_audit.specs.declared.happening.Happening.{Happening}
 
@@ -38,8 +39,8 @@ abbrev pub receipt_line : Receipt → List ℕ
 receipt_line t = codes "client " ++ decimal t.client ++ codes " request " ++ decimal t.request ++ codes " " ++ instance_text t.instance ++ codes " " ++ answer_text t.answer
 
 -- the event at this line of the script was refused
-abbrev pub refused_line : ℕ × EventFault → List ℕ
-refused_line e = codes "line " ++ decimal e.0 ++ codes " " ++ cause_text e.1
+abbrev pub refused_line : ℕ × Refusal → List ℕ
+refused_line e = codes "line " ++ decimal e.0 ++ codes " " ++ refusal_text e.1
 
 -- what the audit accepts: in version 3 which generation it is, what is committed, the history, in version 3 the first seal and what the keys then have, and
 -- the receipts
@@ -53,7 +54,7 @@ accepted_lines life committed history receipts =
     ++ counted (codes "receipts") (map receipt_line receipts)
 
 -- the events that were refused
-abbrev pub refused_lines : List (ℕ × EventFault) → List (List ℕ)
+abbrev pub refused_lines : List (ℕ × Refusal) → List (List ℕ)
 refused_lines refused = counted (codes "refused") (map refused_line refused)
 
 -- the frames that a run lost
@@ -61,11 +62,11 @@ abbrev pub lost_line : ℕ → List ℕ
 lost_line lost = codes "lost " ++ decimal lost
 
 -- what a replay prints
-abbrev pub replay_lines : Option Life → List (ℕ × Decree) → List Happening → List Receipt → List (ℕ × EventFault) → List (List ℕ)
+abbrev pub replay_lines : Option Life → List (ℕ × Decree) → List Happening → List Receipt → List (ℕ × Refusal) → List (List ℕ)
 replay_lines life committed history receipts refused = accepted_lines life committed history receipts ++ refused_lines refused
 
 -- what a run prints: the same, and how many frames were lost
-abbrev pub run_lines : Option Life → List (ℕ × Decree) → List Happening → List Receipt → List (ℕ × EventFault) → ℕ → List (List ℕ)
+abbrev pub run_lines : Option Life → List (ℕ × Decree) → List Happening → List Receipt → List (ℕ × Refusal) → ℕ → List (List ℕ)
 run_lines life committed history receipts refused lost = replay_lines life committed history receipts refused ++ lost_line lost ∷ []
 
 -- the audit's refusal

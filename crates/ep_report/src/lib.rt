@@ -1,16 +1,15 @@
 //! The reports of a replicated key-value core: what the program prints of a run, byte for byte.
 //!
-//! `ep_main` prints them, and `ep_library` hands out what an audit says (`judging.rt`). They tell what `ep_audit` finds, a verdict or a fault, and the lines that `ep_replay` and `ep_run` name as refused, each by its `EventFault`.
+//! `ep_main` prints them, and `ep_library` hands out what an audit says (`judging.rt`). They tell what `ep_audit` finds, a verdict or a fault, and the lines that `ep_replay` and `ep_run` name as refused, each by its `Refusal`.
 //! It keeps to docs/CLI.md, section 5.
 //!
 //! Start with `reports.rt` and specs/Reports.antt, which says the lines in order.
 //!
-//! Each text of a cause or a fault is written in specs/ and in code, and the check compares them: change both, and
-//! docs/FORMATS.md.
+//! Each text of a fault is written in specs/ and in code, and the check compares them: change both, and
+//! docs/FORMATS.md. Those of refusals are in `ep_journal` (`step_fault.rt`).
 #![tactic(auto)]
 
 mod digest;
-mod event_fault;
 mod faults;
 mod findings;
 mod judgement;
@@ -23,7 +22,6 @@ mod part;
 mod parts;
 mod reports;
 
-pub use event_fault::EventFault;
 pub use faults::push_chain_fault;
 pub use findings::Findings;
 pub use judgement::Judgement;

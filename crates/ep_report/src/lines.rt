@@ -8,13 +8,13 @@ ghost use Rattle.ep_report.specs.Lives.{generation_line, closed_line, closing_li
 ghost use Rattle.ep_report.specs.Reports.{text_of, committed_line, history_line, receipt_line, refused_line, lost_line};
 
 use crate::digest::digest_of;
-use crate::event_fault::EventFault;
 use crate::life::Life;
 use crate::part::Part;
 use crate::parts::push_parts;
 use ep_audit::{Closing, Happening};
 use ep_base::{Decree, InstanceId};
 use ep_exec::Contents;
+use ep_journal::Refusal;
 use ep_rules::Receipt;
 use hex::encode;
 use std::alloc::{AllocError, Global};
@@ -233,7 +233,7 @@ pub(crate) fn push_refused_line(
     alloc: Global,
     text: &mut Vec<u8>,
     line: u32,
-    cause: EventFault,
+    cause: Refusal,
 ) -> Result<(), AllocError>
     ensures { OnOk result (text.new.items ≡ text.old.items ++ refused_line (line, cause) ++ codes "\n") }
 {

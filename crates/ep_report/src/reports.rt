@@ -6,7 +6,6 @@ ghost use Rattle.ep_report.specs.Lives.{generation_lines, closing_lines};
 ghost use Rattle.ep_audit.specs.Faults.{fault_of};
 ghost use Rattle.ep_report.specs.Reports.{text_of, counted, committed_line, history_lines, receipt_line, accepted_lines, refused_lines, replay_lines, run_lines, refusal_lines, chain_refusal_lines};
 
-use crate::event_fault::EventFault;
 use crate::faults::push_chain_fault;
 use crate::findings::Findings;
 use crate::life::Life;
@@ -19,6 +18,7 @@ use crate::part::Part;
 use crate::parts::push_parts;
 use ep_audit::{AuditFault, ChainFault, Happening};
 use ep_base::{Decree, InstanceId};
+use ep_journal::Refusal;
 use ep_rules::Receipt;
 use std::alloc::{AllocError, Global};
 
@@ -62,7 +62,7 @@ fn push_receipts(text: &mut Vec<u8>, receipts: &[Receipt]) -> Result<(), AllocEr
 fn push_refused(
     alloc: Global,
     text: &mut Vec<u8>,
-    refused: &[(u32, EventFault)],
+    refused: &[(u32, Refusal)],
 ) -> Result<(), AllocError>
     ensures { OnOk result (text.new.items ≡ text.old.items ++ text_of (refused_lines refused.now)) }
 {
@@ -124,7 +124,7 @@ pub fn accepted(alloc: Global, found: &Findings<'_>) -> Result<Vec<u8>, AllocErr
 pub fn report(
     alloc: Global,
     found: &Findings<'_>,
-    refused: &[(u32, EventFault)],
+    refused: &[(u32, Refusal)],
 ) -> Result<Vec<u8>, AllocError>
     ensures { IfOk result (λ t. t.items ≡ text_of (replay_lines (option_copied found.now.life) found.now.committed.now found.now.history.now found.now.receipts.now refused.now)) }
 {

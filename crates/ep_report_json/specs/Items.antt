@@ -8,8 +8,8 @@ use Rattle.ep_json.specs.Strings.{string_text}
 use Rattle.ep_json.specs.Values.{member, null, object}
 use Rattle.ep_report.specs.Contents.{digest_text}
 use Rattle.ep_report.specs.Parts.{answer_text, command_text, reply_text}
-use Rattle.ep_report.specs.Refusals.{cause_text}
-use Rattle.ep_report.specs.declared.event_fault.EventFault.{EventFault}
+use Rattle.ep_journal.specs.Refusals.{refusal_text}
+use Rattle.ep_journal.specs.declared.refusal.Refusal.{Refusal}
 use Rattle.ep_report_json.specs.Members.{deps_value, fault_members, instance_value}
 use Rattle.ep_rules.specs.OneMap.{Contents}
 use Rattle.ep_rules.specs.declared.receipt.Receipt.{Receipt}
@@ -51,8 +51,8 @@ receipt_item t = object (
     )
 
 -- the event at this line of the script was refused
-abbrev pub refused_item : ℕ × EventFault → List ℕ
-refused_item e = object (member (codes "line") (decimal e.0) ∷ fault_members (cause_text e.1))
+abbrev pub refused_item : ℕ × Refusal → List ℕ
+refused_item e = object (member (codes "line") (decimal e.0) ∷ fault_members (refusal_text e.1))
 
 -- the seal that closed the map
 abbrev pub closed_value : Closing → List ℕ

@@ -6,7 +6,7 @@ use Rattle.ep_base.specs.declared.decree.Decree.{Decree}
 use Rattle.ep_json.specs.Strings.{string_text}
 use Rattle.ep_json.specs.Values.{array, member, object}
 use Rattle.ep_report.specs.Lives.{Life}
-use Rattle.ep_report.specs.declared.event_fault.EventFault.{EventFault}
+use Rattle.ep_journal.specs.declared.refusal.Refusal.{Refusal}
 use Rattle.ep_report_json.specs.Items.{closing_value, committed_item, contents_value, history_items, receipt_item, refused_item}
 use Rattle.ep_report_json.specs.Members.{fault_members}
 use Rattle.ep_rules.specs.Audits.{Fault}
@@ -37,7 +37,7 @@ accepted_members life committed history receipts =
     ++ (member (codes "receipts") (array (map receipt_item receipts)) ∷ [])
 
 -- the events that were refused
-abbrev pub refused_members : List (ℕ × EventFault) → List (List ℕ)
+abbrev pub refused_members : List (ℕ × Refusal) → List (List ℕ)
 refused_members refused = member (codes "refused") (array (map refused_item refused)) ∷ []
 
 -- the frames that a run lost
@@ -48,12 +48,12 @@ abbrev pub accepted_json : Option Life → List (ℕ × Decree) → List Happeni
 accepted_json life committed history receipts = verdict_object (codes "accepted") (accepted_members life committed history receipts)
 
 -- of a replay
-abbrev pub replay_json : Option Life → List (ℕ × Decree) → List Happening → List Receipt → List (ℕ × EventFault) → List ℕ
+abbrev pub replay_json : Option Life → List (ℕ × Decree) → List Happening → List Receipt → List (ℕ × Refusal) → List ℕ
 replay_json life committed history receipts refused =
     verdict_object (codes "accepted") (accepted_members life committed history receipts ++ refused_members refused)
 
 -- of a run in threads
-abbrev pub run_json : Option Life → List (ℕ × Decree) → List Happening → List Receipt → List (ℕ × EventFault) → ℕ → List ℕ
+abbrev pub run_json : Option Life → List (ℕ × Decree) → List Happening → List Receipt → List (ℕ × Refusal) → ℕ → List ℕ
 run_json life committed history receipts refused lost =
     verdict_object (codes "accepted") (accepted_members life committed history receipts ++ refused_members refused ++ lost_members lost)
 

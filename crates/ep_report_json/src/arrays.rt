@@ -7,8 +7,8 @@ ghost use Rattle.ep_report_json.specs.Items.{committed_item, history_items, rece
 use crate::items::{push_committed_item, push_history_item, push_receipt_item, push_refused_item};
 use ep_audit::Happening;
 use ep_base::{Decree, InstanceId};
+use ep_journal::Refusal;
 use ep_json::{push_comma, push_name};
-use ep_report::EventFault;
 use ep_rules::Receipt;
 use std::alloc::{AllocError, Global};
 
@@ -71,7 +71,7 @@ pub(crate) fn push_receipt_items(text: &mut Vec<u8>, receipts: &[Receipt]) -> Re
 pub(crate) fn push_refused_items(
     alloc: Global,
     text: &mut Vec<u8>,
-    refused: &[(u32, EventFault)],
+    refused: &[(u32, Refusal)],
 ) -> Result<(), AllocError>
     ensures { OnOk result (text.new.items ≡ text.old.items ++ joined true (map refused_item refused.now)) }
 {

@@ -10,7 +10,8 @@ use crate::members::{first_word, push_object};
 use ep_audit::{Closing, Happening};
 use ep_base::{Decree, InstanceId};
 use ep_exec::Contents;
-use ep_report::{EventFault, Part, push_digest};
+use ep_journal::Refusal;
+use ep_report::{Part, push_digest};
 use ep_rules::Receipt;
 use std::alloc::{AllocError, Global};
 
@@ -108,7 +109,7 @@ pub(crate) fn push_refused_item(
     alloc: Global,
     text: &mut Vec<u8>,
     line: u32,
-    cause: EventFault,
+    cause: Refusal,
 ) -> Result<(), AllocError>
     ensures { OnOk result (text.new.items ≡ text.old.items ++ refused_item (line, cause)) }
 {

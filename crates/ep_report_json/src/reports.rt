@@ -18,8 +18,9 @@ use crate::member::Member;
 use crate::members::{first_word, push_members};
 use ep_audit::{AuditFault, Happening};
 use ep_base::{Decree, InstanceId};
+use ep_journal::Refusal;
 use ep_json::{push_comma, push_name};
-use ep_report::{EventFault, Findings, Life, Losses, Part};
+use ep_report::{Findings, Life, Losses, Part};
 use ep_rules::Receipt;
 use std::alloc::{AllocError, Global};
 
@@ -147,7 +148,7 @@ fn push_receipts(text: &mut Vec<u8>, receipts: &[Receipt]) -> Result<(), AllocEr
 fn push_refused(
     alloc: Global,
     text: &mut Vec<u8>,
-    refused: &[(u32, EventFault)],
+    refused: &[(u32, Refusal)],
 ) -> Result<(), AllocError>
     ensures { OnOk result (text.new.items ≡ text.old.items ++ joined false (refused_members refused.now)) }
 {
@@ -198,7 +199,7 @@ pub fn accepted_json(alloc: Global, found: &Findings<'_>) -> Result<Vec<u8>, All
 pub fn report_json(
     alloc: Global,
     found: &Findings<'_>,
-    refused: &[(u32, EventFault)],
+    refused: &[(u32, Refusal)],
 ) -> Result<Vec<u8>, AllocError>
     ensures { IfOk result (λ t. t.items ≡ replay_json (option_copied found.now.life) found.now.committed.now found.now.history.now found.now.receipts.now refused.now) }
 {

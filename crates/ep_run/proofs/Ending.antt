@@ -13,7 +13,7 @@ use Rattle.ep_journal.specs.declared.step_fault.StepFault.{StepFault}
 use Rattle.ep_journal.specs.Entries.{entries_of}
 use Rattle.ep_rules.specs.Journals.{asked_in as asked_in_entries}
 use Rattle.ep_rules.specs.Steps.{Event}
-use Rattle.ep_report.specs.declared.event_fault.EventFault.{EventFault}
+use Rattle.ep_journal.specs.declared.refusal.Refusal.{Refusal}
 use Rattle.ep_rules.specs.declared.receipt.Receipt.{Receipt}
 use Rattle.ep_script.specs.Plan.{SectionPlan}
 use Rattle.ep_run.specs.Asking.{asked_in}
@@ -113,7 +113,7 @@ entries_at (n ∷ ns) zero d low = refl
 entries_at (n ∷ ns) (suc r) d low = entries_at ns r d (omega (arith, low))
 
 -- these are the lines that were refused, as the nodes tell
-abbrev pub Refuses : List SectionPlan → List (ℕ × EventFault) → List Node → Type 0
+abbrev pub Refuses : List SectionPlan → List (ℕ × Refusal) → List Node → Type 0
 Refuses sections told nodes =
     (before : List (List Receipt)) (uses : ℕ → List Use) → (length before ≡ length sections) → ((i : ℕ) (d : Node) → i < length nodes → (get_or nodes i d).refused ≡ refusals_in 0 (uses i)) →
     ((i : ℕ) → length nodes ≤ i → uses i ≡ []) → told ≡ refused_in (lines_of (asked_in [] sections before) uses)

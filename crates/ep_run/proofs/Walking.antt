@@ -7,7 +7,7 @@ use Rattle.ep_host.specs.Node.{Node}
 use Rattle.ep_host.specs.Tasks.{Use, refusal_at, refusals_in, next_place}
 use Rattle.ep_host.specs.declared.task.Task.{Task}
 use Rattle.ep_journal.specs.declared.step_fault.StepFault.{StepFault}
-use Rattle.ep_report.specs.declared.event_fault.EventFault.{EventFault}
+use Rattle.ep_journal.specs.declared.refusal.Refusal.{Refusal}
 use Rattle.ep_rules.specs.declared.receipt.Receipt.{Receipt}
 use Rattle.ep_script.specs.Plan.{SectionPlan}
 use Rattle.ep_script.specs.declared.agenda_line.AgendaLine.{AgendaLine}
@@ -105,21 +105,21 @@ lines_both : (xs ys : List (ℕ × (ℕ × Task))) (uses : ℕ → List Use) →
 lines_both [] ys uses = refl
 lines_both (x ∷ xs) ys uses =
     let rest : ℕ → List Use = without_next x.1.0 uses in
-    let here : List (ℕ × EventFault) = refusal_of x.0 (next_fate (uses x.1.0)) in
-    ap (λ (l : List (ℕ × EventFault)). here ++ l) (lines_both xs ys rest) ∙ sym (append_assoc here (refused_in (lines_of xs rest)) (refused_in (lines_of ys (left_after xs rest))))
+    let here : List (ℕ × Refusal) = refusal_of x.0 (next_fate (uses x.1.0)) in
+    ap (λ (l : List (ℕ × Refusal)). here ++ l) (lines_both xs ys rest) ∙ sym (append_assoc here (refused_in (lines_of xs rest)) (refused_in (lines_of ys (left_after xs rest))))
 
 left_both : (xs ys : List (ℕ × (ℕ × Task))) (uses : ℕ → List Use) → left_after (xs ++ ys) uses ≡ left_after ys (left_after xs uses)
 left_both [] ys uses = refl
 left_both (x ∷ xs) ys uses = left_both xs ys (without_next x.1.0 uses)
 
 pub lists_both :
-    (xs ys : List (ℕ × (ℕ × Task))) (ns : List Node) (xa xb xc : List Cursor) (ps qs rs : List (ℕ × EventFault)) → Lists xs ns xa xb ps qs → Lists ys ns xb xc qs rs → Lists (xs ++ ys) ns xa xc ps rs
+    (xs ys : List (ℕ × (ℕ × Task))) (ns : List Node) (xa xb xc : List Cursor) (ps qs rs : List (ℕ × Refusal)) → Lists xs ns xa xb ps qs → Lists ys ns xb xc qs rs → Lists (xs ++ ys) ns xa xc ps rs
 lists_both xs ys ns xa xb xc ps qs rs first next = record {
   told =
       λ uses are.
-      let mine : List (ℕ × EventFault) = refused_in (lines_of xs uses) in
-      let more : List (ℕ × EventFault) = refused_in (lines_of ys (left_after xs uses)) in
-      next.told (left_after xs uses) (first.rest uses are) ∙ ap (λ (l : List (ℕ × EventFault)). l ++ more) (first.told uses are) ∙ append_assoc ps mine more ∙ ap (λ (l : List (ℕ × EventFault)). ps ++ l) (sym (lines_both xs ys uses));
+      let mine : List (ℕ × Refusal) = refused_in (lines_of xs uses) in
+      let more : List (ℕ × Refusal) = refused_in (lines_of ys (left_after xs uses)) in
+      next.told (left_after xs uses) (first.rest uses are) ∙ ap (λ (l : List (ℕ × Refusal)). l ++ more) (first.told uses are) ∙ append_assoc ps mine more ∙ ap (λ (l : List (ℕ × Refusal)). ps ++ l) (sym (lines_both xs ys uses));
   rest = λ uses are. subst (AreAt xc ns) (sym (left_both xs ys uses)) (next.rest (left_after xs uses) (first.rest uses are));
 }
 
@@ -130,18 +130,18 @@ fate_told number [] = refl
 fate_told number (u ∷ us) = refl
 
 lists_one :
-    (number r : ℕ) (task : Task) (ns : List Node) (cs cs' : List Cursor) (rs rs' : List (ℕ × EventFault)) (f : Option StepFault) → ((uses : ℕ → List Use) → AreAt cs ns uses → f ≡ next_refusal (uses r)) →
+    (number r : ℕ) (task : Task) (ns : List Node) (cs cs' : List Cursor) (rs rs' : List (ℕ × Refusal)) (f : Option StepFault) → ((uses : ℕ → List Use) → AreAt cs ns uses → f ≡ next_refusal (uses r)) →
     ((uses : ℕ → List Use) → AreAt cs ns uses → AreAt cs' ns (without_next r uses)) → rs' ≡ rs ++ refusal_of number (fate_of f) → Lists ((number, (r, task)) ∷ []) ns cs cs' rs rs'
 lists_one number r task ns cs cs' rs rs' f why rest is = record {
   told =
       λ uses are.
-      is ∙ ap (λ (l : List (ℕ × EventFault)). rs ++ l)
+      is ∙ ap (λ (l : List (ℕ × Refusal)). rs ++ l)
       (ap (λ (o : Option StepFault). refusal_of number (fate_of o)) (why uses are) ∙ sym (fate_told number (uses r)) ∙ sym (append-nil (refusal_of number (next_fate (uses r)))));
   rest = rest;
 }
 
 pub lists_line :
-    (number : ℕ) (line : AgendaLine) (r : ℕ) (ps : List ℕ) (ts : List Receipt) (ns : List Node) (cs cs' : List Cursor) (rs rs' : List (ℕ × EventFault)) (f : Option StepFault) → r ≡ replica_of line →
+    (number : ℕ) (line : AgendaLine) (r : ℕ) (ps : List ℕ) (ts : List Receipt) (ns : List Node) (cs cs' : List Cursor) (rs rs' : List (ℕ × Refusal)) (f : Option StepFault) → r ≡ replica_of line →
     ((uses : ℕ → List Use) → AreAt cs ns uses → f ≡ next_refusal (uses r)) → ((uses : ℕ → List Use) → AreAt cs ns uses → AreAt cs' ns (without_next r uses)) →
     rs' ≡ rs ++ refusal_of number (fate_of f) → Lists ((number, asked_of ps ts line) ∷ []) ns cs cs' rs rs'
 lists_line number (Propose replica client command named) r ps ts ns cs cs' rs rs' f asks why rest is =

@@ -6,8 +6,8 @@ use Rattle.ep_host.specs.declared.task.Task.{Task}
 use Rattle.ep_journal.specs.Entries.{journals_of}
 use Rattle.ep_journal.specs.Events as journal
 use Rattle.ep_journal.specs.declared.step_fault.StepFault.{StepFault}
-use Rattle.ep_replay.specs.Causes.{cause_of_step}
-use Rattle.ep_report.specs.declared.event_fault.EventFault.{EventFault}
+use Rattle.ep_journal.specs.declared.refusal.Refusal.{Refusal}
+use Rattle.ep_journal.specs.declared.refusal.Refusal.TheVariants.{Step}
 use Rattle.ep_rules.specs.Journals.{asked_in as asked_in_entries}
 use Rattle.ep_rules.specs.Steps.{Event}
 use Rattle.ep_rules.specs.declared.receipt.Receipt.{Receipt}
@@ -45,13 +45,13 @@ abbrev pub made_at : ℕ → List Line → List Event
 made_at r [] = []
 made_at r (l ∷ ls) = cond (eqb l.replica r) (event_made l.task l.fate) [] ++ made_at r ls
 
-abbrev pub refusal_of : ℕ → Fate → List (ℕ × EventFault)
+abbrev pub refusal_of : ℕ → Fate → List (ℕ × Refusal)
 refusal_of number made = []
-refusal_of number (refused fault) = (number, cause_of_step fault) ∷ []
+refusal_of number (refused fault) = (number, Step fault) ∷ []
 refusal_of number left = []
 
 -- the lines that were refused, in order, each with the cause
-abbrev pub refused_in : List Line → List (ℕ × EventFault)
+abbrev pub refused_in : List Line → List (ℕ × Refusal)
 refused_in [] = []
 refused_in (l ∷ ls) = refusal_of l.number l.fate ++ refused_in ls
 

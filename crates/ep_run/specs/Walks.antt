@@ -4,7 +4,7 @@ use Rattle.ep_host.specs.Node.{Node}
 use Rattle.ep_host.specs.Tasks.{Use, refusals_in}
 use Rattle.ep_host.specs.declared.task.Task.{Task}
 use Rattle.ep_journal.specs.declared.step_fault.StepFault.{StepFault}
-use Rattle.ep_report.specs.declared.event_fault.EventFault.{EventFault}
+use Rattle.ep_journal.specs.declared.refusal.Refusal.{Refusal}
 use Rattle.ep_run.specs.Lines.{refused_in}
 use Rattle.ep_run.specs.Rings.{without_next, lines_of}
 use Rattle.ep_run.specs.declared.cursor.Cursor.{Cursor}
@@ -34,6 +34,6 @@ pub record AreAt (cursors : List Cursor) (nodes : List Node) (uses : ℕ → Lis
   pub others : (i : ℕ) → length nodes ≤ i → uses i ≡ []
 
 -- a walk over lines that asked for this lists those that were refused, and has then come to what these lines leave
-pub record Lists (asked : List (ℕ × (ℕ × Task))) (nodes : List Node) (cursors cursors' : List Cursor) (listed listed' : List (ℕ × EventFault)) : Type 0 where
+pub record Lists (asked : List (ℕ × (ℕ × Task))) (nodes : List Node) (cursors cursors' : List Cursor) (listed listed' : List (ℕ × Refusal)) : Type 0 where
   pub told : (uses : ℕ → List Use) → AreAt cursors nodes uses → listed' ≡ listed ++ refused_in (lines_of asked uses)
   pub rest : (uses : ℕ → List Use) → AreAt cursors nodes uses → AreAt cursors' nodes (left_after asked uses)

@@ -12,9 +12,7 @@ ghost use Rattle.ep_run.specs.Walks.{next_refusal, AreAt, Lists};
 use crate::cursor::Cursor;
 use ep_base::ReplicaId;
 use ep_host::RingNode;
-use ep_journal::StepFault;
-use ep_replay::step_cause;
-use ep_report::EventFault;
+use ep_journal::{Refusal, StepFault};
 use ep_script::{AgendaLine, ScriptSection};
 use std::alloc::{AllocError, Global};
 
@@ -65,7 +63,7 @@ fn pass(
 
 /// Adds the line of this number if it was refused.
 fn list_line(
-    refused: &mut Vec<(u32, EventFault)>,
+    refused: &mut Vec<(u32, Refusal)>,
     cursors: &mut [Cursor],
     nodes: &[RingNode],
     number: u32,
@@ -76,14 +74,14 @@ fn list_line(
 {
     let fault = pass(cursors, nodes, replica(line))?;
     if let Some(fault) = fault {
-        refused.push((number, step_cause(fault)))?;
+        refused.push((number, Refusal::Step(fault)))?;
     }
     Ok(())
 }
 
 /// Adds the refused ones of the section's lines.
 fn list_section(
-    refused: &mut Vec<(u32, EventFault)>,
+    refused: &mut Vec<(u32, Refusal)>,
     cursors: &mut [Cursor],
     nodes: &[RingNode],
     section: &ScriptSection,
@@ -99,7 +97,7 @@ fn list_section(
 
 /// Adds the refused ones of the sections' lines.
 fn list_all(
-    refused: &mut Vec<(u32, EventFault)>,
+    refused: &mut Vec<(u32, Refusal)>,
     cursors: &mut [Cursor],
     nodes: &[RingNode],
     sections: &[ScriptSection],
@@ -118,7 +116,7 @@ pub(crate) fn refused_lines(
     alloc: Global,
     sections: &[ScriptSection],
     nodes: &[RingNode],
-) -> Result<Vec<(u32, EventFault)>, AllocError>
+) -> Result<Vec<(u32, Refusal)>, AllocError>
     ensures { IfOk result (λ refused. (before : List (List Receipt)) (uses : ℕ → List Use) → (length before ≡ length sections.now) → ((i : ℕ) (d : Node) → i < length nodes.now → (slice_index_or nodes.now i d).refused ≡ refusals_in 0 (uses i)) → ((i : ℕ) → length nodes.now ≤ i → uses i ≡ []) → refused.items ≡ refused_in (lines_of (asked_in [] sections.now before) uses)) }
 {
     let mut cursors = cursors(alloc, nodes.len())?;

@@ -20,7 +20,7 @@ use crate::ran::Ran;
 use crate::refusals::refused_lines;
 use crate::ring_weather::set_weather;
 use ep_host::{Finished, Gate, RingHost, RingNode, finish_with, section as turn_all, settle};
-use ep_replay::{Clients, opening_of};
+use ep_replay::{Clients, beginning_of};
 use ep_rules::Receipt;
 use ep_script::{AgendaLine, Head, RunScript, ScriptSection};
 use std::alloc::{AllocError, Global};
@@ -135,10 +135,8 @@ fn nodes_of(alloc: Global, head: &Head, capacity: usize) -> Result<Vec<RingNode>
     ensures fresh { IfOk result (λ nodes. All (IsFresh capacity) nodes.items) }
     ensures start { IfOk result (λ nodes. All (StartsAs head.now.version (opening_of head.now.opening)) nodes.items) }
 {
-    let opening = opening_of(alloc, head.opening())?;
-    let nodes = RingHost::of(alloc, head.size(), capacity, head.version(), &opening);
-    drop(opening);
-    nodes
+    let beginning = beginning_of(alloc, head)?;
+    RingHost::opened(alloc, head.size(), capacity, &beginning)
 }
 
 impl RingRun {

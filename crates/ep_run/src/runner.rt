@@ -20,8 +20,8 @@ use crate::submission::Submission;
 use crate::weather::{want_of_memory, weather_in};
 use ep_base::ReplicaId;
 use ep_host::{LockHost, Start, Turn};
-use ep_replay::{Clients, opening_of};
-use ep_report::EventFault;
+use ep_journal::Refusal;
+use ep_replay::{Clients, beginning_of};
 use ep_rules::Receipt;
 use ep_script::{Head, RunScript, ScriptSection};
 use std::alloc::{AllocError, Global};
@@ -34,7 +34,7 @@ struct Runner<S: Start> {
     host: LockHost<S>,
     clients: Clients,
     receipts: Vec<Receipt>,
-    refused: Vec<(u32, EventFault)>,
+    refused: Vec<(u32, Refusal)>,
     /// For each replica the number of the last entry whose receipts were collected.
     collected: Vec<u32>,
     alloc: Global,
@@ -62,16 +62,8 @@ fn host_of<S: Start>(alloc: Global, head: &Head, limits: &Limits) -> Result<Lock
     requires room { S.room ≡ Some limits.now.capacity }
     ensures { IfOk result (λ host. HasBegun head.now host.cluster host.version host.opening) }
 {
-    let opening = opening_of(alloc, head.opening())?;
-    let host = LockHost::of(
-        alloc,
-        head.size(),
-        limits.capacity,
-        head.version(),
-        &opening,
-    );
-    drop(opening);
-    host
+    let beginning = beginning_of(alloc, head)?;
+    LockHost::opened(alloc, head.size(), limits.capacity, &beginning)
 }
 
 impl<S: Start + Send + Sync> Runner<S> {

@@ -3,9 +3,9 @@
 use crate::asking::asked_by;
 use ep_base::ReplicaId;
 use ep_host::{Act, HostFault, LockHost, Start, Task};
-use ep_replay::{Clients, step_cause};
+use ep_journal::{Refusal, StepFault};
+use ep_replay::Clients;
 use ep_replica::Proposal;
-use ep_report::EventFault;
 use ep_script::AgendaLine;
 use std::alloc::{AllocError, Global};
 use std::sync::{Mutex, Wait};
@@ -19,7 +19,7 @@ pub(crate) struct Submission {
     pub replica: ReplicaId,
     task: Task,
     /// Why the replica refused it, if it did.
-    refusal: Mutex<Option<EventFault>>,
+    refusal: Mutex<Option<Refusal>>,
 }
 
 impl Submission {
@@ -90,16 +90,16 @@ impl Submission {
     }
 
     /// Why the replica refused it, if it did.
-    pub(crate) fn refusal<R: Wait>(&self, rt: &R) -> Option<EventFault> {
+    pub(crate) fn refusal<R: Wait>(&self, rt: &R) -> Option<Refusal> {
         *self.refusal.lock(rt)
     }
 }
 
 /// The cause as a report names it.
-fn cause_of(fault: HostFault) -> EventFault {
+fn cause_of(fault: HostFault) -> Refusal {
     match fault {
-        HostFault::Memory => EventFault::Memory,
-        HostFault::OutOfRange => EventFault::OutOfRange,
-        HostFault::Replica(fault) => step_cause(fault),
+        HostFault::Memory => Refusal::Step(StepFault::Memory),
+        HostFault::OutOfRange => Refusal::Step(StepFault::OutOfRange),
+        HostFault::Replica(fault) => Refusal::Step(fault),
     }
 }

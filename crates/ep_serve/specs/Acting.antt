@@ -13,14 +13,15 @@ use Rattle.ep_replica.specs.Pending.{ExecutesNext, IsHeldUp, IsPending, IsWaitin
 use Rattle.ep_rules.specs.Journals.{stamp_after}
 use Rattle.ep_serve.specs.declared.pending_answer.PendingAnswer.{PendingAnswer}
 use Rattle.ep_serve.specs.declared.pending_answer.PendingAnswer.TheVariants.{Taken, Refused, Value, Open, Leads, Synced, State, Ready, Handled, Interfering, Read, Malformed}
-use Rattle.ep_wire.specs.declared.take_fault.TakeFault.{TakeFault}
-use Rattle.ep_wire.specs.declared.take_fault.TakeFault.TheVariants.{BadFrame, Step}
+use Rattle.ep_journal.specs.declared.refusal.Refusal.{Refusal}
+use Rattle.ep_journal.specs.declared.refusal.Refusal.TheVariants.{BadFrame, NoSuchMessage, Step}
 use Rattle.ep_wire.specs.declared.request.Request.{Request}
 use Rattle.ep_wire.specs.declared.request.Request.TheVariants as request
 
 -- why an event isn't taken
-abbrev pub IsRefusal : Kept → Happening → TakeFault → Type 0
+abbrev pub IsRefusal : Kept → Happening → Refusal → Type 0
 IsRefusal k happening BadFrame = ⊥
+IsRefusal k happening (NoSuchMessage message) = ⊥
 IsRefusal k happening (Step fault) = IsDeclined k happening fault
 
 -- the event's step is taken, the next entry; or it is refused, and nothing changes

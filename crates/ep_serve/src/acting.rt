@@ -9,9 +9,9 @@ use crate::advancing::advance_all;
 use crate::executing::execute_all;
 use crate::pending_answer::PendingAnswer;
 use ep_device::Device;
-use ep_journal::{Event, StepFault};
+use ep_journal::{Event, Refusal, StepFault};
 use ep_node::{Node, NodeFault};
-use ep_wire::{Request, TakeFault};
+use ep_wire::Request;
 use std::alloc::AllocError;
 
 /// How far above the stamp of the replica's last entry a stamp may be that a client has seen: 2^40. Stamps are below 2^48, and
@@ -27,7 +27,7 @@ fn take<D: Device>(node: &mut Node<D>, event: Event) -> Result<PendingAnswer, Al
     let from = node.taken();
     match node.step(event) {
         Ok(()) => Ok(PendingAnswer::Taken { from, count: 1 }),
-        Err(NodeFault::Refused(fault)) => Ok(PendingAnswer::Refused(TakeFault::Step(fault))),
+        Err(NodeFault::Refused(fault)) => Ok(PendingAnswer::Refused(Refusal::Step(fault))),
         // No other fault comes of a node whose device works.
         Err(_) => Err(AllocError),
     }
@@ -66,7 +66,7 @@ fn take_near<D: Device>(node: &mut Node<D>, event: Event) -> Result<PendingAnswe
     let seen = seen_by(&event);
     if is_far_ahead(node, seen) {
         drop(event);
-        return Ok(PendingAnswer::Refused(TakeFault::Step(StepFault::StampFull)));
+        return Ok(PendingAnswer::Refused(Refusal::Step(StepFault::StampFull)));
     }
     take(node, event)
 }
@@ -81,7 +81,7 @@ pub fn act<D: Device>(node: &mut Node<D>, request: Request) -> Result<PendingAns
 {
     match request {
         Request::Event(event) => take_near(node, event),
-        Request::BadFrame => Ok(PendingAnswer::Refused(TakeFault::BadFrame)),
+        Request::BadFrame => Ok(PendingAnswer::Refused(Refusal::BadFrame)),
         Request::Advance => advance_all(node),
         Request::Get(key) => Ok(PendingAnswer::Value(key)),
         Request::NextOpen(after) => Ok(PendingAnswer::Open(after)),

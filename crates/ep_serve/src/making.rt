@@ -7,9 +7,8 @@ ghost use Rattle.ep_serve.specs.Acting.{made_since, stopped_since};
 
 use crate::pending_answer::PendingAnswer;
 use ep_device::Device;
-use ep_journal::StepFault;
+use ep_journal::{Refusal, StepFault};
 use ep_node::Node;
-use ep_wire::TakeFault;
 use std::alloc::AllocError;
 
 /// The entries that were made behind the first ones, so many.
@@ -25,7 +24,7 @@ pub(crate) fn stopped_since<D: Device>(node: &Node<D>, from: usize) -> PendingAn
     ensures { result ≡ stopped_since from node.now.replica }
 {
     if node.taken() == from {
-        PendingAnswer::Refused(TakeFault::Step(StepFault::StampFull))
+        PendingAnswer::Refused(Refusal::Step(StepFault::StampFull))
     } else {
         made_since(node, from)
     }

@@ -1,7 +1,8 @@
 //! Answers that wait.
 
 use ep_base::{InstanceId, Key, ReplicaId};
-use ep_wire::{Instances, Malformed, TakeFault};
+use ep_journal::Refusal;
+use ep_wire::{Instances, Malformed};
 
 /// An answer that waits until all that its node took is on the disk.
 #[derive(Drop)]
@@ -9,7 +10,7 @@ pub enum PendingAnswer {
     /// So many entries were taken, from this place among the node's entries on, counted from 0.
     Taken { from: usize, count: usize },
     /// An event was refused.
-    Refused(TakeFault),
+    Refused(Refusal),
     /// What the map has at the key is asked.
     Value(Key),
     /// The next open instance is asked, above this one.

@@ -147,16 +147,20 @@ fn closing<D: Device>(
 }
 
 /// Whose log is that of this generation.
-fn whose_of(named: NamedFile, me: ReplicaId) -> Whose
-    ensures cluster { result.cluster ≡ named.file.faults }
-    ensures me { result.me ≡ me }
-    ensures origin { result.origin ≡ origin_from named }
+fn whose_of(alloc: Global, named: NamedFile, me: ReplicaId) -> Result<Whose, ServerFault>
+    ensures cluster { IfOk result (λ whose. whose.cluster ≡ named.file.faults) }
+    ensures me { IfOk result (λ whose. whose.me ≡ me) }
+    ensures origin { IfOk result (λ whose. whose.origin ≡ origin_from named) }
+    ensures err { IfErr result IsUnready }
 {
     let cluster = named.file.size();
-    Whose {
-        cluster,
-        me,
-        origin: named.into_origin(),
+    match named.into_origin(alloc) {
+        Ok(origin) => Ok(Whose {
+            cluster,
+            me,
+            origin,
+        }),
+        Err(_) => Err(ServerFault::Open(OpenFault::Memory)),
     }
 }
 
@@ -194,8 +198,8 @@ fn open_stage<'a, R: Files<File = File> + AllocGlobal, F: Sink>(
 {
     let GenerationStart { named, begin, held } = stage;
     let generation = named.file.generation();
+    let whose = whose_of(rt.alloc(), named, options.me)?;
     let device = device_of(rt, options.folder, generation)?;
-    let whose = whose_of(named, options.me);
     match opened_as(rt.alloc(), device, whose, begin) {
         Ok(node) => {
             let _ = tell_first(node.cut(), fault_writer);

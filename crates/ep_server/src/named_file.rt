@@ -1,11 +1,12 @@
 //! What a generation opens with, as its log names it.
 
-ghost use Rattle.std.specs.Prelude.{◌≡◌};
+ghost use Rattle.std.specs.Prelude.{◌≡◌, IfOk};
 ghost use Rattle.ep_opening.specs.Bytes.{file_digest};
 ghost use Rattle.ep_server.specs.Replays.{origin_from, HasOpened};
 
-use ep_log::Beginning;
+use ep_log::Origin;
 use ep_opening::{OpeningFile, SpelledFile};
+use std::alloc::{AllocError, Global};
 
 /// What a generation opens with, and the digest by which its log names it: that of its file, or that of the reference that stood for it.
 #[derive(Drop)]
@@ -29,11 +30,11 @@ impl NamedFile {
     }
 
     /// What the replica begins with whose generation opens so.
-    pub(crate) fn into_origin(self) -> Beginning
-        ensures { result ≡ origin_from self }
+    pub(crate) fn into_origin(self, alloc: Global) -> Result<Origin, AllocError>
+        ensures { IfOk result (λ o. o ≡ origin_from self) }
     {
         let NamedFile { file, digest } = self;
         let generation = file.generation();
-        Beginning::of(generation, file.into_opening(), digest)
+        Origin::of(alloc, generation, file.into_opening(), digest)
     }
 }

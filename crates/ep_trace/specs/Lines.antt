@@ -6,8 +6,8 @@ use Rattle.ep_journal.specs.declared.entry.Entry.{Entry}
 use Rattle.ep_journal.specs.declared.event.Event.{Event as Happening}
 use Rattle.ep_journal.specs.declared.event.Event.TheVariants as taken
 use Rattle.ep_report.specs.Parts.{instance_text, command_text}
-use Rattle.ep_report.specs.Refusals.{cause_text}
-use Rattle.ep_report.specs.declared.event_fault.EventFault.{EventFault}
+use Rattle.ep_journal.specs.Refusals.{refusal_text}
+use Rattle.ep_journal.specs.declared.refusal.Refusal.{Refusal}
 use Rattle.ep_trace.specs.declared.numbers.Numbers.{Numbers}
 use Rattle.ep_view.specs.Lines.{words_at, between, done_text, taken_text}
 use Rattle.ep_world.specs.declared.world_event.WorldEvent.{WorldEvent}
@@ -77,5 +77,5 @@ asked_text (Execute replica i) = codes "execute " ++ decimal replica ++ codes " 
 asked_text (Deliver message) = codes "deliver " ++ decimal message
 
 -- the event, and why it is refused
-abbrev pub refused_line : ℕ → WorldEvent → EventFault → List ℕ
-refused_line line event cause = codes "line " ++ decimal line ++ codes "  refused " ++ cause_text cause ++ codes ": " ++ asked_text event ++ codes "\n"
+abbrev pub refused_line : ℕ → WorldEvent → Refusal → List ℕ
+refused_line line event cause = codes "line " ++ decimal line ++ codes "  refused " ++ refusal_text cause ++ codes ": " ++ asked_text event ++ codes "\n"

@@ -8,8 +8,8 @@ ghost use Rattle.ep_report.specs.Parts.{instance_text};
 use crate::numbers::{Numbers, next};
 use ep_base::{Command, InstanceId, ReplicaId};
 use ep_frame::Frame;
-use ep_journal::{Entry, Event};
-use ep_report::{EventFault, Part, push_parts};
+use ep_journal::{Entry, Event, Refusal};
+use ep_report::{Part, push_parts};
 use ep_view::{push_between, push_done, push_message, push_taken, words_of};
 use ep_world::WorldEvent;
 use std::alloc::AllocError;
@@ -269,7 +269,7 @@ pub(crate) fn push_refused(
     text: &mut Vec<u8>,
     line: u32,
     event: &WorldEvent,
-    cause: EventFault,
+    cause: Refusal,
 ) -> Result<(), AllocError>
     ensures { OnOk result (text.new.items ≡ text.old.items ++ refused_line line event.now cause) }
 {

@@ -9,11 +9,11 @@ use Rattle.ep_bundle.specs.Bytes.{frame_bytes, receipt_bytes, told_bytes}
 use Rattle.ep_bundle.specs.Writing.{FramesFit}
 use Rattle.ep_frame.specs.Fields.{number_bytes, dep_bytes}
 use Rattle.ep_frame.specs.Meaning.{instance_at, origin_at}
+use Rattle.ep_journal.specs.Refusals.{code_of, names}
 use Rattle.ep_journal.specs.declared.entry.Entry.{Entry}
 use Rattle.ep_journal.specs.declared.event.Event.{Event}
 use Rattle.ep_journal.specs.declared.event.Event.TheVariants.{Propose, Handle, GiveUp, Recover, Execute}
-use Rattle.ep_journal.specs.declared.step_fault.StepFault.{StepFault}
-use Rattle.ep_journal.specs.declared.step_fault.StepFault.TheVariants.{Memory, OtherVersion, OtherGeneration, OutOfRange, NotMine, StampFull, SpaceFull, SeqExhausted, NotLeading, TooFewAnswers, AlreadyCommitted, BallotsExhausted, NotCommitted}
+use Rattle.ep_journal.specs.declared.refusal.Refusal.{Refusal}
 use Rattle.ep_rules.specs.declared.receipt.Receipt.{Receipt}
 use Rattle.ep_rules.specs.States.{or_zero}
 use Rattle.ep_wire.specs.declared.request_field.RequestField.{RequestField}
@@ -22,8 +22,6 @@ use Rattle.ep_wire.specs.declared.lead_progress.LeadProgress.{LeadProgress}
 use Rattle.ep_wire.specs.declared.lead_progress.LeadProgress.TheVariants.{Proposing, Accepting, Preparing}
 use Rattle.ep_wire.specs.declared.malformed.Malformed.{Malformed}
 use Rattle.ep_wire.specs.declared.node_state.NodeState.{NodeState}
-use Rattle.ep_wire.specs.declared.take_fault.TakeFault.{TakeFault}
-use Rattle.ep_wire.specs.declared.take_fault.TakeFault.TheVariants.{BadFrame, Step}
 
 -- an instance, or three zero bytes
 abbrev pub instance_or_none : Option ℕ → List ℕ
@@ -70,46 +68,8 @@ Fits frames rs = FramesFit frames × (length rs < 2 ^ 16)
 abbrev pub taken_bytes : List ℕ → List ℕ
 taken_bytes body = number_bytes 4 (1 + length body) ++ number_bytes 1 1 ++ body
 
--- the number in the name of a fault, and the instance that it names
-abbrev pub step_code : StepFault → ℕ
-step_code Memory = 1
-step_code OtherVersion = 14
-step_code OtherGeneration = 14
-step_code OutOfRange = 3
-step_code NotMine = 13
-step_code StampFull = 15
-step_code SpaceFull = 4
-step_code SeqExhausted = 5
-step_code NotLeading = 6
-step_code TooFewAnswers = 7
-step_code AlreadyCommitted = 8
-step_code BallotsExhausted = 9
-step_code (NotCommitted i) = 10
-
-abbrev pub step_names : StepFault → Option ℕ
-step_names Memory = None
-step_names OtherVersion = None
-step_names OtherGeneration = None
-step_names OutOfRange = None
-step_names NotMine = None
-step_names StampFull = None
-step_names SpaceFull = None
-step_names SeqExhausted = None
-step_names NotLeading = None
-step_names TooFewAnswers = None
-step_names AlreadyCommitted = None
-step_names BallotsExhausted = None
-step_names (NotCommitted i) = Some i
-
-abbrev pub code_of : TakeFault → ℕ
-code_of BadFrame = 14
-code_of (Step fault) = step_code fault
-
-abbrev pub names : TakeFault → Option ℕ
-names BadFrame = None
-names (Step fault) = step_names fault
-
-abbrev pub refused_bytes : TakeFault → List ℕ
+-- why an event was refused: the number in its name, and the instance that it names
+abbrev pub refused_bytes : Refusal → List ℕ
 refused_bytes r = number_bytes 4 5 ++ number_bytes 1 2 ++ number_bytes 1 (code_of r) ++ instance_or_none (names r)
 
 abbrev pub value_bytes : Option (List ℕ) → List ℕ

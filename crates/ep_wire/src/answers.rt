@@ -6,19 +6,18 @@ ghost use Rattle.ep_base.specs.Devices.{Puts};
 ghost use Rattle.ep_bundle.specs.Bytes.{receipt_bytes};
 ghost use Rattle.ep_frame.specs.Fields.{number_bytes};
 ghost use Rattle.ep_bundle.specs.Writing.{All, FrameFits, FramesFit};
-ghost use Rattle.ep_wire.specs.Answers.{answer_count, code_of, counts_bytes, entry_bytes, first_about, frames_bytes, handled_bytes, head_bytes, instance_bytes, field_code, instance_or_none, leading_bytes, malformed_bytes, names, phase_code, receipts_bytes, refused_bytes, sealed_code, sent_bytes, space_bytes, state_bytes, step_code, synced_bytes, taken_as, taken_bytes, value_bytes, Fits};
+ghost use Rattle.ep_wire.specs.Answers.{answer_count, counts_bytes, entry_bytes, first_about, frames_bytes, handled_bytes, head_bytes, instance_bytes, field_code, instance_or_none, leading_bytes, malformed_bytes, phase_code, receipts_bytes, refused_bytes, sealed_code, sent_bytes, space_bytes, state_bytes, synced_bytes, taken_as, taken_bytes, value_bytes, Fits};
 
 use crate::lead_progress::LeadProgress;
 use crate::malformed::Malformed;
 use crate::node_state::NodeState;
 use crate::request_field::RequestField;
-use crate::take_fault::TakeFault;
 use ep_base::{InstanceId, Sink, Value, Version, WriteFailed};
 use ep_bundle::{
     put_frame, put_instance, put_receipt, put_run, put_u8, put_u16, put_u32, put_u64, put_value,
 };
 use ep_frame::Frame;
-use ep_journal::{Entry, Event, StepFault};
+use ep_journal::{Entry, Event, Refusal};
 use ep_rules::Receipt;
 
 /// An instance, or three zero bytes.
@@ -140,56 +139,14 @@ pub fn write_taken<K: Sink>(sink: &mut K, body: &[u8]) -> Result<(), WriteFailed
     put_run(sink, body)
 }
 
-/// The number in the fault's name.
-pub fn step_code(fault: StepFault) -> u8
-    ensures value { result ≡ step_code fault }
-    ensures range { (1 ≤ result) × (result ≤ 15) }
-{
-    match fault {
-        StepFault::Memory => 1,
-        StepFault::OutOfRange => 3,
-        StepFault::SpaceFull => 4,
-        StepFault::SeqExhausted => 5,
-        StepFault::NotLeading => 6,
-        StepFault::TooFewAnswers => 7,
-        StepFault::AlreadyCommitted => 8,
-        StepFault::BallotsExhausted => 9,
-        StepFault::NotCommitted(_) => 10,
-        StepFault::NotMine => 13,
-        StepFault::OtherVersion => 14,
-        StepFault::OtherGeneration => 14,
-        StepFault::StampFull => 15,
-    }
-}
-
-/// The number in the name of what a refusal tells.
-fn code_of(refusal: &TakeFault) -> u8
-    ensures { result ≡ code_of refusal.now }
-{
-    match refusal {
-        TakeFault::BadFrame => 14,
-        TakeFault::Step(fault) => step_code(*fault),
-    }
-}
-
-/// The instance that a refusal names.
-fn names(refusal: &TakeFault) -> Option<InstanceId>
-    ensures { result ≡ names refusal.now }
-{
-    match refusal {
-        TakeFault::Step(StepFault::NotCommitted(instance)) => Some(*instance),
-        TakeFault::Step(_) | TakeFault::BadFrame => None,
-    }
-}
-
 /// Writes that a node refused an event, and why.
-pub fn write_refused<K: Sink>(sink: &mut K, refusal: &TakeFault) -> Result<(), WriteFailed>
+pub fn write_refused<K: Sink>(sink: &mut K, refusal: &Refusal) -> Result<(), WriteFailed>
     ensures { Puts (K.held sink.old) (K.held sink.new) (K.has_failed sink.old) (K.has_failed sink.new) result (refused_bytes refusal.now) }
 {
     put_u32(sink, 5)?;
     put_u8(sink, 2)?;
-    put_u8(sink, code_of(refusal))?;
-    put_instance_or_none(sink, names(refusal))
+    put_u8(sink, refusal.code())?;
+    put_instance_or_none(sink, refusal.instance())
 }
 
 /// That there is none, by an answer of this kind.

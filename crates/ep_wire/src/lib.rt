@@ -22,13 +22,12 @@ mod reads;
 mod request;
 mod request_fault;
 mod request_field;
-mod take_fault;
 mod telling;
 
 pub use answers::{
-    put_entry, put_sent, sealed_code, step_code, taken_as, write_handled, write_instance,
-    write_leading, write_malformed, write_no_value, write_refused, write_state, write_synced,
-    write_taken, write_value,
+    put_entry, put_sent, sealed_code, taken_as, write_handled, write_instance, write_leading,
+    write_malformed, write_no_value, write_refused, write_state, write_synced, write_taken,
+    write_value,
 };
 pub use ep_bundle::JournalDialect;
 pub use instances::Instances;
@@ -40,5 +39,4 @@ pub use reads::{write_interfering, write_reply, write_waits};
 pub use request::Request;
 pub use request_fault::RequestFault;
 pub use request_field::RequestField;
-pub use take_fault::TakeFault;
 pub use telling::{put_instances, put_open, put_told_receipts, write_ready};

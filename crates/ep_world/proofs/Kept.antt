@@ -3,13 +3,12 @@ use Rattle.std.proofs.Common.{◌≡◌, ℕ, zero, suc, ◌+◌, ◌<◌, ◌�
 use Rattle.std.proofs.lemmas.Option.{slice_get_within}
 use Rattle.ep_base.specs.Quorums.{size}
 use Rattle.ep_base.specs.declared.version.Version.{Version}
-use Rattle.ep_base.specs.declared.version_kind.VersionKind.TheVariants.{V2, V3}
 use Rattle.ep_rules.specs.Journals.{AreClocked}
 use Rattle.ep_journal.specs.Entries.{Log, entries_of, IsJournal, AreInOrder, all_entries, first_opening, Collected, frame_in}
 use Rattle.ep_journal.specs.declared.entry.Entry.{Entry}
 use Rattle.ep_replica.specs.Kept.{Kept, first_version}
 use Rattle.ep_journal.proofs.InOrder.{named}
-use Rattle.ep_journal.specs.Openings.{Opening, no_opening, OpensIn}
+use Rattle.ep_journal.specs.Openings.{Beginning, Opening, OpensIn}
 use Rattle.ep_world.specs.Played.{collected, replica_in, numbered, IsWorld}
 use Rattle.ep_world.specs.Playing.{with_entry}
 use Rattle.ep_world.specs.Replicas.{AreReplicas, AreAll, world_of, AreTheirs}
@@ -154,11 +153,10 @@ new_world f ks steps messages h opens none no_steps no_messages = record {
   clocked = λ r. subst (λ (es : List Entry). AreClocked (first_opening ks).base_stamp (entries_of es)) (sym (none r)) tt;
 }
 
-pub second_opens : (ks : List Kept) → first_version ks ≡ V2 → first_opening ks ≡ no_opening → OpensIn (first_version ks) (first_opening ks)
-second_opens ks version opening = subst (λ (v : Version). OpensIn v (first_opening ks)) (sym version) opening
-
-pub third_opens : (ks : List Kept) (g : ℕ) → first_version ks ≡ V3 g → OpensIn (first_version ks) (first_opening ks)
-third_opens ks g version = subst (λ (v : Version). OpensIn v (first_opening ks)) (sym version) tt
+pub all_open : (b : Beginning) (ks : List Kept) → first_version ks ≡ b.version → first_opening ks ≡ b.opening
+    → OpensIn b.version b.opening → OpensIn (first_version ks) (first_opening ks)
+all_open b ks version opening opens =
+    subst (λ (v : Version). OpensIn v (first_opening ks)) (sym version) (subst (OpensIn b.version) (sym opening) opens)
 
 pub same_world : (f : ℕ) (ks js : List Kept) (steps other_steps : List (ℕ × ℕ)) (messages others : List Place) → (js ≡ ks) × (other_steps ≡ steps) × (others ≡ messages) → IsWorld (world_of f ks steps messages) → IsWorld (world_of f js other_steps others)
 same_world f ks js steps other_steps messages others is h = subst IsWorld (λ i. world_of f (sym is.0 i) (sym is.1 i) (sym is.2 i)) h

@@ -29,7 +29,7 @@ use Rattle.ep_world.specs.Playing.{asked, Happens, Happen, Ends, IsNotEnabled}
 use Rattle.ep_world.specs.Replicas.{world_of, Took}
 use Rattle.ep_world.specs.Safe.{committed, Agree, Keeps, WereProposed, Depend, Linearizable}
 use Rattle.ep_world.specs.declared.place.Place.{Place}
-use Rattle.ep_world.specs.declared.world_fault.WorldFault.{WorldFault}
+use Rattle.ep_journal.specs.declared.refusal.Refusal.{Refusal}
 use Rattle.ep_world.specs.declared.refused.Refused.{Refused}
 use Rattle.ep_world.specs.declared.world_event.WorldEvent.{WorldEvent}
 use Rattle.ep_world.proofs.Grown.{with_other}
@@ -116,7 +116,7 @@ happen_more w v w' events i n event d next less is h one = subst (λ (xs : List 
 pub happened : (w w' : Played) (events : List WorldEvent) (i : ℕ) → length events ≤ i → Happen w (take i events) w' → Happen w events w'
 happened w w' events i all h = subst (λ (xs : List WorldEvent). Happen w xs w') (take_all i events all) h
 
-pub ends_at : (w v w' : Played) (events : List WorldEvent) (i : ℕ) (event d : WorldEvent) (cause : WorldFault) → i < length events → event ≡ get_or events i d → w' ≡ v → Happen w (take i events) v → IsNotEnabled v event cause →
+pub ends_at : (w v w' : Played) (events : List WorldEvent) (i : ℕ) (event d : WorldEvent) (cause : Refusal) → i < length events → event ≡ get_or events i d → w' ≡ v → Happen w (take i events) v → IsNotEnabled v event cause →
     Ends w events (record { index = i; cause = cause }) w'
 ends_at w v w' events i event d cause less is same h why = record {
   event = event;

@@ -16,7 +16,7 @@ use Rattle.ep_world.specs.Played.{Played, replica_in, places_of, IsWorld}
 use Rattle.ep_world.specs.Playing.{asked, with_entry, IsNotEnabled}
 use Rattle.ep_world.specs.Replicas.{AreReplicas, AreAll, world_of, places_up_to, Took, IsUntaken}
 use Rattle.ep_world.specs.declared.place.Place.{Place}
-use Rattle.ep_world.specs.declared.world_fault.WorldFault.TheVariants.{Step}
+use Rattle.ep_journal.specs.declared.refusal.Refusal.TheVariants.{Step}
 use Rattle.ep_world.specs.declared.world_event.WorldEvent.{WorldEvent}
 use Rattle.ep_world.proofs.Kept.{as_many, count_all, kept_at, replicas_set, first_set, all_set}
 use Rattle.ep_world.proofs.Grown.{with_same, goes_on, places_are, few_frames}

@@ -10,8 +10,8 @@ use Rattle.ep_journal.specs.declared.step_fault.StepFault.{StepFault}
 use Rattle.ep_journal.specs.declared.step_fault.StepFault.TheVariants.{Memory, OutOfRange}
 use Rattle.ep_replica.specs.Applied.{Applied, IsDeclined}
 use Rattle.ep_world.specs.Played.{Played, replica_in, message_in, places_of}
-use Rattle.ep_world.specs.declared.world_fault.WorldFault.{WorldFault}
-use Rattle.ep_world.specs.declared.world_fault.WorldFault.TheVariants.{Step, NoSuchMessage}
+use Rattle.ep_journal.specs.declared.refusal.Refusal.{Refusal}
+use Rattle.ep_journal.specs.declared.refusal.Refusal.TheVariants.{Step, NoSuchMessage}
 use Rattle.ep_world.specs.declared.refused.Refused.{Refused}
 use Rattle.ep_world.specs.declared.world_event.WorldEvent.{WorldEvent}
 use Rattle.ep_world.specs.declared.world_event.WorldEvent.TheVariants.{Propose, GiveUp, Recover, Execute, Deliver}
@@ -56,7 +56,7 @@ pub record Happens (w : Played) (event : WorldEvent) (w' : Played) : Type 0 wher
   pub becomes : w' ≡ grown w replica entry
 
 -- why the event is no step: out of memory; there is no such message; there is no such replica; or the replica's first reason
-abbrev pub IsNotEnabled : Played → WorldEvent → WorldFault → Type 0
+abbrev pub IsNotEnabled : Played → WorldEvent → Refusal → Type 0
 IsNotEnabled w event cause =
     (cause ≡ Step Memory)
     ⊎ ((message : ℕ) × (cause ≡ NoSuchMessage message) × (event ≡ Deliver message) × (message_in w message ≡ None))

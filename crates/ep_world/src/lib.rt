@@ -16,10 +16,8 @@ mod refused;
 mod replicas;
 mod world;
 mod world_event;
-mod world_fault;
 
 pub use place::Place;
 pub use refused::Refused;
 pub use world::World;
 pub use world_event::WorldEvent;
-pub use world_fault::WorldFault;

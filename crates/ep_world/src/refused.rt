@@ -1,6 +1,6 @@
 //! Which event was not played.
 
-use crate::world_fault::WorldFault;
+use ep_journal::Refusal;
 use thiserror::Error;
 
 /// The event at this place, from 0, was not enabled. Those before it were played.
@@ -8,5 +8,5 @@ use thiserror::Error;
 #[error("E16 refused event {index}: {cause}")]
 pub struct Refused {
     pub index: usize,
-    pub cause: WorldFault,
+    pub cause: Refusal,
 }

@@ -2,88 +2,35 @@
 
 ghost use Rattle.std.specs.Prelude.{◌≡◌, ◌<◌, ◌≤◌, ℕ, [], slice_get, slice_index_or, option_copied, IfOk};
 ghost use Rattle.ep_base.specs.Quorums.{size};
-ghost use Rattle.ep_base.specs.declared.version_kind.VersionKind.TheVariants.{V2, V3};
+ghost use Rattle.ep_base.specs.Versions.{version_number};
 ghost use Rattle.ep_frame.specs.Meaning.{origin_at};
 ghost use Rattle.ep_journal.specs.Entries.{IsJournal, all_entries, first_opening, frame_in};
-ghost use Rattle.ep_journal.specs.Openings.{no_opening};
 ghost use Rattle.ep_world.specs.Played.{numbered};
-ghost use Rattle.ep_replica.specs.Kept.{begun, first_version};
+ghost use Rattle.ep_replica.specs.Kept.{first_version};
 ghost use Rattle.ep_world.specs.Replicas.{AreAll, AreTheirs};
 
 use crate::place::Place;
-use ep_base::{Generation, ReplicaId, Size};
+use ep_base::{ReplicaId, Size};
 use ep_frame::Frame;
-use ep_journal::{Entry, Journal, Opening};
-use ep_replica::{OpenedFault, Replica};
+use ep_journal::{Beginning, Entry, Journal};
+use ep_replica::Replica;
 use std::alloc::{AllocError, Global};
 
-/// The replica of this number, which is one of the cluster's, of version 2, before any event.
-fn fresh(alloc: Global, cluster: Size, index: u8) -> Replica
-    requires low { index ≤ 6 }
-    requires there { index < size cluster }
-    ensures { result ≡ begun cluster index }
-{
-    let Ok(me) = ReplicaId::new(index) else {
-        unreachable!()
-    };
-    match Replica::new(alloc, cluster, me) {
-        Ok(replica) => replica,
-        Err(_) => unreachable!(),
-    }
-}
-
-/// The replicas of a cluster of this size, of version 2, before any event.
-pub(crate) fn all_fresh(alloc: Global, cluster: Size) -> Result<Vec<Replica>, AllocError>
-    ensures replicas { IfOk result (λ ks. AreAll cluster ks.items) }
-    ensures version { IfOk result (λ ks. first_version ks.items ≡ V2) }
-    ensures opening { IfOk result (λ ks. first_opening ks.items ≡ no_opening) }
-    ensures entries { IfOk result (λ ks. (r : ℕ) → slice_index_or (all_entries ks.items) r [] ≡ []) }
-{
-    let mut replicas = Vec::new(alloc);
-    for index in 0..cluster.count() {
-        replicas.push(fresh(alloc, cluster, index))?;
-    }
-    Ok(replicas)
-}
-
-/// The replica of this number, which is one of the cluster's, of a generation, before any event.
-fn opened(
-    alloc: Global,
-    cluster: Size,
-    index: u8,
-    generation: Generation,
-    opening: &Opening,
-) -> Result<Replica, AllocError>
-    requires low { index ≤ 6 }
-    requires there { index < size cluster }
-    ensures { IfOk result (λ r. r ≡ record { version = V3 generation; faults = cluster; me = index; opening = opening.now; entries = [] }) }
-{
-    let Ok(me) = ReplicaId::new(index) else {
-        unreachable!()
-    };
-    let opening = opening.copy(alloc)?;
-    match Replica::opened(alloc, cluster, me, generation, opening) {
-        Ok(replica) => Ok(replica),
-        Err(OpenedFault::Memory) => Err(AllocError),
-        Err(OpenedFault::OutOfRange) => unreachable!(),
-    }
-}
-
-/// The replicas of a cluster of this size, of a generation, before any event.
+/// The replicas of a cluster of this size, which begin so, before any event.
 pub(crate) fn all_opened(
     alloc: Global,
     cluster: Size,
-    generation: Generation,
-    opening: &Opening,
+    beginning: &Beginning,
 ) -> Result<Vec<Replica>, AllocError>
+    requires { 2 ≤ version_number beginning.now.version }
     ensures replicas { IfOk result (λ ks. AreAll cluster ks.items) }
-    ensures version { IfOk result (λ ks. first_version ks.items ≡ V3 generation) }
-    ensures opening { IfOk result (λ ks. first_opening ks.items ≡ opening.now) }
+    ensures version { IfOk result (λ ks. first_version ks.items ≡ beginning.now.version) }
+    ensures opening { IfOk result (λ ks. first_opening ks.items ≡ beginning.now.opening) }
     ensures entries { IfOk result (λ ks. (r : ℕ) → slice_index_or (all_entries ks.items) r [] ≡ []) }
 {
     let mut replicas = Vec::new(alloc);
     for number in 0..cluster.count() {
-        let replica = opened(alloc, cluster, number, generation, opening)?;
+        let replica = Replica::member(alloc, cluster, number, beginning)?;
         replicas.push(replica)?;
     }
     Ok(replicas)

@@ -7,13 +7,12 @@ use crate::notes::Notes;
 use crate::place::Place;
 use crate::refused::Refused;
 use crate::replicas::{
-    all_fresh, all_opened, entry_at, find, frame_at, into_journals, numbered_place, receiver,
+    all_opened, entry_at, find, frame_at, into_journals, numbered_place, receiver,
 };
 use crate::world_event::WorldEvent;
-use crate::world_fault::WorldFault;
-use ep_base::{Generation, ReplicaId, Size, Version};
+use ep_base::{ReplicaId, Size, Version};
 use ep_frame::Frame;
-use ep_journal::{Entry, Event, Journals, Opening};
+use ep_journal::{Beginning, Entry, Event, Journals, Opening, Refusal};
 use ep_replica::Replica;
 use std::alloc::{AllocError, Global};
 use std::marker::Model;
@@ -43,7 +42,8 @@ impl Model for World {
 impl World {
     ghost use Rattle.std.specs.Prelude.{◌≡◌, ◌<◌, ◌≤◌, ◌⊎◌, ℕ, List, [], Some, None, length, option_copied, IsSome, IfSome, IfOk, IfErr, OnOk, OnErr};
     ghost use Rattle.ep_base.specs.Quorums.{size};
-    ghost use Rattle.ep_base.specs.declared.version_kind.VersionKind.TheVariants.{V2, V3};
+    ghost use Rattle.ep_base.specs.Versions.{version_number};
+    ghost use Rattle.ep_base.specs.declared.version_kind.VersionKind.TheVariants.{V2};
     ghost use Rattle.ep_journal.specs.Openings.{no_opening, opens};
     ghost use Rattle.ep_rules.specs.Audits.{IsAccepted};
     ghost use Rattle.ep_rules.specs.Verdicts.{AreOwn};
@@ -65,32 +65,22 @@ impl World {
         ensures steps { IfOk result (λ w. w.steps ≡ []) }
         ensures messages { IfOk result (λ w. w.messages ≡ []) }
     {
-        let notes = Notes::new(alloc)?;
-        let replicas = all_fresh(alloc, cluster)?;
-        Ok(World {
-            size: cluster,
-            replicas,
-            notes,
-            alloc,
-        })
+        World::opened(alloc, cluster, &Beginning::new(alloc, Version::V2))
     }
 
-    /// A world of this many replicas, of version 3 and this generation, before any event: all of them have this opening.
-    pub fn opened(
-        alloc: Global,
-        cluster: Size,
-        generation: Generation,
-        opening: &Opening,
-    ) -> Result<World, AllocError>
-        ensures version { IfOk result (λ w. w.version ≡ V3 generation) }
+    /// A world of this many replicas, all of which begin so, in version 2 or 3, before any event.
+    pub fn opened(alloc: Global, cluster: Size, beginning: &Beginning) -> Result<World, AllocError>
+        requires { 2 ≤ version_number beginning.now.version }
+        ensures version { IfOk result (λ w. w.version ≡ beginning.now.version) }
         ensures faults { IfOk result (λ w. w.faults ≡ cluster) }
-        ensures opening { IfOk result (λ w. w.opening ≡ opening.now) }
+        ensures opening { IfOk result (λ w. w.opening ≡ beginning.now.opening) }
         ensures entries { IfOk result (λ w. (r : ℕ) → entries_in w r ≡ []) }
         ensures steps { IfOk result (λ w. w.steps ≡ []) }
         ensures messages { IfOk result (λ w. w.messages ≡ []) }
     {
+        let _opening = beginning.opening();
         let notes = Notes::new(alloc)?;
-        let replicas = all_opened(alloc, cluster, generation, opening)?;
+        let replicas = all_opened(alloc, cluster, beginning)?;
         Ok(World {
             size: cluster,
             replicas,
@@ -100,7 +90,7 @@ impl World {
     }
 
     /// Plays one event: one step of the rule book's world. What is refused leaves the world as it was; what was committed stays so.
-    pub fn step(&mut self, event: WorldEvent) -> Result<(), WorldFault>
+    pub fn step(&mut self, event: WorldEvent) -> Result<(), Refusal>
         ensures ok { OnOk result (Happens self.old event self.new) }
         ensures refused { IfErr result (λ cause. IsNotEnabled self.old event cause) }
         ensures err { OnErr result (self.new ≡ self.old) }
@@ -137,7 +127,7 @@ impl World {
 
     /// Gives the message of this number to its receiver: as `step` does, of `Deliver`.
     #[inline(always)]
-    pub fn deliver(&mut self, message: u64) -> Result<(), WorldFault>
+    pub fn deliver(&mut self, message: u64) -> Result<(), Refusal>
         ensures ok { OnOk result (Happens self.old (Deliver message) self.new) }
         ensures refused { IfErr result (λ cause. IsNotEnabled self.old (Deliver message) cause) }
         ensures err { OnErr result (self.new ≡ self.old) }
@@ -149,12 +139,12 @@ impl World {
 
     /// The replica that handles a message, and the message's frame.
     #[inline(always)]
-    fn receive(&self, message: u64) -> Result<(ReplicaId, Frame), WorldFault>
+    fn receive(&self, message: u64) -> Result<(ReplicaId, Frame), Refusal>
         ensures ok { IfOk result (λ p. asked self.now (Deliver message) ≡ Some (p.0, Handle p.1)) }
         ensures refused { IfErr result (λ cause. IsNotEnabled self.now (Deliver message) cause) }
     {
         let Some(frame) = self.message(message) else {
-            return Err(WorldFault::NoSuchMessage(message));
+            return Err(Refusal::NoSuchMessage(message));
         };
         let frame = frame.clone()?;
         Ok((receiver(&frame), frame))
@@ -162,7 +152,7 @@ impl World {
 
     /// The replica takes what some event of the world asks of it.
     #[inline(always)]
-    fn take(&mut self, replica: ReplicaId, taken: Event) -> Result<(), WorldFault>
+    fn take(&mut self, replica: ReplicaId, taken: Event) -> Result<(), Refusal>
         requires { (event : Asked) × (asked self.old event ≡ Some (replica, taken)) }
         ensures ok { OnOk result ((event : Asked) → asked self.old event ≡ Some (replica, taken) → Happens self.old event self.new) }
         ensures refused { IfErr result (λ cause. (event : Asked) → asked self.old event ≡ Some (replica, taken) → IsNotEnabled self.old event cause) }
@@ -177,12 +167,12 @@ impl World {
             taken,
         ) {
             Ok(()) => Ok(()),
-            Err(fault) => Err(WorldFault::Step(fault)),
+            Err(fault) => Err(Refusal::Step(fault)),
         }
     }
 
     /// Plays a copy of the event.
-    fn step_copy(&mut self, event: &WorldEvent) -> Result<(), WorldFault>
+    fn step_copy(&mut self, event: &WorldEvent) -> Result<(), Refusal>
         ensures ok { OnOk result (Happens self.old event.now self.new) }
         ensures refused { IfErr result (λ cause. IsNotEnabled self.old event.now cause) }
         ensures err { OnErr result (self.new ≡ self.old) }

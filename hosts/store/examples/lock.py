@@ -1,7 +1,7 @@
 #!/usr/bin/env python3
-"""A lock that holds: taking it, renewing it, giving it back, losing it, and the token by which a resource tells an old holder from the
-new one; at whichever store answers. Needs redis-py (Debian: python3-redis) and a cluster at the ports 7000, 7001, 7002, or at those
-that are named:
+"""A lock that holds: taking it, renewing it, giving it back, losing it, and the token by which a resource tells an old
+holder from the new one; at whichever store answers. Needs redis-py (Debian: python3-redis) and a cluster at the ports
+7000, 7001, 7002, or at those that are named:
 
     python3 lock.py [PORT ..]
 """
@@ -23,8 +23,8 @@ class Lost(Exception):
 class Lock:
     """A lock that is taken for `time` seconds, and renewed by `renew` before they are over.
 
-    `token` rises with each holder. Hand it to whatever the lock guards, which refuses a token below one that it has seen. Of the clients,
-    one for each store, the first is asked, and the next one where it can't be reached.
+    `token` rises with each holder. Hand it to whatever the lock guards, which refuses a token below one that it has
+    seen. Of the clients, one for each store, the first is asked, and the next one where it can't be reached.
     """
 
     def __init__(self, clients, name, time):
@@ -90,7 +90,7 @@ class Resource:
 
 
 def stores(first):
-    """A client for each store, that of this number first. (What takes longer than a second is asked at the next store.)"""
+    """A client for each store, that of this number first. (What takes over a second is asked at the next store.)"""
     return [redis.Redis(port=port, socket_timeout=1) for port in PORTS[first:] + PORTS[:first]]
 
 

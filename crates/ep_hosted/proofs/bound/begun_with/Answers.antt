@@ -5,10 +5,10 @@ use Rattle.ep_hosted.proofs.bound.begun_with.Goals as goal
 
 pub returns-in-Ok-clause-ok : goal.returns-in-Ok-clause-ok
 returns-in-Ok-clause-ok c =
-    begun_by c.args.heir.now c.args.file _ c.of.result c.in-Ok.hosted
-    (c.of.ensures ∙ (λ t. record { version = V3 (c.generation-generation.ensures t); opening = c.into_opening.ensures t; digest = c.args.heir.now.digest })) c.in-Ok.ensures.ok
+    begun_by c.args.heir.now c.args.file _ c.in_ok-origin.origin c.in-Ok.hosted
+    (c.in_ok-origin.ensures ∙ (λ t. record { version = V3 (c.generation-generation.ensures t); opening = c.into_opening.ensures t; digest = c.args.heir.now.digest })) c.in-Ok.ensures.ok
 
 pub returns-in-Err-clause-err : goal.returns-in-Err-clause-err
 returns-in-Err-clause-err c =
-    unbegun_bound c.args.heir.now c.args.file _ c.of.result c.in-Err.fault c.from.result c.from.ensures
-    (c.of.ensures ∙ (λ t. record { version = V3 (c.generation-generation.ensures t); opening = c.into_opening.ensures t; digest = c.args.heir.now.digest })) c.in-Err.ensures.err
+    unbegun_bound c.args.heir.now c.args.file _ c.in_ok-origin.origin c.in-Err.fault c.from.result c.from.ensures
+    (c.in_ok-origin.ensures ∙ (λ t. record { version = V3 (c.generation-generation.ensures t); opening = c.into_opening.ensures t; digest = c.args.heir.now.digest })) c.in-Err.ensures.err

@@ -20,5 +20,5 @@ returns-clause-ok c =
       file = c.args.spelled;
       spelled = refl;
       cluster_is = sym (c.is_same_size.ensures.yes c.if-not-is_same_size.false) ∙ found;
-      origin_is = c.of.ensures ∙ (λ t. record { version = V3 (generation t); opening = opening t; digest = c.digest-digest.ensures t });
+      origin_is = c.in_ok-origin.ensures ∙ (λ t. record { version = V3 (generation t); opening = opening t; digest = c.digest-digest.ensures t });
     }

@@ -1,6 +1,5 @@
 use Rattle.std.proofs.Common.{◌≡◌, arith}
 use Rattle.ep_base.specs.Quorums.{size}
-use Rattle.ep_base.specs.declared.version_kind.VersionKind.TheVariants.{V3}
 use Rattle.ep_world.proofs.Kept.{Whole, more_fresh, still_none, whole}
 use Rattle.ep_world.proofs.replicas.all_opened.Goals as goal
 use Rattle.ep_world.proofs.replicas.all_opened.Goals.{After-loop-number}
@@ -11,15 +10,15 @@ loop-number-preserved c =
     let r = c.loop-number.number in
     let ks = c.loop-number.replicas.items in
     record {
-      replicas = more_fresh (V3 c.args.generation) c.args.opening.now f r ks c.push.new.self.items c.in_ok-replica.replica c.in_ok-push.ensures.items c.in_ok-replica.ensures c.loop-number.invariant.replicas;
-      entries = still_none (V3 c.args.generation) c.args.opening.now f r ks c.push.new.self.items c.in_ok-replica.replica c.in_ok-push.ensures.items c.in_ok-replica.ensures c.loop-number.invariant.entries;
+      replicas = more_fresh c.args.beginning.now.version c.args.beginning.now.opening f r ks c.push.new.self.items c.in_ok-replica.replica c.in_ok-push.ensures.items c.in_ok-replica.ensures c.loop-number.invariant.replicas;
+      entries = still_none c.args.beginning.now.version c.args.beginning.now.opening f r ks c.push.new.self.items c.in_ok-replica.replica c.in_ok-push.ensures.items c.in_ok-replica.ensures c.loop-number.invariant.entries;
     }
 
-all : (c : After-loop-number) → Whole (V3 c.args.generation) c.args.opening.now c.args.cluster c.loop-number.replicas.items
+all : (c : After-loop-number) → Whole c.args.beginning.now.version c.args.beginning.now.opening c.args.cluster c.loop-number.replicas.items
 all c =
     let v : c.count-number-end.result ≡ size c.args.cluster = c.count-number-end.ensures.value in
     let at : c.loop-number.number ≡ size c.args.cluster = omega arith in
-    whole (V3 c.args.generation) c.args.opening.now c.args.cluster c.loop-number.number c.loop-number.replicas.items at c.loop-number.invariant.replicas
+    whole c.args.beginning.now.version c.args.beginning.now.opening c.args.cluster c.loop-number.number c.loop-number.replicas.items at c.loop-number.invariant.replicas
 
 pub returns-clause-replicas : goal.returns-clause-replicas
 returns-clause-replicas c = (all c).all

@@ -1,5 +1,4 @@
 use Rattle.std.proofs.Common.{◌≡◌, ℕ, List, [], ◌++◌, slice_index_or}
-use Rattle.ep_base.specs.declared.version_kind.VersionKind.TheVariants.{V3}
 use Rattle.ep_journal.specs.Entries.{all_entries}
 use Rattle.ep_replica.specs.Kept.{Kept}
 use Rattle.ep_world.specs.Replicas.{AreReplicas}
@@ -7,6 +6,6 @@ use Rattle.ep_world.proofs.replicas.all_opened.Given as goal
 
 abbrev pub invariant-loop-number : goal.invariant-loop-number
 invariant-loop-number l = record {
-  replicas : (rest : List Kept) → AreReplicas (V3 l.generation) l.opening l.cluster l.number rest → AreReplicas (V3 l.generation) l.opening l.cluster 0 (l.replicas.items ++ rest);
+  replicas : (rest : List Kept) → AreReplicas l.beginning.version l.beginning.opening l.cluster l.number rest → AreReplicas l.beginning.version l.beginning.opening l.cluster 0 (l.replicas.items ++ rest);
   entries : (r : ℕ) → slice_index_or (all_entries l.replicas.items) r [] ≡ [];
 }
