@@ -89,8 +89,8 @@ pub is_refused :
     is_cut w tail ≡ false → Reads {A = Receipt} (receipt w n (record { at = place; bytes = tail })) (Err fault) place' left → IsUnheld w n bytes fault
 is_refused w n bytes before now place place' tail bundle.Memory left h not_cut reads = tt
 is_refused w n bytes before now place place' tail bundle.ReadFailed left h not_cut reads = tt
-is_refused w n bytes before now place place' tail (bundle.BadBundle at) left h not_cut reads =
-    record { receipts = h.more; tail = record { at = place; bytes = tail }; read = h.read; whole = ltb-false (length tail) (receipt_length w tail) not_cut; refused = reads }
+is_refused w n bytes before now place place' tail (bundle.BadBundle field) left h not_cut reads =
+    record { receipts = h.more; tail = record { at = place; bytes = tail }; read = h.read; whole = ltb-false (length tail) (receipt_length w tail) not_cut; field = field; refused = reads; offset = refl }
 is_refused w n bytes before now place place' tail (bundle.NotARun replica entry) left h not_cut reads = tt
 
 pub one_more_file :

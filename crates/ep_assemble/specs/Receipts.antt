@@ -6,6 +6,7 @@ use Rattle.ep_base.specs.declared.version_kind.VersionKind.TheVariants.{V1, V2, 
 use Rattle.ep_bundle.specs.Bytes.{length_width}
 use Rattle.ep_bundle.specs.Reading.{Left}
 use Rattle.ep_bundle.specs.Stages.{receipt}
+use Rattle.ep_bundle.specs.declared.bad_field.BadField.{BadField}
 use Rattle.ep_bundle.specs.declared.bundle_fault.BundleFault.{BundleFault}
 use Rattle.ep_bundle.specs.declared.bundle_fault.BundleFault.TheVariants as bundle
 use Rattle.ep_rules.specs.declared.receipt.Receipt.{Receipt}
@@ -68,13 +69,15 @@ pub record IsSpoiled (w : Version) (n at : ℕ) (bytes : List ℕ) : Type 0 wher
   pub tail : Left
   pub read : AreReceipts w n (all_of bytes) receipts tail
   pub whole : receipt_length w tail.bytes ≤ length tail.bytes
-  pub refused : receipt w n tail ≡ Err (bundle.BadBundle at)
+  pub field : BadField
+  pub refused : receipt w n tail ≡ Err (bundle.BadBundle field)
+  pub offset : at ≡ field.at
 
 -- why no receipts were read of these bytes: out of memory is no fault of theirs
 abbrev pub IsUnheld : Version → ℕ → List ℕ → BundleFault → Type 0
 IsUnheld w n bytes bundle.Memory = Unit {0}
 IsUnheld w n bytes bundle.ReadFailed = Unit {0}
-IsUnheld w n bytes (bundle.BadBundle at) = IsSpoiled w n at bytes
+IsUnheld w n bytes (bundle.BadBundle field) = IsSpoiled w n field.at bytes
 IsUnheld w n bytes (bundle.NotARun replica entry) = Unit {0}
 
 -- each file holds some of the receipts, in order
@@ -118,5 +121,5 @@ IsNotHeld w n place bytes TooManyReceipts = ⊥
 abbrev pub of_receipts : ℕ → BundleFault → AssembleFault
 of_receipts place bundle.Memory = Memory
 of_receipts place bundle.ReadFailed = Memory
-of_receipts place (bundle.BadBundle at) = Receipts place at
+of_receipts place (bundle.BadBundle field) = Receipts place field.at
 of_receipts place (bundle.NotARun replica entry) = Memory

@@ -62,7 +62,7 @@ fn fault_of(place: usize, fault: BundleFault) -> AssembleFault
     ensures { result ≡ of_receipts place fault }
 {
     match fault {
-        BundleFault::BadBundle(at) => AssembleFault::Receipts(place, at),
+        BundleFault::BadBundle(field) => AssembleFault::Receipts(place, field.at),
         BundleFault::Memory | BundleFault::ReadFailed | BundleFault::NotARun(_, _) => {
             AssembleFault::Memory
         }

@@ -14,26 +14,29 @@ use Rattle.ep_frame.specs.Spelling.{AreBytes}
 use Rattle.ep_frame.proofs.BigEndian.{IsWide, wide1, wide2, wide4}
 use Rattle.ep_frame.proofs.Saying.{IsShortIn, op_again, op_low, op_found, op_known, second_high}
 use Rattle.ep_bundle.specs.Bytes.{command_bytes, length_bytes, part_bytes}
-use Rattle.ep_bundle.specs.Reading.{Left, Reading, Reads, and_then, run, number, field}
+use Rattle.ep_bundle.specs.Reading.{Left, Reading, Reads, and_then, bad, run, number, field}
 use Rattle.ep_bundle.specs.Stages.{AreLengths, allowed, allowed_run, body_in, command, early_fits, early_lengths, lengths, op, other_lengths, parts, second_in}
 use Rattle.ep_bundle.specs.Writing.{CommandFits}
 use Rattle.ep_bundle.specs.declared.bundle_fault.BundleFault.{BundleFault}
-use Rattle.ep_bundle.specs.declared.bundle_fault.BundleFault.TheVariants.{BadBundle}
+use Rattle.ep_bundle.specs.declared.bundle_field.BundleField.{BundleField}
+use Rattle.ep_bundle.specs.declared.bundle_field.BundleField.TheVariants as named
+use Rattle.ep_bundle.specs.declared.wanted.Wanted.{Wanted}
+use Rattle.ep_bundle.specs.declared.wanted.Wanted.TheVariants.{BodyFor, LengthFor, OtherKey}
 use Rattle.ep_bundle.specs.declared.lengths.Lengths.{Lengths}
 use Rattle.ep_bundle.proofs.Readings.{fails, goes_on}
 use Rattle.ep_bundle.proofs.ReadNumbers.{Gives, Comes, done, step, last, other, whole, choice, refused, run_gives, number_gives, field_gives}
 
 -- a number, and a run, that are allowed
 
-pub allowed_gives : (n : ℕ) → IsWide n → (holds : ℕ → Bool) (l : Left) → AreBytes l.bytes → Gives (number_bytes n) (λ x. holds x ≡ true) l (allowed n holds l)
-allowed_gives n wide holds l h =
-    whole (step (number n l) (λ x m. cond (holds x) (Ok (x, m)) (Err (BadBundle l.at))) h (number_gives n wide l h)
-    (λ x m p k. choice (holds x) (Ok (x, m)) (Err (BadBundle l.at)) (λ e. done x (append-nil (number_bytes n x), e)) (λ e. refused (BadBundle l.at))))
+pub allowed_gives : (name : BundleField) (wanted : Wanted) (n : ℕ) → IsWide n → (holds : ℕ → Bool) (l : Left) → AreBytes l.bytes → Gives (number_bytes n) (λ x. holds x ≡ true) l (allowed name wanted n holds l)
+allowed_gives name wanted n wide holds l h =
+    whole (step (number name n l) (λ x m. cond (holds x) (Ok (x, m)) (Err (bad name n wanted l))) h (number_gives _ n wide l h)
+    (λ x m p k. choice (holds x) (Ok (x, m)) (Err (bad name n wanted l)) (λ e. done x (append-nil (number_bytes n x), e)) (λ e. refused (bad name n wanted l))))
 
-allowed_run_gives : (n : ℕ) (holds : List ℕ → Bool) (l : Left) → AreBytes l.bytes → Gives (λ b. b) (λ b. (length b ≡ n) × (holds b ≡ true)) l (allowed_run n holds l)
-allowed_run_gives n holds l h =
-    whole (step (run n l) (λ b m. cond (holds b) (Ok (b, m)) (Err (BadBundle l.at))) h (run_gives n l h)
-    (λ b m p k. choice (holds b) (Ok (b, m)) (Err (BadBundle l.at)) (λ e. done b (append-nil b, (p.0, e))) (λ e. refused (BadBundle l.at))))
+allowed_run_gives : (name : BundleField) (wanted : Wanted) (n : ℕ) (holds : List ℕ → Bool) (l : Left) → AreBytes l.bytes → Gives (λ b. b) (λ b. (length b ≡ n) × (holds b ≡ true)) l (allowed_run name wanted n holds l)
+allowed_run_gives name wanted n holds l h =
+    whole (step (run name n l) (λ b m. cond (holds b) (Ok (b, m)) (Err (bad name n wanted l))) h (run_gives _ n l h)
+    (λ b m p k. choice (holds b) (Ok (b, m)) (Err (bad name n wanted l)) (λ e. done b (append-nil b, (p.0, e))) (λ e. refused (bad name n wanted l))))
 
 -- the op
 
@@ -42,7 +45,7 @@ op_is o n is = sym (op_again o) ∙ sym (ap op_of is)
 
 op_gives : (v : Version) (l : Left) → AreBytes l.bytes → Gives (λ o. number_bytes 1 (op_number o)) (λ o. op_number o ≤ highest_op v) l (op v l)
 op_gives v l h =
-    whole (step (field 1 2 (highest_op v) l) (λ n m. Ok (op_of n, m)) h (field_gives 1 wide1 2 (highest_op v) l h)
+    whole (step (field named.Op 1 2 (highest_op v) l) (λ n m. Ok (op_of n, m)) h (field_gives _ 1 wide1 2 (highest_op v) l h)
     (λ n m p k.
     let high : highest_op v ≤ 10 = op_low v in
     let low : 2 ≤ n = p.least in
@@ -83,7 +86,7 @@ divided false n = omega arith
 early_gives : (v : Version) (o : Op) (k : ℕ) (l : Left) → ((s : Lengths) → number_bytes 2 (s.second + s.body) ≡ other_in v s) → ((n : ℕ) → n ≤ 1024 → IsShortIn v n) → AreBytes l.bytes
     → Gives (other_in v) (IsOther v o k) l (early_lengths o k l)
 early_gives v o k l told short h =
-    whole (step (allowed 2 (early_fits o) l) (λ n m. Ok (record { op = o; first = k; second = second_in o n; body = body_in o n }, m)) h (allowed_gives 2 wide2 (early_fits o) l h)
+    whole (step (allowed named.TextLength (LengthFor o) 2 (early_fits o) l) (λ n m. Ok (record { op = o; first = k; second = second_in o n; body = body_in o n }, m)) h (allowed_gives _ _ 2 wide2 (early_fits o) l h)
     (λ n m p hm.
     let e = and_parts (second_fits o (second_in o n)) (leb (body_in o n) 1024 && body_fits o (body_in o n)) p in
     let f = and_parts (leb (body_in o n) 1024) (body_fits o (body_in o n)) e.1 in
@@ -97,8 +100,8 @@ other_gives : (v : Version) (o : Op) (k : ℕ) (l : Left) → AreBytes l.bytes �
 other_gives V1 o k l h = early_gives V1 o k l (λ s. refl) (λ n le. le) h
 other_gives V2 o k l h = early_gives V2 o k l (λ s. refl) (λ n le. le) h
 other_gives (V3 g) o k l h =
-    whole (step (allowed 1 (second_fits o) l) (λ x m. and_then (allowed 4 (body_fits o) m) (λ n m. Ok (record { op = o; first = k; second = x; body = n }, m))) h (allowed_gives 1 wide1 (second_fits o) l h)
-    (λ x m p hm. step (allowed 4 (body_fits o) m) (λ n m. Ok (record { op = o; first = k; second = x; body = n }, m)) hm (allowed_gives 4 wide4 (body_fits o) m hm)
+    whole (step (allowed named.SecondLength (LengthFor o) 1 (second_fits o) l) (λ x m. and_then (allowed named.BodyLength (LengthFor o) 4 (body_fits o) m) (λ n m. Ok (record { op = o; first = k; second = x; body = n }, m))) h (allowed_gives _ _ 1 wide1 (second_fits o) l h)
+    (λ x m p hm. step (allowed named.BodyLength (LengthFor o) 4 (body_fits o) m) (λ n m. Ok (record { op = o; first = k; second = x; body = n }, m)) hm (allowed_gives _ _ 4 wide4 (body_fits o) m hm)
     (λ n m q hn. done (record { op = o; first = k; second = x; body = n }) (ap (λ y. number_bytes 1 x ++ y) (append-nil (number_bytes 4 n)), record { op = refl; first = refl; fit = (p, q); short = tt }))))
 
 pub record Told (v : Version) (s : Lengths) : Type 0 where
@@ -122,8 +125,8 @@ told_bytes v o k s is =
 
 lengths_gives : (v : Version) (l : Left) → AreBytes l.bytes → Gives (lengths_in v) (Told v) l (lengths v l)
 lengths_gives v l h =
-    whole (step (op v l) (λ o l. and_then (allowed 1 (first_fits o) l) (λ k l. other_lengths v o k l)) h (op_gives v l h)
-    (λ o m p hm. step (allowed 1 (first_fits o) m) (λ k l. other_lengths v o k l) hm (allowed_gives 1 wide1 (first_fits o) m hm)
+    whole (step (op v l) (λ o l. and_then (allowed named.KeyLength (LengthFor o) 1 (first_fits o) l) (λ k l. other_lengths v o k l)) h (op_gives v l h)
+    (λ o m p hm. step (allowed named.KeyLength (LengthFor o) 1 (first_fits o) m) (λ k l. other_lengths v o k l) hm (allowed_gives _ _ 1 wide1 (first_fits o) m hm)
     (λ k m q hk. last (other_gives v o k m hk) (λ s r. (told_bytes v o k s r, told_lengths v o k s p q r)))))
 
 -- the parts
@@ -159,9 +162,9 @@ made s k m b fit ek em eb differ said = record {
 
 parts_comes : (s : Lengths) (l : Left) → AreLengths s → AreBytes l.bytes → Comes (Made s) l (parts s l)
 parts_comes s l fit h =
-    step (run s.first l) (λ k l. and_then (allowed_run s.second (λ m. not (is_twice k m)) l) (λ m l. and_then (allowed_run s.body (body_said s.op) l) (λ b l. Ok (command_with s.op k m b, l)))) h (run_gives s.first l h)
-    (λ k l p h. step (allowed_run s.second (λ m. not (is_twice k m)) l) (λ m l. and_then (allowed_run s.body (body_said s.op) l) (λ b l. Ok (command_with s.op k m b, l))) h (allowed_run_gives s.second (λ m. not (is_twice k m)) l h)
-    (λ m l q h. step (allowed_run s.body (body_said s.op) l) (λ b l. Ok (command_with s.op k m b, l)) h (allowed_run_gives s.body (body_said s.op) l h)
+    step (run named.Key s.first l) (λ k l. and_then (allowed_run named.SecondKey OtherKey s.second (λ m. not (is_twice k m)) l) (λ m l. and_then (allowed_run named.Body (BodyFor s.op) s.body (body_said s.op) l) (λ b l. Ok (command_with s.op k m b, l)))) h (run_gives _ s.first l h)
+    (λ k l p h. step (allowed_run named.SecondKey OtherKey s.second (λ m. not (is_twice k m)) l) (λ m l. and_then (allowed_run named.Body (BodyFor s.op) s.body (body_said s.op) l) (λ b l. Ok (command_with s.op k m b, l))) h (allowed_run_gives _ _ s.second (λ m. not (is_twice k m)) l h)
+    (λ m l q h. step (allowed_run named.Body (BodyFor s.op) s.body (body_said s.op) l) (λ b l. Ok (command_with s.op k m b, l)) h (allowed_run_gives _ _ s.body (body_said s.op) l h)
     (λ b l r h. done (command_with s.op k m b) (made s k m b fit p.0 q.0 r.0 q.1 r.1))))
 
 -- commands
@@ -194,13 +197,13 @@ command_gives v l h =
 -- What a call makes of the body.
 
 abbrev finished : Op → List ℕ → List ℕ → ℕ → Left → Reading Command
-finished o k m n l = and_then (allowed_run n (body_said o) l) (λ b l. Ok (command_with o k m b, l))
+finished o k m n l = and_then (allowed_run named.Body (BodyFor o) n (body_said o) l) (λ b l. Ok (command_with o k m b, l))
 
 -- a second key that is compared with the first one as it was lent
-pub second_as : (k k' : List ℕ) (n : ℕ) (l : Left) (r : Result (List ℕ) BundleFault) (p : ℕ) (left : Option (List ℕ)) → k' ≡ k → Reads (allowed_run n (λ m. not (is_twice k' m)) l) r p left → Reads (allowed_run n (λ m. not (is_twice k m)) l) r p left
-second_as k k' n l r p left is h = subst (λ x. Reads (allowed_run n (λ m. not (is_twice x m)) l) r p left) is h
+pub second_as : (k k' : List ℕ) (n : ℕ) (l : Left) (r : Result (List ℕ) BundleFault) (p : ℕ) (left : Option (List ℕ)) → k' ≡ k → Reads (allowed_run named.SecondKey OtherKey n (λ m. not (is_twice k' m)) l) r p left → Reads (allowed_run named.SecondKey OtherKey n (λ m. not (is_twice k m)) l) r p left
+second_as k k' n l r p left is h = subst (λ x. Reads (allowed_run named.SecondKey OtherKey n (λ m. not (is_twice x m)) l) r p left) is h
 
-pub body_read : (o : Op) (k m b k' m' b' : List ℕ) (n : ℕ) (c : Command) (l : Left) (p : ℕ) (left : Option (List ℕ)) → k' ≡ k → m' ≡ m → b' ≡ b → Reads (run n l) (Ok b) p left
+pub body_read : (o : Op) (k m b k' m' b' : List ℕ) (n : ℕ) (c : Command) (l : Left) (p : ℕ) (left : Option (List ℕ)) → k' ≡ k → m' ≡ m → b' ≡ b → Reads (run named.Body n l) (Ok b) p left
     → Some c ≡ command_of (record { op = o; first = k'; second = m'; body = b' }) → Reads (finished o k m n l) (Ok c) p left
 body_read o k m b k' m' b' n c l p left ek em eb h is =
     let here : command_of (record { op = o; first = k; second = m; body = b }) ≡ Some c = (λ t. command_of (record { op = o; first = sym ek t; second = sym em t; body = sym eb t })) ∙ sym is in
@@ -208,8 +211,8 @@ body_read o k m b k' m' b' n c l p left ek em eb h is =
     let f = fits o k m b t.0 in (
       h.0,
       h.1,
-      ap (λ (r : Reading (List ℕ)). and_then (and_then r (λ b l'. cond (body_said o b) (Ok (b, l')) (Err (BadBundle l.at)))) (λ b l. Ok (command_with o k m b, l))) h.2
-          ∙ ap (λ (x : Bool). and_then (cond x (Ok (b, record { at = p; bytes = h.0 })) (Err (BadBundle l.at))) (λ b l. Ok (command_with o k m b, l))) f.said
+      ap (λ (r : Reading (List ℕ)). and_then (and_then r (λ b l'. cond (body_said o b) (Ok (b, l')) (Err (bad named.Body n (BodyFor o) l)))) (λ b l. Ok (command_with o k m b, l))) h.2
+          ∙ ap (λ (x : Bool). and_then (cond x (Ok (b, record { at = p; bytes = h.0 })) (Err (bad named.Body n (BodyFor o) l))) (λ b l. Ok (command_with o k m b, l))) f.said
           ∙ ap (λ (x : Command). Ok (x, record { at = p; bytes = h.0 })) t.1,
     )
 
@@ -232,33 +235,37 @@ none_said s k m b fit ek em eb once none = go (body_said s.op b) refl
         absurd (let t : None ≡ Some (command_with s.op k m b) = sym none ∙ some in (cc))
 
 -- a run that isn't read
-pub run_fails : (n : ℕ) (holds : List ℕ → Bool) (l : Left) (e : BundleFault) (p : ℕ) (left : Option (List ℕ)) → Reads {A = List ℕ} (run n l) (Err e) p left → Reads {A = List ℕ} (allowed_run n holds l) (Err e) p left
-run_fails n holds l e p left h = fails (run n l) (λ b l'. cond (holds b) (Ok (b, l')) (Err (BadBundle l.at))) e (Err e) p p left left h refl
+pub run_fails : (name : BundleField) (wanted : Wanted) (n : ℕ) (holds : List ℕ → Bool) (l : Left) (e : BundleFault) (p : ℕ) (left : Option (List ℕ)) → Reads {A = List ℕ} (run name n l) (Err e) p left → Reads {A = List ℕ} (allowed_run name wanted n holds l) (Err e) p left
+run_fails name wanted n holds l e p left h = fails (run name n l) (λ b l'. cond (holds b) (Ok (b, l')) (Err (bad name n wanted l))) e (Err e) p p left left h refl
 
 pub body_unread : (s : Lengths) (k m b k' m' b' : List ℕ) (l : Left) (p : ℕ) (left : Option (List ℕ)) → AreLengths s → k' ≡ k → m' ≡ m → b' ≡ b → length k ≡ s.first → length m ≡ s.second → length b ≡ s.body → is_twice k' m ≡ false
-    → Reads (run s.body l) (Ok b) p left → None ≡ command_of (record { op = s.op; first = k'; second = m'; body = b' }) → finished s.op k m s.body l ≡ Err (BadBundle l.at)
+    → Reads (run named.Body s.body l) (Ok b) p left → None ≡ command_of (record { op = s.op; first = k'; second = m'; body = b' }) → finished s.op k m s.body l ≡ Err (bad named.Body s.body (BodyFor s.op) l)
 body_unread s k m b k' m' b' l p left fit ek em eb lk lm lb once h none =
     let here : command_of (record { op = s.op; first = k; second = m; body = b }) ≡ None = (λ t. command_of (record { op = s.op; first = sym ek t; second = sym em t; body = sym eb t })) ∙ sym none in
     let said : body_said s.op b ≡ false = none_said s k m b fit lk lm lb ((λ t. is_twice (sym ek t) m) ∙ once) here in
-    ap (λ (r : Reading (List ℕ)). and_then (and_then r (λ b l'. cond (body_said s.op b) (Ok (b, l')) (Err (BadBundle l.at)))) (λ b l. Ok (command_with s.op k m b, l))) h.2
-    ∙ ap (λ (x : Bool). and_then (cond x (Ok (b, record { at = p; bytes = h.0 })) (Err (BadBundle l.at))) (λ b l. Ok (command_with s.op k m b, l))) said
+    ap (λ (r : Reading (List ℕ)). and_then (and_then r (λ b l'. cond (body_said s.op b) (Ok (b, l')) (Err (bad named.Body s.body (BodyFor s.op) l)))) (λ b l. Ok (command_with s.op k m b, l))) h.2
+    ∙ ap (λ (x : Bool). and_then (cond x (Ok (b, record { at = p; bytes = h.0 })) (Err (bad named.Body s.body (BodyFor s.op) l))) (λ b l. Ok (command_with s.op k m b, l))) said
+
+-- the fault of a body that begins here
+abbrev pub body_bad : Lengths → ℕ → BundleFault
+body_bad s p = bad named.Body s.body (BodyFor s.op) (record { at = p; bytes = [] })
 
 -- all parts were read, but the body isn't one of the op
 pub parts_unread : (s : Lengths) (k m b k' m' b' : List ℕ) (l : Left) (p1 p2 p3 : ℕ) (left1 left2 left3 : Option (List ℕ)) → AreLengths s → k' ≡ k → m' ≡ m → b' ≡ b → length k ≡ s.first → length m ≡ s.second → length b ≡ s.body → is_twice k' m ≡ false
-    → Reads (run s.first l) (Ok k) p1 left1 → ((ys : List ℕ) → left1 ≡ Some ys → Reads (allowed_run s.second (λ m. not (is_twice k' m)) (record { at = p1; bytes = ys })) (Ok m) p2 left2)
-    → ((ys : List ℕ) → left2 ≡ Some ys → Reads (run s.body (record { at = p2; bytes = ys })) (Ok b) p3 left3) → None ≡ command_of (record { op = s.op; first = k'; second = m'; body = b' }) → Reads {A = Command} (parts s l) (Err (BadBundle p2)) p3 left3
+    → Reads (run named.Key s.first l) (Ok k) p1 left1 → ((ys : List ℕ) → left1 ≡ Some ys → Reads (allowed_run named.SecondKey OtherKey s.second (λ m. not (is_twice k' m)) (record { at = p1; bytes = ys })) (Ok m) p2 left2)
+    → ((ys : List ℕ) → left2 ≡ Some ys → Reads (run named.Body s.body (record { at = p2; bytes = ys })) (Ok b) p3 left3) → None ≡ command_of (record { op = s.op; first = k'; second = m'; body = b' }) → Reads {A = Command} (parts s l) (Err (body_bad s p2)) p3 left3
 parts_unread s k m b k' m' b' l p1 p2 p3 left1 left2 left3 fit ek em eb lk lm lb once first second body none =
-    goes_on (run s.first l) (λ k l. and_then (allowed_run s.second (λ m. not (is_twice k m)) l) (λ m l. finished s.op k m s.body l)) k p1 left1 (Err (BadBundle p2)) p3 left3 first
-    (λ ys is. goes_on (allowed_run s.second (λ m. not (is_twice k m)) (record { at = p1; bytes = ys })) (λ m l. finished s.op k m s.body l) m p2 left2 (Err (BadBundle p2)) p3 left3
+    goes_on (run named.Key s.first l) (λ k l. and_then (allowed_run named.SecondKey OtherKey s.second (λ m. not (is_twice k m)) l) (λ m l. finished s.op k m s.body l)) k p1 left1 (Err (body_bad s p2)) p3 left3 first
+    (λ ys is. goes_on (allowed_run named.SecondKey OtherKey s.second (λ m. not (is_twice k m)) (record { at = p1; bytes = ys })) (λ m l. finished s.op k m s.body l) m p2 left2 (Err (body_bad s p2)) p3 left3
     (second_as k k' s.second (record { at = p1; bytes = ys }) (Ok m) p2 left2 ek (second ys is))
     (λ zs ks. body_unread s k m b k' m' b' (record { at = p2; bytes = zs }) p3 left3 fit ek em eb lk lm lb once (body zs ks) none))
 
 -- and it is
 pub parts_read : (s : Lengths) (k m b k' m' b' : List ℕ) (c : Command) (l : Left) (p1 p2 p3 : ℕ) (left1 left2 left3 : Option (List ℕ)) → k' ≡ k → m' ≡ m → b' ≡ b
-    → Reads (run s.first l) (Ok k) p1 left1 → ((ys : List ℕ) → left1 ≡ Some ys → Reads (allowed_run s.second (λ m. not (is_twice k' m)) (record { at = p1; bytes = ys })) (Ok m) p2 left2)
-    → ((ys : List ℕ) → left2 ≡ Some ys → Reads (run s.body (record { at = p2; bytes = ys })) (Ok b) p3 left3) → Some c ≡ command_of (record { op = s.op; first = k'; second = m'; body = b' }) → Reads (parts s l) (Ok c) p3 left3
+    → Reads (run named.Key s.first l) (Ok k) p1 left1 → ((ys : List ℕ) → left1 ≡ Some ys → Reads (allowed_run named.SecondKey OtherKey s.second (λ m. not (is_twice k' m)) (record { at = p1; bytes = ys })) (Ok m) p2 left2)
+    → ((ys : List ℕ) → left2 ≡ Some ys → Reads (run named.Body s.body (record { at = p2; bytes = ys })) (Ok b) p3 left3) → Some c ≡ command_of (record { op = s.op; first = k'; second = m'; body = b' }) → Reads (parts s l) (Ok c) p3 left3
 parts_read s k m b k' m' b' c l p1 p2 p3 left1 left2 left3 ek em eb first second body is =
-    goes_on (run s.first l) (λ k l. and_then (allowed_run s.second (λ m. not (is_twice k m)) l) (λ m l. finished s.op k m s.body l)) k p1 left1 (Ok c) p3 left3 first
-    (λ ys at. goes_on (allowed_run s.second (λ m. not (is_twice k m)) (record { at = p1; bytes = ys })) (λ m l. finished s.op k m s.body l) m p2 left2 (Ok c) p3 left3
+    goes_on (run named.Key s.first l) (λ k l. and_then (allowed_run named.SecondKey OtherKey s.second (λ m. not (is_twice k m)) l) (λ m l. finished s.op k m s.body l)) k p1 left1 (Ok c) p3 left3 first
+    (λ ys at. goes_on (allowed_run named.SecondKey OtherKey s.second (λ m. not (is_twice k m)) (record { at = p1; bytes = ys })) (λ m l. finished s.op k m s.body l) m p2 left2 (Ok c) p3 left3
     (second_as k k' s.second (record { at = p1; bytes = ys }) (Ok m) p2 left2 ek (second ys at))
     (λ zs ks. body_read s.op k m b k' m' b' s.body c (record { at = p2; bytes = zs }) p3 left3 ek em eb (body zs ks) is))

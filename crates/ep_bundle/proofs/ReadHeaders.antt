@@ -18,10 +18,11 @@ use Rattle.ep_exec.specs.Bytes.{contents_bytes, pair_bytes}
 use Rattle.ep_bundle.specs.Bytes.{edition_bytes, header_bytes, magic, map_bytes}
 use Rattle.ep_journal.specs.Openings.{Opening, OpensIn, no_opening}
 use Rattle.ep_bundle.specs.Headers.{HoldsAt, Pair, StartsAt, cluster, contents, edition, header, header_of, key_above, late_edition, map_in, pair, pairs}
-use Rattle.ep_bundle.specs.Reading.{Left, Reading, Reads, and_then, run, number, field}
+use Rattle.ep_bundle.specs.Reading.{Left, Reading, Reads, and_then, bad, run, number, field}
 use Rattle.ep_bundle.specs.Writing.{OpeningFits}
 use Rattle.ep_bundle.specs.declared.bundle_header.BundleHeader.{BundleHeader}
-use Rattle.ep_bundle.specs.declared.bundle_fault.BundleFault.TheVariants.{BadBundle}
+use Rattle.ep_bundle.specs.declared.bundle_field.BundleField.TheVariants as named
+use Rattle.ep_bundle.specs.declared.wanted.Wanted.TheVariants.{ClusterSize, Higher}
 use Rattle.ep_bundle.proofs.MapBytes.{pair_is, contents_are}
 use Rattle.ep_bundle.proofs.Readings.{goes_on}
 use Rattle.ep_bundle.proofs.ReadNumbers.{Gives, Comes, Ranges, done, step, last, other, whole, choice, refused, run_gives, number_gives, field_gives}
@@ -55,8 +56,8 @@ early n p not_three = go (eqb n 1) (eqb n 3) refl not_three
 pub edition_gives : (n : ℕ) (l : Left) → Ranges 1 3 n → AreBytes l.bytes → Gives (λ e. edition_bytes e.0 e.1) (IsEdition n) l (edition n l)
 edition_gives n l p h =
     whole (choice (eqb n 3) (late_edition l) (Ok ((version_of n 0, 0), l))
-    (λ is. step (field 4 1 4294967295 l) (λ g l. and_then (field 8 0 281474976710655 l) (λ base_stamp l. Ok ((V3 g, base_stamp), l))) h (field_gives 4 wide4 1 4294967295 l h)
-    (λ g l q h. step (field 8 0 281474976710655 l) (λ base_stamp l. Ok ((V3 g, base_stamp), l)) h (field_gives 8 wide8 0 281474976710655 l h)
+    (λ is. step (field named.Generation 4 1 4294967295 l) (λ g l. and_then (field named.BaseStamp 8 0 281474976710655 l) (λ base_stamp l. Ok ((V3 g, base_stamp), l))) h (field_gives _ 4 wide4 1 4294967295 l h)
+    (λ g l q h. step (field named.BaseStamp 8 0 281474976710655 l) (λ base_stamp l. Ok ((V3 g, base_stamp), l)) h (field_gives _ 8 wide8 0 281474976710655 l h)
     (λ base_stamp l r h. done (V3 g, base_stamp) (ap (λ x. number_bytes 4 g ++ x) (append-nil (number_bytes 8 base_stamp)), record { version = sym (eqb-true n 3 is); base_stamp = r.most; starts = tt }))))
     (λ not_three. let e = early n p not_three in done (version_of n 0, 0) (e.bytes, record { version = e.version; base_stamp = omega arith; starts = e.starts })))
 
@@ -71,8 +72,8 @@ same_key es k v w h e = one_more k w es h ∙ sym (one_more k v es h) ∙ e
 
 key_gives : (es : List Pair) (n : ℕ) (l : Left) → AreBytes l.bytes → Gives (λ k. k) (λ k. (length k ≡ n) × Rises (es ++ (k, []) ∷ [])) l (key_above es n l)
 key_gives es n l h =
-    whole (step (run n l) (λ k m. cond (is_sorted key_cmp (es ++ (k, []) ∷ [])) (Ok (k, m)) (Err (BadBundle l.at))) h (run_gives n l h)
-    (λ k m p hm. choice (is_sorted key_cmp (es ++ (k, []) ∷ [])) (Ok (k, m)) (Err (BadBundle l.at)) (λ e. done k (append-nil k, (p.0, e))) (λ e. refused (BadBundle l.at))))
+    whole (step (run named.PairKey n l) (λ k m. cond (is_sorted key_cmp (es ++ (k, []) ∷ [])) (Ok (k, m)) (Err (bad named.PairKey n Higher l))) h (run_gives _ n l h)
+    (λ k m p hm. choice (is_sorted key_cmp (es ++ (k, []) ∷ [])) (Ok (k, m)) (Err (bad named.PairKey n Higher l)) (λ e. done k (append-nil k, (p.0, e))) (λ e. refused (bad named.PairKey n Higher l))))
 
 pair_spelled : (k n : ℕ) (key value : List ℕ) → length key ≡ k → length value ≡ n → number_bytes 1 k ++ (number_bytes 4 n ++ (key ++ value)) ≡ pair_bytes (key, value)
 pair_spelled k n key value ek en = (λ t. number_bytes 1 (sym ek t) ++ (number_bytes 4 (sym en t) ++ (key ++ value))) ∙ group (number_bytes 1 (length key)) (number_bytes 4 (length value)) key value ∙ sym (pair_is (key, value))
@@ -82,10 +83,10 @@ pair_spelled k n key value ek en = (λ t. number_bytes 1 (sym ek t) ++ (number_b
 
 pub pair_gives : (es : List Pair) (l : Left) → Rises es → AreBytes l.bytes → Gives pair_bytes (λ e. Rises (es ++ e ∷ [])) l (pair es l)
 pair_gives es l rise h =
-    whole (step (field 1 1 255 l) (λ k l. and_then (field 4 0 most_value l) (λ n l. and_then (key_above es k l) (λ key l. and_then (run n l) (λ value l. Ok ((key, value), l))))) h (field_gives 1 wide1 1 255 l h)
-    (λ k l p h. step (field 4 0 most_value l) (λ n l. and_then (key_above es k l) (λ key l. and_then (run n l) (λ value l. Ok ((key, value), l)))) h (field_gives 4 wide4 0 most_value l h)
-    (λ n l q h. step (key_above es k l) (λ key l. and_then (run n l) (λ value l. Ok ((key, value), l))) h (key_gives es k l h)
-    (λ key l r h. step (run n l) (λ value l. Ok ((key, value), l)) h (run_gives n l h)
+    whole (step (field named.PairKeyLength 1 1 255 l) (λ k l. and_then (field named.PairValueLength 4 0 most_value l) (λ n l. and_then (key_above es k l) (λ key l. and_then (run named.PairValue n l) (λ value l. Ok ((key, value), l))))) h (field_gives _ 1 wide1 1 255 l h)
+    (λ k l p h. step (field named.PairValueLength 4 0 most_value l) (λ n l. and_then (key_above es k l) (λ key l. and_then (run named.PairValue n l) (λ value l. Ok ((key, value), l)))) h (field_gives _ 4 wide4 0 most_value l h)
+    (λ n l q h. step (key_above es k l) (λ key l. and_then (run named.PairValue n l) (λ value l. Ok ((key, value), l))) h (key_gives es k l h)
+    (λ key l r h. step (run named.PairValue n l) (λ value l. Ok ((key, value), l)) h (run_gives _ n l h)
     (λ value l s h. done (key, value) (
       ap (λ x. number_bytes 1 k ++ (number_bytes 4 n ++ (key ++ x))) (append-nil value) ∙ pair_spelled k n key value r.0 s.0,
       same_key es key [] value rise r.1,
@@ -125,7 +126,7 @@ pub map_gives : (v : Version) (l : Left) → AreBytes l.bytes → Gives (map_byt
 map_gives V1 l h = whole (done empty (refl, (none_counted, refl)))
 map_gives V2 l h = whole (done empty (refl, (none_counted, refl)))
 map_gives (V3 g) l h =
-    whole (step (field 4 0 4000000000 l) contents h (field_gives 4 wide4 0 4000000000 l h)
+    whole (step (field named.Keys 4 0 4000000000 l) contents h (field_gives _ 4 wide4 0 4000000000 l h)
     (λ n m p k. other (contents_come n m k) (λ c bs s. (s.0, ((let le : n ≤ 4000000000 = p.most in let e : length (entries c) ≡ n = s.1 in omega arith), tt)))))
 
 -- the cluster
@@ -138,10 +139,10 @@ one_of_three n false false false a b c h = absurd (cc)
 
 pub cluster_gives : (l : Left) → AreBytes l.bytes → Gives (λ f. number_bytes 1 (size f)) (λ f. Unit {0}) l (cluster l)
 cluster_gives l h =
-    whole (step (number 1 l) (λ n m. cond (eqb n 3 || eqb n 5 || eqb n 7) (Ok (n / 2, m)) (Err (BadBundle l.at))) h (number_gives 1 wide1 l h)
-    (λ n m p hm. choice (eqb n 3 || eqb n 5 || eqb n 7) (Ok (n / 2, m)) (Err (BadBundle l.at))
+    whole (step (number named.Replicas 1 l) (λ n m. cond (eqb n 3 || eqb n 5 || eqb n 7) (Ok (n / 2, m)) (Err (bad named.Replicas 1 ClusterSize l))) h (number_gives _ 1 wide1 l h)
+    (λ n m p hm. choice (eqb n 3 || eqb n 5 || eqb n 7) (Ok (n / 2, m)) (Err (bad named.Replicas 1 ClusterSize l))
     (λ e. done (n / 2) (append-nil (number_bytes 1 n) ∙ ap (λ k. number_bytes 1 k) (one_of_three n (eqb n 3) (eqb n 5) (eqb n 7) refl refl refl e), tt))
-    (λ e. refused (BadBundle l.at))))
+    (λ e. refused (bad named.Replicas 1 ClusterSize l))))
 
 -- the whole header
 
@@ -170,11 +171,11 @@ made e f k m = record { version = e.0; cluster = f; opening = record { contents 
 
 pub header_gives : (l : Left) → AreBytes l.bytes → Gives (λ h. header_bytes h.version h.opening (size h.cluster) h.receipts) IsHeader l (header l)
 header_gives l h =
-    whole (step (field 4 magic magic l) (λ x l. and_then (field 1 1 3 l) (λ n l. and_then (cluster l) (λ f l. and_then (edition n l) (λ e l. and_then (number 4 l) (λ k l. and_then (map_in e.0 l) (λ m l. Ok (made e f k m, l))))))) h (field_gives 4 wide4 magic magic l h)
-    (λ x l p h. step (field 1 1 3 l) (λ n l. and_then (cluster l) (λ f l. and_then (edition n l) (λ e l. and_then (number 4 l) (λ k l. and_then (map_in e.0 l) (λ m l. Ok (made e f k m, l)))))) h (field_gives 1 wide1 1 3 l h)
-    (λ n l q h. step (cluster l) (λ f l. and_then (edition n l) (λ e l. and_then (number 4 l) (λ k l. and_then (map_in e.0 l) (λ m l. Ok (made e f k m, l))))) h (cluster_gives l h)
-    (λ f l r h. step (edition n l) (λ e l. and_then (number 4 l) (λ k l. and_then (map_in e.0 l) (λ m l. Ok (made e f k m, l)))) h (edition_gives n l q h)
-    (λ e l s h. step (number 4 l) (λ k l. and_then (map_in e.0 l) (λ m l. Ok (made e f k m, l))) h (number_gives 4 wide4 l h)
+    whole (step (field named.Magic 4 magic magic l) (λ x l. and_then (field named.Version 1 1 3 l) (λ n l. and_then (cluster l) (λ f l. and_then (edition n l) (λ e l. and_then (number named.Receipts 4 l) (λ k l. and_then (map_in e.0 l) (λ m l. Ok (made e f k m, l))))))) h (field_gives _ 4 wide4 magic magic l h)
+    (λ x l p h. step (field named.Version 1 1 3 l) (λ n l. and_then (cluster l) (λ f l. and_then (edition n l) (λ e l. and_then (number named.Receipts 4 l) (λ k l. and_then (map_in e.0 l) (λ m l. Ok (made e f k m, l)))))) h (field_gives _ 1 wide1 1 3 l h)
+    (λ n l q h. step (cluster l) (λ f l. and_then (edition n l) (λ e l. and_then (number named.Receipts 4 l) (λ k l. and_then (map_in e.0 l) (λ m l. Ok (made e f k m, l))))) h (cluster_gives l h)
+    (λ f l r h. step (edition n l) (λ e l. and_then (number named.Receipts 4 l) (λ k l. and_then (map_in e.0 l) (λ m l. Ok (made e f k m, l)))) h (edition_gives n l q h)
+    (λ e l s h. step (number named.Receipts 4 l) (λ k l. and_then (map_in e.0 l) (λ m l. Ok (made e f k m, l))) h (number_gives _ 4 wide4 l h)
     (λ k l t h. step (map_in e.0 l) (λ m l. Ok (made e f k m, l)) h (map_gives e.0 l h)
     (λ m l u h. done (made e f k m) (
       header_spelled x n e.0 (record { contents = m; base_stamp = e.1 }) (size f) k (same magic x p) s.version,
@@ -194,17 +195,17 @@ header_ends : (v : Version) (f k : ℕ) (m : Contents) (base_stamp : ℕ) (o : O
 header_ends v f k m base_stamp o p ys left h is = (ys, h, ap (λ (x : Opening). Ok (record { version = v; cluster = f; opening = x; receipts = k }, record { at = p; bytes = ys })) (sym is))
 
 -- all parts of a header were read
-pub header_read : (low high : ℕ) (l : Left) (x n f : ℕ) (e : Version × ℕ) (k : ℕ) (m : Contents) (o : Opening) (p0 p1 p2 p3 p4 p5 : ℕ) (left0 left1 left2 left3 left4 left5 : Option (List ℕ)) → Reads (field 4 magic magic l) (Ok x) p0 left0
-    → ((ys : List ℕ) → left0 ≡ Some ys → Reads (field 1 low high (record { at = p0; bytes = ys })) (Ok n) p1 left1) → ((ys : List ℕ) → left1 ≡ Some ys → Reads (cluster (record { at = p1; bytes = ys })) (Ok f) p2 left2)
-    → ((ys : List ℕ) → left2 ≡ Some ys → Reads (edition n (record { at = p2; bytes = ys })) (Ok e) p3 left3) → ((ys : List ℕ) → left3 ≡ Some ys → Reads (number 4 (record { at = p3; bytes = ys })) (Ok k) p4 left4)
+pub header_read : (low high : ℕ) (l : Left) (x n f : ℕ) (e : Version × ℕ) (k : ℕ) (m : Contents) (o : Opening) (p0 p1 p2 p3 p4 p5 : ℕ) (left0 left1 left2 left3 left4 left5 : Option (List ℕ)) → Reads (field named.Magic 4 magic magic l) (Ok x) p0 left0
+    → ((ys : List ℕ) → left0 ≡ Some ys → Reads (field named.Version 1 low high (record { at = p0; bytes = ys })) (Ok n) p1 left1) → ((ys : List ℕ) → left1 ≡ Some ys → Reads (cluster (record { at = p1; bytes = ys })) (Ok f) p2 left2)
+    → ((ys : List ℕ) → left2 ≡ Some ys → Reads (edition n (record { at = p2; bytes = ys })) (Ok e) p3 left3) → ((ys : List ℕ) → left3 ≡ Some ys → Reads (number named.Receipts 4 (record { at = p3; bytes = ys })) (Ok k) p4 left4)
     → ((ys : List ℕ) → left4 ≡ Some ys → Reads (map_in e.0 (record { at = p4; bytes = ys })) (Ok m) p5 left5) → o ≡ record { contents = m; base_stamp = e.1 }
     → Reads (header_of low high l) (Ok (record { version = e.0; cluster = f; opening = o; receipts = k })) p5 left5
 header_read low high l x n f e k m o p0 p1 p2 p3 p4 p5 left0 left1 left2 left3 left4 left5 r0 r1 r2 r3 r4 r5 is =
     let h : BundleHeader = record { version = e.0; cluster = f; opening = o; receipts = k } in
-    goes_on (field 4 magic magic l) (λ x l. and_then (field 1 low high l) (λ n l. and_then (cluster l) (λ f l. and_then (edition n l) (λ e l. and_then (number 4 l) (λ k l. and_then (map_in e.0 l) (λ m l. Ok (made e f k m, l))))))) x p0 left0 (Ok h) p5 left5 r0
-    (λ y0 e0. goes_on (field 1 low high (record { at = p0; bytes = y0 })) (λ n l. and_then (cluster l) (λ f l. and_then (edition n l) (λ e l. and_then (number 4 l) (λ k l. and_then (map_in e.0 l) (λ m l. Ok (made e f k m, l)))))) n p1 left1 (Ok h) p5 left5 (r1 y0 e0)
-    (λ y1 e1. goes_on (cluster (record { at = p1; bytes = y1 })) (λ f l. and_then (edition n l) (λ e l. and_then (number 4 l) (λ k l. and_then (map_in e.0 l) (λ m l. Ok (made e f k m, l))))) f p2 left2 (Ok h) p5 left5 (r2 y1 e1)
-    (λ y2 e2. goes_on (edition n (record { at = p2; bytes = y2 })) (λ e l. and_then (number 4 l) (λ k l. and_then (map_in e.0 l) (λ m l. Ok (made e f k m, l)))) e p3 left3 (Ok h) p5 left5 (r3 y2 e2)
-    (λ y3 e3. goes_on (number 4 (record { at = p3; bytes = y3 })) (λ k l. and_then (map_in e.0 l) (λ m l. Ok (made e f k m, l))) k p4 left4 (Ok h) p5 left5 (r4 y3 e3)
+    goes_on (field named.Magic 4 magic magic l) (λ x l. and_then (field named.Version 1 low high l) (λ n l. and_then (cluster l) (λ f l. and_then (edition n l) (λ e l. and_then (number named.Receipts 4 l) (λ k l. and_then (map_in e.0 l) (λ m l. Ok (made e f k m, l))))))) x p0 left0 (Ok h) p5 left5 r0
+    (λ y0 e0. goes_on (field named.Version 1 low high (record { at = p0; bytes = y0 })) (λ n l. and_then (cluster l) (λ f l. and_then (edition n l) (λ e l. and_then (number named.Receipts 4 l) (λ k l. and_then (map_in e.0 l) (λ m l. Ok (made e f k m, l)))))) n p1 left1 (Ok h) p5 left5 (r1 y0 e0)
+    (λ y1 e1. goes_on (cluster (record { at = p1; bytes = y1 })) (λ f l. and_then (edition n l) (λ e l. and_then (number named.Receipts 4 l) (λ k l. and_then (map_in e.0 l) (λ m l. Ok (made e f k m, l))))) f p2 left2 (Ok h) p5 left5 (r2 y1 e1)
+    (λ y2 e2. goes_on (edition n (record { at = p2; bytes = y2 })) (λ e l. and_then (number named.Receipts 4 l) (λ k l. and_then (map_in e.0 l) (λ m l. Ok (made e f k m, l)))) e p3 left3 (Ok h) p5 left5 (r3 y2 e2)
+    (λ y3 e3. goes_on (number named.Receipts 4 (record { at = p3; bytes = y3 })) (λ k l. and_then (map_in e.0 l) (λ m l. Ok (made e f k m, l))) k p4 left4 (Ok h) p5 left5 (r4 y3 e3)
     (λ y4 e4. goes_on (map_in e.0 (record { at = p4; bytes = y4 })) (λ m l. Ok (made e f k m, l)) m p5 left5 (Ok h) p5 left5 (r5 y4 e4)
     (λ y5 e5. header_ends e.0 f k m e.1 o p5 y5 left5 e5 is))))))

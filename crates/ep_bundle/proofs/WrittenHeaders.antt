@@ -21,11 +21,13 @@ use Rattle.ep_journal.specs.Openings.{Opening, OpensIn}
 use Rattle.ep_rules.specs.OneMap.{Contents}
 use Rattle.ep_bundle.specs.Bytes.{edition_bytes, header_bytes, magic, map_bytes}
 use Rattle.ep_bundle.specs.Headers.{Pair, cluster, contents, edition, header, key_above, map_in, pair, pairs}
-use Rattle.ep_bundle.specs.Reading.{Left, Reading, and_then, field, number, run}
+use Rattle.ep_bundle.specs.Reading.{Left, Reading, and_then, bad, field, number, run}
 use Rattle.ep_bundle.specs.Writing.{All, OpeningFits}
 use Rattle.ep_bundle.specs.WriteRanges.{PairTyped}
 use Rattle.ep_bundle.specs.declared.bundle_header.BundleHeader.{BundleHeader}
-use Rattle.ep_bundle.specs.declared.bundle_fault.BundleFault.TheVariants.{BadBundle}
+use Rattle.ep_bundle.specs.declared.bundle_fault.BundleFault.{BundleFault}
+use Rattle.ep_bundle.specs.declared.bundle_field.BundleField.TheVariants as named
+use Rattle.ep_bundle.specs.declared.wanted.Wanted.TheVariants.{ClusterSize, Higher}
 use Rattle.ep_bundle.proofs.MapBytes.{pair_is, contents_are}
 use Rattle.ep_bundle.proofs.ReadHeaders.{Rises, same_key}
 use Rattle.ep_bundle.proofs.WrittenStages.{Gives, then_gives, made_of, numbered, fielded, ran, respelled}
@@ -45,10 +47,11 @@ rises_front (e ∷ xs) ys h = let p = and_parts _ _ h in (λ t. (below_front e.0
 
 key_given : (es : List Pair) (n : ℕ) (key : List ℕ) → length key ≡ n → Rises (es ++ (key, []) ∷ []) → Gives (key_above es n) key key
 key_given es n key len rise at rest =
-    let p = ran n key len at rest in (
+    let p = ran named.PairKey n key len at rest in
+    let fault : BundleFault = bad named.PairKey n Higher (record { at = at; bytes = [] }) in (
       p.0,
-      ap (λ (o : Reading (List ℕ)). and_then o (λ k l. cond (is_sorted key_cmp (es ++ (k, []) ∷ [])) (Ok (k, l)) (Err (BadBundle at)))) p.1
-          ∙ ap (λ (b : Bool). cond b (Ok (key, record { at = p.0; bytes = rest })) (Err (BadBundle at))) rise,
+      ap (λ (o : Reading (List ℕ)). and_then o (λ k l. cond (is_sorted key_cmp (es ++ (k, []) ∷ [])) (Ok (k, l)) (Err fault))) p.1
+          ∙ ap (λ (b : Bool). cond b (Ok (key, record { at = p.0; bytes = rest })) (Err fault)) rise,
     )
 
 pair_given : (es : List Pair) (e : Pair) → PairTyped e → Rises (es ++ e ∷ []) → Gives (pair es) (pair_bytes e) e
@@ -61,10 +64,10 @@ pair_given es e t rise =
     let small : n ≤ most_value = t.value in
     let first : Rises es = rises_front es (e ∷ []) rise in
     respelled (pair es) (a ++ (b ++ (e.0 ++ e.1))) (pair_bytes e) e (group4 a b e.0 e.1 ∙ sym (pair_is e))
-    (then_gives (field 1 1 255) (λ k l. and_then (field 4 0 most_value l) (λ n l. and_then (key_above es k l) (λ key l. and_then (run n l) (λ value l. Ok ((key, value), l))))) a (b ++ (e.0 ++ e.1)) k e (fielded 1 1 255 k (omega arith) t.least t.most)
-    (then_gives (field 4 0 most_value) (λ n l. and_then (key_above es k l) (λ key l. and_then (run n l) (λ value l. Ok ((key, value), l)))) b (e.0 ++ e.1) n e (fielded 4 0 most_value n (omega arith) (omega arith) t.value)
-    (then_gives (key_above es k) (λ key l. and_then (run n l) (λ value l. Ok ((key, value), l))) e.0 e.1 e.0 e (key_given es k e.0 refl (same_key es e.0 e.1 [] first rise))
-    (made_of (run n) (λ value l. Ok ((e.0, value), l)) e.1 e.1 e (ran n e.1 refl) (λ l. refl)))))
+    (then_gives (field named.PairKeyLength 1 1 255) (λ k l. and_then (field named.PairValueLength 4 0 most_value l) (λ n l. and_then (key_above es k l) (λ key l. and_then (run named.PairValue n l) (λ value l. Ok ((key, value), l))))) a (b ++ (e.0 ++ e.1)) k e (fielded _ 1 1 255 k (omega arith) t.least t.most)
+    (then_gives (field named.PairValueLength 4 0 most_value) (λ n l. and_then (key_above es k l) (λ key l. and_then (run named.PairValue n l) (λ value l. Ok ((key, value), l)))) b (e.0 ++ e.1) n e (fielded _ 4 0 most_value n (omega arith) (omega arith) t.value)
+    (then_gives (key_above es k) (λ key l. and_then (run named.PairValue n l) (λ value l. Ok ((key, value), l))) e.0 e.1 e.0 e (key_given es k e.0 refl (same_key es e.0 e.1 [] first rise))
+    (made_of (run named.PairValue n) (λ value l. Ok ((e.0, value), l)) e.1 e.1 e (ran _ n e.1 refl) (λ l. refl)))))
 
 pairs_given : (before items : List Pair) → All PairTyped items → Rises (before ++ items) → Gives (pairs (length items) before) (flat_map pair_bytes items) (before ++ items)
 pairs_given before [] t rise = λ at rest. (at, ap (λ (zs : List Pair). Ok (zs, record { at = at; bytes = rest })) (sym (none before)))
@@ -96,11 +99,11 @@ map_given V2 o opens few t = λ at rest. (at, ap (λ (p : Opening). Ok (p.conten
 map_given (V3 g) o opens few t =
     let n = length (entries o.contents) in
     respelled (map_in (V3 g)) (number_bytes 4 n ++ flat_map pair_bytes (entries o.contents)) (contents_bytes o.contents) o.contents (sym (contents_are o.contents))
-    (then_gives (field 4 0 4000000000) contents (number_bytes 4 n) (flat_map pair_bytes (entries o.contents)) n o.contents (fielded 4 0 4000000000 n (omega arith) (omega arith) few) (contents_given o.contents t))
+    (then_gives (field named.Keys 4 0 4000000000) contents (number_bytes 4 n) (flat_map pair_bytes (entries o.contents)) n o.contents (fielded _ 4 0 4000000000 n (omega arith) (omega arith) few) (contents_given o.contents t))
 
 -- what is made of the number of replicas
 abbrev sized : ℕ → ℕ → Left → Reading ℕ
-sized at n l = cond (eqb n 3 || eqb n 5 || eqb n 7) (Ok (n / 2, l)) (Err (BadBundle at))
+sized at n l = cond (eqb n 3 || eqb n 5 || eqb n 7) (Ok (n / 2, l)) (Err (bad named.Replicas 1 ClusterSize (record { at = at; bytes = [] })))
 
 a_size : (f at : ℕ) (l : Left) → 1 ≤ f → f ≤ 3 → sized at (size f) l ≡ Ok (f, l)
 a_size f at l low high = elim (cases_eq f 1) [
@@ -113,7 +116,7 @@ a_size f at l low high = elim (cases_eq f 1) [
 
 pub clustered : (f : ℕ) → 1 ≤ f → f ≤ 3 → Gives cluster (number_bytes 1 (size f)) f
 clustered f low high at rest =
-    let p = numbered 1 (size f) (omega arith) at rest in
+    let p = numbered named.Replicas 1 (size f) (omega arith) at rest in
     (p.0, ap (λ (o : Reading ℕ). and_then o (sized at)) p.1 ∙ a_size f at (record { at = p.0; bytes = rest }) low high)
 
 -- the version's number
@@ -127,8 +130,8 @@ edition_given V1 o generation opens high = λ at rest. (at, ap (λ (p : Opening)
 edition_given V2 o generation opens high = λ at rest. (at, ap (λ (p : Opening). Ok ((V2, p.base_stamp), record { at = at; bytes = rest })) (sym opens))
 edition_given (V3 g) o generation opens high =
     let most : g ≤ 4294967295 = generation.1 in
-    then_gives (field 4 1 4294967295) (λ g l. and_then (field 8 0 281474976710655 l) (λ base_stamp l. Ok ((V3 g, base_stamp), l))) (number_bytes 4 g) (number_bytes 8 o.base_stamp) g (V3 g, o.base_stamp) (fielded 4 1 4294967295 g (omega arith) generation.0 most)
-    (made_of (field 8 0 281474976710655) (λ base_stamp l. Ok ((V3 g, base_stamp), l)) (number_bytes 8 o.base_stamp) o.base_stamp (V3 g, o.base_stamp) (fielded 8 0 281474976710655 o.base_stamp (omega arith) (omega arith) high) (λ l. refl))
+    then_gives (field named.Generation 4 1 4294967295) (λ g l. and_then (field named.BaseStamp 8 0 281474976710655 l) (λ base_stamp l. Ok ((V3 g, base_stamp), l))) (number_bytes 4 g) (number_bytes 8 o.base_stamp) g (V3 g, o.base_stamp) (fielded _ 4 1 4294967295 g (omega arith) generation.0 most)
+    (made_of (field named.BaseStamp 8 0 281474976710655) (λ base_stamp l. Ok ((V3 g, base_stamp), l)) (number_bytes 8 o.base_stamp) o.base_stamp (V3 g, o.base_stamp) (fielded _ 8 0 281474976710655 o.base_stamp (omega arith) (omega arith) high) (λ l. refl))
 
 -- the whole
 
@@ -152,13 +155,13 @@ headed v o f k low high lt generation opens fits typed =
     let least : 1 ≤ n = numbers_low v in
     let most : n ≤ 3 = version_low v in
     respelled header (a ++ (b ++ (c ++ (d ++ (e ++ m))))) (header_bytes v o (size f) k) h (group6 a b c d e m)
-    (then_gives (field 4 magic magic) (λ x l. and_then (field 1 1 3 l) (λ n l. and_then (cluster l) (λ f l. and_then (edition n l) (λ w l. and_then (number 4 l) (λ k l. and_then (map_in w.0 l) (λ m l. Ok (made w f k m, l)))))))
-    a (b ++ (c ++ (d ++ (e ++ m)))) magic h (fielded 4 magic magic magic (omega arith) (omega arith) (omega arith))
-    (then_gives (field 1 1 3) (λ n l. and_then (cluster l) (λ f l. and_then (edition n l) (λ w l. and_then (number 4 l) (λ k l. and_then (map_in w.0 l) (λ m l. Ok (made w f k m, l))))))
-    b (c ++ (d ++ (e ++ m))) n h (fielded 1 1 3 n (omega arith) least most)
-    (then_gives cluster (λ f l. and_then (edition n l) (λ w l. and_then (number 4 l) (λ k l. and_then (map_in w.0 l) (λ m l. Ok (made w f k m, l)))))
+    (then_gives (field named.Magic 4 magic magic) (λ x l. and_then (field named.Version 1 1 3 l) (λ n l. and_then (cluster l) (λ f l. and_then (edition n l) (λ w l. and_then (number named.Receipts 4 l) (λ k l. and_then (map_in w.0 l) (λ m l. Ok (made w f k m, l)))))))
+    a (b ++ (c ++ (d ++ (e ++ m)))) magic h (fielded _ 4 magic magic magic (omega arith) (omega arith) (omega arith))
+    (then_gives (field named.Version 1 1 3) (λ n l. and_then (cluster l) (λ f l. and_then (edition n l) (λ w l. and_then (number named.Receipts 4 l) (λ k l. and_then (map_in w.0 l) (λ m l. Ok (made w f k m, l))))))
+    b (c ++ (d ++ (e ++ m))) n h (fielded _ 1 1 3 n (omega arith) least most)
+    (then_gives cluster (λ f l. and_then (edition n l) (λ w l. and_then (number named.Receipts 4 l) (λ k l. and_then (map_in w.0 l) (λ m l. Ok (made w f k m, l)))))
     c (d ++ (e ++ m)) f h (clustered f low high)
-    (then_gives (edition n) (λ w l. and_then (number 4 l) (λ k l. and_then (map_in w.0 l) (λ m l. Ok (made w f k m, l))))
+    (then_gives (edition n) (λ w l. and_then (number named.Receipts 4 l) (λ k l. and_then (map_in w.0 l) (λ m l. Ok (made w f k m, l))))
     d (e ++ m) (v, o.base_stamp) h (edition_given v o generation opens fits.1)
-    (then_gives (number 4) (λ k l. and_then (map_in v l) (λ m l. Ok (made (v, o.base_stamp) f k m, l))) e m k h (numbered 4 k (omega arith))
+    (then_gives (number named.Receipts 4) (λ k l. and_then (map_in v l) (λ m l. Ok (made (v, o.base_stamp) f k m, l))) e m k h (numbered _ 4 k (omega arith))
     (made_of (map_in v) (λ m l. Ok (made (v, o.base_stamp) f k m, l)) m o.contents h (map_given v o opens fits.0 typed) (λ l. refl)))))))

@@ -6,5 +6,5 @@ use Rattle.ep_bundle.specs.declared.bundle_fault.BundleFault.TheVariants.{Memory
 abbrev pub fault_text : BundleFault → List ℕ
 fault_text Memory = codes "out of memory"
 fault_text ReadFailed = codes "reading failed"
-fault_text (BadBundle at) = codes "bundle refused E12 at byte " ++ decimal at
+fault_text (BadBundle field) = codes "bundle refused E12 at byte " ++ decimal field.at
 fault_text (NotARun replica entry) = codes "bundle refused E11 at replica " ++ decimal replica ++ codes " entry " ++ decimal entry

@@ -3,6 +3,7 @@
 ghost use Rattle.std.specs.Prelude.{◌≡◌};
 ghost use Rattle.ep_bundle.specs.declared.bundle_fault.BundleFault.TheVariants.{Memory as NoMemory, ReadFailed as Failed};
 
+use crate::bad_field::BadField;
 use ep_base::{ReadFailed, ReplicaId};
 use std::alloc::{AllocError, AllocFailed};
 use std::error::Error;
@@ -15,9 +16,9 @@ pub enum BundleFault {
     Memory,
     /// The source failed.
     ReadFailed,
-    /// The field that begins at this offset is cut by the end of the input or isn't allowed; or the bundle is over, and
-    /// this is the first byte left. Offsets are counted from 0 and stop at 2^64 - 1.
-    BadBundle(u64),
+    /// This field is cut by the end of the input or isn't allowed; or the bundle is over, and here is the first byte
+    /// left.
+    BadBundle(BadField),
     /// The replica's entry of this number, counted from 1, isn't the step that its event asks for.
     NotARun(ReplicaId, u32),
 }
@@ -32,7 +33,7 @@ impl fmt::Display for BundleFault {
         match self {
             BundleFault::Memory => f.write_str("out of memory"),
             BundleFault::ReadFailed => f.write_str("reading failed"),
-            BundleFault::BadBundle(offset) => write!(f, "bundle refused E12 at byte {offset}"),
+            BundleFault::BadBundle(field) => write!(f, "bundle refused E12 at byte {}", field.at),
             BundleFault::NotARun(replica, entry) => {
                 write!(
                     f,

@@ -8,10 +8,13 @@ ghost use Rattle.ep_frame.specs.Faults.{highest_op, op_of};
 ghost use Rattle.ep_bundle.specs.Reading.{field, is_read_failed, map_ok, Reads};
 ghost use Rattle.ep_bundle.specs.Stages.{AreLengths, allowed, allowed_run, body_in, command, early_fits, early_lengths, lengths, op as op_of_command, other_lengths, parts, second_in};
 
+use crate::bad_field::BadField;
 use crate::bundle_fault::BundleFault;
+use crate::bundle_field::BundleField;
 use crate::fields::{field_u8, read_over, read_u8, read_u16, read_u32};
 use crate::lengths::Lengths;
 use crate::part_room::PartRoom;
+use crate::wanted::Wanted;
 use ep_base::{Command, CommandFault, Op, Source, Version, VersionKind};
 use std::alloc::{AllocError, Global};
 
@@ -33,11 +36,11 @@ fn read_op_number<S: Source>(
     place: &mut u64,
     version: Version,
 ) -> Result<u8, BundleFault>
-    ensures bytes { (zs : List ℕ) → S.left source.old ≡ Some zs → Reads (field 1 2 (highest_op version) (record { at = place.old; bytes = zs })) result place.new (S.left source.new) }
+    ensures bytes { (zs : List ℕ) → S.left source.old ≡ Some zs → Reads (field BundleField.Op 1 2 (highest_op version) (record { at = place.old; bytes = zs })) result place.new (S.left source.new) }
     ensures range { IfOk result (λ n. (1 ≤ n) × (n ≤ 10)) }
     ensures told { FailsAsTold is_read_failed result (S.has_failed source.old) (S.has_failed source.new) }
 {
-    field_u8(source, place, 2, highest_op(version))
+    field_u8(source, place, BundleField::Op, 2, highest_op(version))
 }
 
 /// The op of this number.
@@ -63,42 +66,57 @@ fn read_op<S: Source>(source: &mut S, place: &mut u64, version: Version) -> Resu
 
 /// How many bytes the op's first key has.
 fn read_first_len<S: Source>(source: &mut S, place: &mut u64, op: Op) -> Result<u8, BundleFault>
-    ensures bytes { (zs : List ℕ) → S.left source.old ≡ Some zs → Reads (allowed 1 (first_fits op) (record { at = place.old; bytes = zs })) result place.new (S.left source.new) }
+    ensures bytes { (zs : List ℕ) → S.left source.old ≡ Some zs → Reads (allowed BundleField.KeyLength (Wanted.LengthFor op) 1 (first_fits op) (record { at = place.old; bytes = zs })) result place.new (S.left source.new) }
     ensures told { FailsAsTold is_read_failed result (S.has_failed source.old) (S.has_failed source.new) }
     ensures fits { IfOk result (λ n. first_fits op n ≡ true) }
 {
     let at = *place;
-    let len = read_u8(source, place)?;
+    let len = read_u8(source, place, BundleField::KeyLength)?;
     if !op.first_fits(len as usize) {
-        return Err(BundleFault::BadBundle(at));
+        return Err(BundleFault::BadBundle(BadField {
+            at,
+            name: BundleField::KeyLength,
+            len: 1,
+            wanted: Wanted::LengthFor(op),
+        }));
     }
     Ok(len)
 }
 
 /// How many bytes its second key has.
 fn read_second_len<S: Source>(source: &mut S, place: &mut u64, op: Op) -> Result<u8, BundleFault>
-    ensures bytes { (zs : List ℕ) → S.left source.old ≡ Some zs → Reads (allowed 1 (second_fits op) (record { at = place.old; bytes = zs })) result place.new (S.left source.new) }
+    ensures bytes { (zs : List ℕ) → S.left source.old ≡ Some zs → Reads (allowed BundleField.SecondLength (Wanted.LengthFor op) 1 (second_fits op) (record { at = place.old; bytes = zs })) result place.new (S.left source.new) }
     ensures told { FailsAsTold is_read_failed result (S.has_failed source.old) (S.has_failed source.new) }
     ensures fits { IfOk result (λ n. second_fits op n ≡ true) }
 {
     let at = *place;
-    let len = read_u8(source, place)?;
+    let len = read_u8(source, place, BundleField::SecondLength)?;
     if !op.second_fits(len as usize) {
-        return Err(BundleFault::BadBundle(at));
+        return Err(BundleFault::BadBundle(BadField {
+            at,
+            name: BundleField::SecondLength,
+            len: 1,
+            wanted: Wanted::LengthFor(op),
+        }));
     }
     Ok(len)
 }
 
 /// How many bytes its body has.
 fn read_body_len<S: Source>(source: &mut S, place: &mut u64, op: Op) -> Result<u32, BundleFault>
-    ensures bytes { (zs : List ℕ) → S.left source.old ≡ Some zs → Reads (allowed 4 (body_fits op) (record { at = place.old; bytes = zs })) result place.new (S.left source.new) }
+    ensures bytes { (zs : List ℕ) → S.left source.old ≡ Some zs → Reads (allowed BundleField.BodyLength (Wanted.LengthFor op) 4 (body_fits op) (record { at = place.old; bytes = zs })) result place.new (S.left source.new) }
     ensures told { FailsAsTold is_read_failed result (S.has_failed source.old) (S.has_failed source.new) }
     ensures fits { IfOk result (λ n. body_fits op n ≡ true) }
 {
     let at = *place;
-    let len = read_u32(source, place)?;
+    let len = read_u32(source, place, BundleField::BodyLength)?;
     if !op.body_fits(len as usize) {
-        return Err(BundleFault::BadBundle(at));
+        return Err(BundleFault::BadBundle(BadField {
+            at,
+            name: BundleField::BodyLength,
+            len: 4,
+            wanted: Wanted::LengthFor(op),
+        }));
     }
     Ok(len)
 }
@@ -144,14 +162,19 @@ fn early_of(op: Op, first: u8, len: u16) -> Lengths
 
 /// How many bytes follow the first key in version 1 or 2.
 fn read_early_len<S: Source>(source: &mut S, place: &mut u64, op: Op) -> Result<u16, BundleFault>
-    ensures bytes { (zs : List ℕ) → S.left source.old ≡ Some zs → Reads (allowed 2 (early_fits op) (record { at = place.old; bytes = zs })) result place.new (S.left source.new) }
+    ensures bytes { (zs : List ℕ) → S.left source.old ≡ Some zs → Reads (allowed BundleField.TextLength (Wanted.LengthFor op) 2 (early_fits op) (record { at = place.old; bytes = zs })) result place.new (S.left source.new) }
     ensures told { FailsAsTold is_read_failed result (S.has_failed source.old) (S.has_failed source.new) }
     ensures fits { IfOk result (λ n. early_fits op n ≡ true) }
 {
     let at = *place;
-    let len = read_u16(source, place)?;
+    let len = read_u16(source, place, BundleField::TextLength)?;
     if !early_fits(op, len) {
-        return Err(BundleFault::BadBundle(at));
+        return Err(BundleFault::BadBundle(BadField {
+            at,
+            name: BundleField::TextLength,
+            len: 2,
+            wanted: Wanted::LengthFor(op),
+        }));
     }
     Ok(len)
 }
@@ -243,15 +266,20 @@ fn read_second<S: Source>(
     len: u8,
     second: &mut Vec<u8>,
 ) -> Result<(), BundleFault>
-    ensures bytes { (zs : List ℕ) → S.left source.old ≡ Some zs → Reads (allowed_run len (λ m. not (is_twice first.now m)) (record { at = place.old; bytes = zs })) (map_ok (λ _. second.new.items) result) place.new (S.left source.new) }
+    ensures bytes { (zs : List ℕ) → S.left source.old ≡ Some zs → Reads (allowed_run BundleField.SecondKey Wanted.OtherKey len (λ m. not (is_twice first.now m)) (record { at = place.old; bytes = zs })) (map_ok (λ _. second.new.items) result) place.new (S.left source.new) }
     ensures told { FailsAsTold is_read_failed result (S.has_failed source.old) (S.has_failed source.new) }
     ensures other { OnOk result ((length second.new.items ≡ len) × (is_twice first.now second.new.items ≡ false)) }
 {
     let at = *place;
-    read_over(source, place, len as usize, second)?;
+    read_over(source, place, BundleField::SecondKey, len as usize, second)?;
     let twice = is_twice(first, second);
     if twice {
-        return Err(BundleFault::BadBundle(at));
+        return Err(BundleFault::BadBundle(BadField {
+            at,
+            name: BundleField::SecondKey,
+            len: len as u64,
+            wanted: Wanted::OtherKey,
+        }));
     }
     Ok(())
 }
@@ -285,17 +313,34 @@ fn read_parts<S: Source>(
     ensures bytes { (zs : List ℕ) → S.left source.old ≡ Some zs → Reads (parts lengths (record { at = place.old; bytes = zs })) result place.new (S.left source.new) }
     ensures told { FailsAsTold is_read_failed result (S.has_failed source.old) (S.has_failed source.new) }
 {
-    read_over(source, place, lengths.first as usize, &mut room.first)?;
+    read_over(
+        source,
+        place,
+        BundleField::Key,
+        lengths.first as usize,
+        &mut room.first,
+    )?;
     let first_key = room.first.as_slice();
     read_second(source, place, first_key, lengths.second, &mut room.second)?;
     let second_key = room.second.as_slice();
     let at = *place;
-    read_over(source, place, lengths.body as usize, &mut room.body)?;
+    read_over(
+        source,
+        place,
+        BundleField::Body,
+        lengths.body as usize,
+        &mut room.body,
+    )?;
     let bytes = room.body.as_slice();
     let made = command_made(alloc, lengths.op, first_key, second_key, bytes)?;
     match made {
         Some(command) => Ok(command),
-        None => Err(BundleFault::BadBundle(at)),
+        None => Err(BundleFault::BadBundle(BadField {
+            at,
+            name: BundleField::Body,
+            len: lengths.body as u64,
+            wanted: Wanted::BodyFor(lengths.op),
+        })),
     }
 }
 

@@ -5,8 +5,11 @@ ghost use Rattle.ep_base.specs.Devices.{FailsAsTold};
 ghost use Rattle.ep_bundle.specs.Reading.{map_ok, field, number, run, is_read_failed, Reads};
 ghost use Rattle.ep_bundle.specs.Filling.{Begun, Fills, FillsTo};
 
+use crate::bad_field::BadField;
 use crate::bundle_fault::BundleFault;
+use crate::bundle_field::BundleField;
 use crate::room::Room;
+use crate::wanted::Wanted;
 use byteorder::{BigEndian, ByteOrder};
 use bytes::{Bytes, BytesMut};
 use ep_base::{ReadFailed, Source};
@@ -70,16 +73,23 @@ fn fill_from<S: Source>(source: &mut S, buf: &mut [u8], from: usize) -> Result<u
 pub(crate) fn take<S: Source>(
     source: &mut S,
     place: &mut u64,
+    name: BundleField,
     buf: &mut [u8],
 ) -> Result<(), BundleFault>
-    ensures bytes { (zs : List ℕ) → S.left source.old ≡ Some zs → Reads (run (length buf.old) (record { at = place.old; bytes = zs })) (map_ok (λ _. buf.new) result) place.new (S.left source.new) }
+    ensures bytes { (zs : List ℕ) → S.left source.old ≡ Some zs → Reads (run name (length buf.old) (record { at = place.old; bytes = zs })) (map_ok (λ _. buf.new) result) place.new (S.left source.new) }
     ensures long { length buf.new ≡ length buf.old }
     ensures told { FailsAsTold is_read_failed result (S.has_failed source.old) (S.has_failed source.new) }
 {
+    let len = buf.len() as u64;
     if !fill(source, buf)? {
-        return Err(BundleFault::BadBundle(*place));
+        return Err(BundleFault::BadBundle(BadField {
+            at: *place,
+            name,
+            len,
+            wanted: Wanted::Whole,
+        }));
     }
-    *place = place.saturating_add(buf.len() as u64);
+    *place = place.saturating_add(len);
     Ok(())
 }
 
@@ -88,14 +98,15 @@ pub fn read_run<S: Source>(
     alloc: Global,
     source: &mut S,
     place: &mut u64,
+    name: BundleField,
     len: usize,
 ) -> Result<Vec<u8>, BundleFault>
-    ensures bytes { (zs : List ℕ) → S.left source.old ≡ Some zs → Reads (run len (record { at = place.old; bytes = zs })) (map_ok (λ v. v.items) result) place.new (S.left source.new) }
+    ensures bytes { (zs : List ℕ) → S.left source.old ≡ Some zs → Reads (run name len (record { at = place.old; bytes = zs })) (map_ok (λ v. v.items) result) place.new (S.left source.new) }
     ensures long { IfOk result (λ v. length v.items ≡ len) }
     ensures told { FailsAsTold is_read_failed result (S.has_failed source.old) (S.has_failed source.new) }
 {
     let mut bytes = vec![in alloc; 0; len]?;
-    take(source, place, &mut bytes)?;
+    take(source, place, name, &mut bytes)?;
     Ok(bytes)
 }
 
@@ -104,27 +115,29 @@ pub fn read_run<S: Source>(
 pub(crate) fn read_over<S: Source>(
     source: &mut S,
     place: &mut u64,
+    name: BundleField,
     len: usize,
     bytes: &mut Vec<u8>,
 ) -> Result<(), BundleFault>
-    ensures bytes { (zs : List ℕ) → S.left source.old ≡ Some zs → Reads (run len (record { at = place.old; bytes = zs })) (map_ok (λ _. bytes.new.items) result) place.new (S.left source.new) }
+    ensures bytes { (zs : List ℕ) → S.left source.old ≡ Some zs → Reads (run name len (record { at = place.old; bytes = zs })) (map_ok (λ _. bytes.new.items) result) place.new (S.left source.new) }
     ensures long { OnOk result (length bytes.new.items ≡ len) }
     ensures told { FailsAsTold is_read_failed result (S.has_failed source.old) (S.has_failed source.new) }
 {
     bytes.resize(len, 0)?;
-    take(source, place, bytes)
+    take(source, place, name, bytes)
 }
 
 /// Fills the block with a run of as many bytes, and takes it out.
 fn take_block<S: Source>(
     source: &mut S,
     place: &mut u64,
+    name: BundleField,
     block: &mut BytesMut,
 ) -> Result<Bytes, BundleFault>
-    ensures bytes { (zs : List ℕ) → S.left source.old ≡ Some zs → Reads (run (length block.old.items) (record { at = place.old; bytes = zs })) result place.new (S.left source.new) }
+    ensures bytes { (zs : List ℕ) → S.left source.old ≡ Some zs → Reads (run name (length block.old.items) (record { at = place.old; bytes = zs })) result place.new (S.left source.new) }
     ensures told { FailsAsTold is_read_failed result (S.has_failed source.old) (S.has_failed source.new) }
 {
-    take(source, place, block.as_mut_slice())?;
+    take(source, place, name, block.as_mut_slice())?;
     let run = block.freeze_to(block.len())?;
     Ok(run)
 }
@@ -133,50 +146,71 @@ fn take_block<S: Source>(
 pub(crate) fn read_shared<S: Source>(
     source: &mut S,
     place: &mut u64,
+    name: BundleField,
     len: usize,
     room: &mut Room,
 ) -> Result<Bytes, BundleFault>
-    ensures bytes { (zs : List ℕ) → S.left source.old ≡ Some zs → Reads (run len (record { at = place.old; bytes = zs })) result place.new (S.left source.new) }
+    ensures bytes { (zs : List ℕ) → S.left source.old ≡ Some zs → Reads (run name len (record { at = place.old; bytes = zs })) result place.new (S.left source.new) }
     ensures told { FailsAsTold is_read_failed result (S.has_failed source.old) (S.has_failed source.new) }
 {
     room.open(len)?;
-    take_block(source, place, &mut room.block)
+    take_block(source, place, name, &mut room.block)
 }
 
-pub(crate) fn read_u8<S: Source>(source: &mut S, place: &mut u64) -> Result<u8, BundleFault>
-    ensures bytes { (zs : List ℕ) → S.left source.old ≡ Some zs → Reads (number 1 (record { at = place.old; bytes = zs })) result place.new (S.left source.new) }
+#[inline(always)]
+pub(crate) fn read_u8<S: Source>(
+    source: &mut S,
+    place: &mut u64,
+    name: BundleField,
+) -> Result<u8, BundleFault>
+    ensures bytes { (zs : List ℕ) → S.left source.old ≡ Some zs → Reads (number name 1 (record { at = place.old; bytes = zs })) result place.new (S.left source.new) }
     ensures told { FailsAsTold is_read_failed result (S.has_failed source.old) (S.has_failed source.new) }
 {
     let mut bytes = [0; 1];
-    take(source, place, &mut bytes)?;
+    take(source, place, name, &mut bytes)?;
     Ok(bytes[0])
 }
 
-pub(crate) fn read_u16<S: Source>(source: &mut S, place: &mut u64) -> Result<u16, BundleFault>
-    ensures bytes { (zs : List ℕ) → S.left source.old ≡ Some zs → Reads (number 2 (record { at = place.old; bytes = zs })) result place.new (S.left source.new) }
+#[inline(always)]
+pub(crate) fn read_u16<S: Source>(
+    source: &mut S,
+    place: &mut u64,
+    name: BundleField,
+) -> Result<u16, BundleFault>
+    ensures bytes { (zs : List ℕ) → S.left source.old ≡ Some zs → Reads (number name 2 (record { at = place.old; bytes = zs })) result place.new (S.left source.new) }
     ensures told { FailsAsTold is_read_failed result (S.has_failed source.old) (S.has_failed source.new) }
 {
     let mut bytes = [0; 2];
-    take(source, place, &mut bytes)?;
+    take(source, place, name, &mut bytes)?;
     Ok(BigEndian::read_u16(&bytes))
 }
 
-pub(crate) fn read_u32<S: Source>(source: &mut S, place: &mut u64) -> Result<u32, BundleFault>
-    ensures bytes { (zs : List ℕ) → S.left source.old ≡ Some zs → Reads (number 4 (record { at = place.old; bytes = zs })) result place.new (S.left source.new) }
+#[inline(always)]
+pub(crate) fn read_u32<S: Source>(
+    source: &mut S,
+    place: &mut u64,
+    name: BundleField,
+) -> Result<u32, BundleFault>
+    ensures bytes { (zs : List ℕ) → S.left source.old ≡ Some zs → Reads (number name 4 (record { at = place.old; bytes = zs })) result place.new (S.left source.new) }
     ensures told { FailsAsTold is_read_failed result (S.has_failed source.old) (S.has_failed source.new) }
 {
     let mut bytes = [0; 4];
-    take(source, place, &mut bytes)?;
+    take(source, place, name, &mut bytes)?;
     Ok(BigEndian::read_u32(&bytes))
 }
 
 /// A number of eight bytes.
-pub fn read_u64<S: Source>(source: &mut S, place: &mut u64) -> Result<u64, BundleFault>
-    ensures bytes { (zs : List ℕ) → S.left source.old ≡ Some zs → Reads (number 8 (record { at = place.old; bytes = zs })) result place.new (S.left source.new) }
+#[inline(always)]
+pub fn read_u64<S: Source>(
+    source: &mut S,
+    place: &mut u64,
+    name: BundleField,
+) -> Result<u64, BundleFault>
+    ensures bytes { (zs : List ℕ) → S.left source.old ≡ Some zs → Reads (number name 8 (record { at = place.old; bytes = zs })) result place.new (S.left source.new) }
     ensures told { FailsAsTold is_read_failed result (S.has_failed source.old) (S.has_failed source.new) }
 {
     let mut bytes = [0; 8];
-    take(source, place, &mut bytes)?;
+    take(source, place, name, &mut bytes)?;
     Ok(BigEndian::read_u64(&bytes))
 }
 
@@ -184,17 +218,23 @@ pub fn read_u64<S: Source>(source: &mut S, place: &mut u64) -> Result<u64, Bundl
 pub fn field_u8<S: Source>(
     source: &mut S,
     place: &mut u64,
+    name: BundleField,
     low: u8,
     high: u8,
 ) -> Result<u8, BundleFault>
-    ensures bytes { (zs : List ℕ) → S.left source.old ≡ Some zs → Reads (field 1 low high (record { at = place.old; bytes = zs })) result place.new (S.left source.new) }
+    ensures bytes { (zs : List ℕ) → S.left source.old ≡ Some zs → Reads (field name 1 low high (record { at = place.old; bytes = zs })) result place.new (S.left source.new) }
     ensures range { IfOk result (λ x. (low ≤ x) × (x ≤ high)) }
     ensures told { FailsAsTold is_read_failed result (S.has_failed source.old) (S.has_failed source.new) }
 {
     let at = *place;
-    let number = read_u8(source, place)?;
+    let number = read_u8(source, place, name)?;
     if number < low || high < number {
-        return Err(BundleFault::BadBundle(at));
+        return Err(BundleFault::BadBundle(BadField {
+            at,
+            name,
+            len: 1,
+            wanted: Wanted::Range(low as u64, high as u64),
+        }));
     }
     Ok(number)
 }
@@ -203,17 +243,23 @@ pub fn field_u8<S: Source>(
 pub(crate) fn field_u16<S: Source>(
     source: &mut S,
     place: &mut u64,
+    name: BundleField,
     low: u16,
     high: u16,
 ) -> Result<u16, BundleFault>
-    ensures bytes { (zs : List ℕ) → S.left source.old ≡ Some zs → Reads (field 2 low high (record { at = place.old; bytes = zs })) result place.new (S.left source.new) }
+    ensures bytes { (zs : List ℕ) → S.left source.old ≡ Some zs → Reads (field name 2 low high (record { at = place.old; bytes = zs })) result place.new (S.left source.new) }
     ensures range { IfOk result (λ x. (low ≤ x) × (x ≤ high)) }
     ensures told { FailsAsTold is_read_failed result (S.has_failed source.old) (S.has_failed source.new) }
 {
     let at = *place;
-    let number = read_u16(source, place)?;
+    let number = read_u16(source, place, name)?;
     if number < low || high < number {
-        return Err(BundleFault::BadBundle(at));
+        return Err(BundleFault::BadBundle(BadField {
+            at,
+            name,
+            len: 2,
+            wanted: Wanted::Range(low as u64, high as u64),
+        }));
     }
     Ok(number)
 }
@@ -223,17 +269,23 @@ pub(crate) fn field_u16<S: Source>(
 pub fn field_u32<S: Source>(
     source: &mut S,
     place: &mut u64,
+    name: BundleField,
     low: u32,
     high: u32,
 ) -> Result<u32, BundleFault>
-    ensures bytes { (zs : List ℕ) → S.left source.old ≡ Some zs → Reads (field 4 low high (record { at = place.old; bytes = zs })) result place.new (S.left source.new) }
+    ensures bytes { (zs : List ℕ) → S.left source.old ≡ Some zs → Reads (field name 4 low high (record { at = place.old; bytes = zs })) result place.new (S.left source.new) }
     ensures range { IfOk result (λ x. (low ≤ x) × (x ≤ high)) }
     ensures told { FailsAsTold is_read_failed result (S.has_failed source.old) (S.has_failed source.new) }
 {
     let at = *place;
-    let number = read_u32(source, place)?;
+    let number = read_u32(source, place, name)?;
     if number < low || high < number {
-        return Err(BundleFault::BadBundle(at));
+        return Err(BundleFault::BadBundle(BadField {
+            at,
+            name,
+            len: 4,
+            wanted: Wanted::Range(low as u64, high as u64),
+        }));
     }
     Ok(number)
 }
@@ -242,17 +294,23 @@ pub fn field_u32<S: Source>(
 pub fn field_u64<S: Source>(
     source: &mut S,
     place: &mut u64,
+    name: BundleField,
     low: u64,
     high: u64,
 ) -> Result<u64, BundleFault>
-    ensures bytes { (zs : List ℕ) → S.left source.old ≡ Some zs → Reads (field 8 low high (record { at = place.old; bytes = zs })) result place.new (S.left source.new) }
+    ensures bytes { (zs : List ℕ) → S.left source.old ≡ Some zs → Reads (field name 8 low high (record { at = place.old; bytes = zs })) result place.new (S.left source.new) }
     ensures range { IfOk result (λ x. (low ≤ x) × (x ≤ high)) }
     ensures told { FailsAsTold is_read_failed result (S.has_failed source.old) (S.has_failed source.new) }
 {
     let at = *place;
-    let number = read_u64(source, place)?;
+    let number = read_u64(source, place, name)?;
     if number < low || high < number {
-        return Err(BundleFault::BadBundle(at));
+        return Err(BundleFault::BadBundle(BadField {
+            at,
+            name,
+            len: 8,
+            wanted: Wanted::Range(low, high),
+        }));
     }
     Ok(number)
 }

@@ -7,10 +7,13 @@ ghost use Rattle.ep_base.specs.Versions.{version_of};
 ghost use Rattle.ep_bundle.specs.Headers.{StartsAt, cluster, edition, header, header_of, late_edition};
 ghost use Rattle.ep_bundle.specs.Reading.{is_read_failed, Reads};
 
+use crate::bad_field::BadField;
 use crate::bundle_fault::BundleFault;
+use crate::bundle_field::BundleField;
 use crate::bundle_header::BundleHeader;
 use crate::fields::{field_u8, field_u32, field_u64, read_u8, read_u32};
 use crate::pairs::read_map;
+use crate::wanted::Wanted;
 use ep_base::{Size, Source, Version};
 use ep_journal::Opening;
 use std::alloc::Global;
@@ -21,8 +24,15 @@ pub fn read_cluster<S: Source>(source: &mut S, place: &mut u64) -> Result<Size, 
     ensures told { FailsAsTold is_read_failed result (S.has_failed source.old) (S.has_failed source.new) }
 {
     let at = *place;
-    let count = read_u8(source, place)?;
-    Size::new(count).map_err(|_| BundleFault::BadBundle(at))
+    let count = read_u8(source, place, BundleField::Replicas)?;
+    Size::new(count).map_err(|_| {
+        BundleFault::BadBundle(BadField {
+            at,
+            name: BundleField::Replicas,
+            len: 1,
+            wanted: Wanted::ClusterSize,
+        })
+    })
 }
 
 /// Of version 3 the generation, and the stamp that the clocks go on from.
@@ -35,8 +45,14 @@ fn read_late_edition<S: Source>(
     ensures base_stamp { IfOk result (λ e. e.1 ≤ 281474976710655) }
     ensures told { FailsAsTold is_read_failed result (S.has_failed source.old) (S.has_failed source.new) }
 {
-    let generation = field_u32(source, place, 1, u32::MAX)?;
-    let base_stamp = field_u64(source, place, 0, 281_474_976_710_655)?;
+    let generation = field_u32(source, place, BundleField::Generation, 1, u32::MAX)?;
+    let base_stamp = field_u64(
+        source,
+        place,
+        BundleField::BaseStamp,
+        0,
+        281_474_976_710_655,
+    )?;
     Ok((Version::from_valid(3, generation), base_stamp))
 }
 
@@ -94,12 +110,12 @@ pub(crate) fn read_header_of<S: Source>(
     ensures opens { IfOk result (λ h. OpensIn h.version h.opening) }
     ensures told { FailsAsTold is_read_failed result (S.has_failed source.old) (S.has_failed source.new) }
 {
-    field_u32(source, place, 0x4550_4a42, 0x4550_4a42)?;
-    let number = field_u8(source, place, low, high)?;
+    field_u32(source, place, BundleField::Magic, 0x4550_4a42, 0x4550_4a42)?;
+    let number = field_u8(source, place, BundleField::Version, low, high)?;
     let cluster = read_cluster(source, place)?;
     let edition = read_edition(source, place, number)?;
     let (version, base_stamp) = edition;
-    let receipts = read_u32(source, place)?;
+    let receipts = read_u32(source, place, BundleField::Receipts)?;
     let contents = read_map(alloc, source, place, version)?;
     // Both are in range, so it is made.
     let Ok(opening) = Opening::new(contents, base_stamp) else {

@@ -7,8 +7,11 @@ ghost use Rattle.ep_exec.specs.Table.{key_cmp};
 ghost use Rattle.ep_bundle.specs.Headers.{HoldsAt, contents, key_above, map_in, pair};
 ghost use Rattle.ep_bundle.specs.Reading.{map_ok, is_read_failed, Reads, run};
 
+use crate::bad_field::BadField;
 use crate::bundle_fault::BundleFault;
+use crate::bundle_field::BundleField;
 use crate::fields::{field_u8, field_u32, read_run};
+use crate::wanted::Wanted;
 use ep_base::{Key, Source, Value, Version, VersionKind};
 use ep_exec::{Contents, Listing};
 use std::alloc::Global;
@@ -27,13 +30,18 @@ fn read_key<S: Source>(
     ensures told { FailsAsTold is_read_failed result (S.has_failed source.old) (S.has_failed source.new) }
 {
     let at = *place;
-    let bytes = read_run(alloc, source, place, len as usize)?;
+    let bytes = read_run(alloc, source, place, BundleField::PairKey, len as usize)?;
     // The length is in range, so only memory can be refused.
     let Ok(key) = Key::new(alloc, &bytes) else {
         return Err(BundleFault::Memory);
     };
     if !before.is_below(&key) {
-        return Err(BundleFault::BadBundle(at));
+        return Err(BundleFault::BadBundle(BadField {
+            at,
+            name: BundleField::PairKey,
+            len: len as u64,
+            wanted: Wanted::Higher,
+        }));
     }
     Ok(key)
 }
@@ -46,10 +54,10 @@ fn read_value_of<S: Source>(
     len: u32,
 ) -> Result<Value, BundleFault>
     requires { len ≤ 65535 }
-    ensures bytes { (zs : List ℕ) → S.left source.old ≡ Some zs → Reads (run len (record { at = place.old; bytes = zs })) result place.new (S.left source.new) }
+    ensures bytes { (zs : List ℕ) → S.left source.old ≡ Some zs → Reads (run BundleField.PairValue len (record { at = place.old; bytes = zs })) result place.new (S.left source.new) }
     ensures told { FailsAsTold is_read_failed result (S.has_failed source.old) (S.has_failed source.new) }
 {
-    let bytes = read_run(alloc, source, place, len as usize)?;
+    let bytes = read_run(alloc, source, place, BundleField::PairValue, len as usize)?;
     Value::new(alloc, &bytes).map_err(|_| BundleFault::Memory)
 }
 
@@ -64,8 +72,8 @@ fn read_pair<S: Source>(
     ensures one { OnOk result ((key : List ℕ) × (value : List ℕ) × (entries_in map.new ≡ entries_in map.old ++ (key, value) ∷ [])) }
     ensures told { FailsAsTold is_read_failed result (S.has_failed source.old) (S.has_failed source.new) }
 {
-    let key_len = field_u8(source, place, 1, 255)?;
-    let value_len = field_u32(source, place, 0, 65_535)?;
+    let key_len = field_u8(source, place, BundleField::PairKeyLength, 1, 255)?;
+    let value_len = field_u32(source, place, BundleField::PairValueLength, 0, 65_535)?;
     let key = read_key(alloc, source, place, map, key_len)?;
     let value = read_value_of(alloc, source, place, value_len)?;
     // The key stands above the others, so only memory can be refused.
@@ -122,6 +130,6 @@ fn read_counted_map<S: Source>(
     ensures few { IfOk result (λ m. length (entries_in m) ≤ 4000000000) }
     ensures told { FailsAsTold is_read_failed result (S.has_failed source.old) (S.has_failed source.new) }
 {
-    let count = field_u32(source, place, 0, 4_000_000_000)?;
+    let count = field_u32(source, place, BundleField::Keys, 0, 4_000_000_000)?;
     read_contents(alloc, source, place, count)
 }

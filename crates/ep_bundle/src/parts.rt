@@ -8,6 +8,7 @@ ghost use Rattle.ep_bundle.specs.Reading.{field, is_read_failed, Compares, Reads
 ghost use Rattle.ep_bundle.specs.Stages.{answer, highest_code, instance, plain_answer, replica, reply_by, told_answer, told_in};
 
 use crate::bundle_fault::BundleFault;
+use crate::bundle_field::BundleField;
 use crate::fields::{field_u8, field_u16};
 use crate::room::Room;
 use crate::values::{read_same_told, read_same_value, read_told, read_value};
@@ -19,14 +20,15 @@ use ep_base::{
 pub(crate) fn read_replica<S: Source>(
     source: &mut S,
     place: &mut u64,
+    name: BundleField,
     cluster: Size,
 ) -> Result<ReplicaId, BundleFault>
-    ensures bytes { (zs : List ℕ) → S.left source.old ≡ Some zs → Reads (replica (size cluster) (record { at = place.old; bytes = zs })) result place.new (S.left source.new) }
+    ensures bytes { (zs : List ℕ) → S.left source.old ≡ Some zs → Reads (replica name (size cluster) (record { at = place.old; bytes = zs })) result place.new (S.left source.new) }
     ensures told { FailsAsTold is_read_failed result (S.has_failed source.old) (S.has_failed source.new) }
 {
-    let at = *place;
-    let index = field_u8(source, place, 0, cluster.count() - 1)?;
-    ReplicaId::new(index).map_err(|_| BundleFault::BadBundle(at))
+    let index = field_u8(source, place, name, 0, cluster.count() - 1)?;
+    // The number is in range, so the replica is made.
+    ReplicaId::new(index).map_err(|_| BundleFault::Memory)
 }
 
 /// The number of an instance of the version.
@@ -35,10 +37,16 @@ fn read_number<S: Source>(
     place: &mut u64,
     version: Version,
 ) -> Result<u16, BundleFault>
-    ensures bytes { (zs : List ℕ) → S.left source.old ≡ Some zs → Reads (field 2 1 (highest_in version) (record { at = place.old; bytes = zs })) result place.new (S.left source.new) }
+    ensures bytes { (zs : List ℕ) → S.left source.old ≡ Some zs → Reads (field BundleField.Number 2 1 (highest_in version) (record { at = place.old; bytes = zs })) result place.new (S.left source.new) }
     ensures told { FailsAsTold is_read_failed result (S.has_failed source.old) (S.has_failed source.new) }
 {
-    field_u16(source, place, 1, version.highest_number())
+    field_u16(
+        source,
+        place,
+        BundleField::Number,
+        1,
+        version.highest_number(),
+    )
 }
 
 /// An instance of the version that a replica of the cluster leads.
@@ -51,10 +59,10 @@ pub fn read_instance<S: Source>(
     ensures bytes { (zs : List ℕ) → S.left source.old ≡ Some zs → Reads (instance version (size cluster) (record { at = place.old; bytes = zs })) result place.new (S.left source.new) }
     ensures told { FailsAsTold is_read_failed result (S.has_failed source.old) (S.has_failed source.new) }
 {
-    let replica = read_replica(source, place, cluster)?;
-    let at = *place;
+    let replica = read_replica(source, place, BundleField::Leader, cluster)?;
     let number = read_number(source, place, version)?;
-    InstanceId::new(replica, number).map_err(|_| BundleFault::BadBundle(at))
+    // The number is in range, so the instance is made.
+    InstanceId::new(replica, number).map_err(|_| BundleFault::Memory)
 }
 
 /// The answer of a code that no value follows.
@@ -118,11 +126,17 @@ fn read_code<S: Source>(
     place: &mut u64,
     version: Version,
 ) -> Result<u8, BundleFault>
-    ensures bytes { (zs : List ℕ) → S.left source.old ≡ Some zs → Reads (field 1 0 (highest_code version) (record { at = place.old; bytes = zs })) result place.new (S.left source.new) }
+    ensures bytes { (zs : List ℕ) → S.left source.old ≡ Some zs → Reads (field BundleField.AnswerCode 1 0 (highest_code version) (record { at = place.old; bytes = zs })) result place.new (S.left source.new) }
     ensures range { IfOk result (λ x. x ≤ 6) }
     ensures told { FailsAsTold is_read_failed result (S.has_failed source.old) (S.has_failed source.new) }
 {
-    field_u8(source, place, 0, highest_code(version))
+    field_u8(
+        source,
+        place,
+        BundleField::AnswerCode,
+        0,
+        highest_code(version),
+    )
 }
 
 /// An answer; by way of what the room has to spare.

@@ -7,6 +7,7 @@ ghost use Rattle.ep_bundle.specs.Reading.{map_ok, many, is_read_failed, Reads};
 ghost use Rattle.ep_bundle.specs.Stages.{receipt};
 
 use crate::bundle_fault::BundleFault;
+use crate::bundle_field::BundleField;
 use crate::dialect::Dialect;
 use crate::events::read_counted;
 use crate::fields::{read_u32, read_u64};
@@ -45,13 +46,13 @@ fn read_receipt_in<S: Source>(
     ensures bytes { (zs : List ℕ) → S.left source.old ≡ Some zs → Reads (receipt dialect.now.version (size dialect.now.size) (record { at = place.old; bytes = zs })) result place.new (S.left source.new) }
     ensures told { FailsAsTold is_read_failed result (S.has_failed source.old) (S.has_failed source.new) }
 {
-    let client = read_counted(source, place)?;
-    let request = read_counted(source, place)?;
+    let client = read_counted(source, place, BundleField::Client)?;
+    let request = read_counted(source, place, BundleField::Request)?;
     let instance = read_instance(source, place, dialect.version, dialect.size)?;
-    let seen = read_u64(source, place)?;
-    let replica = read_replica(source, place, dialect.size)?;
-    let entry = read_u32(source, place)?;
-    let stamp = read_u64(source, place)?;
+    let seen = read_u64(source, place, BundleField::Seen)?;
+    let replica = read_replica(source, place, BundleField::Executor, dialect.size)?;
+    let entry = read_u32(source, place, BundleField::ExecutorEntry)?;
+    let stamp = read_u64(source, place, BundleField::ExecutorStamp)?;
     let answer = read_answer(source, place, dialect.version, room)?;
     Ok(Receipt {
         client,

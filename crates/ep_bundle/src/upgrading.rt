@@ -19,7 +19,7 @@ fn told(fault: BundleFault) -> BundleFault
 {
     match fault {
         BundleFault::Memory | BundleFault::ReadFailed => BundleFault::Memory,
-        BundleFault::BadBundle(offset) => BundleFault::BadBundle(offset),
+        BundleFault::BadBundle(field) => BundleFault::BadBundle(field),
         BundleFault::NotARun(replica, entry) => BundleFault::NotARun(replica, entry),
     }
 }

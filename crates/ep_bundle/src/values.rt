@@ -8,6 +8,7 @@ ghost use Rattle.ep_bundle.specs.Reading.{and_then, field, is_read_failed, map_o
 ghost use Rattle.ep_bundle.specs.Stages.{one_told, told_values, value, value_length};
 
 use crate::bundle_fault::BundleFault;
+use crate::bundle_field::BundleField;
 use crate::fields::{field_u8, field_u16, field_u32, read_over};
 use crate::room::Room;
 use ep_base::{Answer, Reply, Source, ToldValues, Value, Version, VersionKind};
@@ -23,16 +24,16 @@ fn read_value_len<S: Source>(
 {
     match version.kind() {
         VersionKind::V1 | VersionKind::V2 => read_short_len(source, place),
-        VersionKind::V3(_) => field_u32(source, place, 0, 65_535),
+        VersionKind::V3(_) => field_u32(source, place, BundleField::AnswerLength, 0, 65_535),
     }
 }
 
 /// The same in versions 1 and 2.
 fn read_short_len<S: Source>(source: &mut S, place: &mut u64) -> Result<u32, BundleFault>
-    ensures bytes { (zs : List ℕ) → S.left source.old ≡ Some zs → Reads (field 2 0 1024 (record { at = place.old; bytes = zs })) result place.new (S.left source.new) }
+    ensures bytes { (zs : List ℕ) → S.left source.old ≡ Some zs → Reads (field BundleField.AnswerLength 2 0 1024 (record { at = place.old; bytes = zs })) result place.new (S.left source.new) }
     ensures told { FailsAsTold is_read_failed result (S.has_failed source.old) (S.has_failed source.new) }
 {
-    match field_u16(source, place, 0, 1024) {
+    match field_u16(source, place, BundleField::AnswerLength, 0, 1024) {
         Ok(len) => Ok(len as u32),
         Err(fault) => Err(fault),
     }
@@ -49,7 +50,13 @@ pub(crate) fn read_value<S: Source>(
     ensures told { FailsAsTold is_read_failed result (S.has_failed source.old) (S.has_failed source.new) }
 {
     let len = read_value_len(source, place, version)?;
-    read_over(source, place, len as usize, &mut room.spare)?;
+    read_over(
+        source,
+        place,
+        BundleField::AnswerValue,
+        len as usize,
+        &mut room.spare,
+    )?;
     // The length is in range, so only memory can be refused.
     Value::new(room.alloc, &room.spare).map_err(|_| BundleFault::Memory)
 }
@@ -64,7 +71,7 @@ fn read_one_told<S: Source>(
     ensures bytes { (zs : List ℕ) → S.left source.old ≡ Some zs → Reads (one_told version (record { at = place.old; bytes = zs })) result place.new (S.left source.new) }
     ensures told { FailsAsTold is_read_failed result (S.has_failed source.old) (S.has_failed source.new) }
 {
-    let code = field_u8(source, place, 0, 1)?;
+    let code = field_u8(source, place, BundleField::ToldMark, 0, 1)?;
     if code == 0 {
         return Ok(None);
     }
@@ -102,7 +109,7 @@ pub(crate) fn read_told<S: Source>(
     ensures bytes { (zs : List ℕ) → S.left source.old ≡ Some zs → Reads (told_values version (record { at = place.old; bytes = zs })) result place.new (S.left source.new) }
     ensures told { FailsAsTold is_read_failed result (S.has_failed source.old) (S.has_failed source.new) }
 {
-    let count = field_u16(source, place, 0, 16)?;
+    let count = field_u16(source, place, BundleField::ToldKeys, 0, 16)?;
     let values = read_each_told(source, place, version, count, room)?;
     Ok(ToldValues::of(values))
 }
@@ -130,7 +137,7 @@ pub(crate) fn read_same_value<S: Source>(
     ensures told { FailsAsTold is_read_failed result (S.has_failed source.old) (S.has_failed source.new) }
 {
     let len = read_value_len(source, place, version)?;
-    read_over(source, place, len as usize, spare)?;
+    read_over(source, place, BundleField::AnswerValue, len as usize, spare)?;
     let same = tells(answer, spare);
     Ok(same)
 }
@@ -158,7 +165,7 @@ fn read_same_some<S: Source>(
     ensures told { FailsAsTold is_read_failed result (S.has_failed source.old) (S.has_failed source.new) }
 {
     let len = read_value_len(source, place, version)?;
-    read_over(source, place, len as usize, spare)?;
+    read_over(source, place, BundleField::AnswerValue, len as usize, spare)?;
     let same = is_value(option, spare);
     Ok(same)
 }
@@ -181,7 +188,7 @@ fn read_same_one_told<S: Source>(
     ensures bytes { (zs : List ℕ) → S.left source.old ≡ Some zs → Compares option.now (one_told version (record { at = place.old; bytes = zs })) result place.new (S.left source.new) }
     ensures told { FailsAsTold is_read_failed result (S.has_failed source.old) (S.has_failed source.new) }
 {
-    let code = field_u8(source, place, 0, 1)?;
+    let code = field_u8(source, place, BundleField::ToldMark, 0, 1)?;
     if code == 0 {
         let same = is_none(option);
         return Ok(same);
@@ -221,7 +228,7 @@ pub(crate) fn read_same_told<S: Source>(
     ensures bytes { (zs : List ℕ) → S.left source.old ≡ Some zs → Compares values.now (told_values version (record { at = place.old; bytes = zs })) result place.new (S.left source.new) }
     ensures told { FailsAsTold is_read_failed result (S.has_failed source.old) (S.has_failed source.new) }
 {
-    let count = field_u16(source, place, 0, 16)?;
+    let count = field_u16(source, place, BundleField::ToldKeys, 0, 16)?;
     let mut same = are_as_many(values, count);
     let none = None;
     for index in 0..count {

@@ -33,7 +33,7 @@ pub refused_if :
 refused_if left zs e (Err x) q told named = tt
 refused_if left zs Memory (Ok t) q told named = absurd named
 refused_if left zs ReadFailed (Ok t) q told named = absurd named
-refused_if left zs (BadBundle at) (Ok t) q told named = unreadable (BadBundle at) q.1 told
+refused_if left zs (BadBundle field) (Ok t) q told named = unreadable (BadBundle field) q.1 told
 refused_if left zs (NotARun replica entry) (Ok t) q told named = unreadable (NotARun replica entry) q.1 told
 
 -- bytes that are a bundle

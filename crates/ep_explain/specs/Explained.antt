@@ -25,7 +25,7 @@ use Rattle.ep_explain.specs.declared.finding.Finding.TheVariants.{Accepted, Refu
 abbrev pub IsNoBundle : BundleFault → Type 0
 IsNoBundle Memory = ⊥
 IsNoBundle ReadFailed = ⊥
-IsNoBundle (BadBundle at) = Unit {0}
+IsNoBundle (BadBundle field) = Unit {0}
 IsNoBundle (NotARun replica entry) = Unit {0}
 
 -- the reader's fault, with its reasons

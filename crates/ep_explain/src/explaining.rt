@@ -11,11 +11,11 @@ ghost use Rattle.ep_report.specs.Reports.{text_of};
 ghost use Rattle.ep_view.specs.Editions.{edition_line};
 
 use crate::advice::Advice;
+use crate::bad_fields::add_field;
 use crate::claims::{add_misordered, add_unknown};
 use crate::explain_fault::ExplainFault;
 use crate::explained::Explained;
 use crate::finding::Finding;
-use crate::grammar::add_field;
 use crate::guess::subcommand_of;
 use crate::handled::add_handling;
 use crate::kept::Kept;
@@ -143,7 +143,7 @@ fn refusal_reasons(alloc: Global, bytes: Option<&[u8]>, fault: BundleFault) -> R
 fn add_refusal(alloc: Global, bytes: &[u8], fault: BundleFault, reasons: &mut Reasons) {
     match fault {
         BundleFault::Memory | BundleFault::ReadFailed => reasons.cut(),
-        BundleFault::BadBundle(place) => add_field(bytes, place, reasons),
+        BundleFault::BadBundle(field) => add_field(alloc, bytes, &field, reasons),
         BundleFault::NotARun(replica, entry) => add_step(alloc, bytes, replica, entry, reasons),
     }
 }

@@ -1,7 +1,7 @@
 //! The fields of frames.
 
-use crate::allowed::number_of;
 use crate::form::Form;
+use crate::numbers::number_of;
 use crate::wording::Wording;
 use ep_base::{InstanceId, ReplicaId};
 

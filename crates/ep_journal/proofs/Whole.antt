@@ -39,7 +39,7 @@ use Rattle.ep_journal.specs.ReplicaStates.{state_of, known}
 use Rattle.ep_journal.specs.Refused as parts
 use Rattle.ep_journal.specs.Refused.{named}
 use Rattle.ep_journal.specs.Standing.{Standing, Advances, IsRefused, IsSound}
-use Rattle.ep_journal.specs.Stepping.{standing_of, entry_by, Acted, Moves, MarkedBy, Steps, IsScreened, IsLet, IsAsked}
+use Rattle.ep_journal.specs.Stepping.{standing_of, entry_by, heard_of, settling_at, Acted, Moves, MarkedBy, Steps, IsScreened, IsLet, IsAsked}
 use Rattle.ep_journal.specs.declared.entry.Entry.{Entry}
 use Rattle.ep_journal.specs.declared.taken.Taken.{Taken}
 use Rattle.ep_journal.specs.declared.event.Event.{Event as Happening}
@@ -214,6 +214,12 @@ pub changed_steps : (p p' : ReplicaState) (event : Happening) (mark : Option Mar
     IfOk told (λ t. Moves r m p t p') → IfErr told (λ e. parts.IsRefused r e) → OnErr told (standing_of p' ≡ standing_of p) → Steps (standing_of p) event mark told (standing_of p')
 changed_steps p p' event mark m r (Ok t) given a ok refused err = subst (MarkedBy (λ x. Advances (standing_of p) x event (entry_by x event t) (standing_of p'))) (sym given) (advanced_by p p' event m t r a ok)
 changed_steps p p' event mark m r (Err fault) given a ok refused err = (refused_rule (standing_of p) event mark m fault r given a refused, err)
+
+-- the same of a Commit of what was voted for
+pub settled_steps : (p p' : ReplicaState) (event : Happening) (mark : Option Mark) (m : Mark) (i : ℕ) (b : List ℕ) (told : Result Taken StepFault) → mark ≡ Some m → IsAsked (standing_of p) event (heard_of p i b) → heard_of p i b ≡ Ok (i, settling_at p i) →
+    IfOk told (λ t. (x : Mark) → Moves (Ok (i, settling_at p i)) x p t p') → IfErr told (λ e. e ≡ Memory) → OnErr told (standing_of p' ≡ standing_of p) → Steps (standing_of p) event mark told (standing_of p')
+settled_steps p p' event mark m i b (Ok t) given a is ok refused err = changed_steps p p' event mark m (Ok (i, settling_at p i)) (Ok t) given (subst (IsAsked (standing_of p) event) is a) (ok m) tt tt
+settled_steps p p' event mark m i b (Err fault) given a is ok refused err = changed_steps p p' event mark m (heard_of p i b) (Err fault) given a tt (subst (parts.IsRefused (heard_of p i b)) (sym refused) tt) err
 
 -- a refusal that is passed on, and nothing has changed
 pub refused_on : (s s' : Standing) (event : Happening) (mark : Option Mark) (fault : StepFault) (told : Result Taken StepFault) → IsErrAnd told (λ e. e ≡ fault) → IsRefused s event mark fault → s' ≡ s → Steps s event mark told s'

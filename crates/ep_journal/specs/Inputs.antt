@@ -1,5 +1,5 @@
 -- What is asked of a replica, and what the rule book answers. A rule looks at what is known of one instance.
-use Rattle.std.specs.Prelude.{ℕ, Bool, eqb, Result, Ok, Err}
+use Rattle.std.specs.Prelude.{ℕ, Bool, eqb, [], Some, None, Result, Ok, Err}
 use Rattle.ep_base.specs.Instances.{leader_of}
 use Rattle.ep_base.specs.Quorums.{is_fast}
 use Rattle.ep_base.specs.declared.version.Version.{Version}
@@ -7,6 +7,7 @@ use Rattle.ep_base.specs.declared.message.Message.{Message}
 use Rattle.ep_base.specs.declared.message.Message.TheVariants.{PreAccept, PreAcceptOk, Accept, AcceptOk, Commit, Prepare, PrepareOk, Nack}
 use Rattle.ep_frame.specs.Meaning.{sender_at, message_at}
 use Rattle.ep_phase.specs.InstanceViews.{InstanceView, record_of}
+use Rattle.ep_space.specs.Settled.{settled}
 use Rattle.ep_rules.specs.Cells.{Change, Refusal}
 use Rattle.ep_phase.specs.declared.receivers.Receivers.{Receivers}
 use Rattle.ep_phase.specs.declared.receivers.Receivers.TheVariants.{One, FastQuorum, Others}
@@ -36,6 +37,10 @@ outcome_at k (Start c s) = propose k.faults k.instance s.now c.now (interference
 outcome_at k (Handles v) = handled_at k (sender_at v.now) (message_at v.now)
 outcome_at k GiveUp = give_up k.faults k.instance k.me (record_of k) k.led
 outcome_at k Recover = recover k.faults k.instance k.me (record_of k) k.told
+
+-- what changes where a Commit is of what was voted for
+abbrev pub settling : InstanceView → Change
+settling k = record { entry = settled k.instance (record_of k) (record_of k).vote; led = Some None; told = None; out = [] }
 
 -- whether a replica is one of the receivers of what is known there
 abbrev pub receives : InstanceView → Receivers → ℕ → Bool

@@ -1,13 +1,14 @@
 -- One step of a replica's parts: what the screen lets through, and how what is asked of an instance is done.
 use Rattle.std.specs.Prelude.{◌≡◌, ℕ, List, [], Option, Some, None, Result, Ok, Err}
 use Rattle.ep_base.specs.declared.version.Version.{Version}
+use Rattle.ep_frame.specs.Meaning.{sender_at, message_at}
 use Rattle.ep_phase.specs.InstanceViews.{view_of}
 use Rattle.ep_rules.specs.Cells.{Change, Refusal}
 use Rattle.ep_rules.specs.States.{State, changed}
 use Rattle.ep_rules.specs.Steps.{at, acts, screened, sent_from, Executes}
 use Rattle.ep_journal.specs.Holding.{HasRoom}
 use Rattle.ep_journal.specs.Events.{event_of, IsReadable, lacking, AreSpelled}
-use Rattle.ep_journal.specs.Inputs.{outcome_at}
+use Rattle.ep_journal.specs.Inputs.{handled_at, outcome_at, settling}
 use Rattle.ep_journal.specs.ReplicaStates.{known}
 use Rattle.ep_journal.specs.Refused.{named}
 use Rattle.ep_journal.specs.Standing.{Standing, stands, Advances, IsRefused}
@@ -55,6 +56,14 @@ pub record IsLet (s : Standing) (event : Happening) : Type 0 where
 -- the instance, and what changes there
 abbrev pub asked_of : ReplicaState → ℕ → Input → Result (ℕ × Change) Refusal
 asked_of p i input = at i (outcome_at (view_of p.me p.space p.lead i) input)
+
+-- the same of a frame's message
+abbrev pub heard_of : ReplicaState → ℕ → List ℕ → Result (ℕ × Change) Refusal
+heard_of p i b = at i (handled_at (view_of p.me p.space p.lead i) (sender_at b) (message_at b))
+
+-- what changes at an instance where what was voted for is committed
+abbrev pub settling_at : ReplicaState → ℕ → Change
+settling_at p i = settling (view_of p.me p.space p.lead i)
 
 -- the event is let through, asks this of an instance and executes nothing
 pub record IsAsked (s : Standing) (event : Happening) (r : Result (ℕ × Change) Refusal) : Type 0 where

@@ -1,11 +1,11 @@
 //! What a replica decides on what is asked of an instance.
 
-ghost use Rattle.std.specs.Prelude.{◌≡◌, Ok, IfOk, IfErr};
+ghost use Rattle.std.specs.Prelude.{◌≡◌, true, Ok, IfOk, IfErr};
 ghost use Rattle.ep_frame.specs.Meaning.{kind_at, message_at, message_by, sender_at};
 ghost use Rattle.ep_phase.specs.Changes.{change_of};
 ghost use Rattle.ep_phase.specs.Refused.{IsRefused};
-ghost use Rattle.ep_frame.specs.declared.kind.Kind.TheVariants.{PrepareOk};
-ghost use Rattle.ep_journal.specs.Inputs.{handled_at, outcome_at};
+ghost use Rattle.ep_frame.specs.declared.kind.Kind.TheVariants.{Commit, PrepareOk};
+ghost use Rattle.ep_journal.specs.Inputs.{handled_at, outcome_at, settling};
 
 use crate::input::Input;
 use ep_frame::{FrameView, Kind};
@@ -85,4 +85,20 @@ fn handle_vote(
 {
     let vote = frame.to_vote(alloc)?;
     on_prepare_ok(alloc, cell, frame.from(), frame.ballot(), vote)
+}
+
+/// Whether the Commit is of what the replica voted for and hasn't committed. Then the vote's status changes, the
+/// instance is led no longer, and nothing is sent.
+#[inline(never)]
+pub(crate) fn is_settled_by(cell: &InstanceView<'_>, frame: &FrameView<'_>) -> bool
+    requires { kind_at frame.now ≡ Commit }
+    ensures { result ≡ true → handled_at cell.now (sender_at frame.now) (message_at frame.now) ≡ Ok (settling cell.now) }
+{
+    if cell.is_committed() {
+        return false;
+    }
+    match cell.vote() {
+        None => false,
+        Some(vote) => frame.has_decree(&vote.decree),
+    }
 }

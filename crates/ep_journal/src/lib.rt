@@ -9,8 +9,9 @@
 //!
 //! A step (`replica_state.rt`) asks whether the replica's version has the event (`versioned.rt`), screens it (`screen.rt`), decides
 //! (`deciding.rt`), writes the frames, and then makes the places that the change needs and puts it there: all that may fail
-//! comes first, so nothing has to be put back. A handled message is read off its frame, and never made. Several executions
-//! are tried first, and kept or taken back together. Nothing else is ever undone: keep it so.
+//! comes first, so nothing has to be put back. Most Commits are of what the replica voted for, which takes less (`settle`).
+//! A handled message is read off its frame, and never made. Several executions are tried first, and kept or taken back
+//! together. Nothing else is ever undone: keep it so.
 #![tactic(auto)]
 
 mod beginning;

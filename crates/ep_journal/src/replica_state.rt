@@ -1,6 +1,6 @@
 //! The state of a replica, and its step.
 
-ghost use Rattle.std.specs.Prelude.{◌≡◌, ◌<◌, ◌≤◌, ◌+◌, ℕ, None, Some, Ok, IfOk, IfErr, IfSome, IsErr, OnErr};
+ghost use Rattle.std.specs.Prelude.{◌≡◌, ◌<◌, ◌≤◌, ◌+◌, ℕ, true, None, Some, Ok, IfOk, IfErr, IfSome, IsErr, OnErr};
 ghost use Rattle.ep_phase.specs.Changes.{change_of, sends};
 ghost use Rattle.ep_base.specs.Instances.{instance_of};
 ghost use Rattle.ep_base.specs.Versions.{highest_for};
@@ -11,10 +11,12 @@ ghost use Rattle.ep_journal.specs.Events.{lacking, AreSpelled};
 ghost use Rattle.ep_journal.specs.Inputs.{outcome_at, IsWritable};
 ghost use Rattle.ep_journal.specs.Refused.{IsRefused};
 ghost use Rattle.ep_journal.specs.Standing.{IsSound};
-ghost use Rattle.ep_journal.specs.Stepping.{standing_of, asked_of, IsAsked, IsLet, Moves, Steps};
+ghost use Rattle.ep_journal.specs.Stepping.{standing_of, asked_of, heard_of, settling_at, IsAsked, IsLet, Moves, Steps};
 ghost use Rattle.ep_journal.specs.declared.event.Event.{Event as Happening};
+ghost use Rattle.ep_journal.specs.declared.mark.Mark.{Mark as Marks};
+ghost use Rattle.ep_journal.specs.declared.step_fault.StepFault.TheVariants as fault;
 
-use crate::deciding::decide;
+use crate::deciding::{decide, is_settled_by};
 use crate::event::Event;
 use crate::execute::execute;
 use crate::executions::Executions;
@@ -27,7 +29,7 @@ use crate::taken::Taken;
 use crate::versioned::check_version;
 use ep_base::{Command, InstanceId, ReplicaId, Version, spared_by};
 use ep_exec::{Executed, Store};
-use ep_frame::Frame;
+use ep_frame::{Frame, FrameView, Kind};
 use ep_phase::{InstanceView, Lead, next_instance};
 use ep_space::{Space, SpaceFull};
 use std::alloc::{AllocError, Global};
@@ -192,7 +194,46 @@ impl ReplicaState {
     {
         let view = frame.view();
         screen_frame(self.space.size(), self.me, &view)?;
-        self.ask(alloc, view.instance(), Input::Message(&view), mark)
+        let Some(mark) = mark else {
+            return Err(StepFault::StampFull);
+        };
+        let id = view.instance();
+        if self.settles(id, &view) {
+            return self.settle(alloc, id);
+        }
+        self.ask(alloc, id, Input::Message(&view), Some(mark))
+    }
+
+    /// Whether the frame commits in the instance what the replica voted for there, as most Commits do.
+    #[inline(always)]
+    fn settles(&self, id: InstanceId, frame: &FrameView<'_>) -> bool
+        ensures { result ≡ true → heard_of self.now id frame.now ≡ Ok (id, settling_at self.now id) }
+    {
+        match frame.kind() {
+            Kind::Commit => {
+                let cell = InstanceView::of(&self.space, &self.lead, self.me, id);
+                is_settled_by(&cell, frame)
+            }
+            _ => false,
+        }
+    }
+
+    /// Commits in the instance what the replica voted for there.
+    #[inline(never)]
+    fn settle(&mut self, alloc: Global, id: InstanceId) -> Result<Taken, StepFault>
+        ensures ok { IfOk result (λ t. (mark : Marks) → Moves (Ok (id, settling_at self.old id)) mark self.old t self.new) }
+        ensures refused { IfErr result (λ e. e ≡ fault.Memory) }
+        ensures err { OnErr result (standing_of self.new ≡ standing_of self.old) }
+    {
+        let Ok(()) = self.space.reserve(id) else {
+            return Err(StepFault::Memory);
+        };
+        self.space.settle(id);
+        self.lead.end(id);
+        Ok(Taken {
+            frames: Frames::none(alloc),
+            done: Executions::none(alloc),
+        })
     }
 
     /// Executes the root, and before it all that it depends on.

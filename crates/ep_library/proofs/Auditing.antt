@@ -14,7 +14,7 @@ pub is_read : (bytes : List ℕ) (result : Result (Collected × List Receipt) Bu
 is_read bytes (Ok bundle) end left found = (record { at = end; bytes = found.0 }, found.2)
 is_read bytes (Err Memory) end left found = tt
 is_read bytes (Err ReadFailed) end left found = tt
-is_read bytes (Err (BadBundle at)) end left found = found
+is_read bytes (Err (BadBundle field)) end left found = found
 is_read bytes (Err (NotARun replica entry)) end left found = found
 
 -- what the audit says of it is what is found of the bytes

@@ -47,7 +47,7 @@ abbrev pub IsRead : List ℕ → Result (Collected × List Receipt) BundleFault 
 IsRead bytes (Ok bundle) = (end : Left) × ReadsBundle (record { at = 0; bytes = bytes }) (Ok (bundle, end))
 IsRead bytes (Err Memory) = Unit {0}
 IsRead bytes (Err ReadFailed) = Unit {0}
-IsRead bytes (Err (BadBundle at)) = ReadsBundle (record { at = 0; bytes = bytes }) (Err (BadBundle at))
+IsRead bytes (Err (BadBundle field)) = ReadsBundle (record { at = 0; bytes = bytes }) (Err (BadBundle field))
 IsRead bytes (Err (NotARun replica entry)) = ReadsBundle (record { at = 0; bytes = bytes }) (Err (NotARun replica entry))
 
 abbrev pub verdict_status : Bool → ℕ
@@ -62,7 +62,7 @@ IsVerdict journals receipts status text = (accepts : Bool) × (status ≡ verdic
 abbrev pub IsOfBytes : BundleFault → Type 0
 IsOfBytes Memory = ⊥
 IsOfBytes ReadFailed = ⊥
-IsOfBytes (BadBundle at) = Unit {0}
+IsOfBytes (BadBundle field) = Unit {0}
 IsOfBytes (NotARun replica entry) = Unit {0}
 
 -- what an audit of the bytes tells, and its status: what it says of the bundle that they are, or why they are none

@@ -166,7 +166,7 @@ start_status (start.Log fault) = open_status fault
 abbrev pub bundle_status : BundleFault → ℕ
 bundle_status bundle.Memory = memory
 bundle_status bundle.ReadFailed = memory
-bundle_status (bundle.BadBundle at) = 12
+bundle_status (bundle.BadBundle field) = 12
 bundle_status (bundle.NotARun replica entry) = 11
 
 -- why no replica goes on in the next generation

@@ -140,7 +140,7 @@ fn refused(alloc: Global, fault: BundleFault) -> Result<Finding, AllocError>
     match fault {
         // (a slice never fails)
         BundleFault::Memory | BundleFault::ReadFailed => Err(AllocError),
-        BundleFault::BadBundle(at) => unread(alloc, BundleFault::BadBundle(at)),
+        BundleFault::BadBundle(field) => unread(alloc, BundleFault::BadBundle(field)),
         BundleFault::NotARun(replica, entry) => unread(alloc, BundleFault::NotARun(replica, entry)),
     }
 }

@@ -47,7 +47,7 @@ replays : (form : Form) (outcome : Result Status EngineFault) (status : Status) 
 replays form (Ok said) status zs reader out fault p t c = subst (λ s. Replays form s zs reader out fault) (sym (c.0 ∙ p.0)) (p.1, c.1)
 replays form (Err (Script line)) status zs reader out fault p t c =
     subst (λ s. Replays form s zs reader out fault) (sym c.0) (record { line = line; script = p.0; silent = p.1; told = c.1 })
-replays form (Err (BadBundle offset)) status zs reader out fault p t c = absurd p
+replays form (Err (BadBundle field)) status zs reader out fault p t c = absurd p
 replays form (Err (NotARun replica entry)) status zs reader out fault p t c = absurd p
 replays form (Err Memory) status zs reader out fault p t c = subst (λ s. Replays form s zs reader out fault) (sym c.0) (record { silent = p; told = c.1 })
 replays form (Err Read) status zs reader out fault p t c = subst (λ s. Replays form s zs reader out fault) (sym c.0) (inl ((t.read, t.written), p, c.1))
@@ -57,7 +57,7 @@ emits : (outcome : Result Status EngineFault) (status : Status) (zs : List ℕ) 
 emits (Ok said) status zs reader out fault p t c = subst (λ s. Emits s zs reader out fault) (sym (c.0 ∙ p.0)) (p.1, c.1)
 emits (Err (Script line)) status zs reader out fault p t c =
     subst (λ s. Emits s zs reader out fault) (sym c.0) (record { line = line; script = p.0; silent = p.1; told = c.1 })
-emits (Err (BadBundle offset)) status zs reader out fault p t c = absurd p
+emits (Err (BadBundle field)) status zs reader out fault p t c = absurd p
 emits (Err (NotARun replica entry)) status zs reader out fault p t c = absurd p
 emits (Err Memory) status zs reader out fault p t c = subst (λ s. Emits s zs reader out fault) (sym c.0) (record { silent = p; told = c.1 })
 emits (Err Read) status zs reader out fault p t c = subst (λ s. Emits s zs reader out fault) (sym c.0) (inl ((t.read, t.written), p, c.1))
@@ -73,7 +73,7 @@ runs options (Ok OutOfMemory) status zs reader out fault p t c = absurd p
 runs options (Ok Failed) status zs reader out fault p t c = absurd p
 runs options (Err (Script line)) status zs reader out fault p t c =
     subst (λ s. RunsInThreads options s zs reader out fault) (sym c.0) (record { line = line; script = p.0; silent = p.1; told = c.1 })
-runs options (Err (BadBundle offset)) status zs reader out fault p t c = absurd p
+runs options (Err (BadBundle field)) status zs reader out fault p t c = absurd p
 runs options (Err (NotARun replica entry)) status zs reader out fault p t c = absurd p
 runs options (Err Memory) status zs reader out fault p t c = subst (λ s. RunsInThreads options s zs reader out fault) (sym c.0) (record { silent = p; told = c.1 })
 runs options (Err Read) status zs reader out fault p t c = subst (λ s. RunsInThreads options s zs reader out fault) (sym c.0) (inl ((t.read, t.written), p, c.1))
@@ -86,8 +86,8 @@ audits form (Ok Refused) status zs reader out fault p t c = absurd p.says
 audits form (Ok OutOfMemory) status zs reader out fault p t c = absurd p.says
 audits form (Ok Failed) status zs reader out fault p t c = absurd p.says
 audits form (Err (Script line)) status zs reader out fault p t c = absurd p
-audits form (Err (BadBundle offset)) status zs reader out fault p t c =
-    subst (λ s. Audits form s zs reader out fault) (sym c.0) (inl (record { offset = offset; read = p.0; silent = p.1; told = c.1 }))
+audits form (Err (BadBundle field)) status zs reader out fault p t c =
+    subst (λ s. Audits form s zs reader out fault) (sym c.0) (inl (record { field = field; read = p.0; silent = p.1; told = c.1 }))
 audits form (Err (NotARun replica entry)) status zs reader out fault p t c =
     subst (λ s. Audits form s zs reader out fault) (sym c.0) (inr (record { replica = replica; entry = entry; read = p.0; silent = p.1; told = c.1 }))
 audits form (Err Memory) status zs reader out fault p t c = subst (λ s. Audits form s zs reader out fault) (sym c.0) (record { silent = p; told = c.1 })
@@ -98,8 +98,8 @@ upgrades :
     (target : Target) (outcome : Result Status EngineFault) (status : Status) (zs : List ℕ) (reader : Input) (out fault : Output) → Rewrites target outcome zs out → IsTold outcome reader out → Concludes outcome status fault → Upgrades target status zs reader out fault
 upgrades target (Ok said) status zs reader out fault p t c = subst (λ s. Upgrades target s zs reader out fault) (sym (c.0 ∙ p.0)) (p.1, c.1)
 upgrades target (Err (Script line)) status zs reader out fault p t c = absurd p
-upgrades target (Err (BadBundle offset)) status zs reader out fault p t c =
-    subst (λ s. Upgrades target s zs reader out fault) (sym c.0) (inl (record { offset = offset; read = p.0; silent = p.1; told = c.1 }))
+upgrades target (Err (BadBundle field)) status zs reader out fault p t c =
+    subst (λ s. Upgrades target s zs reader out fault) (sym c.0) (inl (record { field = field; read = p.0; silent = p.1; told = c.1 }))
 upgrades target (Err (NotARun replica entry)) status zs reader out fault p t c =
     subst (λ s. Upgrades target s zs reader out fault) (sym c.0) (inr (record { replica = replica; entry = entry; read = p.0; silent = p.1; told = c.1 }))
 upgrades target (Err Memory) status zs reader out fault p t c = subst (λ s. Upgrades target s zs reader out fault) (sym c.0) (record { silent = p; told = c.1 })
@@ -109,7 +109,7 @@ upgrades target (Err Write) status zs reader out fault p t c = subst (λ s. Upgr
 helps : (outcome : Result Status EngineFault) (status : Status) (text : List ℕ) (out fault : Output) → Prints outcome text out → FailsAsTold is_write outcome out.had_failed out.failed → Concludes outcome status fault → Helps status text out fault
 helps (Ok said) status text out fault p t c = subst (λ s. Helps s text out fault) (sym (c.0 ∙ p.0)) (p.1, c.1)
 helps (Err (Script line)) status text out fault p t c = absurd p
-helps (Err (BadBundle offset)) status text out fault p t c = absurd p
+helps (Err (BadBundle field)) status text out fault p t c = absurd p
 helps (Err (NotARun replica entry)) status text out fault p t c = absurd p
 helps (Err Memory) status text out fault p t c = absurd p
 helps (Err Read) status text out fault p t c = absurd p
@@ -118,7 +118,7 @@ helps (Err Write) status text out fault p t c = subst (λ s. Helps s text out fa
 versions : (outcome : Result Status EngineFault) (status : Status) (out fault : Output) → Prints outcome version_line out → FailsAsTold is_write outcome out.had_failed out.failed → Concludes outcome status fault → Versions status out fault
 versions (Ok said) status out fault p t c = subst (λ s. Versions s out fault) (sym (c.0 ∙ p.0)) (p.1, c.1)
 versions (Err (Script line)) status out fault p t c = absurd p
-versions (Err (BadBundle offset)) status out fault p t c = absurd p
+versions (Err (BadBundle field)) status out fault p t c = absurd p
 versions (Err (NotARun replica entry)) status out fault p t c = absurd p
 versions (Err Memory) status out fault p t c = absurd p
 versions (Err Read) status out fault p t c = absurd p
@@ -154,13 +154,13 @@ finds :
     StopsBy (λ e. R (Err e)) (of_bundle b) out
 finds R bundle.Memory place left out found silent = silent
 finds R bundle.ReadFailed place left out found silent = silent
-finds R (bundle.BadBundle offset) place left out found silent = (found, silent)
+finds R (bundle.BadBundle field) place left out found silent = (found, silent)
 finds R (bundle.NotARun replica entry) place left out found silent = (found, silent)
 
 -- where there are more faults
 stops_more : (P Q : BundleFault → Type 0) (e : EngineFault) (out : Output) → ((b : BundleFault) → P b → Q b) → StopsBy P e out → StopsBy Q e out
 stops_more P Q (Script line) out more stop = absurd stop
-stops_more P Q (BadBundle offset) out more stop = (more (bundle.BadBundle offset) stop.0, stop.1)
+stops_more P Q (BadBundle field) out more stop = (more (bundle.BadBundle field) stop.0, stop.1)
 stops_more P Q (NotARun replica entry) out more stop = (more (bundle.NotARun replica entry) stop.0, stop.1)
 stops_more P Q Memory out more stop = stop
 stops_more P Q Read out more stop = stop
@@ -191,7 +191,7 @@ no_third :
     (e : EngineFault) (zs : List ℕ) (c : Collected) (rs : List Receipt) (end : Left) (out : Output) → Reads zs (Ok ((c, rs), end)) → version_number c.version ≤ 2 → IsThirdFault c rs e →
     WroteNothing out → StopsBy (IsUnupgraded Third zs) e out
 no_third (Script line) zs c rs end out read early fault silent = absurd fault
-no_third (BadBundle offset) zs c rs end out read early fault silent = (inr (record { journals = c; receipts = rs; end = end; read = read; early = early; refused = fault }), silent)
+no_third (BadBundle field) zs c rs end out read early fault silent = (inr (record { journals = c; receipts = rs; end = end; read = read; early = early; refused = fault }), silent)
 no_third (NotARun replica entry) zs c rs end out read early fault silent = (inr (record { journals = c; receipts = rs; end = end; read = read; early = early; refused = fault }), silent)
 no_third Memory zs c rs end out read early fault silent = silent
 no_third Read zs c rs end out read early fault silent = absurd fault
@@ -259,7 +259,7 @@ ends (Ok Refused) status reader out fault d t c = absurd d
 ends (Ok OutOfMemory) status reader out fault d t c = absurd d
 ends (Ok Failed) status reader out fault d t c = absurd d
 ends (Err (Script line)) status reader out fault d t c = subst (λ s. Ends s reader out fault) (sym c.0) (t.read, t.written)
-ends (Err (BadBundle offset)) status reader out fault d t c = subst (λ s. Ends s reader out fault) (sym c.0) (t.read, t.written)
+ends (Err (BadBundle field)) status reader out fault d t c = subst (λ s. Ends s reader out fault) (sym c.0) (t.read, t.written)
 ends (Err (NotARun replica entry)) status reader out fault d t c = subst (λ s. Ends s reader out fault) (sym c.0) (t.read, t.written)
 ends (Err Memory) status reader out fault d t c = subst (λ s. Ends s reader out fault) (sym c.0) (t.read, t.written)
 ends (Err Read) status reader out fault d t c = subst (λ s. Ends s reader out fault) (sym c.0) (inl ((t.read, t.written), c.1))

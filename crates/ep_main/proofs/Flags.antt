@@ -34,13 +34,13 @@ write_of_script (script.Refused n) = refl
 read_of_bundle : (b : BundleFault) → is_read (of_bundle b) ≡ is_bundle_read b
 read_of_bundle bundle.Memory = refl
 read_of_bundle bundle.ReadFailed = refl
-read_of_bundle (bundle.BadBundle offset) = refl
+read_of_bundle (bundle.BadBundle field) = refl
 read_of_bundle (bundle.NotARun replica entry) = refl
 
 write_of_bundle : (b : BundleFault) → is_write (of_bundle b) ≡ false
 write_of_bundle bundle.Memory = refl
 write_of_bundle bundle.ReadFailed = refl
-write_of_bundle (bundle.BadBundle offset) = refl
+write_of_bundle (bundle.BadBundle field) = refl
 write_of_bundle (bundle.NotARun replica entry) = refl
 
 -- an answer tells the fault e, of which `is_its` says this

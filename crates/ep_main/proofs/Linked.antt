@@ -42,7 +42,7 @@ refusal name zs fault (files.Refused line) of found told = bad_file name zs line
 pub unread : (zs : List ℕ) (fault : BundleFault) (place : ℕ) (left : Option (List ℕ)) → Finds {A = Contents} (ReadsLate zs) (Err fault) place left → IsUnreadLate zs fault
 unread zs bundle.Memory place left found = tt
 unread zs bundle.ReadFailed place left found = tt
-unread zs (bundle.BadBundle offset) place left found = found
+unread zs (bundle.BadBundle field) place left found = found
 unread zs (bundle.NotARun replica entry) place left found = found
 
 no_file : (name zs : List ℕ) (f : FilesFault) → IsNoLink name zs f → IsNoFile name f

@@ -7,11 +7,12 @@ use Rattle.ep_base.specs.declared.version.Version.{Version}
 use Rattle.ep_bundle.specs.Bytes.{magic}
 use Rattle.ep_bundle.specs.Headers.{cluster, edition, header_of, map_in}
 use Rattle.ep_bundle.specs.Journals.{Contents, ReadsJournals, Then, closing, ended}
-use Rattle.ep_bundle.specs.Reading.{Left, Reading, and_then, field, many, number}
+use Rattle.ep_bundle.specs.Reading.{Left, Reading, and_then, bad, field, many, number}
 use Rattle.ep_bundle.specs.Stages.{receipt}
 use Rattle.ep_bundle.specs.declared.bundle_fault.BundleFault.{BundleFault}
-use Rattle.ep_bundle.specs.declared.bundle_fault.BundleFault.TheVariants as bundle
+use Rattle.ep_bundle.specs.declared.bundle_field.BundleField.TheVariants as named
 use Rattle.ep_bundle.specs.declared.bundle_header.BundleHeader.{BundleHeader}
+use Rattle.ep_bundle.specs.declared.wanted.Wanted.TheVariants.{Range}
 use Rattle.ep_journal.specs.Openings.{Opening}
 use Rattle.ep_journal.specs.declared.entry.Entry.{Entry}
 use Rattle.ep_main.specs.Upgrades.{Reads, ReadsEarly}
@@ -25,18 +26,18 @@ and_then_is {A} {B} r k p b is h = subst (λ (q : Reading A). and_then q k ≡ O
 
 -- the field of the version
 
-inside : (x high : ℕ) (e : BundleFault) (q p : ℕ × Left) (b : Bool) → (ltb x 1 || ltb high x) ≡ b → high ≤ 3 → cond {A = Reading ℕ} b (Err e) (Ok q) ≡ Ok p → cond {A = Reading ℕ} (ltb x 1 || ltb 3 x) (Err e) (Ok q) ≡ Ok p
-inside x high e q p true test most h = absurd (let bad : ◌≡◌ {A = Reading ℕ} (Err e) (Ok p) = h in cc)
-inside x high e q p false test most h =
+inside : (x high : ℕ) (e e' : BundleFault) (q p : ℕ × Left) (b : Bool) → (ltb x 1 || ltb high x) ≡ b → high ≤ 3 → cond {A = Reading ℕ} b (Err e) (Ok q) ≡ Ok p → cond {A = Reading ℕ} (ltb x 1 || ltb 3 x) (Err e') (Ok q) ≡ Ok p
+inside x high e e' q p true test most h = absurd (let bad : ◌≡◌ {A = Reading ℕ} (Err e) (Ok p) = h in cc)
+inside x high e e' q p false test most h =
     let within : (ltb x 1 || ltb 3 x) ≡ false = grind (arith, nat_tests, test, most) in
-    subst (λ (t : Bool). cond {A = Reading ℕ} t (Err e) (Ok q) ≡ Ok p) (sym within) h
+    subst (λ (t : Bool). cond {A = Reading ℕ} t (Err e') (Ok q) ≡ Ok p) (sym within) (let ok : ◌≡◌ {A = Reading ℕ} (Ok q) (Ok p) = h in ok)
 
-field_wider : (high : ℕ) (l : Left) (p : ℕ × Left) → high ≤ 3 → field 1 1 high l ≡ Ok p → field 1 1 3 l ≡ Ok p
-field_wider high l p most h = go (number 1 l) h
+field_wider : (high : ℕ) (l : Left) (p : ℕ × Left) → high ≤ 3 → field named.Version 1 1 high l ≡ Ok p → field named.Version 1 1 3 l ≡ Ok p
+field_wider high l p most h = go (number named.Version 1 l) h
   where
-    go : (r : Reading ℕ) → and_then r (λ x l'. cond {A = Reading ℕ} (ltb x 1 || ltb high x) (Err (bundle.BadBundle l.at)) (Ok (x, l'))) ≡ Ok p
-        → and_then r (λ x l'. cond {A = Reading ℕ} (ltb x 1 || ltb 3 x) (Err (bundle.BadBundle l.at)) (Ok (x, l'))) ≡ Ok p
-    go (Ok q) g = inside q.0 high (bundle.BadBundle l.at) q p (ltb q.0 1 || ltb high q.0) refl most g
+    go : (r : Reading ℕ) → and_then r (λ x l'. cond {A = Reading ℕ} (ltb x 1 || ltb high x) (Err (bad named.Version 1 (Range 1 high) l)) (Ok (x, l'))) ≡ Ok p
+        → and_then r (λ x l'. cond {A = Reading ℕ} (ltb x 1 || ltb 3 x) (Err (bad named.Version 1 (Range 1 3) l)) (Ok (x, l'))) ≡ Ok p
+    go (Ok q) g = inside q.0 high (bad named.Version 1 (Range 1 high) l) (bad named.Version 1 (Range 1 3) l) q p (ltb q.0 1 || ltb high q.0) refl most g
     go (Err e) g = absurd (let bad : ◌≡◌ {A = Reading ℕ} (Err e) (Ok p) = g in cc)
 
 most_of : (x high : ℕ) (e : BundleFault) (q p : ℕ × Left) (b : Bool) → (ltb x 1 || ltb high x) ≡ b → x ≡ q.0 → cond {A = Reading ℕ} b (Err e) (Ok q) ≡ Ok p → p.0 ≤ high
@@ -47,20 +48,20 @@ most_of x high e q p false test is h =
     let low : x ≤ high = grind (arith, nat_tests, test) in
     omega arith
 
-field_most : (high : ℕ) (l : Left) (p : ℕ × Left) → field 1 1 high l ≡ Ok p → p.0 ≤ high
-field_most high l p h = go (number 1 l) h
+field_most : (high : ℕ) (l : Left) (p : ℕ × Left) → field named.Version 1 1 high l ≡ Ok p → p.0 ≤ high
+field_most high l p h = go (number named.Version 1 l) h
   where
-    go : (r : Reading ℕ) → and_then r (λ x l'. cond {A = Reading ℕ} (ltb x 1 || ltb high x) (Err (bundle.BadBundle l.at)) (Ok (x, l'))) ≡ Ok p → p.0 ≤ high
-    go (Ok q) g = most_of q.0 high (bundle.BadBundle l.at) q p (ltb q.0 1 || ltb high q.0) refl refl g
+    go : (r : Reading ℕ) → and_then r (λ x l'. cond {A = Reading ℕ} (ltb x 1 || ltb high x) (Err (bad named.Version 1 (Range 1 high) l)) (Ok (x, l'))) ≡ Ok p → p.0 ≤ high
+    go (Ok q) g = most_of q.0 high (bad named.Version 1 (Range 1 high) l) q p (ltb q.0 1 || ltb high q.0) refl refl g
     go (Err e) g = absurd (let bad : ◌≡◌ {A = Reading ℕ} (Err e) (Ok p) = g in cc)
 
 -- the header
 
 header_wider : (l : Left) (p : BundleHeader × Left) → header_of 1 2 l ≡ Ok p → header_of 1 3 l ≡ Ok p
 header_wider l p h =
-    let a = and_then_ok (field 4 magic magic l) _ p h in
-    let b = and_then_ok (field 1 1 2 a.0.1) _ p a.2 in
-    and_then_is (field 4 magic magic l) _ a.0 p a.1 (and_then_is (field 1 1 3 a.0.1) _ b.0 p (field_wider 2 a.0.1 b.0 (omega arith) b.1) b.2)
+    let a = and_then_ok (field named.Magic 4 magic magic l) _ p h in
+    let b = and_then_ok (field named.Version 1 1 2 a.0.1) _ p a.2 in
+    and_then_is (field named.Magic 4 magic magic l) _ a.0 p a.1 (and_then_is (field named.Version 1 1 3 a.0.1) _ b.0 p (field_wider 2 a.0.1 b.0 (omega arith) b.1) b.2)
 
 early_number : (n : ℕ) → n ≤ 2 → version_number (version_of n 0) ≤ 2
 early_number zero low = omega arith
@@ -87,11 +88,11 @@ header_version v (Err e) = v
 
 early_header : (l : Left) (p : BundleHeader × Left) → header_of 1 2 l ≡ Ok p → version_number p.0.version ≤ 2
 early_header l p h =
-    let a = and_then_ok (field 4 magic magic l) _ p h in
-    let b = and_then_ok (field 1 1 2 a.0.1) _ p a.2 in
+    let a = and_then_ok (field named.Magic 4 magic magic l) _ p h in
+    let b = and_then_ok (field named.Version 1 1 2 a.0.1) _ p a.2 in
     let c = and_then_ok (cluster b.0.1) _ p b.2 in
     let d = and_then_ok (edition b.0.0 c.0.1) _ p c.2 in
-    let e = and_then_ok (number 4 d.0.1) _ p d.2 in
+    let e = and_then_ok (number named.Receipts 4 d.0.1) _ p d.2 in
     let m = and_then_ok (map_in d.0.0.0 e.0.1) _ p e.2 in
     let same : d.0.0.0 ≡ p.0.version = ap (header_version d.0.0.0) m.2 in
     subst (λ (v : Version). version_number v ≤ 2) same (early_edition b.0.0 c.0.1 d.0 (field_most 2 a.0.1 b.0 b.1) d.1)

@@ -71,13 +71,13 @@ in_third journals receipts zs text end out read early late canonical wrote = ⊎
 pub third_fault_of : (c : Collected) (rs : List Receipt) (b : BundleFault) → IsNoThird c rs b → IsThirdFault c rs (of_bundle b)
 third_fault_of c rs bundle.Memory h = tt
 third_fault_of c rs bundle.ReadFailed h = absurd h
-third_fault_of c rs (bundle.BadBundle offset) h = h
+third_fault_of c rs (bundle.BadBundle field) h = h
 third_fault_of c rs (bundle.NotARun replica entry) h = h
 
 -- no device failed
 no_device : (c : Collected) (rs : List Receipt) (e : EngineFault) → IsThirdFault c rs e → (is_read e ≡ false) × (is_write e ≡ false)
 no_device c rs (Script line) h = absurd h
-no_device c rs (BadBundle offset) h = (refl, refl)
+no_device c rs (BadBundle field) h = (refl, refl)
 no_device c rs (NotARun replica entry) h = (refl, refl)
 no_device c rs Memory h = (refl, refl)
 no_device c rs Read h = absurd h

@@ -16,5 +16,5 @@ IsRefusal name fault (files.Refused line) = line.items ≡ file_line name fault
 abbrev pub IsUnreadLate : List ℕ → BundleFault → Type 0
 IsUnreadLate zs bundle.Memory = Unit {0}
 IsUnreadLate zs bundle.ReadFailed = Unit {0}
-IsUnreadLate zs (bundle.BadBundle offset) = ReadsLate zs (Err (bundle.BadBundle offset))
+IsUnreadLate zs (bundle.BadBundle field) = ReadsLate zs (Err (bundle.BadBundle field))
 IsUnreadLate zs (bundle.NotARun replica entry) = ReadsLate zs (Err (bundle.NotARun replica entry))

@@ -48,7 +48,7 @@ file_line name fault = fault_text fault ++ codes " in " ++ name ++ codes "\n"
 abbrev pub IsOfBytes : BundleFault → Type 0
 IsOfBytes bundle.Memory = ⊥
 IsOfBytes bundle.ReadFailed = ⊥
-IsOfBytes (bundle.BadBundle offset) = Unit {0}
+IsOfBytes (bundle.BadBundle field) = Unit {0}
 IsOfBytes (bundle.NotARun replica entry) = Unit {0}
 
 -- The line is that of a file of this name, which gave bytes that aren't one, for this first fault.

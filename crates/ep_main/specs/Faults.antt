@@ -12,7 +12,7 @@ use Rattle.ep_cli.specs.declared.status.Status.TheVariants.{Refused, OutOfMemory
 
 abbrev pub line_of : EngineFault → List ℕ
 line_of (Script line) = script_refused line
-line_of (BadBundle offset) = bad_bundle offset
+line_of (BadBundle field) = bad_bundle field.at
 line_of (NotARun replica entry) = not_a_run replica entry
 line_of Memory = out_of_memory
 line_of Read = reading_failed
@@ -20,7 +20,7 @@ line_of Write = writing_failed
 
 abbrev pub status_of : EngineFault → Status
 status_of (Script line) = Refused
-status_of (BadBundle offset) = Refused
+status_of (BadBundle field) = Refused
 status_of (NotARun replica entry) = Refused
 status_of Memory = OutOfMemory
 status_of Read = Failed
@@ -29,7 +29,7 @@ status_of Write = Failed
 -- the reader's own fault
 abbrev pub is_read : EngineFault → Bool
 is_read (Script line) = false
-is_read (BadBundle offset) = false
+is_read (BadBundle field) = false
 is_read (NotARun replica entry) = false
 is_read Memory = false
 is_read Read = true
@@ -38,7 +38,7 @@ is_read Write = false
 -- the writer's own fault
 abbrev pub is_write : EngineFault → Bool
 is_write (Script line) = false
-is_write (BadBundle offset) = false
+is_write (BadBundle field) = false
 is_write (NotARun replica entry) = false
 is_write Memory = false
 is_write Read = false
@@ -54,5 +54,5 @@ of_script script.ReadFailed = Read
 abbrev pub of_bundle : BundleFault → EngineFault
 of_bundle bundle.Memory = Memory
 of_bundle bundle.ReadFailed = Read
-of_bundle (bundle.BadBundle offset) = BadBundle offset
+of_bundle (bundle.BadBundle field) = BadBundle field
 of_bundle (bundle.NotARun replica entry) = NotARun replica entry

@@ -1,5 +1,6 @@
 -- What the program does, by the status that it answers: of the bytes zs that it reads, its reader, its output and its fault output.
 use Rattle.std.specs.Prelude.{◌≡◌, ◌⊎◌, ◌++◌, ℕ, true, List, Result, Ok, Err, codes, string_bytes}
+use Rattle.ep_bundle.specs.declared.bad_field.BadField.{BadField}
 use Rattle.ep_bundle.specs.declared.bundle_fault.BundleFault.{BundleFault}
 use Rattle.ep_bundle.specs.declared.bundle_fault.BundleFault.TheVariants as bundle
 use Rattle.ep_script.specs.Plan.{Plan, RunPlan, script_of, run_of}
@@ -62,10 +63,10 @@ pub record IsScriptRefused {P : Type 0} (read : Result P ℕ) (out fault : Outpu
 
 -- There is no bundle, for a first field at fault: it is told, and nothing was written on the output.
 pub record IsBadBundle (Q : BundleFault → Type 0) (out fault : Output) : Type 0 where
-  pub offset : ℕ
-  pub read : Q (bundle.BadBundle offset)
+  pub field : BadField
+  pub read : Q (bundle.BadBundle field)
   pub silent : WroteNothing out
-  pub told : Told fault (bad_bundle offset)
+  pub told : Told fault (bad_bundle field.at)
 
 -- There is no bundle, for a first entry that isn't its replica's next step: it is told, and nothing was written on the output.
 pub record IsNotARun (Q : BundleFault → Type 0) (out fault : Output) : Type 0 where
@@ -186,7 +187,7 @@ IsVerdict Failed = ⊥
 abbrev pub Plays : Form → Result Status EngineFault → List ℕ → Output → Type 0
 Plays form (Ok status) zs out = (status ≡ Done) × IsReplayed form zs out
 Plays form (Err (Script line)) zs out = (script_of zs ≡ Err line) × WroteNothing out
-Plays form (Err (BadBundle offset)) zs out = ⊥
+Plays form (Err (BadBundle field)) zs out = ⊥
 Plays form (Err (NotARun replica entry)) zs out = ⊥
 Plays form (Err Memory) zs out = WroteNothing out
 Plays form (Err Read) zs out = WroteNothing out
@@ -195,7 +196,7 @@ Plays form (Err Write) zs out = Unit {0}
 abbrev pub Leaves : Result Status EngineFault → List ℕ → Output → Type 0
 Leaves (Ok status) zs out = (status ≡ Done) × IsBundled zs out
 Leaves (Err (Script line)) zs out = (script_of zs ≡ Err line) × WroteNothing out
-Leaves (Err (BadBundle offset)) zs out = ⊥
+Leaves (Err (BadBundle field)) zs out = ⊥
 Leaves (Err (NotARun replica entry)) zs out = ⊥
 Leaves (Err Memory) zs out = WroteNothing out
 Leaves (Err Read) zs out = WroteNothing out
@@ -208,7 +209,7 @@ Runs options (Ok Refused) zs out = ⊥
 Runs options (Ok OutOfMemory) zs out = ⊥
 Runs options (Ok Failed) zs out = ⊥
 Runs options (Err (Script line)) zs out = (run_of zs ≡ Err line) × WroteNothing out
-Runs options (Err (BadBundle offset)) zs out = ⊥
+Runs options (Err (BadBundle field)) zs out = ⊥
 Runs options (Err (NotARun replica entry)) zs out = ⊥
 Runs options (Err Memory) zs out = WroteNothing out
 Runs options (Err Read) zs out = WroteNothing out
@@ -217,7 +218,7 @@ Runs options (Err Write) zs out = Unit {0}
 -- what stops the reading of a bundle, where it has such faults
 abbrev pub StopsBy : (BundleFault → Type 0) → EngineFault → Output → Type 0
 StopsBy Q (Script line) out = ⊥
-StopsBy Q (BadBundle offset) out = Q (bundle.BadBundle offset) × WroteNothing out
+StopsBy Q (BadBundle field) out = Q (bundle.BadBundle field) × WroteNothing out
 StopsBy Q (NotARun replica entry) out = Q (bundle.NotARun replica entry) × WroteNothing out
 StopsBy Q Memory out = WroteNothing out
 StopsBy Q Read out = WroteNothing out
@@ -234,7 +235,7 @@ Rewrites target (Err e) zs out = StopsBy (IsUnupgraded target zs) e out
 abbrev pub Prints : Result Status EngineFault → List ℕ → Output → Type 0
 Prints (Ok status) text out = (status ≡ Done) × Wrote out text
 Prints (Err (Script line)) text out = ⊥
-Prints (Err (BadBundle offset)) text out = ⊥
+Prints (Err (BadBundle field)) text out = ⊥
 Prints (Err (NotARun replica entry)) text out = ⊥
 Prints (Err Memory) text out = ⊥
 Prints (Err Read) text out = ⊥

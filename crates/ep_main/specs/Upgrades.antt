@@ -85,7 +85,7 @@ IsUnupgraded Third zs fault = IsUnread zs fault ⊎ HasNoThird zs fault
 -- those journals and receipts are no bundle in version 3, for this fault; or memory was refused
 abbrev pub IsThirdFault : Collected → List Receipt → EngineFault → Type 0
 IsThirdFault c rs (Script line) = ⊥
-IsThirdFault c rs (BadBundle offset) = ReadsBundle (record { at = 0; bytes = respelled_bytes c rs }) (Err (bundle.BadBundle offset))
+IsThirdFault c rs (BadBundle field) = ReadsBundle (record { at = 0; bytes = respelled_bytes c rs }) (Err (bundle.BadBundle field))
 IsThirdFault c rs (NotARun replica entry) = ReadsBundle (record { at = 0; bytes = respelled_bytes c rs }) (Err (bundle.NotARun replica entry))
 IsThirdFault c rs Memory = Unit {0}
 IsThirdFault c rs Read = ⊥

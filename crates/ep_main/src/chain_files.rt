@@ -38,7 +38,7 @@ fn no_link(alloc: Global, name: &str, fault: BundleFault) -> FilesFault
 {
     match fault {
         BundleFault::Memory | BundleFault::ReadFailed => FilesFault::Memory,
-        BundleFault::BadBundle(offset) => placed(alloc, name, BundleFault::BadBundle(offset)),
+        BundleFault::BadBundle(field) => placed(alloc, name, BundleFault::BadBundle(field)),
         BundleFault::NotARun(replica, entry) => {
             placed(alloc, name, BundleFault::NotARun(replica, entry))
         }

@@ -5,7 +5,7 @@ ghost use Rattle.ep_main.specs.Faults.{of_bundle, of_script, status_of};
 ghost use Rattle.ep_main.specs.declared.engine_fault.EngineFault.TheVariants.{Memory, Write};
 
 use ep_base::{ReplicaId, WriteFailed};
-use ep_bundle::BundleFault;
+use ep_bundle::{BadField, BundleFault};
 use ep_cli::Status;
 use ep_run::RunFault;
 use ep_script::ScriptFault;
@@ -16,8 +16,8 @@ use std::alloc::AllocError;
 pub enum EngineFault {
     /// The script is refused; this is the first line at fault, counted from 1.
     Script(u32),
-    /// The bundle is refused; this is the offset of its first field at fault, counted from 0.
-    BadBundle(u64),
+    /// The bundle is refused; this is its first field at fault.
+    BadBundle(BadField),
     /// The bundle is refused; this entry of this replica, counted from 1, is the first that isn't its replica's next step.
     NotARun(ReplicaId, u32),
     /// Memory was refused.
@@ -61,7 +61,7 @@ impl From<BundleFault> for EngineFault {
         match fault {
             BundleFault::Memory => EngineFault::Memory,
             BundleFault::ReadFailed => EngineFault::Read,
-            BundleFault::BadBundle(offset) => EngineFault::BadBundle(offset),
+            BundleFault::BadBundle(field) => EngineFault::BadBundle(field),
             BundleFault::NotARun(replica, entry) => EngineFault::NotARun(replica, entry),
         }
     }

@@ -13,7 +13,7 @@ pub(crate) fn tell<F: Sink>(fault: EngineFault, sink: &mut F) -> Result<(), Writ
 {
     match fault {
         EngineFault::Script(line) => tell_script(line, sink),
-        EngineFault::BadBundle(offset) => tell_bad_bundle(offset, sink),
+        EngineFault::BadBundle(field) => tell_bad_bundle(field.at, sink),
         EngineFault::NotARun(replica, entry) => tell_not_a_run(replica, entry, sink),
         EngineFault::Memory => sink.put(b"out of memory\n"),
         EngineFault::Read => sink.put(b"reading failed\n"),

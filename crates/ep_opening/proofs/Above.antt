@@ -4,10 +4,11 @@ use Rattle.std.specs.Prelude.{IsErrAnd}
 use Rattle.std.proofs.lemmas.Bool.{lt-ltb, ltb-true, le-ltb, ltb-false}
 use Rattle.ep_base.specs.Deps.{IsRising}
 use Rattle.ep_base.specs.declared.version_kind.VersionKind.TheVariants.{V3}
-use Rattle.ep_bundle.specs.Reading.{Left, Reading, Reads, and_then}
+use Rattle.ep_bundle.specs.Reading.{Left, Reading, Reads, and_then, bad}
 use Rattle.ep_bundle.specs.Stages.{instance}
 use Rattle.ep_bundle.specs.declared.bundle_fault.BundleFault.{BundleFault}
-use Rattle.ep_bundle.specs.declared.bundle_fault.BundleFault.TheVariants.{BadBundle}
+use Rattle.ep_bundle.specs.declared.bundle_field.BundleField.TheVariants.{Other}
+use Rattle.ep_bundle.specs.declared.wanted.Wanted.TheVariants.{Higher}
 use Rattle.ep_bundle.proofs.Loops.{one_more}
 use Rattle.ep_bundle.proofs.Readings.{fails, same_reading}
 use Rattle.ep_opening.specs.Reading.{above, last_of, rising}
@@ -37,16 +38,16 @@ is_above g is l i p left h least rise =
     let test : ltb (last_of 0 is) i ≡ true = lt-ltb (last_of 0 is) i (last_is_below is i least rise) in (
       h.0,
       h.1,
-      ap (λ (o : Reading ℕ). and_then o (λ i l'. cond (ltb (last_of 0 is) i) (Ok (i, l')) (Err (BadBundle l.at)))) h.2
-          ∙ ap (λ (b : Bool). cond b (Ok (i, record { at = p; bytes = h.0 })) (Err (BadBundle l.at))) test,
+      ap (λ (o : Reading ℕ). and_then o (λ i l'. cond (ltb (last_of 0 is) i) (Ok (i, l')) (Err (bad Other 3 Higher l)))) h.2
+          ∙ ap (λ (b : Bool). cond b (Ok (i, record { at = p; bytes = h.0 })) (Err (bad Other 3 Higher l))) test,
     )
 
-pub is_not_above : (g : ℕ) (is : List ℕ) (l : Left) (i p q : ℕ) (left left' : Option (List ℕ)) → Reads (instance (V3 g) 7 l) (Ok i) p left → IsRising is → ¬ IsRising (is ++ i ∷ []) → Reads {A = ℕ} (above g is l) (Err (BadBundle l.at)) q left'
+pub is_not_above : (g : ℕ) (is : List ℕ) (l : Left) (i p q : ℕ) (left left' : Option (List ℕ)) → Reads (instance (V3 g) 7 l) (Ok i) p left → IsRising is → ¬ IsRising (is ++ i ∷ []) → Reads {A = ℕ} (above g is l) (Err (bad Other 3 Higher l)) q left'
 is_not_above g is l i p q left left' h rise not_so =
-    ap (λ (o : Reading ℕ). and_then o (λ i l'. cond (ltb (last_of 0 is) i) (Ok (i, l')) (Err (BadBundle l.at)))) h.2
+    ap (λ (o : Reading ℕ). and_then o (λ i l'. cond (ltb (last_of 0 is) i) (Ok (i, l')) (Err (bad Other 3 Higher l)))) h.2
     ∙ go (ltb (last_of 0 is) i) refl
   where
-    go : (b : Bool) → ltb (last_of 0 is) i ≡ b → cond {A = Reading ℕ} b (Ok (i, record { at = p; bytes = h.0 })) (Err (BadBundle l.at)) ≡ Err (BadBundle l.at)
+    go : (b : Bool) → ltb (last_of 0 is) i ≡ b → cond {A = Reading ℕ} b (Ok (i, record { at = p; bytes = h.0 })) (Err (bad Other 3 Higher l)) ≡ Err (bad Other 3 Higher l)
     go true e = absurd (not_so (rises_on is i rise (ltb-true (last_of 0 is) i e)))
     go false e = refl
 

@@ -24,7 +24,7 @@ told_fault {A = A} name o bundle.Memory at field p q left left' f is h = absurd 
 told_fault {A = A} name o bundle.ReadFailed at field p q left left' f is h = absurd (f.1 refl)
 told_fault {A = A} name o (BadBundle x) at field p q left left' f is h = ap (λ (y : Reading A). file_reading name y) h ∙ spelled
   where
-    spelled : wrongly {A = A} x (name x) ≡ wrongly at field
+    spelled : wrongly {A = A} x.at (name x.at) ≡ wrongly at field
     spelled = ap (λ (y : ℕ). wrongly {A = A} y (name y)) (sym f.2) ∙ ap (λ (y : OpeningField). wrongly {A = A} at y) (sym is)
 told_fault {A = A} name o (NotARun r n) at field p q left left' f is h = ap (λ (y : Reading A). file_reading name y) h ∙ spelled
   where

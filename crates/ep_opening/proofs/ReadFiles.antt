@@ -16,9 +16,10 @@ use Rattle.sha2.specs.Sha256.{sha256}
 use Rattle.ep_bundle.specs.Bytes.{map_bytes}
 use Rattle.ep_bundle.specs.Headers.{cluster, map_in}
 use Rattle.ep_bundle.specs.Journals.{ended, none_in}
-use Rattle.ep_bundle.specs.Reading.{Left, Reading, and_then, run, field}
+use Rattle.ep_bundle.specs.Reading.{Left, Reading, and_then, bad, run, field}
 use Rattle.ep_bundle.specs.Stages.{instance}
-use Rattle.ep_bundle.specs.declared.bundle_fault.BundleFault.TheVariants.{BadBundle}
+use Rattle.ep_bundle.specs.declared.bundle_field.BundleField.TheVariants.{Other}
+use Rattle.ep_bundle.specs.declared.wanted.Wanted.TheVariants.{Higher}
 use Rattle.ep_bundle.proofs.ReadHeaders.{cluster_gives, map_gives}
 use Rattle.ep_bundle.proofs.ReadNumbers.{Gives, Comes, Ranges, done, step, last, other, whole, choice, refused, rest_bytes, run_gives, field_gives}
 use Rattle.ep_bundle.proofs.ReadParts.{instance_gives}
@@ -35,8 +36,8 @@ the_same n x p = let a : n ≤ x = p.least in let b : x ≤ n = p.most in omega 
 
 lead_gives : (l : Left) → AreBytes l.bytes → Gives (λ (x : ℕ). lead_bytes) (λ x. Unit {0}) l (lead l)
 lead_gives l h =
-    whole (step (field 4 magic magic l) (λ x m. field 1 3 3 m) h (field_gives 4 wide4 magic magic l h)
-    (λ x m p k. last (field_gives 1 wide1 3 3 m k) (λ y q. (spelled x y (the_same magic x p) (the_same 3 y q), tt))))
+    whole (step (field Other 4 magic magic l) (λ x m. field Other 1 3 3 m) h (field_gives _ 4 wide4 magic magic l h)
+    (λ x m p k. last (field_gives _ 1 wide1 3 3 m k) (λ y q. (spelled x y (the_same magic x p) (the_same 3 y q), tt))))
   where
     spelled : (x y : ℕ) → x ≡ magic → y ≡ 3 → number_bytes 4 x ++ number_bytes 1 y ≡ lead_bytes
     spelled x y ex ey = (λ t. number_bytes 4 (ex t) ++ number_bytes 1 (ey t))
@@ -45,18 +46,18 @@ lead_gives l h =
 
 value_gives : (l : Left) → AreBytes l.bytes → Gives (λ (v : List ℕ). number_bytes 4 (length v) ++ v) (λ v. Unit {0}) l (seal_value l)
 value_gives l h =
-    whole (step (field 4 0 most_value l) run h (field_gives 4 wide4 0 most_value l h) (λ n m p k. last (run_gives n m k) (λ v q. (ap (λ (x : ℕ). number_bytes 4 x ++ v) (sym q.0), tt))))
+    whole (step (field Other 4 0 most_value l) (run Other) h (field_gives _ 4 wide4 0 most_value l h) (λ n m p k. last (run_gives _ n m k) (λ v q. (ap (λ (x : ℕ). number_bytes 4 x ++ v) (sym q.0), tt))))
 
 -- where the test of the first generation comes out so
 abbrev pub seal_as : Bool → Left → Reading (Option (List ℕ))
-seal_as b l = and_then (field 1 (cond b 0 1) (cond b 0 1) l) (λ x l. cond b (Ok (None, l)) (and_then (seal_value l) (λ v l. Ok (Some v, l))))
+seal_as b l = and_then (field Other 1 (cond b 0 1) (cond b 0 1) l) (λ x l. cond b (Ok (None, l)) (and_then (seal_value l) (λ v l. Ok (Some v, l))))
 
 seal_gives_as : (b : Bool) (l : Left) → AreBytes l.bytes → Gives seal_bytes (λ s. Unit {0}) l (seal_as b l)
 seal_gives_as true l h =
-    whole (step (field 1 0 0 l) (λ x m. Ok (None, m)) h (field_gives 1 wide1 0 0 l h)
+    whole (step (field Other 1 0 0 l) (λ x m. Ok (None, m)) h (field_gives _ 1 wide1 0 0 l h)
     (λ x m p k. done {A = Option (List ℕ)} None (append-nil (number_bytes 1 x) ∙ ap (λ (y : ℕ). number_bytes 1 y) (the_same 0 x p), tt)))
 seal_gives_as false l h =
-    whole (step (field 1 1 1 l) (λ x m. and_then (seal_value m) (λ v l. Ok (Some v, l))) h (field_gives 1 wide1 1 1 l h)
+    whole (step (field Other 1 1 1 l) (λ x m. and_then (seal_value m) (λ v l. Ok (Some v, l))) h (field_gives _ 1 wide1 1 1 l h)
     (λ x m p k. step (seal_value m) (λ v l. Ok (Some v, l)) k (value_gives m k)
     (λ v n q j. done {A = Option (List ℕ)} (Some v) (spelled x (number_bytes 4 (length v) ++ v) (the_same 1 x p), tt))))
   where
@@ -76,9 +77,9 @@ made_front f g base_stamp s = record { size = f; generation = g; base_stamp = ba
 
 front_gives : (l : Left) → AreBytes l.bytes → Gives front_spelled (λ h. Unit {0}) l (front l)
 front_gives l h =
-    whole (step (cluster l) (λ f l. and_then (field 4 1 4294967295 l) (λ g l. and_then (field 8 0 281474976710655 l) (λ base_stamp l. and_then (seal g l) (λ s l. Ok (made_front f g base_stamp s, l))))) h (cluster_gives l h)
-    (λ f l p h. step (field 4 1 4294967295 l) (λ g l. and_then (field 8 0 281474976710655 l) (λ base_stamp l. and_then (seal g l) (λ s l. Ok (made_front f g base_stamp s, l)))) h (field_gives 4 wide4 1 4294967295 l h)
-    (λ g l q h. step (field 8 0 281474976710655 l) (λ base_stamp l. and_then (seal g l) (λ s l. Ok (made_front f g base_stamp s, l))) h (field_gives 8 wide8 0 281474976710655 l h)
+    whole (step (cluster l) (λ f l. and_then (field Other 4 1 4294967295 l) (λ g l. and_then (field Other 8 0 281474976710655 l) (λ base_stamp l. and_then (seal g l) (λ s l. Ok (made_front f g base_stamp s, l))))) h (cluster_gives l h)
+    (λ f l p h. step (field Other 4 1 4294967295 l) (λ g l. and_then (field Other 8 0 281474976710655 l) (λ base_stamp l. and_then (seal g l) (λ s l. Ok (made_front f g base_stamp s, l)))) h (field_gives _ 4 wide4 1 4294967295 l h)
+    (λ g l q h. step (field Other 8 0 281474976710655 l) (λ base_stamp l. and_then (seal g l) (λ s l. Ok (made_front f g base_stamp s, l))) h (field_gives _ 8 wide8 0 281474976710655 l h)
     (λ base_stamp l r h. step (seal g l) (λ s l. Ok (made_front f g base_stamp s, l)) h (seal_gives g l h)
     (λ s l u h. done (made_front f g base_stamp s) (group (number_bytes 1 (size f)) (number_bytes 4 g) (number_bytes 8 base_stamp) (seal_bytes s), tt))))))
   where
@@ -92,8 +93,8 @@ front_gives l h =
 
 above_gives : (g : ℕ) (is : List ℕ) (l : Left) → AreBytes l.bytes → Gives dep_bytes (λ i. Unit {0}) l (above g is l)
 above_gives g is l h =
-    whole (step (instance (V3 g) 7 l) (λ i m. cond (ltb (last_of 0 is) i) (Ok (i, m)) (Err (BadBundle l.at))) h (instance_gives (V3 g) 7 l h)
-    (λ i m p k. choice (ltb (last_of 0 is) i) (Ok (i, m)) (Err (BadBundle l.at)) (λ e. done i (append-nil (dep_bytes i), tt)) (λ e. refused (BadBundle l.at))))
+    whole (step (instance (V3 g) 7 l) (λ i m. cond (ltb (last_of 0 is) i) (Ok (i, m)) (Err (bad Other 3 Higher l))) h (instance_gives (V3 g) 7 l h)
+    (λ i m p k. choice (ltb (last_of 0 is) i) (Ok (i, m)) (Err (bad Other 3 Higher l)) (λ e. done i (append-nil (dep_bytes i), tt)) (λ e. refused (bad Other 3 Higher l))))
 
 record Climbed (n : ℕ) (before after : List ℕ) (bs : List ℕ) : Type 0 where
   items : List ℕ
@@ -110,7 +111,7 @@ rising_comes g (suc n) before l h =
 
 executed_gives : (g : ℕ) (l : Left) → AreBytes l.bytes → Gives executed_bytes (λ is. Unit {0}) l (executed g l)
 executed_gives g l h =
-    whole (step (field 4 0 (most_of g) l) (λ n m. rising g n [] m) h (field_gives 4 wide4 0 (most_of g) l h)
+    whole (step (field Other 4 0 (most_of g) l) (λ n m. rising g n [] m) h (field_gives _ 4 wide4 0 (most_of g) l h)
     (λ n m p k. other (rising_comes g n [] m k) (λ is bs s. (spelled n s.items is bs (sym s.is) s.count s.bytes, tt))))
   where
     spelled : (n : ℕ) (items is bs : List ℕ) → items ≡ is → length items ≡ n → bs ≡ flat_map dep_bytes items → number_bytes 4 n ++ bs ≡ executed_bytes is

@@ -13,6 +13,7 @@ use Rattle.sha2.specs.Sha256.{sha256}
 use Rattle.ep_bundle.specs.Headers.{cluster}
 use Rattle.ep_bundle.specs.Journals.{ended}
 use Rattle.ep_bundle.specs.Reading.{Left, and_then, run, field}
+use Rattle.ep_bundle.specs.declared.bundle_field.BundleField.TheVariants.{Other}
 use Rattle.ep_bundle.proofs.ReadHeaders.{cluster_gives}
 use Rattle.ep_bundle.proofs.ReadNumbers.{Gives, done, step, last, whole, rest_bytes, run_gives, field_gives}
 use Rattle.ep_opening.specs.Reading.{IsReadAs, FileReading, ReadsAs, and_told, lead_field, file_reading}
@@ -26,8 +27,8 @@ use Rattle.ep_opening.proofs.FileReadings.{fails_told, goes_on_told, is_told, to
 
 lead_gives : (l : Left) → AreBytes l.bytes → Gives (λ (x : ℕ). lead_bytes) (λ x. Unit {0}) l (lead l)
 lead_gives l h =
-    whole (step (field 4 magic magic l) (λ x m. field 1 3 3 m) h (field_gives 4 wide4 magic magic l h)
-    (λ x m p k. last (field_gives 1 wide1 3 3 m k) (λ y q. (spelled x y (the_same magic x p) (the_same 3 y q), tt))))
+    whole (step (field Other 4 magic magic l) (λ x m. field Other 1 3 3 m) h (field_gives _ 4 wide4 magic magic l h)
+    (λ x m p k. last (field_gives _ 1 wide1 3 3 m k) (λ y q. (spelled x y (the_same magic x p) (the_same 3 y q), tt))))
   where
     spelled : (x y : ℕ) → x ≡ magic → y ≡ 3 → number_bytes 4 x ++ number_bytes 1 y ≡ lead_bytes
     spelled x y ex ey = (λ t. number_bytes 4 (ex t) ++ number_bytes 1 (ey t))
@@ -37,10 +38,10 @@ made_name f g n s = record { faults = f; generation = g; length = n; sum = s }
 
 name_gives : (l : Left) → AreBytes l.bytes → Gives name_bytes (λ r. Unit {0}) l (name l)
 name_gives l h =
-    whole (step (cluster l) (λ f l. and_then (field 4 2 4294967295 l) (λ g l. and_then (field 8 least_log 18446744073709551615 l) (λ n l. and_then (run 32 l) (λ s l. Ok (made_name f g n s, l))))) h (cluster_gives l h)
-    (λ f l p h. step (field 4 2 4294967295 l) (λ g l. and_then (field 8 least_log 18446744073709551615 l) (λ n l. and_then (run 32 l) (λ s l. Ok (made_name f g n s, l)))) h (field_gives 4 wide4 2 4294967295 l h)
-    (λ g l q h. step (field 8 least_log 18446744073709551615 l) (λ n l. and_then (run 32 l) (λ s l. Ok (made_name f g n s, l))) h (field_gives 8 wide8 least_log 18446744073709551615 l h)
-    (λ n l r h. step (run 32 l) (λ s l. Ok (made_name f g n s, l)) h (run_gives 32 l h)
+    whole (step (cluster l) (λ f l. and_then (field Other 4 2 4294967295 l) (λ g l. and_then (field Other 8 least_log 18446744073709551615 l) (λ n l. and_then (run Other 32 l) (λ s l. Ok (made_name f g n s, l))))) h (cluster_gives l h)
+    (λ f l p h. step (field Other 4 2 4294967295 l) (λ g l. and_then (field Other 8 least_log 18446744073709551615 l) (λ n l. and_then (run Other 32 l) (λ s l. Ok (made_name f g n s, l)))) h (field_gives _ 4 wide4 2 4294967295 l h)
+    (λ g l q h. step (field Other 8 least_log 18446744073709551615 l) (λ n l. and_then (run Other 32 l) (λ s l. Ok (made_name f g n s, l))) h (field_gives _ 8 wide8 least_log 18446744073709551615 l h)
+    (λ n l r h. step (run Other 32 l) (λ s l. Ok (made_name f g n s, l)) h (run_gives _ 32 l h)
     (λ s l u h. done (made_name f g n s) (group (number_bytes 1 (size f)) (number_bytes 4 g) (number_bytes 8 n) s, tt))))))
   where
     group : (a b c d : List ℕ) → a ++ (b ++ (c ++ (d ++ []))) ≡ a ++ b ++ c ++ d

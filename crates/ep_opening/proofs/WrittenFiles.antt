@@ -20,8 +20,9 @@ use Rattle.ep_frame.proofs.Again.{length-number_bytes}
 use Rattle.sha2.specs.Sha256.{sha256}
 use Rattle.sha2.proofs.Facts256.{length-sha256}
 use Rattle.ep_bundle.specs.Headers.{cluster}
-use Rattle.ep_bundle.specs.Reading.{Left, Reading, and_then, run, field}
-use Rattle.ep_bundle.specs.declared.bundle_fault.BundleFault.TheVariants.{BadBundle}
+use Rattle.ep_bundle.specs.Reading.{Left, Reading, and_then, bad, run, field}
+use Rattle.ep_bundle.specs.declared.bundle_field.BundleField.TheVariants.{Other}
+use Rattle.ep_bundle.specs.declared.wanted.Wanted.TheVariants.{Higher}
 use Rattle.ep_bundle.proofs.MapBytes.{contents_are}
 use Rattle.ep_bundle.proofs.WrittenHeaders.{clustered, map_given}
 use Rattle.ep_bundle.proofs.WrittenStages.{Gives, respelled, then_gives, made_of, ran, fielded, instanced}
@@ -36,22 +37,22 @@ use Rattle.ep_opening.proofs.Above.{last_is_below}
 use Rattle.ep_opening.proofs.ReadFiles.{after_executed, after_front, after_map, made_front, seal_as}
 
 lead_given : Gives lead lead_bytes 3
-lead_given = then_gives (field 4 magic magic) (λ x l. field 1 3 3 l) (number_bytes 4 magic) (number_bytes 1 3) magic 3 (fielded 4 magic magic magic (omega arith) (omega arith) (omega arith)) (fielded 1 3 3 3 (omega arith) (omega arith) (omega arith))
+lead_given = then_gives (field Other 4 magic magic) (λ x l. field Other 1 3 3 l) (number_bytes 4 magic) (number_bytes 1 3) magic 3 (fielded _ 4 magic magic magic (omega arith) (omega arith) (omega arith)) (fielded _ 1 3 3 3 (omega arith) (omega arith) (omega arith))
 
 -- the seal
 
 value_given : (v : List ℕ) → length v ≤ most_value → Gives seal_value (number_bytes 4 (length v) ++ v) v
-value_given v le = then_gives (field 4 0 most_value) run (number_bytes 4 (length v)) v (length v) v (fielded 4 0 most_value (length v) (omega arith) (omega arith) le) (ran (length v) v refl)
+value_given v le = then_gives (field Other 4 0 most_value) (run Other) (number_bytes 4 (length v)) v (length v) v (fielded _ 4 0 most_value (length v) (omega arith) (omega arith) le) (ran _ (length v) v refl)
 
 seal_given : (g : ℕ) (s : Option (List ℕ)) → HasItsSeal g s → SealFits s → Gives (seal g) (seal_bytes s) s
 seal_given g None is fits =
     let none : Option (List ℕ) = None in
-    subst (λ (k : ℕ). Gives (seal k) (number_bytes 1 0) none) (sym is) (made_of (field 1 0 0) (λ x l. Ok (none, l)) (number_bytes 1 0) 0 none (fielded 1 0 0 0 (omega arith) (omega arith) (omega arith)) (λ l. refl))
+    subst (λ (k : ℕ). Gives (seal k) (number_bytes 1 0) none) (sym is) (made_of (field Other 1 0 0) (λ x l. Ok (none, l)) (number_bytes 1 0) 0 none (fielded _ 1 0 0 0 (omega arith) (omega arith) (omega arith)) (λ l. refl))
 seal_given g (Some v) two fits =
     let some : Option (List ℕ) = Some v in
     let test : eqb g 1 ≡ false = ne_eqb g 1 (λ (e : g ≡ 1). omega arith) in
     subst (λ (b : Bool). Gives (seal_as b) (number_bytes 1 1 ++ (number_bytes 4 (length v) ++ v)) some) (sym test)
-    (then_gives (field 1 1 1) (λ x l. and_then (seal_value l) (λ v l. Ok (Some v, l))) (number_bytes 1 1) (number_bytes 4 (length v) ++ v) 1 some (fielded 1 1 1 1 (omega arith) (omega arith) (omega arith))
+    (then_gives (field Other 1 1 1) (λ x l. and_then (seal_value l) (λ v l. Ok (Some v, l))) (number_bytes 1 1) (number_bytes 4 (length v) ++ v) 1 some (fielded _ 1 1 1 1 (omega arith) (omega arith) (omega arith))
     (made_of seal_value (λ v l. Ok (Some v, l)) (number_bytes 4 (length v) ++ v) v some (value_given v fits) (λ l. refl)))
 
 -- the front
@@ -69,9 +70,9 @@ front_given f h =
     let high : f.generation ≤ 4294967295 = h.generation.1 in
     let base_stamp : f.opening.base_stamp ≤ 281474976710655 = h.fits.1 in
     respelled front (a ++ (b ++ (c ++ d))) (front_bytes f) (front_in f) (group a b c d)
-    (then_gives cluster (λ s l. and_then (field 4 1 4294967295 l) (λ g l. and_then (field 8 0 281474976710655 l) (λ t l. and_then (seal g l) (λ v l. Ok (made_front s g t v, l))))) a (b ++ (c ++ d)) f.faults (front_in f) (clustered f.faults h.least h.most)
-    (then_gives (field 4 1 4294967295) (λ g l. and_then (field 8 0 281474976710655 l) (λ t l. and_then (seal g l) (λ v l. Ok (made_front f.faults g t v, l)))) b (c ++ d) f.generation (front_in f) (fielded 4 1 4294967295 f.generation (omega arith) low high)
-    (then_gives (field 8 0 281474976710655) (λ t l. and_then (seal f.generation l) (λ v l. Ok (made_front f.faults f.generation t v, l))) c d f.opening.base_stamp (front_in f) (fielded 8 0 281474976710655 f.opening.base_stamp (omega arith) (omega arith) base_stamp)
+    (then_gives cluster (λ s l. and_then (field Other 4 1 4294967295 l) (λ g l. and_then (field Other 8 0 281474976710655 l) (λ t l. and_then (seal g l) (λ v l. Ok (made_front s g t v, l))))) a (b ++ (c ++ d)) f.faults (front_in f) (clustered f.faults h.least h.most)
+    (then_gives (field Other 4 1 4294967295) (λ g l. and_then (field Other 8 0 281474976710655 l) (λ t l. and_then (seal g l) (λ v l. Ok (made_front f.faults g t v, l)))) b (c ++ d) f.generation (front_in f) (fielded _ 4 1 4294967295 f.generation (omega arith) low high)
+    (then_gives (field Other 8 0 281474976710655) (λ t l. and_then (seal f.generation l) (λ v l. Ok (made_front f.faults f.generation t v, l))) c d f.opening.base_stamp (front_in f) (fielded _ 8 0 281474976710655 f.opening.base_stamp (omega arith) (omega arith) base_stamp)
     (made_of (seal f.generation) (λ v l. Ok (made_front f.faults f.generation f.opening.base_stamp v, l)) d f.seal (front_in f) (seal_given f.generation f.seal h.seal h.short) (λ l. refl)))))
   where
     group : (a b c d : List ℕ) → a ++ (b ++ (c ++ d)) ≡ a ++ b ++ c ++ d
@@ -84,8 +85,8 @@ above_given g is i h lt at rest =
     let few : leader_of i ≤ 6 = h.0 in
     let p = instanced (V3 g) 7 i h (omega arith) h.2 at rest in (
       p.0,
-      ap (λ (o : Reading ℕ). and_then o (λ j l. cond (ltb (last_of 0 is) j) (Ok (j, l)) (Err (BadBundle at)))) p.1
-          ∙ ap (λ (b : Bool). cond b (Ok (i, record { at = p.0; bytes = rest })) (Err (BadBundle at))) (lt-ltb (last_of 0 is) i lt),
+      ap (λ (o : Reading ℕ). and_then o (λ j l. cond (ltb (last_of 0 is) j) (Ok (j, l)) (Err (bad Other 3 Higher (record { at = at; bytes = [] }))))) p.1
+          ∙ ap (λ (b : Bool). cond b (Ok (i, record { at = p.0; bytes = rest })) (Err (bad Other 3 Higher (record { at = at; bytes = [] })))) (lt-ltb (last_of 0 is) i lt),
     )
 
 rising_given : (g : ℕ) (before items : List ℕ) → IsRising (before ++ items) → AreInstances items → Gives (rising g (length items) before) (flat_map dep_bytes items) (before ++ items)
@@ -113,7 +114,7 @@ few_enough g is d past = go (eqb g 1) refl
 executed_given : (g : ℕ) (is : List ℕ) → IsDeps is → HasItsPast g is → Gives (executed g) (executed_bytes is) is
 executed_given g is d past =
     let bound : length is ≤ most_deps = length-instances is d.rising d.instances in
-    then_gives (field 4 0 (most_of g)) (λ n l. rising g n [] l) (number_bytes 4 (length is)) (flat_map dep_bytes is) (length is) is (fielded 4 0 (most_of g) (length is) (omega arith) (omega arith) (few_enough g is d past))
+    then_gives (field Other 4 0 (most_of g)) (λ n l. rising g n [] l) (number_bytes 4 (length is)) (flat_map dep_bytes is) (length is) is (fielded _ 4 0 (most_of g) (length is) (omega arith) (omega arith) (few_enough g is d past))
     (rising_given g [] is d.rising d.instances)
 
 -- all that stands behind the lead

@@ -12,6 +12,7 @@ use Rattle.sha2.specs.Sha256.{sha256}
 use Rattle.sha2.proofs.Facts256.{length-sha256}
 use Rattle.ep_bundle.specs.Headers.{cluster}
 use Rattle.ep_bundle.specs.Reading.{Left, Reading, and_then, run, field}
+use Rattle.ep_bundle.specs.declared.bundle_field.BundleField.TheVariants.{Other}
 use Rattle.ep_bundle.proofs.WrittenHeaders.{clustered}
 use Rattle.ep_bundle.proofs.WrittenStages.{Gives, respelled, then_gives, made_of, ran, fielded}
 use Rattle.ep_opening.specs.Reading.{IsReadAs, FileReading, and_told, lead_field, file_reading}
@@ -22,7 +23,7 @@ use Rattle.ep_opening.specs.declared.opening_fault.OpeningFault.TheVariants.{Mem
 use Rattle.ep_opening.proofs.ReadReferences.{after_lead, after_name, made_name, reference_is}
 
 lead_given : Gives lead lead_bytes 3
-lead_given = then_gives (field 4 magic magic) (λ x l. field 1 3 3 l) (number_bytes 4 magic) (number_bytes 1 3) magic 3 (fielded 4 magic magic magic (omega arith) (omega arith) (omega arith)) (fielded 1 3 3 3 (omega arith) (omega arith) (omega arith))
+lead_given = then_gives (field Other 4 magic magic) (λ x l. field Other 1 3 3 l) (number_bytes 4 magic) (number_bytes 1 3) magic 3 (fielded _ 4 magic magic magic (omega arith) (omega arith) (omega arith)) (fielded _ 1 3 3 3 (omega arith) (omega arith) (omega arith))
 
 name_given : (r : Reference) → IsReference r → Gives name (name_bytes r) r
 name_given r h =
@@ -31,10 +32,10 @@ name_given r h =
     let c = number_bytes 8 r.length in
     let d = r.sum in
     respelled name (a ++ (b ++ (c ++ d))) (name_bytes r) r (group a b c d)
-    (then_gives cluster (λ f l. and_then (field 4 2 4294967295 l) (λ g l. and_then (field 8 least_log 18446744073709551615 l) (λ n l. and_then (run 32 l) (λ s l. Ok (made_name f g n s, l))))) a (b ++ (c ++ d)) r.faults r (clustered r.faults h.least h.most)
-    (then_gives (field 4 2 4294967295) (λ g l. and_then (field 8 least_log 18446744073709551615 l) (λ n l. and_then (run 32 l) (λ s l. Ok (made_name r.faults g n s, l)))) b (c ++ d) r.generation r (fielded 4 2 4294967295 r.generation (omega arith) h.later h.generation)
-    (then_gives (field 8 least_log 18446744073709551615) (λ n l. and_then (run 32 l) (λ s l. Ok (made_name r.faults r.generation n s, l))) c d r.length r (fielded 8 least_log 18446744073709551615 r.length (omega arith) h.long h.fits)
-    (made_of (run 32) (λ s l. Ok (made_name r.faults r.generation r.length s, l)) d r.sum r (ran 32 r.sum h.sum) (λ l. refl)))))
+    (then_gives cluster (λ f l. and_then (field Other 4 2 4294967295 l) (λ g l. and_then (field Other 8 least_log 18446744073709551615 l) (λ n l. and_then (run Other 32 l) (λ s l. Ok (made_name f g n s, l))))) a (b ++ (c ++ d)) r.faults r (clustered r.faults h.least h.most)
+    (then_gives (field Other 4 2 4294967295) (λ g l. and_then (field Other 8 least_log 18446744073709551615 l) (λ n l. and_then (run Other 32 l) (λ s l. Ok (made_name r.faults g n s, l)))) b (c ++ d) r.generation r (fielded _ 4 2 4294967295 r.generation (omega arith) h.later h.generation)
+    (then_gives (field Other 8 least_log 18446744073709551615) (λ n l. and_then (run Other 32 l) (λ s l. Ok (made_name r.faults r.generation n s, l))) c d r.length r (fielded _ 8 least_log 18446744073709551615 r.length (omega arith) h.long h.fits)
+    (made_of (run Other 32) (λ s l. Ok (made_name r.faults r.generation r.length s, l)) d r.sum r (ran _ 32 r.sum h.sum) (λ l. refl)))))
   where
     group : (a b c d : List ℕ) → a ++ (b ++ (c ++ d)) ≡ a ++ b ++ c ++ d
     group a b c d = simp append_assoc

@@ -8,11 +8,13 @@ use Rattle.ep_rules.specs.OneMap.{Contents}
 use Rattle.sha2.specs.Sha256.{sha256}
 use Rattle.ep_bundle.specs.Headers.{cluster, map_in}
 use Rattle.ep_bundle.specs.Journals.{ended}
-use Rattle.ep_bundle.specs.Reading.{Left, Reading, and_then, run, field}
+use Rattle.ep_bundle.specs.Reading.{Left, Reading, and_then, bad, run, field}
 use Rattle.ep_bundle.specs.Stages.{instance}
 use Rattle.ep_bundle.specs.declared.bundle_fault.BundleFault.{BundleFault}
 use Rattle.ep_bundle.specs.declared.bundle_fault.BundleFault.TheVariants as bundle
 use Rattle.ep_bundle.specs.declared.bundle_fault.BundleFault.TheVariants.{BadBundle, NotARun}
+use Rattle.ep_bundle.specs.declared.bundle_field.BundleField.TheVariants.{Other}
+use Rattle.ep_bundle.specs.declared.wanted.Wanted.TheVariants.{Higher}
 use Rattle.ep_opening.specs.Bytes.{magic, opening_bytes}
 use Rattle.ep_opening.specs.Files.{File, IsFile}
 use Rattle.ep_opening.specs.declared.front.Front.{Front}
@@ -25,10 +27,10 @@ use Rattle.ep_opening.specs.declared.opening_field.OpeningField.TheVariants.{Mag
 
 -- what the file is
 abbrev pub lead : Left → Reading ℕ
-lead l = and_then (field 4 magic magic l) (λ x l. field 1 3 3 l)
+lead l = and_then (field Other 4 magic magic l) (λ x l. field Other 1 3 3 l)
 
 abbrev pub seal_value : Left → Reading (List ℕ)
-seal_value l = and_then (field 4 0 most_value l) run
+seal_value l = and_then (field Other 4 0 most_value l) (run Other)
 
 -- the byte that says whether a seal began the generation
 abbrev pub mark_of : ℕ → ℕ
@@ -41,11 +43,11 @@ abbrev pub marked : ℕ → Left → Reading (Option (List ℕ))
 marked g l = cond (eqb g 1) (Ok (None, l)) (some_value l)
 
 abbrev pub seal : ℕ → Left → Reading (Option (List ℕ))
-seal g l = and_then (field 1 (mark_of g) (mark_of g) l) (λ x l. marked g l)
+seal g l = and_then (field Other 1 (mark_of g) (mark_of g) l) (λ x l. marked g l)
 
 abbrev pub front : Left → Reading Front
 front l =
-    and_then (cluster l) (λ f l. and_then (field 4 1 4294967295 l) (λ g l. and_then (field 8 0 281474976710655 l) (λ base_stamp l. and_then (seal g l)
+    and_then (cluster l) (λ f l. and_then (field Other 4 1 4294967295 l) (λ g l. and_then (field Other 8 0 281474976710655 l) (λ base_stamp l. and_then (seal g l)
     (λ s l. Ok (record { size = f; generation = g; base_stamp = base_stamp; seal = s }, l)))))
 
 -- the last of these; 0, which no instance is, where there are none
@@ -55,7 +57,7 @@ last_of i (j ∷ js) = last_of j js
 
 -- an instance above these
 abbrev pub above : ℕ → List ℕ → Left → Reading ℕ
-above g is l = and_then (instance (V3 g) 7 l) (λ i l'. cond (ltb (last_of 0 is) i) (Ok (i, l')) (Err (BadBundle l.at)))
+above g is l = and_then (instance (V3 g) 7 l) (λ i l'. cond (ltb (last_of 0 is) i) (Ok (i, l')) (Err (bad Other 3 Higher l)))
 
 -- n more of them
 abbrev pub rising : ℕ → ℕ → List ℕ → Left → Reading (List ℕ)
@@ -67,7 +69,7 @@ abbrev pub most_of : ℕ → ℕ
 most_of g = cond (eqb g 1) 0 most_deps
 
 abbrev pub executed : ℕ → Left → Reading (List ℕ)
-executed g l = and_then (field 4 0 (most_of g) l) (λ n l. rising g n [] l)
+executed g l = and_then (field Other 4 0 (most_of g) l) (λ n l. rising g n [] l)
 
 -- Which field begins at a place.
 
@@ -88,7 +90,7 @@ FileReading A = Result (A × Left) OpeningFault
 
 -- where the field at fault begins
 abbrev pub place_of : BundleFault → ℕ
-place_of (BadBundle at) = at
+place_of (BadBundle field) = field.at
 -- no reading of these fields ends so
 place_of bundle.Memory = 0
 place_of bundle.ReadFailed = 0

@@ -4,6 +4,7 @@ use Rattle.ep_base.specs.Attributes.{same_list}
 use Rattle.ep_bundle.specs.Headers.{cluster}
 use Rattle.ep_bundle.specs.Journals.{ended}
 use Rattle.ep_bundle.specs.Reading.{Left, Reading, and_then, run, field}
+use Rattle.ep_bundle.specs.declared.bundle_field.BundleField.TheVariants.{Other}
 use Rattle.sha2.specs.Sha256.{sha256}
 use Rattle.ep_opening.specs.Reading.{FileReading, and_told, lead_field, file_reading}
 use Rattle.ep_opening.specs.References.{IsReference, Reference, least_log, magic, reference_bytes}
@@ -13,11 +14,11 @@ use Rattle.ep_opening.specs.declared.opening_field.OpeningField.{OpeningField}
 use Rattle.ep_opening.specs.declared.opening_field.OpeningField.TheVariants.{Replicas, Generation, Log, Rest}
 
 abbrev pub lead : Left → Reading ℕ
-lead l = and_then (field 4 magic magic l) (λ x l. field 1 3 3 l)
+lead l = and_then (field Other 4 magic magic l) (λ x l. field Other 1 3 3 l)
 
 abbrev pub name : Left → Reading Reference
 name l =
-    and_then (cluster l) (λ f l. and_then (field 4 2 4294967295 l) (λ g l. and_then (field 8 least_log 18446744073709551615 l) (λ n l. and_then (run 32 l)
+    and_then (cluster l) (λ f l. and_then (field Other 4 2 4294967295 l) (λ g l. and_then (field Other 8 least_log 18446744073709551615 l) (λ n l. and_then (run Other 32 l)
     (λ s l. Ok (record { faults = f; generation = g; length = n; sum = s }, l)))))
 
 -- which field begins at a place

@@ -24,7 +24,7 @@ pub(crate) fn place_of(fault: BundleFault) -> Result<u64, AllocError>
 {
     match fault {
         BundleFault::Memory | BundleFault::ReadFailed => Err(AllocError),
-        BundleFault::BadBundle(at) => Ok(at),
+        BundleFault::BadBundle(field) => Ok(field.at),
         BundleFault::NotARun(_, _) => Ok(0),
     }
 }

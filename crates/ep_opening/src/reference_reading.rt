@@ -13,7 +13,7 @@ use crate::opening_reference::OpeningReference;
 use crate::parts::{lead_field, place_of, tell_end};
 use crate::reading::{are_bytes, is_sealed};
 use ep_base::{Generation, Noted, Source};
-use ep_bundle::{BundleFault, field_u8, field_u32, field_u64, read_cluster, read_run};
+use ep_bundle::{BundleFault, BundleField, field_u8, field_u32, field_u64, read_cluster, read_run};
 use std::alloc::Global;
 
 /// How many bytes a reference has.
@@ -23,17 +23,17 @@ const REFERENCE_LEN: usize = 82;
 fn read_lead<S: Source>(source: &mut S, place: &mut u64) -> Result<u8, BundleFault>
     ensures { (zs : List ℕ) → S.left source.old ≡ Some zs → Reads (lead (record { at = place.old; bytes = zs })) result place.new (S.left source.new) }
 {
-    field_u32(source, place, 0x4550_4f52, 0x4550_4f52)?;
-    field_u8(source, place, 3, 3)
+    field_u32(source, place, BundleField::Other, 0x4550_4f52, 0x4550_4f52)?;
+    field_u8(source, place, BundleField::Other, 3, 3)
 }
 
 /// The generation, from 2.
 fn read_generation<S: Source>(source: &mut S, place: &mut u64) -> Result<Generation, BundleFault>
-    ensures { (zs : List ℕ) → S.left source.old ≡ Some zs → Reads (field 4 2 4294967295 (record { at = place.old; bytes = zs })) result place.new (S.left source.new) }
+    ensures { (zs : List ℕ) → S.left source.old ≡ Some zs → Reads (field BundleField.Other 4 2 4294967295 (record { at = place.old; bytes = zs })) result place.new (S.left source.new) }
 {
-    let at = *place;
-    let number = field_u32(source, place, 2, u32::MAX)?;
-    Generation::new(number).map_err(|_| BundleFault::BadBundle(at))
+    let number = field_u32(source, place, BundleField::Other, 2, u32::MAX)?;
+    // The number is in range, so the generation is made.
+    Generation::new(number).map_err(|_| BundleFault::Memory)
 }
 
 /// A SHA-256.
@@ -42,9 +42,9 @@ fn read_sum<S: Source>(
     source: &mut S,
     place: &mut u64,
 ) -> Result<[u8; 32], BundleFault>
-    ensures { (zs : List ℕ) → S.left source.old ≡ Some zs → Reads (run 32 (record { at = place.old; bytes = zs })) result place.new (S.left source.new) }
+    ensures { (zs : List ℕ) → S.left source.old ≡ Some zs → Reads (run BundleField.Other 32 (record { at = place.old; bytes = zs })) result place.new (S.left source.new) }
 {
-    let bytes = read_run(alloc, source, place, 32)?;
+    let bytes = read_run(alloc, source, place, BundleField::Other, 32)?;
     let mut sum = [0; 32];
     sum.copy_from_slice(&bytes);
     Ok(sum)
@@ -60,7 +60,7 @@ fn read_name<S: Source>(
 {
     let size = read_cluster(source, place)?;
     let generation = read_generation(source, place)?;
-    let length = field_u64(source, place, 43, u64::MAX)?;
+    let length = field_u64(source, place, BundleField::Other, 43, u64::MAX)?;
     let sum = read_sum(alloc, source, place)?;
     OpeningReference::new(size, generation, length, sum).map_err(|_| BundleFault::Memory)
 }

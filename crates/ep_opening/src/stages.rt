@@ -12,7 +12,8 @@ ghost use Rattle.ep_opening.specs.Reading.{above, executed, front, lead, mark_of
 use crate::front::Front;
 use ep_base::{Deps, Generation, InstanceId, Size, Source, Value, Version};
 use ep_bundle::{
-    BundleFault, field_u8, field_u32, field_u64, read_cluster, read_instance, read_run,
+    BadField, BundleFault, BundleField, Wanted, field_u8, field_u32, field_u64, read_cluster,
+    read_instance, read_run,
 };
 use std::alloc::Global;
 
@@ -20,17 +21,17 @@ use std::alloc::Global;
 pub(crate) fn read_lead<S: Source>(source: &mut S, place: &mut u64) -> Result<u8, BundleFault>
     ensures { (zs : List ℕ) → S.left source.old ≡ Some zs → Reads (lead (record { at = place.old; bytes = zs })) result place.new (S.left source.new) }
 {
-    field_u32(source, place, 0x4550_4f50, 0x4550_4f50)?;
-    field_u8(source, place, 3, 3)
+    field_u32(source, place, BundleField::Other, 0x4550_4f50, 0x4550_4f50)?;
+    field_u8(source, place, BundleField::Other, 3, 3)
 }
 
 /// The generation.
 fn read_generation<S: Source>(source: &mut S, place: &mut u64) -> Result<Generation, BundleFault>
-    ensures { (zs : List ℕ) → S.left source.old ≡ Some zs → Reads (field 4 1 4294967295 (record { at = place.old; bytes = zs })) result place.new (S.left source.new) }
+    ensures { (zs : List ℕ) → S.left source.old ≡ Some zs → Reads (field BundleField.Other 4 1 4294967295 (record { at = place.old; bytes = zs })) result place.new (S.left source.new) }
 {
-    let at = *place;
-    let number = field_u32(source, place, 1, u32::MAX)?;
-    Generation::new(number).map_err(|_| BundleFault::BadBundle(at))
+    let number = field_u32(source, place, BundleField::Other, 1, u32::MAX)?;
+    // The number is in range, so the generation is made.
+    Generation::new(number).map_err(|_| BundleFault::Memory)
 }
 
 /// A seal's value, with its length before it.
@@ -41,8 +42,8 @@ fn read_seal_value<S: Source>(
 ) -> Result<Value, BundleFault>
     ensures { (zs : List ℕ) → S.left source.old ≡ Some zs → Reads (seal_value (record { at = place.old; bytes = zs })) result place.new (S.left source.new) }
 {
-    let len = field_u32(source, place, 0, 65_535)?;
-    let bytes = read_run(alloc, source, place, len as usize)?;
+    let len = field_u32(source, place, BundleField::Other, 0, 65_535)?;
+    let bytes = read_run(alloc, source, place, BundleField::Other, len as usize)?;
     // The length is in range, so only memory can be refused.
     Value::new(alloc, &bytes).map_err(|_| BundleFault::Memory)
 }
@@ -67,9 +68,15 @@ fn read_mark<S: Source>(
     place: &mut u64,
     generation: Generation,
 ) -> Result<u8, BundleFault>
-    ensures { (zs : List ℕ) → S.left source.old ≡ Some zs → Reads (field 1 (mark_of generation) (mark_of generation) (record { at = place.old; bytes = zs })) result place.new (S.left source.new) }
+    ensures { (zs : List ℕ) → S.left source.old ≡ Some zs → Reads (field BundleField.Other 1 (mark_of generation) (mark_of generation) (record { at = place.old; bytes = zs })) result place.new (S.left source.new) }
 {
-    field_u8(source, place, mark_of(generation), mark_of(generation))
+    field_u8(
+        source,
+        place,
+        BundleField::Other,
+        mark_of(generation),
+        mark_of(generation),
+    )
 }
 
 /// The value of the seal that began a generation.
@@ -122,7 +129,7 @@ pub(crate) fn read_front<S: Source>(
 {
     let size = read_cluster(source, place)?;
     let generation = read_generation(source, place)?;
-    let base_stamp = field_u64(source, place, 0, 281_474_976_710_655)?;
+    let base_stamp = field_u64(source, place, BundleField::Other, 0, 281_474_976_710_655)?;
     let seal = read_seal(alloc, source, place, generation)?;
     Ok(Front {
         size,
@@ -179,7 +186,12 @@ fn read_next<S: Source>(
     learn_instance(instance);
     let pushed = executed.push_last(instance)?;
     if !pushed {
-        return Err(BundleFault::BadBundle(at));
+        return Err(BundleFault::BadBundle(BadField {
+            at,
+            name: BundleField::Other,
+            len: 3,
+            wanted: Wanted::Higher,
+        }));
     }
     Ok(instance)
 }
@@ -214,9 +226,9 @@ fn read_count<S: Source>(
     place: &mut u64,
     generation: Generation,
 ) -> Result<u32, BundleFault>
-    ensures { (zs : List ℕ) → S.left source.old ≡ Some zs → Reads (field 4 0 (most_of generation) (record { at = place.old; bytes = zs })) result place.new (S.left source.new) }
+    ensures { (zs : List ℕ) → S.left source.old ≡ Some zs → Reads (field BundleField.Other 4 0 (most_of generation) (record { at = place.old; bytes = zs })) result place.new (S.left source.new) }
 {
-    field_u32(source, place, 0, most_of(generation))
+    field_u32(source, place, BundleField::Other, 0, most_of(generation))
 }
 
 /// The instances that the generation before executed.

@@ -80,7 +80,7 @@ not_read view b r zs place left is found = not_made (Does (OfBundle view)) r (of
     go : (b : BundleFault) → Finds (ReadsBundle (record { at = 0; bytes = zs })) (Err b) place left → (out : Output) → WroteNothing out → Does (OfBundle view) (Err (of_bundle b)) zs out
     go bundle.Memory found out silent = silent
     go bundle.ReadFailed found out silent = silent
-    go (bundle.BadBundle offset) found out silent = (found, silent)
+    go (bundle.BadBundle field) found out silent = (found, silent)
     go (bundle.NotARun replica entry) found out silent = (found, silent)
 
 -- a text of the journals that are read is a view
@@ -109,13 +109,13 @@ any_text wanted journals (Err e) = tt
 read_of_bundle : (b : BundleFault) → is_read (of_bundle b) ≡ is_read_failed b
 read_of_bundle bundle.Memory = refl
 read_of_bundle bundle.ReadFailed = refl
-read_of_bundle (bundle.BadBundle offset) = refl
+read_of_bundle (bundle.BadBundle field) = refl
 read_of_bundle (bundle.NotARun replica entry) = refl
 
 write_of_bundle : (b : BundleFault) → is_write (of_bundle b) ≡ false
 write_of_bundle bundle.Memory = refl
 write_of_bundle bundle.ReadFailed = refl
-write_of_bundle (bundle.BadBundle offset) = refl
+write_of_bundle (bundle.BadBundle field) = refl
 write_of_bundle (bundle.NotARun replica entry) = refl
 
 read_of_script : (s : ScriptFault) → is_read (of_script s) ≡ is_script_read s

@@ -43,7 +43,7 @@ pub record IsView (Displays : Collected → List ℕ → Type 0) (zs : List ℕ)
 abbrev pub Views : (Collected → List ℕ → Type 0) → Result Status ViewerFault → List ℕ → Output → Type 0
 Views Displays (Ok status) zs out = (status ≡ Done) × IsView Displays zs out
 Views Displays (Err (Script line)) zs out = ⊥
-Views Displays (Err (BadBundle offset)) zs out = ReadsBundle (record { at = 0; bytes = zs }) (Err (bundle.BadBundle offset)) × WroteNothing out
+Views Displays (Err (BadBundle field)) zs out = ReadsBundle (record { at = 0; bytes = zs }) (Err (bundle.BadBundle field)) × WroteNothing out
 Views Displays (Err (NotARun replica entry)) zs out = ReadsBundle (record { at = 0; bytes = zs }) (Err (bundle.NotARun replica entry)) × WroteNothing out
 Views Displays (Err Memory) zs out = WroteNothing out
 Views Displays (Err Read) zs out = WroteNothing out
@@ -61,7 +61,7 @@ pub record IsTrace (zs : List ℕ) (out : Output) : Type 0 where
 abbrev pub Traces : Result Status ViewerFault → List ℕ → Output → Type 0
 Traces (Ok status) zs out = (status ≡ Done) × IsTrace zs out
 Traces (Err (Script line)) zs out = (script_of zs ≡ Err line) × WroteNothing out
-Traces (Err (BadBundle offset)) zs out = ⊥
+Traces (Err (BadBundle field)) zs out = ⊥
 Traces (Err (NotARun replica entry)) zs out = ⊥
 Traces (Err Memory) zs out = WroteNothing out
 Traces (Err Read) zs out = WroteNothing out
@@ -70,7 +70,7 @@ Traces (Err Write) zs out = Unit {0}
 abbrev pub Prints : Result Status ViewerFault → List ℕ → Output → Type 0
 Prints (Ok status) text out = (status ≡ Done) × Wrote out text
 Prints (Err (Script line)) text out = ⊥
-Prints (Err (BadBundle offset)) text out = ⊥
+Prints (Err (BadBundle field)) text out = ⊥
 Prints (Err (NotARun replica entry)) text out = ⊥
 Prints (Err Memory) text out = ⊥
 Prints (Err Read) text out = ⊥
@@ -89,7 +89,7 @@ pub record IsExplanation (status : Status) (zs : List ℕ) (out : Output) : Type
 abbrev pub Explains : Result Status ViewerFault → List ℕ → Output → Type 0
 Explains (Ok status) zs out = IsExplanation status zs out
 Explains (Err (Script line)) zs out = ⊥
-Explains (Err (BadBundle offset)) zs out = ⊥
+Explains (Err (BadBundle field)) zs out = ⊥
 Explains (Err (NotARun replica entry)) zs out = ⊥
 Explains (Err Memory) zs out = WroteNothing out
 Explains (Err Read) zs out = WroteNothing out

@@ -13,7 +13,7 @@ pub(crate) fn tell<F: Sink>(fault: &ViewerFault, sink: &mut F) -> Result<(), Wri
 {
     match fault {
         ViewerFault::Script(line) => tell_script(*line, sink),
-        ViewerFault::BadBundle(offset) => tell_bad_bundle(*offset, sink),
+        ViewerFault::BadBundle(field) => tell_bad_bundle(field.at, sink),
         ViewerFault::NotARun(replica, entry) => tell_not_a_run(*replica, *entry, sink),
         ViewerFault::Memory => sink.put(b"out of memory\n"),
         ViewerFault::Read => sink.put(b"reading failed\n"),

@@ -5,7 +5,7 @@ ghost use Rattle.ep_viewer.specs.Faults.{of_bundle, of_explained, of_script, sta
 ghost use Rattle.ep_viewer.specs.declared.viewer_fault.ViewerFault.TheVariants.{Memory, Read, Write};
 
 use ep_base::{ReadFailed, ReplicaId, WriteFailed};
-use ep_bundle::BundleFault;
+use ep_bundle::{BadField, BundleFault};
 use ep_cli::Status;
 use ep_explain::ExplainFault;
 use ep_script::ScriptFault;
@@ -16,8 +16,8 @@ use std::alloc::AllocError;
 pub enum ViewerFault {
     /// The script is refused; this is its first line at fault, counted from 1.
     Script(u32),
-    /// The bundle is refused; this is the offset of its first field at fault, counted from 0.
-    BadBundle(u64),
+    /// The bundle is refused; this is its first field at fault.
+    BadBundle(BadField),
     /// The bundle is refused; this entry of this replica, counted from 1, is the first that isn't its replica's next step.
     NotARun(ReplicaId, u32),
     /// Memory was refused.
@@ -49,7 +49,7 @@ impl From<BundleFault> for ViewerFault {
         match fault {
             BundleFault::Memory => ViewerFault::Memory,
             BundleFault::ReadFailed => ViewerFault::Read,
-            BundleFault::BadBundle(offset) => ViewerFault::BadBundle(offset),
+            BundleFault::BadBundle(field) => ViewerFault::BadBundle(field),
             BundleFault::NotARun(replica, entry) => ViewerFault::NotARun(replica, entry),
         }
     }

@@ -7,11 +7,13 @@ use Rattle.ep_base.specs.Versions.{most_frame}
 use Rattle.ep_base.specs.declared.version.Version.{Version}
 use Rattle.ep_base.specs.declared.version_kind.VersionKind.TheVariants.{V1, V2, V3}
 use Rattle.ep_bundle.specs.Journals.{ended}
-use Rattle.ep_bundle.specs.Reading.{Left, Reading, and_then, run, number, field, many, map_ok}
+use Rattle.ep_bundle.specs.Reading.{Left, Reading, and_then, bad, run, number, field, many, map_ok}
 use Rattle.ep_bundle.specs.Stages.{instance, counted, command, spared}
 use Rattle.ep_bundle.specs.declared.bundle_fault.BundleFault.{BundleFault}
 use Rattle.ep_bundle.specs.declared.bundle_fault.BundleFault.TheVariants as bundle
 use Rattle.ep_bundle.specs.declared.bundle_fault.BundleFault.TheVariants.{BadBundle, NotARun}
+use Rattle.ep_bundle.specs.declared.bundle_field.BundleField.TheVariants as bundled
+use Rattle.ep_bundle.specs.declared.wanted.Wanted.TheVariants.{Unsaid}
 use Rattle.ep_frame.specs.Faults.{fault_of}
 use Rattle.ep_frame.specs.declared.fault.FrameFault.{FrameFault}
 use Rattle.ep_journal.specs.declared.event.Event.TheVariants as event
@@ -33,7 +35,7 @@ alone o = and_then o (λ a l. and_then (ended l) (λ x m. Ok (a, m)))
 
 -- where the field at fault begins
 abbrev pub place_of : BundleFault → ℕ
-place_of (BadBundle at) = at
+place_of (BadBundle field) = field.at
 -- no reading of a body ends so
 place_of bundle.Memory = 0
 place_of bundle.ReadFailed = 0
@@ -47,7 +49,7 @@ given (Err e) = Err (place_of e)
 -- a proposal, as it stands in a bundle of the version, which names this replica to be spared, or none
 abbrev pub proposal : Version → Option ℕ → Left → Reading Request
 proposal v named l =
-    and_then (counted l) (λ client l. and_then (counted l) (λ request l. and_then (number 8 l) (λ seen l. and_then (command v l) (λ c l. Ok (Event (event.Propose client request c seen named), l)))))
+    and_then (counted bundled.Client l) (λ client l. and_then (counted bundled.Request l) (λ request l. and_then (number bundled.Seen 8 l) (λ seen l. and_then (command v l) (λ c l. Ok (Event (event.Propose client request c seen named), l)))))
 
 -- the replica that a proposal of the node's spares, and then the proposal
 abbrev pub sparing : JournalDialect → Left → Reading Request
@@ -82,7 +84,7 @@ next_open how bs = cond (same_list bs (0 ∷ 0 ∷ 0 ∷ [])) (Ok (NextOpen None
 
 -- how many entries were reported before, and how many open instances are asked for at most
 abbrev pub ready : Left → Reading Request
-ready l = and_then (field 4 0 4294967295 l) (λ after l. and_then (field 1 0 255 l) (λ most l. Ok (Ready after most, l)))
+ready l = and_then (field bundled.Other 4 0 4294967295 l) (λ after l. and_then (field bundled.Other 1 0 255 l) (λ most l. Ok (Ready after most, l)))
 
 -- a byte of a body, 0 where it isn't there
 abbrev pub byte_at : List ℕ → ℕ → ℕ
@@ -97,11 +99,11 @@ handled how bs =
 
 -- a key, with its length before it
 abbrev pub key_field : Left → Reading (List ℕ)
-key_field l = and_then (field 1 1 255 l) (λ n l. and_then (run n l) (λ k l. Ok (k, l)))
+key_field l = and_then (field bundled.Other 1 1 255 l) (λ n l. and_then (run bundled.Other n l) (λ k l. Ok (k, l)))
 
 -- instances, with their count before them: at most as many as a cluster has
 abbrev pub found : JournalDialect → Left → Reading (List ℕ)
-found how l = and_then (field 4 0 63000 l) (λ n l. many (instance how.version (size how.size)) n [] l)
+found how l = and_then (field bundled.Other 4 0 63000 l) (λ n l. many (instance how.version (size how.size)) n [] l)
 
 -- a key that is read, and what all looks together found
 abbrev pub read : JournalDialect → Left → Reading Request
@@ -208,7 +210,7 @@ request_of how kind bs = cond (is_kind how.version kind) (or_malformed how.versi
 
 -- the kind and the body, in so many bytes
 abbrev pub sized : JournalDialect → ℕ → Left → Reading Request
-sized how len l = and_then (field 1 0 255 l) (λ kind l. and_then (run (len - 1) l) (λ bs l. Ok (request_of how kind bs, l)))
+sized how len l = and_then (field bundled.Other 1 0 255 l) (λ kind l. and_then (run bundled.Other (len - 1) l) (λ bs l. Ok (request_of how kind bs, l)))
 
 -- in version 3 its kind, and the longest frame
 abbrev pub most_length : Version → ℕ
@@ -221,7 +223,7 @@ is_length v x = leb 1 x && leb x (most_length v)
 
 -- the length of what follows
 abbrev pub size_field : Version → Left → Reading ℕ
-size_field v l = and_then (number 4 l) (λ x m. cond (is_length v x) (Ok (x, m)) (Err (BadBundle l.at)))
+size_field v l = and_then (number bundled.Other 4 l) (λ x m. cond (is_length v x) (Ok (x, m)) (Err (bad bundled.Other 4 Unsaid l)))
 
 abbrev pub request : JournalDialect → Left → Reading Request
 request how l = and_then (size_field how.version l) (sized how)

@@ -11,7 +11,7 @@ use crate::request::Request;
 use crate::request_fault::RequestFault;
 use byteorder::{BigEndian, ByteOrder};
 use ep_base::{Source, Version, VersionKind};
-use ep_bundle::{BundleFault, JournalDialect, field_u8, read_run};
+use ep_bundle::{BadField, BundleFault, BundleField, JournalDialect, Wanted, field_u8, read_run};
 use std::alloc::Global;
 
 /// How many bytes a request of the version has at most: in version 3 its kind, and the longest frame.
@@ -48,11 +48,21 @@ fn read_length<S: Source>(
         return Ok(None);
     }
     if count < 4 {
-        return Err(BundleFault::BadBundle(*place));
+        return Err(BundleFault::BadBundle(BadField {
+            at: *place,
+            name: BundleField::Other,
+            len: 4,
+            wanted: Wanted::Whole,
+        }));
     }
     let length = BigEndian::read_u32(&bytes);
     if !is_length(version, length) {
-        return Err(BundleFault::BadBundle(*place));
+        return Err(BundleFault::BadBundle(BadField {
+            at: *place,
+            name: BundleField::Other,
+            len: 4,
+            wanted: Wanted::Unsaid,
+        }));
     }
     *place = place.saturating_add(4);
     Ok(Some(length))
@@ -70,8 +80,14 @@ fn read_sized<S: Source>(
     ensures bytes { (zs : List ℕ) → S.left source.old ≡ Some zs → Reads (sized dialect.now length (record { at = place.old; bytes = zs })) result place.new (S.left source.new) }
     ensures told { FailsAsTold has_read_failed result (S.has_failed source.old) (S.has_failed source.new) }
 {
-    let kind = field_u8(source, place, 0, 255)?;
-    let body = read_run(alloc, source, place, length as usize - 1)?;
+    let kind = field_u8(source, place, BundleField::Other, 0, 255)?;
+    let body = read_run(
+        alloc,
+        source,
+        place,
+        BundleField::Other,
+        length as usize - 1,
+    )?;
     let request = request_in(alloc, kind, body, dialect)?;
     Ok(request)
 }

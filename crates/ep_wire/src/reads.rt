@@ -19,8 +19,8 @@ use ep_base::{
     InstanceId, Key, Noted, Reply, Sink, Source, ToldValues, Value, Version, WriteFailed,
 };
 use ep_bundle::{
-    BundleFault, JournalDialect, field_u8, field_u32, put_instance, put_told, put_u8, put_u32,
-    put_value, read_end, read_instance, read_run,
+    BundleFault, BundleField, JournalDialect, field_u8, field_u32, put_instance, put_told, put_u8,
+    put_u32, put_value, read_end, read_instance, read_run,
 };
 use std::alloc::{AllocError, Global};
 
@@ -44,8 +44,8 @@ fn read_key<S: Source>(alloc: Global, source: &mut S, place: &mut u64) -> Result
     ensures bytes { (zs : List ℕ) → S.left source.old ≡ Some zs → Reads (key_field (record { at = place.old; bytes = zs })) result place.new (S.left source.new) }
     ensures told { FailsAsTold is_read_failed result (S.has_failed source.old) (S.has_failed source.new) }
 {
-    let len = field_u8(source, place, 1, 255)?;
-    let bytes = read_run(alloc, source, place, len as usize)?;
+    let len = field_u8(source, place, BundleField::Other, 1, 255)?;
+    let bytes = read_run(alloc, source, place, BundleField::Other, len as usize)?;
     key_of(alloc, &bytes)
 }
 
@@ -59,7 +59,7 @@ fn read_found<S: Source>(
     ensures bytes { (zs : List ℕ) → S.left source.old ≡ Some zs → Reads (found dialect.now (record { at = place.old; bytes = zs })) result place.new (S.left source.new) }
     ensures told { FailsAsTold is_read_failed result (S.has_failed source.old) (S.has_failed source.new) }
 {
-    let count = field_u32(source, place, 0, MOST_FOUND)?;
+    let count = field_u32(source, place, BundleField::Other, 0, MOST_FOUND)?;
     let mut items = Vec::new(alloc);
     for _ in 0..count {
         let instance = read_instance(source, place, dialect.version, dialect.size)?;

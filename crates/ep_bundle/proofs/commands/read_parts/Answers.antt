@@ -14,7 +14,7 @@ returns-in_err-read_second-clause-bytes g c = λ y0 e0.
 pub returns-in_err-read_over-2-clause-bytes : goal.returns-in_err-read_over-2-clause-bytes
 returns-in_err-read_over-2-clause-bytes g c = λ y0 e0.
     goes_on _ _ _ _ _ _ _ _ (c.in_ok-read_over.ensures.bytes y0 e0) (λ y1 e1. goes_on _ _ _ _ _ _ _ _ (second_as c.read_over.new.bytes.items c.as_slice-first_key.result.now c.args.lengths.second _ (Ok c.read_second.new.second.items) _ _ c.as_slice-first_key.ensures.value (c.in_ok-read_second.ensures.bytes y1 e1))
-    (λ y2 e2. fails _ _ _ _ _ _ _ _ (run_fails c.args.lengths.body (body_said c.args.lengths.op) _ c.in_err-read_over-2.field-0.0 _ _ (c.in_err-read_over-2.ensures.bytes y2 e2)) c.from_residual-in_err-read_over-2.ensures.1))
+    (λ y2 e2. fails _ _ _ _ _ _ _ _ (run_fails _ _ c.args.lengths.body (body_said c.args.lengths.op) _ c.in_err-read_over-2.field-0.0 _ _ (c.in_err-read_over-2.ensures.bytes y2 e2)) c.from_residual-in_err-read_over-2.ensures.1))
 
 pub returns-in-Some-clause-bytes : goal.returns-in-Some-clause-bytes
 returns-in-Some-clause-bytes g c = λ y0 e0.

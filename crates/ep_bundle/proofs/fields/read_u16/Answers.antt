@@ -5,4 +5,4 @@ pub returns-in_err-take-clause-bytes : goal.returns-in_err-take-clause-bytes
 returns-in_err-take-clause-bytes g c = λ zs h. fails _ _ _ _ _ _ _ _ (c.in_err-take.ensures.bytes zs h) c.from_residual.ensures.1
 
 pub returns-clause-bytes : goal.returns-clause-bytes
-returns-clause-bytes g c = λ zs h. numbered 2 _ c.take.new.buf (c.read_u16.result) _ _ (c.in_ok-take.ensures.bytes zs h) (bytes_number 2 c.read_u16.result c.take.new.buf c.read_u16.ensures)
+returns-clause-bytes g c = λ zs h. numbered _ 2 _ c.take.new.buf (c.read_u16.result) _ _ (c.in_ok-take.ensures.bytes zs h) (bytes_number 2 c.read_u16.result c.take.new.buf c.read_u16.ensures)

@@ -6,7 +6,7 @@ use Rattle.ep_main.proofs.chain_files.no_link.Goals as goal
 
 pub returns-in-BadBundle : goal.returns-in-BadBundle
 returns-in-BadBundle c =
-    λ zs found. refusal c.args.name.now zs (BadBundle c.in-BadBundle.offset) _ tt (subst (IsUnreadLate zs) c.in-BadBundle.is found) c.placed.ensures
+    λ zs found. refusal c.args.name.now zs (BadBundle c.in-BadBundle.field) _ tt (subst (IsUnreadLate zs) c.in-BadBundle.is found) c.placed.ensures
 
 pub returns-in-NotARun : goal.returns-in-NotARun
 returns-in-NotARun c =

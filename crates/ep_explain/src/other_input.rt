@@ -1,0 +1,68 @@
+//! What is given for a bundle, and is none.
+
+use crate::guess::{is_text, is_utf16};
+use crate::reasons::Reasons;
+
+/// How texts begin that aren't bundles, and what they are.
+const SORTS: [(&[u8], &[u8]); 5] = [
+    (
+        b"verdict ",
+        b"found: a report, as replay, run and audit print it",
+    ),
+    (b"stamp ", b"found: entries in words, as show prints them"),
+    (b"line ", b"found: a trace, as trace prints it"),
+    (b"<", b"found: a picture or a page, as draw prints it"),
+    (
+        b"{",
+        b"found: trace events, as trace-events prints them, or other JSON",
+    ),
+];
+
+/// Adds what the bytes are, where they are no bundle's at all; else false.
+pub(crate) fn add_other_input(bytes: &[u8], reasons: &mut Reasons) -> bool {
+    if bytes.is_empty() {
+        add_other(b"found: nothing, as the input is empty", reasons);
+    } else if is_utf16(bytes) {
+        add_other(b"found: text in UTF-16; a script is in ASCII", reasons);
+    } else if is_text(bytes) {
+        add_other(name_of(bytes), reasons);
+    } else {
+        return false;
+    }
+    true
+}
+
+/// What stands behind the line of an edition, if the text begins by one.
+fn behind_edition(bytes: &[u8]) -> &[u8] {
+    if !bytes.starts_with(b"version ") {
+        return bytes;
+    }
+    match bytes.iter().position(|byte| *byte == b'\n') {
+        Some(place) => bytes.get(place.saturating_add(1)..).unwrap_or(bytes),
+        None => bytes,
+    }
+}
+
+/// What the text is that was given for a bundle.
+fn name_of(bytes: &[u8]) -> &'static [u8] {
+    let bytes = behind_edition(bytes);
+    for (start, name) in &SORTS {
+        if bytes.starts_with(start) {
+            return name;
+        }
+    }
+    b"found: text, of which no line near its beginning begins with a word of scripts, as replicas or propose"
+}
+
+/// What to do where something else was given for a bundle, and what it is.
+fn add_other(found: &[u8], reasons: &mut Reasons) {
+    reasons.tell(
+        b"do: give explain a bundle, as `epaxos replay --emit bundle` and `epaxos collect` write it, or a script",
+        &[],
+    );
+    reasons.tell(
+        b"likely: another file or another program's output was given",
+        &[],
+    );
+    reasons.tell(found, &[]);
+}
