@@ -345,6 +345,7 @@ fn read_parts<S: Source>(
 }
 
 /// A command of the version, by way of this room.
+#[inline(always)]
 pub(crate) fn read_command_in<S: Source>(
     alloc: Global,
     source: &mut S,

@@ -143,6 +143,7 @@ fn take_block<S: Source>(
 }
 
 /// Takes a run of this many bytes, which shares the room's block with others.
+#[inline(always)]
 pub(crate) fn read_shared<S: Source>(
     source: &mut S,
     place: &mut u64,
@@ -215,6 +216,7 @@ pub fn read_u64<S: Source>(
 }
 
 /// A number of one byte, from `low` to `high`.
+#[inline(always)]
 pub fn field_u8<S: Source>(
     source: &mut S,
     place: &mut u64,
@@ -240,6 +242,7 @@ pub fn field_u8<S: Source>(
 }
 
 /// A number of two bytes, from `low` to `high`.
+#[inline(always)]
 pub(crate) fn field_u16<S: Source>(
     source: &mut S,
     place: &mut u64,

@@ -50,6 +50,7 @@ fn read_number<S: Source>(
 }
 
 /// An instance of the version that a replica of the cluster leads.
+#[inline(always)]
 pub fn read_instance<S: Source>(
     source: &mut S,
     place: &mut u64,
