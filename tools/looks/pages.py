@@ -18,7 +18,7 @@ sys.path.append(TOOLS)
 from loaded import loaded
 
 # The most bytes that a page may have, and all together.
-MOST, MOST_OF_ALL = {"README.md": 8192}, 280_000
+MOST, MOST_OF_ALL = {"README.md": 8192}, 270_000
 # What a build makes.
 MADE = re.compile(r"(^|/)(out|target)(/|$)")
 # A part of a name that stands for any.
