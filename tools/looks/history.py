@@ -1,7 +1,8 @@
 """Whether the commits since the last green one, which .ci/green names, say of nothing that it isn't proved; and whether unfinished work has its line.
 
-A commit's subject that says "not proved" fails: what isn't proved is a patch in wip/, whose first line says what is missing, and which the last commit of
-the work removes. Where this clone doesn't have the green commit, only the last 100 commits are looked at.
+A commit's subject that says "not proved" fails: what isn't proved is a patch or a script in wip/, whose first line says
+what is missing, and which the last commit of the work removes. Where this clone doesn't have the green commit, only the
+last 100 commits are looked at.
 """
 
 import glob
@@ -29,5 +30,5 @@ def faults(_):
     for path in sorted(glob.glob("wip/*")):
         with open(path, encoding="utf-8", errors="replace") as file:
             first = file.readline()
-        if not path.endswith(".patch") or first.startswith(("diff ", "--- ", "From ")):
-            yield f"{path}: a file of wip/ is a patch, NAME.patch, whose first line says what is missing"
+        if not path.endswith((".patch", ".py")) or first.startswith(("diff ", "--- ", "From ", "#!")):
+            yield f"{path}: wip/ has NAME.patch and NAME.py, which makes a change; the first line says what is missing"
