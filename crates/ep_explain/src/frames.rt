@@ -1,11 +1,11 @@
 //! Frames in words, and how two of them differ.
 
-use crate::frame_field::{FrameField, field_at};
+use crate::frame_field::{tell_value, words_of};
 use crate::reasons::Reasons;
 use crate::side::Side;
 use crate::wording::Wording;
 use bytes::Bytes;
-use ep_frame::{Frame, FrameFault};
+use ep_frame::{Frame, FrameFault, FrameField, field_at};
 use std::alloc::AllocError;
 
 /// Appends the frame that the bytes are, or why they are none.
@@ -35,7 +35,7 @@ pub(crate) fn tell_fault(line: &mut Wording, bytes: &[u8], fault: FrameFault) {
     line.text(fault.to_string(line.allocator()));
     if let FrameFault::Field(place) = fault {
         line.say(b" (");
-        line.say(field_at(bytes, place as usize).name);
+        line.say(words_of(field_at(bytes, place as usize).name));
         line.say(b")");
     }
 }
@@ -55,16 +55,16 @@ fn first_difference(one: &[u8], other: &[u8]) -> usize {
 pub(crate) fn add_difference(one: &Side<'_>, other: &Side<'_>, reasons: &mut Reasons) {
     let field = field_at(one.bytes, first_difference(one.bytes, other.bytes));
     let mut line = reasons.line(b"first difference: ");
-    line.say(field.name);
+    line.say(words_of(field.name));
     line.tell(b" (byte #), ", &[field.start as u64]);
-    tell_side(&mut line, &field, one);
+    tell_side(&mut line, field, one);
     line.say(b", ");
-    tell_side(&mut line, &field, other);
+    tell_side(&mut line, field, other);
     reasons.add(line);
 }
 
-fn tell_side(line: &mut Wording, field: &FrameField, side: &Side<'_>) {
+fn tell_side(line: &mut Wording, field: FrameField, side: &Side<'_>) {
     line.say(side.name);
     line.say(b" ");
-    field.tell_value(line, side.bytes);
+    tell_value(line, field, side.bytes);
 }

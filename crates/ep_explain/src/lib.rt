@@ -23,7 +23,6 @@ mod explain_fault;
 mod explained;
 mod explaining;
 mod finding;
-mod form;
 mod frame_field;
 mod frames;
 mod guess;

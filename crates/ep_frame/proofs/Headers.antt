@@ -12,7 +12,7 @@ use Rattle.ep_frame.proofs.Packing.{leader_again, number_again}
 use Rattle.ep_frame.proofs.BigEndian.{IsBytes, IsBytes-drop, wide1, wide2, wide4, wide8, fields_from, spelled-fields_from, rest_is}
 
 -- the field at 36, of the header that is read
-text_len_found : (b : List ℕ) → text_len (header_at b) ≡ number_at 36 2 b
+pub text_len_found : (b : List ℕ) → text_len (header_at b) ≡ number_at 36 2 b
 text_len_found b = go (eqb (number_at 2 1 b) 3) (eqb (number_at 34 1 b) 3)
   where
     go : (v p : Bool) → cond (not v && p) (cond v (number_at 44 4 b) (cond p (number_at 36 2 b) 0)) (cond (not v && p) 0 (number_at 36 2 b)) ≡ number_at 36 2 b

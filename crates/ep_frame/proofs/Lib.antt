@@ -20,3 +20,4 @@ pub mod Upgrading
 pub mod Told
 pub mod Faulting
 pub mod Within
+pub mod Places

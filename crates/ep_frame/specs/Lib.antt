@@ -8,3 +8,4 @@ pub mod DepBytes
 pub mod Origins
 pub mod Rounds
 pub mod Upgrading
+pub mod Places

@@ -6,13 +6,15 @@
 //! Start with `frame.rt` (what is known to be a frame), `view.rt` (reading) and `writing.rt`. specs/Spelling.antt says which
 //! bytes spell which message, specs/Faults.antt the faults in their order.
 //!
-//! A field's place is in specs/Fields.antt and `layout.rt`. Another kind of message or a wider field is another version of
-//! the format, and `one_spelling` has to hold of it too.
+//! A field's place is in specs/Fields.antt, `layout.rt` and `frame_field.rt`. Another kind of message or a wider field is
+//! another version of the format, and `one_spelling` has to hold of it too.
 #![tactic(auto)]
 
 mod deps_view;
 mod fault;
+mod field_name;
 mod frame;
+mod frame_field;
 mod frame_mut;
 mod handled;
 mod header;
@@ -29,7 +31,9 @@ mod writing;
 
 pub use deps_view::{DepsIter, DepsView};
 pub use fault::FrameFault;
+pub use field_name::FieldName;
 pub use frame::Frame;
+pub use frame_field::{FrameField, field_at};
 pub use frame_mut::{FrameMut, OriginMut};
 pub use header::Header;
 pub use instance_message::InstanceMessage;
