@@ -5,7 +5,7 @@ The lines of a row are what is wanted of the program in text, so they don't come
 import json
 import re
 
-# what a run that writes no report tells: the same, whichever form was asked for
+# what a run that writes no report says: the same, whichever form was asked for
 FAULTS = (b"script refused ", b"bundle refused ", b"reading ", b"writing ")
 # longer reports have a row in text alone
 LONGEST = 1 << 16

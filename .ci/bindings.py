@@ -119,7 +119,7 @@ def vectors():
 
 
 # No commands over many keys: of none, of one that is put and deleted, with keys or values out of range, of 1,025, of 17
-# that are told, and of a body that is a byte too long.
+# that are reported, and of a body that is a byte too long.
 NO_TX = (
     {}, {"put": {b"x": b""}, "delete": [b"x"]}, {"tell": [b""]}, {"tell": [bytes(256)]},
     {"put": {b"x": bytes(65_536)}}, {"require": {b"x": bytes(65_536)}},
@@ -200,7 +200,7 @@ def asked_by(use, answer):
 
 
 def python(scratch, environment):
-    """Whether each command went well: the examples, begun and gone on with, and what is told and refused."""
+    """Whether each command went well: the examples, begun and gone on with, and what is reported and refused."""
     environment = {**environment, "PYTHONDONTWRITEBYTECODE": "1"}
     for _ in range(2):
         yield is_well([sys.executable, f"{PYTHON}/three.py", f"{scratch}/python"], env=environment)
@@ -222,7 +222,7 @@ def python(scratch, environment):
 
 
 def refuses_an_older_log(environment, path):
-    """Whether a log that has fewer entries than were told is refused, and one that has as many isn't."""
+    """Whether a log that has fewer entries than were reported is refused, and one that has as many isn't."""
 
     def told_of(told):
         words = [sys.executable, "-c", OLDER, PYTHON, path, *told]
@@ -431,11 +431,11 @@ PROGRAMS = {
     "reads that write nothing": (READS, READS_SAYS),
     # all that threads propose at once is taken, and nothing once the replica is ended
     "threads that propose at once": (THREADS, "1912 of 1912 taken, 0 refused; then NoReplica\n"),
-    # a replica takes while its log is written only where that was begun, and tells then of what was written alone
+    # a replica takes while its log is written only where that was begun, and reports then of what was written alone
     "taken while the log is written": (MEANWHILE, "Unsynced; told of 1 entry, by 1 frame; then of 2, by 1\n"),
 }
 
-# Opens a log of which so many entries were told, or all.
+# Opens a log of which so many entries were reported, or all.
 OLDER = """
 import sys
 sys.path.insert(0, sys.argv[1])

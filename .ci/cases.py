@@ -13,7 +13,7 @@ SWAPPED = dict(
     history=["0.1 put x 1 -> absent", "0.2 swap x y -> present 1", "0.3 get y -> present 1"],
     receipts=["client 1 request 1 0.1 absent", "client 1 request 2 0.2 present 1", "client 1 request 3 0.3 present 1"],
 )
-# what a refused command line tells first and last
+# what a refused command line reports first and last
 REFUSED, HELP = b"command line refused\nerror: ", b"\n\nFor more information, try '--help'.\n"
 
 

@@ -30,7 +30,7 @@ def parted(shown):
 
 
 class Entry:
-    """An entry as a line tells it."""
+    """An entry as a line reports it."""
 
     def __init__(self, line):
         found = LINE.fullmatch(line)

@@ -3,13 +3,13 @@
 What is wanted is written out from docs/CLI.md: lines, words, numbers and ranges by section 4, and how a fault is told by section 5.2."""
 
 S = b"replicas 3\n"
-# what is told of text that is no bundle, before what it is
+# what is reported of text that is no bundle, before what it is
 TEXT = "bundle refused E12 at byte 0\n  do: give explain a bundle, as `epaxos replay --emit bundle` and `epaxos collect` write it, or a script\n  likely: another file or another program's output was given\n  found: "
 BOTH = "replay"
 
 
 def told(line, rest, size="line 1", taken=BOTH):
-    """What is told of a line that is refused, behind its number."""
+    """What is reported of a line that is refused, behind its number."""
     cluster = f"  {size}: there are 3 replicas, 0 to 2\n" if size else ""
     return f"script refused at line {line}\n  line {line}{rest}\n{cluster}  read as a script for {taken}; docs/CLI.md, section 4, has all lines\n"
 
@@ -168,7 +168,7 @@ def weather():
 
 
 def endless():
-    """What gives bytes without an end, and what is told of it."""
+    """What gives bytes without an end, and what is reported of it."""
     yield "yes", "yes", TEXT + "text, of which no line near its beginning begins with a word of scripts, as replicas or propose\n"
     yield "yes replicas 3", "yes replicas 3", told(2, ", word 1: replicas stands once, before all other lines")
     yield "comments", "yes '#'", told(100001, ": a script has at most 100000 lines", None)

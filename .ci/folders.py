@@ -131,12 +131,12 @@ def seal(number, value=b""):
 
 
 def generation_of(answers):
-    """The generation that a state tells."""
+    """The generation that a state reports."""
     return next((int.from_bytes(it.body[:4], "big") for it in answers if it.kind == 8), None)
 
 
 def value_of(answers):
-    """The value that a get by kind 7 is told."""
+    """The value that a get by kind 7 is answered."""
     body = next(it.body for it in answers if it.kind == 3)
     return body[3:] if body[0] else None
 
@@ -146,10 +146,10 @@ def get(key):
 
 
 class ByStore(tuple):
-    """What a start by the rules of hosts/store tells."""
+    """What a start by the rules of hosts/store reports."""
 
 
-# what a core in the store tells in other words than a node
+# what a core in the store reports in other words than a node
 IN_STORE = {
     "log refused: a log of another cluster or replica": "the log of another replica, cluster or generation",
     "log refused: a log of another generation": "the log of another replica, cluster or generation",

@@ -155,7 +155,7 @@ def last_run(row):
 
 
 def rows_named(name):
-    """The stored rows whose names begin so; none is told."""
+    """The stored rows whose names begin so; none is reported."""
     named = [row for row in (*rows.stored(), *rows.written()) if row.name.startswith(name)]
     if not named:
         print(f"there is no row {name}", flush=True)
@@ -232,7 +232,7 @@ def failing_devices():
     bundle = bundle_of(LONG)
     for words in VIEWS:
         yield swept("devices", ["ep_viewer", "--", *words], bundle)
-    # (and a bundle that isn't read, which `show` tells on the fault output, `explain` on standard output)
+    # (and a bundle that isn't read, which `show` reports on the fault output, `explain` on standard output)
     for words in (["show"], ["explain"]):
         yield swept("devices", ["ep_viewer", "--", *words], bundle[:-1])
     # (a script that is shorter than what `explain` looks at first: after its end nothing is read again)

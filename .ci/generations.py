@@ -11,7 +11,7 @@ S = "replicas 3\n"
 LAST_GENERATION, LAST_STAMP = 2**32 - 1, 2**48 - 1
 OPS = {"get": 2, "put": 3, "del": 4, "swap": 5, "cas": 6, "ask": 7, "act": 8, "seal": 9, "tx": 10}
 EMPTY_DIGEST = "df3f619804a92fdb4057192dc43dd748ea778adc52bc498ce80524c014b81119"
-# what a refused command line tells first and last
+# what a refused command line reports first and last
 REFUSED, HELP = b"command line refused\nerror: ", b"\nFor more information, try '--help'.\n"
 LONGEST = "v" * 65_535
 # as many keys as a command may name, rising
@@ -42,7 +42,7 @@ def map_bytes(held):
 
 
 def contents(held):
-    """The line that tells a map, of keys and values as words."""
+    """The line that reports a map, of keys and values as words."""
     return told({spelled(key): spelled(value) for key, value in held.items()})
 
 
@@ -74,7 +74,7 @@ def part(word):
 
 
 def items_of(words):
-    """What the words of a command over many keys say of each key, by rising keys: its guard in a list, whether it is told, and what is written in a list."""
+    """What the words of a command over many keys say of each key, by rising keys: its guard in a list, whether it is reported, and what is written in a list."""
     items, at = {}, 0
     while at < len(words):
         kind, key = words[at], spelled(words[at + 1])
@@ -132,7 +132,7 @@ class Command:
         return bool({*self.keys} & {*other.keys}) and not (self.only_reads and other.only_reads)
 
     def reply(self, held):
-        """What the command is told of an open map, which it changes."""
+        """What the command is answered by an open map, which it changes."""
         if self.name in ("seal", "ask", "act"):
             return None if self.name == "seal" else "ordered"
         if self.name == "tx":
@@ -155,7 +155,7 @@ class Command:
         return had
 
     def transact(self, held):
-        """What one over many keys is told: whether it was done, and what each key had that it tells."""
+        """What one over many keys is answered: whether it was done, and what each key had that it reports."""
         told = [held.get(key) for key, (_, is_told, _) in self.items if is_told]
         if any(held.get(key) != it for key, (guard, _, _) in self.items for it in guard):
             return "undone", told
@@ -595,7 +595,7 @@ RUNS = (
     Generation(*LOCK, size=5, generation=7, since=LAST_STAMP - 500),
     Generation("seal a", "seal b", "get a", "act a b c", size=7, opening={"a": "1"}),
     *(Generation(*BANK, "seal n", "tx put a 1 get a", size=size, opening={"a": "10", "b": "20"}) for size in (3, 7)),
-    # (as many keys as there may be, as many that are told, as long a body, and as long a reply)
+    # (as many keys as there may be, as many that are reported, as long a body, and as long a reply)
     Generation("tx " + " ".join(f"put {it} {at}" for at, it in enumerate(MANY_KEYS)), "tx " + " ".join(f"get {it}" for it in MANY_KEYS[:16]) + " " + " ".join(f"del {it}" for it in MANY_KEYS[8:]), "get aa"),
     Generation(f"tx put k {LONGEST} put l {LONGEST[6:]}", "tx get l get k", f"tx if k {LONGEST} get l", opening={"a": "1"}),
     Generation("tx " + " ".join(f"get {it}" for it in MANY_KEYS[:16]), opening={it: LONGEST for it in MANY_KEYS[:16]}),
@@ -646,7 +646,7 @@ def of_keys(*entries):
 
 
 def bad_bundles():
-    """Bundles that are refused, and what is told."""
+    """Bundles that are refused, and what is reported."""
     for length, at in ((4, 4), (5, 5), (6, 6), (9, 6), (10, 10), (17, 10), (18, 18), (21, 18), (22, 22), (25, 22), (26, 26), (40, 37)):
         yield f"the first {length} bytes of an empty one", NONE[:length], bad(at)
     yield "an empty one of version 3 and a byte more", NONE + b"\0", bad(41)
@@ -700,7 +700,7 @@ def bad_bundles():
     held = Generation("get a", opening={"a": "1"}).bundle()
     receipt = len(held) - 6
     yield "an answer of another kind", changed(held, (receipt, 7)), bad(receipt)
-    # (it tells nothing, and then there are three bytes left)
+    # (it says nothing, and then there are three bytes left)
     yield "an answer to a command over many keys in the place of a get's", changed(held, (receipt, 5)), bad(receipt + 3)
     yield "an answer of 65,537 bytes", changed(held, (receipt + 2, 1)), bad(receipt + 1)
     # the codes of version 3, in version 2
@@ -710,7 +710,7 @@ def bad_bundles():
 
 
 def bad_items():
-    """Bundles whose commands over many keys are none, or whose replies are none, and what is told."""
+    """Bundles whose commands over many keys are none, or whose replies are none, and what is reported."""
     body = "0002 01 06 78 00 00000001 31 01 01 79"
     it = Generation("tx if x %! put x 1 get y").bundle()
     at = it.index(bytes.fromhex(body))

@@ -78,7 +78,7 @@ CHANGES = (
 )
 
 # of a test of ep_exec: two of its functions, and how many times the instructions of the first the second may take
-LIVES = ("layers beside the listing", "eight_generations", ("listing::Listing::get", "layers::told"), 0.5)
+LIVES = ("layers beside the listing", "eight_generations", ("listing::Listing::get", "layers::reported"), 0.5)
 
 
 def counted(words, more=(), given=None):

@@ -27,7 +27,7 @@ def number_in(file, pattern):
 
 
 def numbers_in(pairs):
-    """The two numbers of each pair both of which are told."""
+    """The two numbers of each pair both of which are reported."""
     found = [[number_in(*it) for it in pair] for pair in pairs]
     return [it for it in found if None not in it]
 

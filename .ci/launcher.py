@@ -127,12 +127,12 @@ class Room:
         return status, shown.decode(errors="replace").replace("\r\n", "\n")
 
     def seen_briefly(self, command, typed=b""):
-        """The same but for how far the command is, which it tells where it takes long, as on a machine that is slow."""
+        """The same but for how far the command is, which it reports where it takes long, as on a machine that is slow."""
         status, shown = self.seen(command, typed)
         return status, re.sub(r"epaxos \w+: \d+ s so far.*\n", "", shown)
 
     def seen_long(self):
-        """The status of a replay whose input ends once it has told something, or after a minute; what that was."""
+        """The status of a replay whose input ends once it has reported something, or after a minute; what that was."""
         reading, writing = os.pipe()
         os.set_inheritable(reading, True)
         with open(reading, "rb"), open(writing, "wb", buffering=0) as script:
@@ -307,8 +307,8 @@ def shown(room):
     yield "replay to a full device, on a terminal", room.seen_briefly("./epaxos replay < put.script > /dev/full"), (4, "writing failed\n")
 
 
-# What a build does that has one thing to do, of which nothing is heard until it has told so three times more, or for a
-# minute; its output is how often it may have told so by then.
+# What a build does that has one thing to do, of which nothing is heard until it has reported so three times more, or for a
+# minute; its output is how often it may have reported so by then.
 BUILD = """
 import time
 from progress import Progress
@@ -329,7 +329,7 @@ print(1 + int((time.monotonic() - begun) / 0.1))
 
 
 def builds(room):
-    """How a build tells how far it is."""
+    """How a build says how far it is."""
     line = r"epaxos: 0 of 2 crates proved, at ep_base \(0 min \d\d s\)"
     told = subprocess.run([sys.executable, "-Bc", BUILD], cwd=f"{room.top}/tools", stdout=subprocess.PIPE, stderr=subprocess.PIPE, text=True)
     lines = told.stderr.splitlines()

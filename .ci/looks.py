@@ -213,7 +213,7 @@ def fields():
     yield from refusal("a key of a command over many keys", changed(many, body - 7, b"\1"), body - 7, "length of the key", where, "0", "1")
     yield from refusal("too few bytes of many keys", changed(many, body - 5, number(4, 4)), body - 5, "length of the body", where, "5 to 131080", "4")
     yield from refusal("many keys that fall", changed(many, body - 1 + 13, b"w"), body - 1, "body", where, ITEMS, "%00%02%01%06x%00%00%00%00%011%01%01w")
-    # the last four bytes are the receipt's answer: its code, how many keys are told, and of one that it has nothing
+    # the last four bytes are the receipt's answer: its code, how many keys are reported, and of one that it has nothing
     yield from refusal("too many told keys", changed(many, len(many) - 2, b"\21"), len(many) - 3, "number of told keys", "receipt 1", "0 to 16", "17")
     yield from refusal("a told key's mark", many[:-1] + b"\2", len(many) - 1, "mark of a told key (0 absent, 1 present)", "receipt 1", "0 to 1", "2")
     yield from refusal("a told key's value too long", many[:-1] + b"\1" + number(65_536, 4), len(many), "length of an answer's value", "receipt 1", "0 to 65535", "65536")

@@ -21,7 +21,7 @@ def joined(lines):
 def line_of_puts(size, proposers, values, ends):
     """Puts on one key, each proposed and committed everywhere before the next one, all executed by one event at the end.
 
-    Put k depends on every put before it, has the seq k, and is told what put k - 1 put."""
+    Put k depends on every put before it, has the seq k, and is answered what put k - 1 put."""
     places = [instance(count, proposers) for count in range(1, len(values) + 1)]
     script, report = [f"replicas {size}"], ["verdict accepted", f"committed {len(values)}"]
     requests = dict.fromkeys(range(proposers), 0)
@@ -57,7 +57,7 @@ def all_numbers():
 
 def long_frames():
     """Values of 1,024 bytes on one key at seven replicas in turn, so that frames have hundreds of dependencies. The last put but one is accepted on
-    the slow path; the last one is recovered by another replica while its leader commits it, and the answers to Prepare tell the whole vote."""
+    the slow path; the last one is recovered by another replica while its leader commits it, and the answers to Prepare report the whole vote."""
     values = [str(count).rjust(1024, "v") for count in range(1, 211)]
     script, report = line_of_puts(7, 7, values, ["flush"] * 3)
     last = instance(len(values), 7)

@@ -62,7 +62,7 @@ class Apart:
         sender, receiver, place, entry, stamp = where
         named = number(instance[0], 1) + number(instance[1], 2)
         head = b"EP" + bytes([2, kind, sender, receiver]) + number(place, 2) + number(entry, 4) + number(stamp, 8) + named
-        # (the ballot: the counter 0, and the instance's replica, which a Commit doesn't tell)
+        # (the ballot: the counter 0, and the instance's replica, which a Commit doesn't report)
         head += bytes(2) + number(0 if kind == 5 else instance[0], 1) + bytes(4) + number(seq, 4)
         told, rest = (b"\3\1\0\1", b"x" + value) if value else (bytes(4), b"")
         held = head + told + number(len(deps), 2) + rest + b"".join(number(at, 1) + number(it, 2) for at, it in deps)
@@ -123,9 +123,9 @@ def moves():
     line = f"torn end in two.log after byte {len(files['two.log'])}\n".encode()
     yield dict(name="move-logs of a torn log", words=upgrade(), files=files | {"two.log": files["two.log"] + b"torn!"}, wanted=made(it, 2), told=line)
     both = Apart(True)
-    # replica 2 has stamp 4; it is told of two commits, and executes both
+    # replica 2 has stamp 4; it hears of two commits, and executes both
     yield dict(name="move-logs of commands that two have committed", words=upgrade(), files=kept(both), wanted=opening(3, 8, {b"x": b"2"}, [(0, 1), (1, 1)]))
-    # replica 0 has stamp 3; it is told of the other one's commit, by stamp 5
+    # replica 0 has stamp 3; it hears of the other one's commit, by stamp 5
     yield dict(name="move-logs of the same, the first one last", words=upgrade(1, 2, 0), files=kept(both), wanted=opening(3, 8, {b"x": b"2"}, [(0, 1), (1, 1)]))
 
 

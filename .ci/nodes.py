@@ -35,7 +35,7 @@ NONE = bytes(4)
 FRAME = "45500201 0001 000000000001 0000000000000001 000001 0000000000000000000001 03 01 0001 0000 7831"
 TAKEN = bytes.fromhex(f"00000047 01 00000001 00000001 0000000000000001 000001 0001 01 0000002a {FRAME} 0000")
 SYNCED, LEADING = bytes.fromhex("00000005 06 00000001"), bytes.fromhex("00000004 05 01 01 00")
-# What there is to tell of that entry: one frame, and 0.1 is open since entry 1 and led; and of entries behind it nothing.
+# What there is to report of that entry: one frame, and 0.1 is open since entry 1 and led; and of entries behind it nothing.
 READY, REST = asked(13, "00000000 01"), asked(13, "00000001 00")
 TOLD = bytes.fromhex(f"0000004f 09 00000001 00 00000001 01 0000002a {FRAME} 00000000 00000000 00000000 01 000001 00000001 01 00")
 TOLD_NOTHING = bytes.fromhex("00000017 09 00000001 00 00000000 00000000 00000000 00000000 00")
@@ -96,7 +96,7 @@ PRE_ACCEPT = f"4550 03 01 00 01 0000 00000001 0000000000000001 {OF_PUT} {PUT}"
 COMMIT = f"4550 03 05 00 01 0000 00000002 0000000000000003 {OF_PUT} {PUT}"
 PRE_ACCEPT_SEAL = f"4550 03 01 00 01 0000 00000003 0000000000000004 {OF_SEAL} {SEALS}"
 COMMIT_SEAL = f"4550 03 05 00 01 0000 00000004 0000000000000007 {OF_SEAL} {SEALS}"
-# The PreAcceptOKs that it answers to 0, by entry 1 of stamp 2 and entry 4 of stamp 6; and what it tells of both.
+# The PreAcceptOKs that it answers to 0, by entry 1 of stamp 2 and entry 4 of stamp 6; and what it reports of both.
 ANSWERED = f"4550 03 02 01 00 0000 00000001 0000000000000002 {OF_PUT} 00 00 0000 0000 00000001 00000000"
 ANSWERED_SEAL = f"4550 03 02 01 00 0000 00000004 0000000000000006 {OF_SEAL} 00 00 0000 0001 00000001 00000000 000001"
 VOTED = bytes.fromhex(f"0000004d 01 00000001 00000001 0000000000000002 000000 0001 00 00000030 {ANSWERED} 0000")
@@ -120,7 +120,7 @@ def waits(instance):
 
 
 def quiet(entry, stamp):
-    """What is told of an entry that sends nothing, and that answers nobody."""
+    """What is reported of an entry that sends nothing, and that answers nobody."""
     return bytes.fromhex(f"00000018 01 00000001 {entry:08x} {stamp:016x} 000000 0000 0000")
 
 
@@ -362,7 +362,7 @@ def reads(program, folder):
 
 
 def reads_wait_for_the_disk(program, folder):
-    """What is found, and what is read, is told once all that was taken before is on the disk."""
+    """What is found, and what is read, is reported once all that was taken before is on the disk."""
     piped = Piped(member(program, folder, "--new"))
     try:
         yield "node, a look at what is on the disk", differs(piped.ask(LOOK), FOUND_NONE)

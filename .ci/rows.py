@@ -67,7 +67,7 @@ class Row:
     files: dict = field(default_factory=dict)
     # outputs that are as good as the one that is wanted
     others: list = field(default_factory=list)
-    # whether the output has only to begin so, and how the fault output has to end behind what is told, where it may say more
+    # whether the output has only to begin so, and how the fault output has to end behind what is reported, where it may say more
     is_begun: bool = False
     rest: bytes | None = None
     # what printed lines have to have in them too

@@ -2,7 +2,7 @@
 
 NOTHING = b"verdict accepted\ncommitted 0\nhistory 0\nreceipts 0\nrefused 0\n"
 SCRIPT = b"replicas 3\n"
-# what a refused command line tells first and last, and what stands between
+# what a refused command line reports first and last, and what stands between
 REFUSED, HELP = b"command line refused\nerror: ", b"\n\nFor more information, try '--help'.\n"
 TWO_SECTIONS = b"replicas 3\npropose 0 1 put x 1\nsection\npropose 2 1 get x\nsection\n"
 TWO_REPORT = b"""verdict accepted

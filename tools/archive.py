@@ -8,7 +8,7 @@ import subprocess
 
 # Behind an export's name stand its parameters.
 EXPORT = re.compile(r'^#\[unsafe\(no_mangle\)\]\npub extern "C" fn (\w+)\(', re.MULTILINE)
-# What tells a library that isn't proved from one that is.
+# What distinguishes a library that isn't proved from one that is.
 MARK = "ep_unproved"
 # The program: it is compiled and never run.
 PROGRAM = """

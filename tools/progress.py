@@ -9,7 +9,7 @@ SILENCE = 20
 
 
 class Progress:
-    """Tells how far a build is: a line for each thing begun, and one after each 20 seconds without; or, on a terminal, one line that is rewritten each second."""
+    """Reports how far a build is: a line for each thing begun, and one after each 20 seconds without; or, on a terminal, one line that is rewritten each second."""
 
     def __init__(self, what, silence=SILENCE):
         self.begun, self.is_rewritten, self.what = time.monotonic(), sys.stderr.isatty(), what
@@ -40,7 +40,7 @@ class Progress:
         self.write("\r\033[K" * self.is_rewritten + text + end)
 
     def start(self):
-        """Tells it again from now on: rewrites the line each second, or writes one where there was none for long."""
+        """Reports it again from now on: rewrites the line each second, or writes one where there was none for long."""
         threading.Thread(target=self.tick, daemon=True).start()
 
     def tick(self):

@@ -115,7 +115,7 @@ class Proving:
             waits = [(it.name, "proof") for it in crate.below()]
             call = lambda given, jobs, it=crate: self.work(it, given, jobs)
             tasks[crate.name, "proof"] = waits, crate.count(rb"\n"), KIT.need(crate), call
-        # (it tells there whom it waits for)
+        # (it says there whom it waits for)
         with contextlib.redirect_stdout(sys.stderr):
             given = KIT.in_lanes(tasks)
         for it in held:

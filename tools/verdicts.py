@@ -23,7 +23,7 @@ class Verdicts:
         self.kept = KIT.Kept([]) if hasattr(KIT, "Kept") else None
 
     def read(self, crate):
-        """The sum of all that the crate's proof reads, and what tells whether a file of its own is touched later."""
+        """The sum of all that the crate's proof reads, and what says whether a file of its own is touched later."""
         return (self.kept.key(crate), KIT.touched(crate)) if self.kept else None
 
     def take(self, crate, read, own=()):

@@ -37,7 +37,7 @@ class HostCase(shim.FolderCase):
 
     def forget(self):
         super().forget()
-        # what its client was told last
+        # what its client was answered last
         self.values = (0, 0)
         # what was renamed last
         self.renamed = ""
@@ -100,7 +100,7 @@ class HostCase(shim.FolderCase):
                     self.misordered.append(f"{os.path.relpath(it, self.place)} was not synced before: {line.decode()}")
 
     def look(self, line):
-        # (once a later generation has begun, what was told of an earlier one may be dropped)
+        # (once a later generation has begun, what was reported of an earlier one may be dropped)
         later = [f"{self.place}/{it}/log" for it in range(self.generation + 1, self.generation + 4)]
         names = self.disk.current()
         if not any(names.get(path) and self.disk.sure(path) for path in later):

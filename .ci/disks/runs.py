@@ -31,7 +31,7 @@ IO, SPACE, READ_ONLY = CAUSES
 ERRORS = {"open": (READ_ONLY,), "write": (IO, SPACE), "fsync": (IO, SPACE), "fdatasync": (IO, SPACE), "folder": (IO,), "rename": (IO, SPACE), "cut": (IO,), "read": (IO,)}
 # how many disks that chance leaves are looked at for each fault
 CHANCES = 4
-# so many faults of a row are told
+# so many faults of a row are reported
 MOST_TOLD = 3
 
 
@@ -51,7 +51,7 @@ def begun(case):
 
 
 def comes_back(case, least=None):
-    """After a power loss all that was told is there."""
+    """After a power loss all that was reported is there."""
     told = case.told if least is None else least
     case.start(SYNC)
     if case.status == 2 and told < 0 and "there is none" in case.errors:
@@ -113,7 +113,7 @@ def short_writes(case):
 
 
 def full_disk(case):
-    """A write that writes a part, and then no room: what was told before is there, and nothing after it is told."""
+    """A write that writes a part, and then no room: what was reported before is there, and nothing after it is reported."""
     begun(case)
     # (the renewal at a start is one write at least)
     case.start(SYNC)
@@ -126,13 +126,13 @@ def full_disk(case):
 
 
 def failed_sync(case):
-    """A sync fails once, the node ends and is started again, and then the power is lost: all that was ever told is there."""
+    """A sync fails once, the node ends and is started again, and then the power is lost: all that was ever reported is there."""
     begun(case)
     case.start(SYNC)
     before = case.calls("fdatasync")
     case.start(SECOND, f"fail=fdatasync:{before + 1}:{before + 1}:{IO}")
     case.wants(case.status == 4 and case.told == 5, f"status {case.status}, {case.told} entries told, 5 of them before the failed sync")
-    # the cache shows entries that the disk hasn't; whatever the node tells of now has to be there after the power loss
+    # the cache shows entries that the disk hasn't; whatever the node reports now has to be there after the power loss
     case.start(SYNC)
     case.wants(case.status == 0, f"the start after the failed sync: status {case.status}, {case.errors.strip()}")
     told = case.told
@@ -152,7 +152,7 @@ def a_disk_that_lies(case):
 
 
 def failed_call(kind, place, error, is_first):
-    """The place-th call of a kind fails: nothing is told that isn't on the disk, and the cause is."""
+    """The place-th call of a kind fails: nothing is reported that isn't on the disk, and the cause is."""
 
     def row(case):
         if not is_first:
@@ -232,7 +232,7 @@ def sealed(node, folder):
 
 
 def goes_on(case, seed, told, words=(), to=2):
-    """A start after a power loss: it serves, and has all that was told; and it doesn't act in a generation that was left."""
+    """A start after a power loss: it serves, and has all that was reported; and it doesn't act in a generation that was left."""
     generation = case.generation
     is_left = os.path.exists(f"{case.place}/{to - 1}/left")
     case.start(LIVES, words=words)
@@ -294,7 +294,7 @@ def takes(case):
 
 
 def executes_the_seal(case):
-    """The seal is executed, told, and the power is lost: the next start closes the generation."""
+    """The seal is executed, reported, and the power is lost: the next start closes the generation."""
     case.put(case.trees[0])
     case.start(case.trees[1] + shim.ADVANCE + SYNC)
     told = case.told
@@ -376,7 +376,7 @@ def failed_in_folders(make):
 
 
 def is_renewed(case, rules=()):
-    """A sync fails once, and the next start writes the log anew: what it tells then is there after a power loss."""
+    """A sync fails once, and the next start writes the log anew: what it reports then is there after a power loss."""
     case.start(SYNC, is_new=True)
     case.start(shim.propose_in(1, 1, 3, b"x", b"1") + SYNC, f"fail=fdatasync:1:1:{IO}")
     case.wants(case.status == 4, f"status {case.status} where a sync failed")
@@ -432,7 +432,7 @@ def notices(case, row, kind, place, word):
 
 def a_disk_that_lies_to_a_folder(case):
     """Of the rows themselves: each sync of a file or of a folder that wasn't done is noticed in a start that closes a generation, by what a power loss
-    leaves or by the order of the calls; and each that what was told needs, by what is there after the power loss."""
+    leaves or by the order of the calls; and each that what was reported needs, by what is there after the power loss."""
     case.put(case.trees[2])
     case.start(LIVES)
     synced, files = folders_synced(case), case.calls("fsync")

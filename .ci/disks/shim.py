@@ -53,7 +53,7 @@ ALL = request(12)
 
 @dataclass
 class Entry:
-    """An entry that an answer tells of."""
+    """An entry that an answer names."""
 
     number: int
     # each with its receiver
@@ -129,7 +129,7 @@ def records(log):
 
 
 class Case:
-    """Starts of a node on one disk. After each call it is looked at whether what was told would outlast a power loss."""
+    """Starts of a node on one disk. After each call it is looked at whether what was reported would outlast a power loss."""
 
     version = 2
 
@@ -147,7 +147,7 @@ class Case:
         self.disk = disk.Disk()
         # folders that have a new name in them, or are new themselves, and weren't synced since; and what came before their syncs
         self.unsynced, self.misordered = set(), []
-        # how many entries were told of, -1 where nothing was answered; and the entries themselves
+        # how many entries were reported, -1 where nothing was answered; and the entries themselves
         self.told, self.entries = -1, []
         self.faults = []
         self.lines, self.status, self.errors = [], 0, ""
@@ -205,7 +205,7 @@ class Case:
             self.faults.append("an answer is cut")
 
     def name(self, kind, rest):
-        """A name is synced before there is another one, and before anything is told."""
+        """A name is synced before there is another one, and before anything is reported."""
         if kind not in ("rename", "mkdir", "folder", "out") or rest[0] == "held" or int(rest[0]) < 0:
             return
         if kind == "folder":
@@ -231,7 +231,7 @@ class Case:
         self.entries = held
 
     def look(self, line):
-        """Whether a power loss right after this call would take what was told."""
+        """Whether a power loss right after this call would take what was reported."""
         if self.told < 0 or self.faults or line.startswith(("read ", "err ", "end ", "lock ", "unused ")):
             return
         sure = records(self.disk.sure(self.log))
@@ -281,7 +281,7 @@ class Case:
 
 
 class FolderCase(Case):
-    """The same of a node in the folder of a replica that lives through generations. What was told is of the generation that is served last."""
+    """The same of a node in the folder of a replica that lives through generations. What was reported is of the generation that is served last."""
 
     version = 3
 
@@ -321,7 +321,7 @@ class FolderCase(Case):
         super().hear(whole)
 
     def serves(self, generation):
-        """The node says that this is its generation: what was told of another one is in the map that this one opened with."""
+        """The node says that this is its generation: what was reported of another one is in the map that this one opened with."""
         if generation < self.generation:
             self.faults.append(f"generation {generation} is served after generation {self.generation}")
         if generation != self.generation:
@@ -329,7 +329,7 @@ class FolderCase(Case):
             self.told, self.entries = -1, []
 
     def state(self):
-        """The generation that the last start served, and how many entries were on the disk; None where it told none."""
+        """The generation that the last start served, and how many entries were on the disk; None where it reported none."""
         told = [it.body for it in self.answers if it.kind == 8]
         return struct.unpack_from(">II", told[-1]) if told else None
 

@@ -22,7 +22,7 @@ FIRST = (
 
 
 class Told:
-    """What the help of a command tells: what it does, and each option with what its value is called, the values that it
+    """What the help of a command reports: what it does, and each option with what its value is called, the values that it
     takes, and what it means."""
 
     def __init__(self, name, text):

@@ -63,7 +63,7 @@ os.close(READING)
 
 
 def unread(tried, **settings):
-    """How it ends where its standard output is a pipe that nobody reads: what it wrote there is told as nothing."""
+    """How it ends where its standard output is a pipe that nobody reads: what it wrote there is reported as nothing."""
     return tried.run(UNREAD, **settings)
 
 
@@ -72,7 +72,7 @@ def faults(tried, well, counts):
     reads, writes, lines = counts
 
     def devices():
-        """Each fault of a device: what it is, the run, the line that tells it, and how its output may begin."""
+        """Each fault of a device: what it is, the run, the line that reports it, and how its output may begin."""
         for at in range(1, reads + 1):
             yield f"read {at}", lambda at=at, **more: tried.run(FAILED_READ=at, **more), b"reading failed\n", b""
         for at in range(1, writes + 1):

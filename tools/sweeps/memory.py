@@ -30,7 +30,7 @@ COUNTS = 3
 # the answers that say that memory was wanted
 WANT = re.compile(rb"\b(Memory|AllocError|AllocFailed)\b")
 WANTED = sweep.Ended(3, b"", b"out of memory\n")
-# a report of a run that the audit accepts, as far as it tells of losses
+# a report of a run that the audit accepts, as far as it names losses
 REPORT = re.compile(rb"verdict accepted\n(?:.*\n)*refused \d+\n(?P<refused>(?:line .*\n)*)lost (?P<lost>\d+)\n")
 KINDS = {"well": "ended as with ample memory", "want": "wanted memory", "loss": "told of a loss"}
 REFUSER = r"""
@@ -79,7 +79,7 @@ def program_ends(ample, ran):
 
 
 def run_ends(ample, ran):
-    """How a run in threads ended: as the program does, or with a report that tells of a loss."""
+    """How a run in threads ended: as the program does, or with a report that names a loss."""
     report = REPORT.fullmatch(ran.output) if ran.status == 0 and not ran.told else None
     is_loss = report and (int(report["lost"]) or b" E1 memory\n" in report["refused"])
     return "loss" if is_loss else program_ends(ample, ran)

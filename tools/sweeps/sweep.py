@@ -69,7 +69,7 @@ def built(crate, ending=""):
     return program
 
 
-# what each library begins with that stands before the C library: up to three counts of what was asked for, told where COUNTED names a file
+# what each library begins with that stands before the C library: up to three counts of what was asked for, reported where COUNTED names a file
 HEAD = r"""
 typedef unsigned long size;
 extern void *dlsym(void *, const char *), *fopen(const char *, const char *);

@@ -44,7 +44,7 @@ OLD, LONG, LENGTH = "examples/cycle.script", ".ci/scripts/seven.script", 1024
 UNREAD = re.compile(rb"bundle refused (?P<name>E12) at byte \d+\n|bundle refused (?P<other>E11) at replica [0-6] entry [1-9]\d*\n")
 FAULT = rb"A[123] (?:unsent frame|changed frame|stamp order) at replica [0-6] entry [1-9]\d*|A[45] (?:unknown receipt|caller order at receipt) [1-9]\d*"
 REFUSED = re.compile(rb"verdict refused\n(?P<fault>" + FAULT + rb")\n")
-# what they are told with: each a line, and under it reasons
+# what they are answered with: each a line, and under it reasons
 REASONS = rb"(?:  [ -~]+\n)+"
 EXPLAINED = re.compile(rb"verdict refused\n(?:(?:" + FAULT + rb")\n" + REASONS + rb")+")
 SHOWN = re.compile(rb"(?:stamp \d+  replica [0-6] entry \d+  (?:propose|handle|give up|recover|execute) [ -~]+\n)*")

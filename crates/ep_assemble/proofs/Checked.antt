@@ -1,4 +1,4 @@
--- What the checks tell.
+-- What the checks report.
 use Rattle.std.proofs.Common.{◌≡◌, ◌<◌, ℕ, List, Some, take, length, All, get_or, slice_get, sym, subst, ◌∙◌, ap, arith}
 use Rattle.std.proofs.lemmas.Option.{slice_get-get_or}
 use Rattle.ep_base.specs.Quorums.{size}

@@ -35,7 +35,7 @@ pub empty_shown :
     (file : File) (digest log : List ℕ) (r : Result Shown ShowFault) → log ≡ [] → IfOk r (λ s. (s.text.items ≡ map_text file.generation 0 file.opening.contents) × (s.end ≡ no_end)) →
     IfOk r (λ s. IsTextOf file digest log s.text.items s.end)
 empty_shown file digest log (Ok s) none h =
-    record { count = 0; map = file.opening.contents; leaves = subst (λ (l : List ℕ). Leaves file digest l 0 file.opening.contents s.end) (sym none) (refl, refl, h.1); told = h.0 }
+    record { count = 0; map = file.opening.contents; leaves = subst (λ (l : List ℕ). Leaves file digest l 0 file.opening.contents s.end) (sym none) (refl, refl, h.1); reported = h.0 }
 empty_shown file digest log (Err e) none h = tt
 
 pub memory_alone : (file : File) (digest log : List ℕ) (r : Result Shown ShowFault) → IfErr r (λ e. e ≡ Memory) → IfErr r (IsNotLogged file digest log)
@@ -60,7 +60,7 @@ read_shown file digest log first g o v j whole behind (Ok s) some origin same re
       count = length j.entries;
       map = (standing j).state.store.contents;
       leaves = subst (Leaves file digest log (length j.entries) (standing j).state.store.contents) (sym end) (left_by file digest log first j (record { whole = whole; is_torn = ltb 0 behind }) some to);
-      told = text ∙ ap (λ n. map_text n (length j.entries) (standing j).state.store.contents) same;
+      reported = text ∙ ap (λ n. map_text n (length j.entries) (standing j).state.store.contents) same;
     }
 read_shown file digest log first g o v j whole behind (Err e) some origin same read text end = tt
 

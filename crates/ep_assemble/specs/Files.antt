@@ -11,7 +11,7 @@ pub record IsCollected (logs receipts log_bytes receipt_bytes : List (List ℕ))
   pub ends : List End
   pub receipt_ends : List End
   pub assembled : IsAssembled log_bytes receipt_bytes text ends receipt_ends
-  pub told : lines ≡ torn_lines 0 logs ends ++ torn_lines 0 receipts receipt_ends
+  pub reported : lines ≡ torn_lines 0 logs ends ++ torn_lines 0 receipts receipt_ends
 
 -- other than out of memory
 abbrev pub IsOfFiles : AssembleFault → Type 0
@@ -26,4 +26,4 @@ pub record IsNotCollected (logs receipts log_bytes receipt_bytes : List (List �
   pub fault : AssembleFault
   pub of : IsOfFiles fault
   pub refused : IsRefused fault log_bytes receipt_bytes
-  pub told : line ≡ plain_line logs receipts fault
+  pub reported : line ≡ plain_line logs receipts fault

@@ -18,7 +18,7 @@ pub record IsCollectedOf (g : ℕ) (logs receipts : List (List ℕ)) (kept : Lis
   pub ends : List End
   pub receipt_ends : List End
   pub assembled : IsAssembledOf g kept receipt_bytes text ends receipt_ends
-  pub told : lines ≡ torn_lines 0 logs ends ++ torn_lines 0 receipts receipt_ends
+  pub reported : lines ≡ torn_lines 0 logs ends ++ torn_lines 0 receipts receipt_ends
 
 -- other than out of memory
 abbrev pub IsOfGeneration : GenerationFault → Type 0
@@ -37,7 +37,7 @@ pub record IsNotCollectedOf (g : ℕ) (openings logs receipts : List (List ℕ))
   pub fault : GenerationFault
   pub of : IsOfGeneration fault
   pub refused : IsRefusedIn g kept receipt_bytes fault
-  pub told : line ≡ generation_line openings logs receipts fault
+  pub reported : line ≡ generation_line openings logs receipts fault
 
 -- a file of one of these names is missing, and the line says which
 abbrev pub IsMissingLine : List (List ℕ) → List ℕ → Type 0

@@ -1,4 +1,4 @@
--- The lines that are told of opening files and logs of a generation, by the names of their files.
+-- The lines that are reported of opening files and logs of a generation, by the names of their files.
 use Rattle.std.specs.Prelude.{ℕ, List, ◌++◌, codes, decimal}
 use Rattle.ep_opening.specs.Texts.{field_text}
 use Rattle.ep_opening.specs.declared.opening_fault.OpeningFault.{OpeningFault}

@@ -1,4 +1,4 @@
--- The lines that are told of logs and receipts, by the names of their files.
+-- The lines that are reported of logs and receipts, by the names of their files.
 use Rattle.std.specs.Prelude.{ℕ, Bool, true, false, suc, cond, List, [], ◌∷◌, ◌++◌, codes, decimal, slice_index_or as get_or}
 use Rattle.ep_assemble.specs.declared.collect_fault.CollectFault.{CollectFault}
 use Rattle.ep_assemble.specs.declared.collect_fault.CollectFault.TheVariants.{NoJournal, OtherCluster, Twice, Missing}

@@ -31,25 +31,25 @@ byte_at bytes place = get_or bytes place 0
 abbrev pub two_at : List ℕ → ℕ → ℕ
 two_at bytes place = 256 * byte_at bytes place + byte_at bytes (place + 1)
 
--- the length of a value that a receipt tells, behind the code of its answer
-abbrev pub told_length : Version → List ℕ → ℕ
-told_length V1 bytes = two_at bytes 33
-told_length V2 bytes = two_at bytes 33
-told_length (V3 g) bytes = 65536 * two_at bytes 33 + two_at bytes 35
+-- the length of a value that a receipt reports, behind the code of its answer
+abbrev pub reported_length : Version → List ℕ → ℕ
+reported_length V1 bytes = two_at bytes 33
+reported_length V2 bytes = two_at bytes 33
+reported_length (V3 g) bytes = 65536 * two_at bytes 33 + two_at bytes 35
 
 -- how long a value may be that is answered
-abbrev pub most_told : Version → ℕ
-most_told V1 = 1024
-most_told V2 = 1024
-most_told (V3 g) = most_value
+abbrev pub most_reported : Version → ℕ
+most_reported V1 = 1024
+most_reported V2 = 1024
+most_reported (V3 g) = most_value
 
 -- 0 where no value is so long
 abbrev pub value_length : Version → ℕ → ℕ
-value_length w n = cond (leb n (most_told w)) n 0
+value_length w n = cond (leb n (most_reported w)) n 0
 
 -- how many bytes a receipt has that begins so: 33, and where its answer has a value, that value's length and the value
 abbrev pub receipt_length : Version → List ℕ → ℕ
-receipt_length w bytes = cond (eqb (byte_at bytes 32) 1) (33 + length_width w + value_length w (told_length w bytes)) 33
+receipt_length w bytes = cond (eqb (byte_at bytes 32) 1) (33 + length_width w + value_length w (reported_length w bytes)) 33
 
 -- fewer bytes than the receipt has that begins so
 abbrev pub is_cut : Version → List ℕ → Bool

@@ -55,7 +55,7 @@ pub record IsTextOf (file : File) (digest log text : List ℕ) (end : End) : Typ
   pub count : ℕ
   pub map : Contents
   pub leaves : Leaves file digest log count map end
-  pub told : text ≡ map_text file.generation count map
+  pub reported : text ≡ map_text file.generation count map
 
 -- the text is that of the map that the log leaves, beside the opening file with these bytes, which it names by this digest, in generation g
 pub record IsShown (g : ℕ) (opening digest log text : List ℕ) (end : End) : Type 0 where

@@ -14,11 +14,11 @@ fault_line opening_name log_name (Opening fault) = opening_line opening_name fau
 fault_line opening_name log_name OtherGeneration = opening_name ++ codes " is of another generation\n"
 fault_line opening_name log_name (Log fault) = log_line log_name fault
 
--- the text is that of the map that the log leaves beside the opening file, and a line is told where its end is torn
+-- the text is that of the map that the log leaves beside the opening file, and a line is reported where its end is torn
 pub record AreShown (g : ℕ) (log_name opening digest log text lines : List ℕ) : Type 0 where
   pub end : End
   pub shown : IsShown g opening digest log text end
-  pub told : lines ≡ end_line log_name end
+  pub reported : lines ≡ end_line log_name end
 
 -- other than out of memory
 abbrev pub IsOfFiles : ShowFault → Type 0
@@ -32,4 +32,4 @@ pub record AreNotShown (g : ℕ) (opening_name log_name opening digest log line 
   pub fault : ShowFault
   pub of : IsOfFiles fault
   pub refused : IsNotShown g opening digest log fault
-  pub told : line ≡ fault_line opening_name log_name fault
+  pub reported : line ≡ fault_line opening_name log_name fault

@@ -1,4 +1,4 @@
-//! The lines that are told of opening files and logs of a generation, by the names of their files.
+//! The lines that are reported of opening files and logs of a generation, by the names of their files.
 
 ghost use Rattle.std.specs.Prelude.{◌≡◌, ◌++◌, codes, decimal, map, string_bytes, OnOk};
 ghost use Rattle.ep_opening.specs.Texts.{field_text};

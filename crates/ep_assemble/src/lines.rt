@@ -1,4 +1,4 @@
-//! The lines that are told of logs and receipts, by the names of their files.
+//! The lines that are reported of logs and receipts, by the names of their files.
 
 ghost use Rattle.std.specs.Prelude.{◌≡◌, ◌++◌, codes, decimal, map, string_bytes, OnOk};
 ghost use Rattle.ep_assemble.specs.Lines.{collect_line, end_line, log_line, log_text, name_at, receipts_line, refusal_line, torn_line, torn_lines, turned_text};

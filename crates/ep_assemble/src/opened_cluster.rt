@@ -3,7 +3,7 @@
 use ep_base::{Generation, Size};
 use ep_journal::Opening;
 
-/// A cluster in a generation, as its opening files tell.
+/// A cluster in a generation, as its opening files say.
 #[derive(Drop)]
 pub(crate) struct OpenedCluster {
     /// The generation.

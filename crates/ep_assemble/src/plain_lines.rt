@@ -1,4 +1,4 @@
-//! The lines that are told of logs that are to be of version 2.
+//! The lines that are reported of logs that are to be of version 2.
 
 ghost use Rattle.std.specs.Prelude.{◌≡◌, ◌++◌, map, string_bytes, OnOk};
 ghost use Rattle.ep_assemble.specs.Lines.{is_of_generation, late_line, plain_line, plain_log_line};

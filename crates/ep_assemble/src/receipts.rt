@@ -3,9 +3,9 @@
 ghost use Rattle.std.specs.Prelude.{◌≡◌, ◌≤◌, ◌++◌, ◌∷◌, List, [], IfOk, IfErr};
 ghost use Rattle.ep_base.specs.Quorums.{size};
 ghost use Rattle.ep_bundle.specs.Bytes.{length_width};
-ghost use Rattle.ep_rules.specs.declared.receipt.Receipt.{Receipt as Told};
+ghost use Rattle.ep_rules.specs.declared.receipt.Receipt.{Receipt as Reported};
 ghost use Rattle.ep_assemble.specs.Logs.{contents};
-ghost use Rattle.ep_assemble.specs.Receipts.{AreHeld, AreUnheld, Hold, IsNotHeld, IsUnheld, byte_at, is_cut, most_told, of_receipts, receipt_length, told_length, two_at, value_length};
+ghost use Rattle.ep_assemble.specs.Receipts.{AreHeld, AreUnheld, Hold, IsNotHeld, IsUnheld, byte_at, is_cut, most_reported, of_receipts, receipt_length, reported_length, two_at, value_length};
 
 use crate::assemble_fault::AssembleFault;
 use crate::assembled::End;
@@ -48,7 +48,7 @@ fn read_one(
     bytes: &[u8],
     receipts: &mut Vec<Receipt>,
 ) -> Result<End, AssembleFault>
-    ensures ok { IfOk result (λ end. (more : List Told) × Hold version (size cluster) bytes.now more end × (receipts.new.items ≡ receipts.old.items ++ more)) }
+    ensures ok { IfOk result (λ end. (more : List Reported) × Hold version (size cluster) bytes.now more end × (receipts.new.items ≡ receipts.old.items ++ more)) }
     ensures err { IfErr result (IsNotHeld version (size cluster) place bytes.now) }
 {
     match push_receipts(version, cluster, bytes, receipts) {
@@ -76,7 +76,7 @@ fn push_receipts(
     bytes: &[u8],
     receipts: &mut Vec<Receipt>,
 ) -> Result<End, BundleFault>
-    ensures ok { IfOk result (λ end. (more : List Told) × Hold version (size cluster) bytes.now more end × (receipts.new.items ≡ receipts.old.items ++ more)) }
+    ensures ok { IfOk result (λ end. (more : List Reported) × Hold version (size cluster) bytes.now more end × (receipts.new.items ≡ receipts.old.items ++ more)) }
     ensures err { IfErr result (IsUnheld version (size cluster) bytes.now) }
 {
     let alloc = *receipts.allocator();
@@ -100,12 +100,12 @@ fn is_cut(version: Version, bytes: &[u8]) -> bool
     bytes.len() < receipt_len(version, bytes)
 }
 
-/// How many bytes the receipt has that begins so, as far as these tell.
+/// How many bytes the receipt has that begins so, as far as these bytes show.
 fn receipt_len(version: Version, bytes: &[u8]) -> usize
     ensures { result ≡ receipt_length version bytes.now }
 {
     if byte_at(bytes, 32) == 1 {
-        33 + length_len(version) + value_len(version, told_len(version, bytes))
+        33 + length_len(version) + value_len(version, reported_len(version, bytes))
     } else {
         33
     }
@@ -122,9 +122,9 @@ fn length_len(version: Version) -> usize
     }
 }
 
-/// The length of a value that a receipt tells, behind the code of its answer.
-fn told_len(version: Version, bytes: &[u8]) -> usize
-    ensures { result ≡ told_length version bytes.now }
+/// The length of a value that a receipt reports, behind the code of its answer.
+fn reported_len(version: Version, bytes: &[u8]) -> usize
+    ensures { result ≡ reported_length version bytes.now }
 {
     match version.kind() {
         VersionKind::V1 | VersionKind::V2 => two_at(bytes, 33),
@@ -137,12 +137,16 @@ fn value_len(version: Version, len: usize) -> usize
     ensures value { result ≡ value_length version len }
     ensures most { result ≤ 65535 }
 {
-    if len <= most_told(version) { len } else { 0 }
+    if len <= most_reported(version) {
+        len
+    } else {
+        0
+    }
 }
 
 /// How long a value may be that is answered.
-fn most_told(version: Version) -> usize
-    ensures value { result ≡ most_told version }
+fn most_reported(version: Version) -> usize
+    ensures value { result ≡ most_reported version }
     ensures most { result ≤ 65535 }
 {
     match version.kind() {

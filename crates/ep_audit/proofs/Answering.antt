@@ -12,16 +12,16 @@ use Rattle.ep_rules.specs.Steps.{order_of}
 use Rattle.ep_rules.specs.Worlds.{In}
 use Rattle.ep_rules.proofs.Merged.{in_split}
 use Rattle.ep_rules.proofs.Places.{has_left, has_right, filter_has}
-use Rattle.ep_audit.specs.Lines.{told_by, line_at, line_of, lines_of, lines_in}
+use Rattle.ep_audit.specs.Lines.{reported_by, line_at, line_of, lines_of, lines_in}
 use Rattle.ep_audit.specs.Verdicts.{AnswersFirst}
 use Rattle.ep_audit.proofs.Seen.{new_false, new_true}
 use Rattle.ep_audit.specs.declared.happening.Happening.{Happening}
 
-told_line : (i : ℕ) (x : Answer) (o : Option Decree) (h : Happening) → In h (line_at i x o) → (i ≡ h.instance) × (told_by x ≡ h.reply)
-told_line i x None h there = absurd there
-told_line i x (Some d) h there = go (is_noop d.command) there
+reported_line : (i : ℕ) (x : Answer) (o : Option Decree) (h : Happening) → In h (line_at i x o) → (i ≡ h.instance) × (reported_by x ≡ h.reply)
+reported_line i x None h there = absurd there
+reported_line i x (Some d) h there = go (is_noop d.command) there
   where
-    go : (b : Bool) → In h (cond b [] (record { instance = i; command = d.command; reply = told_by x } ∷ [])) → (i ≡ h.instance) × (told_by x ≡ h.reply)
+    go : (b : Bool) → In h (cond b [] (record { instance = i; command = d.command; reply = reported_by x } ∷ [])) → (i ≡ h.instance) × (reported_by x ≡ h.reply)
     go true none = absurd none
     go false (inl is) = (ap (λ (z : Happening). z.instance) is, ap (λ (z : Happening). z.reply) is)
     go false (inr none) = absurd none
@@ -31,28 +31,28 @@ record Made (seen : List ℕ) (done : List (ℕ × Answer)) (h : Happening) : Ty
   answer : Answer
   new : is_new seen h.instance ≡ true
   stands : In (h.instance, answer) done
-  told : told_by answer ≡ h.reply
+  reported : reported_by answer ≡ h.reply
 
 -- the line is of an execution of the schedule, the first one of its instance, which wasn't seen before
 record Later (seen : List ℕ) (schedule : List Scheduled) (h : Happening) : Type 0 where
   answer : Answer
   unseen : ¬ Has seen h.instance
   first : AnswersFirst schedule h.instance answer
-  told : told_by answer ≡ h.reply
+  reported : reported_by answer ≡ h.reply
 
 module _ (g : ℕ → Option Decree) where
   made : (seen : List ℕ) (done : List (ℕ × Answer)) (h : Happening) → In h (lines_of g seen done) → Made seen done h
   made seen [] h there = absurd there
   made seen (d ∷ done) h there = elim (in_split h (line_of g seen d.0 d.1) (lines_of g seen done) there) [
     | inl here ↦ go (is_new seen d.0) refl here
-    | inr rest ↦ (let m = made seen done h rest in record { answer = m.answer; new = m.new; stands = inr m.stands; told = m.told })
+    | inr rest ↦ (let m = made seen done h rest in record { answer = m.answer; new = m.new; stands = inr m.stands; reported = m.reported })
   ]
     where
       go : (b : Bool) → is_new seen d.0 ≡ b → In h (cond b (line_at d.0 d.1 (g d.0)) []) → Made seen (d ∷ done) h
       go false e none = absurd none
       go true e here =
-          let t = told_line d.0 d.1 (g d.0) h here in
-          record { answer = d.1; new = ap (is_new seen) (sym t.0) ∙ e; stands = inl (ap (λ (i : ℕ). (i, d.1)) t.0); told = t.1 }
+          let t = reported_line d.0 d.1 (g d.0) h here in
+          record { answer = d.1; new = ap (is_new seen) (sym t.0) ∙ e; stands = inl (ap (λ (i : ℕ). (i, d.1)) t.0); reported = t.1 }
 
   later : (seen : List ℕ) (schedule : List Scheduled) (h : Happening) → In h (lines_in g seen schedule) → Later seen schedule h
   later seen [] h there = absurd there
@@ -62,7 +62,7 @@ module _ (g : ℕ → Option Decree) where
           answer = m.answer;
           unseen = λ old. false≢true (sym (new_false seen h.instance old) ∙ m.new);
           first = record { before = []; first = a; rest = s; split = refl; new = λ b none. absurd none; done = m.stands };
-          told = m.told;
+          reported = m.reported;
         })
         | inr rest ↦ (let l = later (seen ++ new) s h rest in record {
           answer = l.answer;
@@ -75,7 +75,7 @@ module _ (g : ℕ → Option Decree) where
             new = after l;
             done = l.first.done;
           };
-          told = l.told;
+          reported = l.reported;
         })
       ]
     where
@@ -91,5 +91,5 @@ module _ (g : ℕ → Option Decree) where
       after l b (inl is) = subst (λ (z : Scheduled). ¬ Has (order_of z.entry.done) h.instance) is (here l)
       after l b (inr stands) = l.first.new b stands
 
-  pub each_told : (schedule : List Scheduled) (h : Happening) → In h (lines_in g [] schedule) → (answer : Answer) × AnswersFirst schedule h.instance answer × (told_by answer ≡ h.reply)
-  each_told schedule h there = let l = later [] schedule h there in (l.answer, l.first, l.told)
+  pub each_reported : (schedule : List Scheduled) (h : Happening) → In h (lines_in g [] schedule) → (answer : Answer) × AnswersFirst schedule h.instance answer × (reported_by answer ≡ h.reply)
+  each_reported schedule h there = let l = later [] schedule h there in (l.answer, l.first, l.reported)

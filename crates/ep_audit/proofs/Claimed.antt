@@ -18,11 +18,11 @@ use Rattle.ep_rules.specs.Audits.{IsAccepted, IsFirstReceipt, IsFault, unknown, 
 use Rattle.ep_rules.specs.Journals as rules
 use Rattle.ep_rules.specs.Journals.{IsMatched}
 use Rattle.ep_rules.specs.Steps.{Frame, Propose as Proposal, Handle as Handles, GiveUp as GivesUp, Recover as Recovers, Execute as Executes}
-use Rattle.ep_rules.specs.Verdicts.{Proposes, TellsOf, HasDone, IsKnown, Agrees}
+use Rattle.ep_rules.specs.Verdicts.{Proposes, ReportsOf, HasDone, IsKnown, Agrees}
 use Rattle.ep_rules.specs.Worlds.{In}
 use Rattle.ep_rules.specs.declared.receipt.Receipt.{Receipt}
 use Rattle.ep_rules.proofs.ByPlace.{done_by_place_lem}
-use Rattle.ep_rules.proofs.OneProposal.{one_proposal_lem, proposals_tell_lem}
+use Rattle.ep_rules.proofs.OneProposal.{one_proposal_lem, proposals_report_lem}
 use Rattle.ep_audit.specs.Claims.{is_proposed, is_earlier, proposal_of, is_known, receipt_fault, first_of}
 use Rattle.ep_audit.specs.Lookups.{entry_at, proposed, is_this, proposal_in, is_request, has_answer, has_done}
 use Rattle.ep_audit.proofs.Handled.{passes, outer, inner, fails, or_none, or_some}
@@ -65,9 +65,9 @@ none_found (x ∷ es) i none e there names = go (is_this i (proposed x.event x.f
     go false q s (inr k) rec = rec s k
 
 -- what the rule book asks of a proposal, by the code's event and frames
-tells : (x : rules.Entry) (event : Event) (frames : List (List ℕ)) (i client request : ℕ) → x.event ≡ event_of event → x.out ≡ frames_at frames → proposed event frames ≡ Some i → is_request client request event ≡ true → TellsOf x i client request
-tells x (Propose k n command seen named) [] i client request is out names asks = let s : None ≡ Some i = names in absurd (cc)
-tells x (Propose k n command seen named) (b ∷ bs) i client request is out names asks =
+reports : (x : rules.Entry) (event : Event) (frames : List (List ℕ)) (i client request : ℕ) → x.event ≡ event_of event → x.out ≡ frames_at frames → proposed event frames ≡ Some i → is_request client request event ≡ true → ReportsOf x i client request
+reports x (Propose k n command seen named) [] i client request is out names asks = let s : None ≡ Some i = names in absurd (cc)
+reports x (Propose k n command seen named) (b ∷ bs) i client request is out names asks =
     let t = and_parts (eqb k client) (eqb n request) asks in
     let s : Some (instance_of_message (message_at b)) ≡ Some i = names in
     record {
@@ -79,24 +79,24 @@ tells x (Propose k n command seen named) (b ∷ bs) i client request is out name
       first = ap (λ ms. slice_get ms 0) out;
       about = (let q : instance_of_message (message_at b) ≡ i = cc in q);
     }
-tells x (Handle b) frames i client request is out names asks = absurd (false≢true asks)
-tells x (GiveUp j) frames i client request is out names asks = absurd (false≢true asks)
-tells x (Recover j) frames i client request is out names asks = absurd (false≢true asks)
-tells x (Execute j) frames i client request is out names asks = absurd (false≢true asks)
+reports x (Handle b) frames i client request is out names asks = absurd (false≢true asks)
+reports x (GiveUp j) frames i client request is out names asks = absurd (false≢true asks)
+reports x (Recover j) frames i client request is out names asks = absurd (false≢true asks)
+reports x (Execute j) frames i client request is out names asks = absurd (false≢true asks)
 
-told : (x : rules.Entry) (event : Event) (frames : List (List ℕ)) (i client request : ℕ) → x.event ≡ event_of event → x.out ≡ frames_at frames → TellsOf x i client request → (proposed event frames ≡ Some i) × (is_request client request event ≡ true)
-told x (Propose k n command seen named) [] i client request is out t = let s : None ≡ Some t.frame = sym (ap (λ ms. slice_get ms 0) out) ∙ t.first in absurd (cc)
-told x (Propose k n command seen named) (b ∷ bs) i client request is out t =
+reported : (x : rules.Entry) (event : Event) (frames : List (List ℕ)) (i client request : ℕ) → x.event ≡ event_of event → x.out ≡ frames_at frames → ReportsOf x i client request → (proposed event frames ≡ Some i) × (is_request client request event ≡ true)
+reported x (Propose k n command seen named) [] i client request is out t = let s : None ≡ Some t.frame = sym (ap (λ ms. slice_get ms 0) out) ∙ t.first in absurd (cc)
+reported x (Propose k n command seen named) (b ∷ bs) i client request is out t =
     let s : Some (frame_at b) ≡ Some t.frame = sym (ap (λ ms. slice_get ms 0) out) ∙ t.first in
     let same : frame_at b ≡ t.frame = cc in
     let event : Proposal k n command seen named ≡ Proposal client request t.command t.seen t.spared = sym is ∙ t.event in
     let a : k ≡ client = cc in
     let d : n ≡ request = cc in
     (ap Some (ap (λ (m : Frame). instance_of_message m.sent.message) same ∙ t.about), and_both (eqb k client) (eqb n request) (eq-eqb k client a) (eq-eqb n request d))
-told x (Handle b) frames i client request is out t = let s : Handles (frame_at b) ≡ Proposal client request t.command t.seen t.spared = sym is ∙ t.event in absurd (cc)
-told x (GiveUp j) frames i client request is out t = let s : GivesUp j ≡ Proposal client request t.command t.seen t.spared = sym is ∙ t.event in absurd (cc)
-told x (Recover j) frames i client request is out t = let s : Recovers j ≡ Proposal client request t.command t.seen t.spared = sym is ∙ t.event in absurd (cc)
-told x (Execute j) frames i client request is out t = let s : Executes j ≡ Proposal client request t.command t.seen t.spared = sym is ∙ t.event in absurd (cc)
+reported x (Handle b) frames i client request is out t = let s : Handles (frame_at b) ≡ Proposal client request t.command t.seen t.spared = sym is ∙ t.event in absurd (cc)
+reported x (GiveUp j) frames i client request is out t = let s : GivesUp j ≡ Proposal client request t.command t.seen t.spared = sym is ∙ t.event in absurd (cc)
+reported x (Recover j) frames i client request is out t = let s : Recovers j ≡ Proposal client request t.command t.seen t.spared = sym is ∙ t.event in absurd (cc)
+reported x (Execute j) frames i client request is out t = let s : Executes j ≡ Proposal client request t.command t.seen t.spared = sym is ∙ t.event in absurd (cc)
 
 -- a proposal is of some client's request
 asked : (event : Event) (frames : List (List ℕ)) (i : ℕ) → proposed event frames ≡ Some i → (client : ℕ) × (request : ℕ) × (is_request client request event ≡ true)
@@ -124,26 +124,26 @@ module _ (c : Collected) (h : AreJournals c) (some : 0 < c.faults) where
   proposer i client request e is asks =
       let l : ℕ = leader_of i in
       let t = found (entries_at c l) i e is in
-      let p = (proposals_tell_lem (opens c.opening) c.faults l (journals_of c l) some ((runs_of c h).local l).1 i client request).1 (entry_of e) (shown_in (entries_at c l) e t.there) (tells (entry_of e) e.event e.frames i client request refl refl t.names asks) in
+      let p = (proposals_report_lem (opens c.opening) c.faults l (journals_of c l) some ((runs_of c h).local l).1 i client request).1 (entry_of e) (shown_in (entries_at c l) e t.there) (reports (entry_of e) e.event e.frames i client request refl refl t.names asks) in
       record { asks = asks; proposes = p.0; is = p.1 }
 
   -- the one proposal is what the search finds
   proposal_is : (i client request : ℕ) (p : Proposes (opens c.opening) c.faults (leader_of i) (journals_of c (leader_of i)) i client request) → (o : Option Entry) → proposal_of c i ≡ o → (e : Entry) × (o ≡ Some e) × (is_request client request e.event ≡ true) × (p.proposal ≡ entry_of e)
   proposal_is i client request p None is =
       let l : ℕ = leader_of i in
-      let law = proposals_tell_lem (opens c.opening) c.faults l (journals_of c l) some ((runs_of c h).local l).1 i client request in
+      let law = proposals_report_lem (opens c.opening) c.faults l (journals_of c l) some ((runs_of c h).local l).1 i client request in
       let t = in_shown (entries_at c l) p.proposal (in_middle p.before p.proposal p.rest (journals_of c l) p.split) in
-      let u = told (entry_of t.0) t.0.event t.0.frames i client request refl refl (subst (λ z. TellsOf z i client request) (sym t.2) (law.0 p)) in
+      let u = reported (entry_of t.0) t.0.event t.0.frames i client request refl refl (subst (λ z. ReportsOf z i client request) (sym t.2) (law.0 p)) in
       absurd (none_found (entries_at c l) i is t.0 t.1 u.0)
   proposal_is i client request p (Some e) is =
       let l : ℕ = leader_of i in
       let steps = ((runs_of c h).local l).1 in
-      let law = proposals_tell_lem (opens c.opening) c.faults l (journals_of c l) some steps i client request in
+      let law = proposals_report_lem (opens c.opening) c.faults l (journals_of c l) some steps i client request in
       let t = found (entries_at c l) i e is in
       let a = asked e.event e.frames i t.names in
       let q = proposer i a.0 a.1 e is a.2 in
       let same : p.proposal ≡ entry_of e = one_proposal_lem (opens c.opening) c.faults l (journals_of c l) steps i client request a.0 a.1 p q.proposes ∙ q.is in
-      let u = told (entry_of e) e.event e.frames i client request refl refl (subst (λ z. TellsOf z i client request) same (law.0 p)) in
+      let u = reported (entry_of e) e.event e.frames i client request refl refl (subst (λ z. ReportsOf z i client request) same (law.0 p)) in
       (e, refl, u.1, same)
 
 -- Executions.

@@ -173,9 +173,9 @@ passed (x ∷ es) (y ∷ os) (suc p) e = passed es os p e
 pub passed_more : (es os : List Pair) (p : ℕ) → is_same_at (slice_get es p) (slice_get os p) ≡ true → difference (drop (p + 1) es) (drop (p + 1) os) ≡ difference (drop p es) (drop p os)
 passed_more es os p e = let next : suc p ≡ p + 1 = omega arith in subst (λ n. difference (drop n es) (drop n os) ≡ difference (drop p es) (drop p os)) next (passed es os p e)
 
-pub told : (m n : Contents) (key : Option (List ℕ)) → key ≡ difference (entries m) (entries n) → MatchOption key (m ≡ n) (λ k. IsLeastDifference m n k)
-told m n None e = same_entries_map m n (one_list (entries m) (entries n) (sym e))
-told m n (Some k) e =
+pub reported : (m n : Contents) (key : Option (List ℕ)) → key ≡ difference (entries m) (entries n) → MatchOption key (m ≡ n) (λ k. IsLeastDifference m n k)
+reported m n None e = same_entries_map m n (one_list (entries m) (entries n) (sym e))
+reported m n (Some k) e =
     let d = differ (entries m) (entries n) k (sorted m) (sorted n) (sym e) in
     record {
       differs = λ same. d.differs (sym (get-entries m k) ∙ same ∙ get-entries n k);
@@ -207,10 +207,10 @@ module _ {A : Type 0} where
   got xs k None some is = sym (none_at xs k (ltb-false k (length xs) (sym some)))
   got xs k (Some x) some is = sym (at_place xs k x.now (ltb-true k (length xs) (sym some)) is)
 
--- what is told of two maps by their entries
-pub told_of : (m n : Contents) (es os : List Pair) (p : ℕ) (a b : Option Pair) (r : Result (Option (List ℕ)) AllocError) →
+-- what is reported of two maps by their entries
+pub reported_of : (m n : Contents) (es os : List Pair) (p : ℕ) (a b : Option Pair) (r : Result (Option (List ℕ)) AllocError) →
     es ≡ entries m → os ≡ entries n → a ≡ slice_get es p → b ≡ slice_get os p → is_same_at (slice_get es p) (slice_get os p) ≡ false → difference (drop p es) (drop p os) ≡ difference es os →
     IfOk r (λ key. key ≡ lesser_key a b) → IfOk r (λ key. MatchOption key (m ≡ n) (λ k. IsLeastDifference m n k))
-told_of m n es os p a b (Ok key) ie io ia ib not_same left is =
-    told m n key (is ∙ ap₂ (λ (x y : Option Pair). lesser_key x y) ia ib ∙ lesser_here es os p not_same ∙ left ∙ ap₂ (λ (x y : List Pair). difference x y) ie io)
-told_of m n es os p a b (Err e) ie io ia ib not_same left is = tt
+reported_of m n es os p a b (Ok key) ie io ia ib not_same left is =
+    reported m n key (is ∙ ap₂ (λ (x y : Option Pair). lesser_key x y) ia ib ∙ lesser_here es os p not_same ∙ left ∙ ap₂ (λ (x y : List Pair). difference x y) ie io)
+reported_of m n es os p a b (Err e) ie io ia ib not_same left is = tt

@@ -22,7 +22,7 @@ use Rattle.ep_audit.specs.declared.happening.Happening.{Happening}
 use Rattle.ep_audit.specs.Closings.{operations_in, IsExecuted, IsLeastStamp, IsFirstSeal, IsClosing}
 use Rattle.ep_audit.specs.Lines.{lines_in}
 use Rattle.ep_audit.specs.Sealed.{first_sealing, closing_by}
-use Rattle.ep_audit.proofs.Answering.{each_told}
+use Rattle.ep_audit.proofs.Answering.{each_reported}
 
 abbrev pub operation_at : ℕ → Command → Operation
 operation_at i c = record { instance = i; command = c }
@@ -77,26 +77,26 @@ pub closing_is : (journal : Journals) (hs : List Happening) (h : Happening) (t :
 closing_is journal hs h t c first least is =
     let l = first_line hs h first in
     let v = seal_value h.command l.is in
-    let told : c ≡ Some (closing_at h.instance t v.0) = is ∙ ap (λ d. option_map (closing_at h.instance t) (sealed_by d)) v.1 in
+    let reported : c ≡ Some (closing_at h.instance t v.0) = is ∙ ap (λ d. option_map (closing_at h.instance t) (sealed_by d)) v.1 in
     let seal : IsFirstSeal journal (operations_in hs) (closing_at h.instance t v.0) = record {
       seals = l.seals;
       before = l.before;
       last = l.last ∙ ap (λ d. l.before ++ (operation_at h.instance d ∷ [])) v.1;
       stamp = least;
     } in
-    subst (λ (o : Option Closing). IsClosing journal (operations_in hs) o) (sym told) seal
+    subst (λ (o : Option Closing). IsClosing journal (operations_in hs) o) (sym reported) seal
 
-pub closing_told : (journal : Journals) (hs : List Happening) (h : Happening) (t : ℕ) (r : Result (Option Closing) AllocError) → first_sealing hs ≡ Some h → IsLeastStamp journal h.instance t → IfOk r (λ c. c ≡ closing_by h t) →
+pub closing_reported : (journal : Journals) (hs : List Happening) (h : Happening) (t : ℕ) (r : Result (Option Closing) AllocError) → first_sealing hs ≡ Some h → IsLeastStamp journal h.instance t → IfOk r (λ c. c ≡ closing_by h t) →
     IfOk r (λ c. IsClosing journal (operations_in hs) c)
-closing_told journal hs h t (Ok c) first least is = closing_is journal hs h t c first least is
-closing_told journal hs h t (Err e) first least is = tt
+closing_reported journal hs h t (Ok c) first least is = closing_is journal hs h t c first least is
+closing_reported journal hs h t (Err e) first least is = tt
 
 -- each line is of an instance that an entry executes
 pub line_executed : (base : Store) (f : ℕ) (journal : Journals) (lines : List Happening) → AreLocalRuns base f journal → ((s : List Scheduled) → IsSchedule journal s → lines ≡ lines_in (agreed base f journal) [] s) →
     (h : Happening) → In h lines → IsExecuted journal h.instance
 line_executed base f journal lines runs are h there =
     let s = some_schedule_lem (size f) journal runs.others (λ r. (runs.local r).0) in
-    let t = each_told (agreed base f journal) s.0 h (subst (In h) (are s.0 s.1) there) in
+    let t = each_reported (agreed base f journal) s.0 h (subst (In h) (are s.0 s.1) there) in
     let first = t.1.first in
     let stands : In first s.0 = subst (In first) t.1.split (in_right first t.1.before (first ∷ t.1.rest) (inl refl)) in
     record {

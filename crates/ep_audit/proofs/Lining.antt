@@ -34,11 +34,11 @@ use Rattle.ep_journal.specs.Entries.{Collected, entry_of, entries_at, journals_o
 use Rattle.ep_journal.specs.Openings.{opens}
 use Rattle.ep_journal.specs.declared.entry.Entry.{Entry as Written}
 use Rattle.ep_audit.specs.Lookups.{entry_at}
-use Rattle.ep_audit.specs.Lines.{told_by, line_at, line_of, lines_of, lines_in}
+use Rattle.ep_audit.specs.Lines.{reported_by, line_at, line_of, lines_of, lines_in}
 use Rattle.ep_audit.specs.Turns.{takes, taken_of}
 use Rattle.ep_audit.proofs.Turning.{in_taken}
 use Rattle.ep_audit.specs.Verdicts.{places_of, instances_in, commands_in, replies_in, IsHistory}
-use Rattle.ep_audit.proofs.Answering.{each_told}
+use Rattle.ep_audit.proofs.Answering.{each_reported}
 use Rattle.ep_audit.proofs.Seen.{new_false, new_true}
 use Rattle.ep_audit.proofs.Shown.{shown_from, entry_from}
 use Rattle.ep_audit.specs.declared.happening.Happening.{Happening}
@@ -251,7 +251,7 @@ module _ (g : ℕ → Option Decree) where
   line_instances i x rest None = refl
   line_instances i x rest (Some d) = go (is_noop d.command)
     where
-      go : (b : Bool) → instances_in (cond b [] (record { instance = i; command = d.command; reply = told_by x } ∷ [])) ++ rest ≡ cond (cond b false true) (i ∷ rest) rest
+      go : (b : Bool) → instances_in (cond b [] (record { instance = i; command = d.command; reply = reported_by x } ∷ [])) ++ rest ≡ cond (cond b false true) (i ∷ rest) rest
       go true = refl
       go false = refl
 
@@ -277,7 +277,7 @@ module _ (g : ℕ → Option Decree) where
   line_commands i x None e = refl
   line_commands i x (Some d) e = go (is_noop d.command)
     where
-      go : (b : Bool) → commands_in (cond b [] (record { instance = i; command = d.command; reply = told_by x } ∷ [])) ≡ map said (instances_in (cond b [] (record { instance = i; command = d.command; reply = told_by x } ∷ [])))
+      go : (b : Bool) → commands_in (cond b [] (record { instance = i; command = d.command; reply = reported_by x } ∷ [])) ≡ map said (instances_in (cond b [] (record { instance = i; command = d.command; reply = reported_by x } ∷ [])))
       go true = refl
       go false = ap (λ o. command_of o ∷ []) (sym e)
 
@@ -317,10 +317,10 @@ module _ (g : ℕ → Option Decree) where
     line_replies i x None e k = refl
     line_replies i x (Some d) e k = go (is_noop d.command) refl k
       where
-        go : (b : Bool) → is_noop d.command ≡ b → IsReply base said h i x → SaysReplies (cond b [] (record { instance = i; command = d.command; reply = told_by x } ∷ []))
+        go : (b : Bool) → is_noop d.command ≡ b → IsReply base said h i x → SaysReplies (cond b [] (record { instance = i; command = d.command; reply = reported_by x } ∷ []))
         go true q t = refl
         go false q (inl lost) = absurd (false≢true (sym q ∙ ap (λ o. is_noop (command_of o)) (sym e) ∙ lost.0))
-        go false q (inr told) = ap (λ a. told_by a ∷ []) told.1
+        go false q (inr reported) = ap (λ a. reported_by a ∷ []) reported.1
 
     replies_append : (xs ys : List Happening) → SaysReplies xs → SaysReplies ys → SaysReplies (xs ++ ys)
     replies_append xs ys a b =
@@ -389,12 +389,12 @@ history_is base f journal schedule =
     record {
       instances = instances;
       commands = commands;
-      told = each_told g schedule;
+      reported = each_reported g schedule;
       replies = λ given.
-          let told : replies_in lines ≡ map (here g base h) (instances_in lines) = in_replies g base h [] schedule (λ a i x k m. each_reply_lem base f journal schedule given a i x k m) in
+          let reported : replies_in lines ≡ map (here g base h) (instances_in lines) = in_replies g base h [] schedule (λ a i x k m. each_reply_lem base f journal schedule given a i x k m) in
           let once : Once h = once_filter (real g) (merged_of [] schedule) (once_merged base f journal schedule given) in
           let all : map (here g base h) h ≡ replies base (map (said g) h) = spread h (replies base (map (said g) h)) once (length_replies base (map (said g) h) ∙ length_map (said g) h) in
-          told ∙ ap (map (here g base h)) instances ∙ all ∙ ap (λ z. replies base (map (said g) z)) (sym instances) ∙ ap (replies base) (sym commands);
+          reported ∙ ap (map (here g base h)) instances ∙ all ∙ ap (λ z. replies base (map (said g) z)) (sym instances) ∙ ap (replies base) (sym commands);
     }
 
 pub history_by : (base : Store) (f : ℕ) (journal : Journals) (g : ℕ → Option Decree) (schedule : List Scheduled) (lines : List Happening) → ((i : ℕ) → g i ≡ agreed base f journal i) → lines ≡ lines_in g [] schedule → IsHistory base f journal schedule lines

@@ -111,7 +111,7 @@ record Facts (links : List ChainLink) (verdicts : List Verdict) (g : ℕ) (s : L
   link : ChainLink
   verdict : Verdict
   there : slice_get links g ≡ Some link
-  told : slice_get verdicts g ≡ Some verdict
+  reported : slice_get verdicts g ≡ Some verdict
   good : IsGood link
   merges : Merges (opens link.journals.opening) link.journals.faults (journals_of link.journals) s
   scheduled : verdict.schedule.items ≡ places_of s
@@ -127,7 +127,7 @@ facts_of links verdicts g l v a b j =
       link = l;
       verdict = v;
       there = a;
-      told = b;
+      reported = b;
       good = j.says.accepted;
       merges = j.says.merges;
       scheduled = j.schedule;
@@ -167,7 +167,7 @@ module _ (links : List ChainLink) (verdicts : List Verdict) (count : length verd
   merges_at g lt = let f = facts g lt in subst (λ (o : Option ChainLink). Merges (opened (map_in o)) (faults_in o) (journals_in o) (schedule g)) (sym f.there) f.merges
 
   goes_at : (g : ℕ) (a : Facts links verdicts g (schedule g)) (b : Facts links verdicts (suc g) (schedule (suc g))) → GoesOn a.link a.verdict b.link
-  goes_at g a b = linked.goes_on g a.link b.link a.verdict b.verdict a.there b.there a.told b.told
+  goes_at g a b = linked.goes_on g a.link b.link a.verdict b.verdict a.there b.there a.reported b.reported
 
   closes_at : (g : ℕ) → suc g < n → (r : ℕ) × (value : List ℕ) × (store_left (maps_at links g) (faults_at links g) (journals_at links g) r ≡ record { contents = maps_at links (suc g); seal = Some value })
   closes_at g lt =
@@ -234,10 +234,10 @@ module _ (links : List ChainLink) (verdicts : List Verdict) (count : length verd
     schedule = schedule;
     scheduled = λ g v is.
         let f = facts g (let t = below_length verdicts g v is in omega arith) in
-        subst (λ (w : Verdict). w.schedule.items ≡ places_of (schedule g)) (same_there verdicts g f.verdict v f.told is) f.scheduled;
+        subst (λ (w : Verdict). w.schedule.items ≡ places_of (schedule g)) (same_there verdicts g f.verdict v f.reported is) f.scheduled;
     operations = λ g v is.
         let f = facts g (let t = below_length verdicts g v is in omega arith) in
-        subst (λ (w : Verdict). operations_in w.history.items ≡ histories (faults_at links) (maps_at links) schedule g) (same_there verdicts g f.verdict v f.told is)
+        subst (λ (w : Verdict). operations_in w.history.items ≡ histories (faults_at links) (maps_at links) schedule g) (same_there verdicts g f.verdict v f.reported is)
         (f.operations ∙ ap (λ (o : Option ChainLink). history_from (map_in o) (faults_in o) (schedule g)) (sym f.there));
     chain = chain;
     clocks = clocks;
@@ -273,9 +273,9 @@ module _ (links : List ChainLink) (vs : List Verdict) (link : ChainLink) (place 
         (c, subst (λ (z : Verdict). z.closing ≡ Some c) one is)
 
     unfollowed : (at : ℕ) (fault : ChainFault) → place < length links → IsUnfollowedBy p w link place at fault → IsChainFault links at fault
-    unfollowed at fault lt (left_open none is told) =
+    unfollowed at fault lt (left_open none is reported) =
         let at_q : at ≡ q = omega arith in
-        subst (λ (f : ChainFault). IsChainFault links at f) (sym told)
+        subst (λ (f : ChainFault). IsChainFault links at f) (sym reported)
         (unclosed vs w (count ∙ sym is) linked (subst (λ n. slice_get vs n ≡ Some w) (sym at_q) w_there) none (omega arith))
     unfollowed at fault lt (refused_by c closed is own) = own_fault at fault (closed_before c closed) is own
     unfollowed at fault lt (parted_by c closed is good parts) =

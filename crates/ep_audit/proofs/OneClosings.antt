@@ -16,13 +16,13 @@ use Rattle.ep_rules.specs.Steps.{order_of, leaves}
 use Rattle.ep_rules.specs.History.{nothing, done_after}
 use Rattle.ep_rules.specs.Verdicts.{command_at}
 use Rattle.ep_rules.specs.Worlds.{World, In, Act, IsRun, ends, opening}
-use Rattle.ep_rules.proofs.ChainsExplained.{same_history, closes_left, told_same}
+use Rattle.ep_rules.proofs.ChainsExplained.{same_history, closes_left, reported_same}
 use Rattle.ep_rules.proofs.Closings.{is_history, seal_closes_lem, store_is}
 use Rattle.ep_rules.proofs.Commuting.{map_of, seal_value}
 use Rattle.ep_rules.proofs.JournalsCommitted.{is_run, state_is}
 use Rattle.ep_rules.proofs.JournalsExecutions.{executions, done_is}
 use Rattle.ep_rules.proofs.Places.{has_cons, has_left, has_right}
-use Rattle.ep_rules.proofs.RunCommits.{told_in}
+use Rattle.ep_rules.proofs.RunCommits.{reported_in}
 use Rattle.ep_rules.proofs.RunHistories.{AreOf, command_is}
 use Rattle.ep_rules.proofs.Sealing.{closed_stays, not_seal, sealed_here, stays_open}
 use Rattle.ep_audit.specs.declared.closing.Closing.{Closing}
@@ -124,11 +124,11 @@ module _ (m : Contents) (f : ℕ) (journal : Journals) (schedule : List Schedule
   run : IsRun f (opening (opened m)) acts
   run = is_run (opened m) f journal schedule given
 
-  told_all : told_in (opened m) f acts ≡ command_at (opened m) f journal
-  told_all = λ t i. told_same m f journal schedule given i t
+  reported_all : reported_in (opened m) f acts ≡ command_at (opened m) f journal
+  reported_all = λ t i. reported_same m f journal schedule given i t
 
   pub are_of : AreOf (command_at (opened m) f journal) (history_from m f schedule)
-  are_of = subst (λ (c : ℕ → Command). AreOf c (history_from m f schedule)) told_all (is_history (opened m) f given.some given.few acts run).commands
+  are_of = subst (λ (c : ℕ → Command). AreOf c (history_from m f schedule)) reported_all (is_history (opened m) f given.some given.few acts run).commands
 
   -- whose journal executes a seal leaves a closed map
   closed_left : (r : ℕ) (e : Entry) (i : ℕ) → In e (journal r) → Has (order_of e.done) i → is_seal (command_at (opened m) f journal i) ≡ true → is_closed (store_left m f journal r) ≡ true
@@ -137,15 +137,15 @@ module _ (m : Contents) (f : ℕ) (journal : Journals) (schedule : List Schedule
       let state : (w.states r) ≡ left f r (fresh_state (opened m)) (journal r) = state_is (opened m) f journal schedule given r in
       let here : own ≡ (left f r (fresh_state (opened m)) (journal r)).executed = done_is f acts (opening (opened m)) nothing run (λ q. refl) r ∙ ap (λ (s : State). s.executed) state in
       let has : Has own i = subst (λ xs. Has xs i) (sym here) (executed_by f r (fresh_state (opened m)) (journal r) e i k h) in
-      let shut : is_closed (after_all (told_in (opened m) f acts) (opened m) own) ≡ true = closed_by (told_in (opened m) f acts) m own i has (ap is_seal (told_same m f journal schedule given i) ∙ seals) in
+      let shut : is_closed (after_all (reported_in (opened m) f acts) (opened m) own) ≡ true = closed_by (reported_in (opened m) f acts) m own i has (ap is_seal (reported_same m f journal schedule given i) ∙ seals) in
       subst (λ s. is_closed s ≡ true) (sym (store_is (opened m) f given.some given.few acts run r) ∙ ap (λ (s : State). s.store) state) shut
 
   module _ (v : Summary) (same : operations_in v.history.items ≡ history_from m f schedule) (closing : IsClosing journal (operations_in v.history.items) v.closing) where
     abbrev h : List Operation
     h = history_from m f schedule
 
-    seal_told : has_seal h ≡ true → first_seal h ≡ option_map (λ (c : Closing). c.value) v.closing
-    seal_told s = go v.closing refl (subst (λ (os : List Operation). IsClosing journal os v.closing) same closing)
+    seal_reported : has_seal h ≡ true → first_seal h ≡ option_map (λ (c : Closing). c.value) v.closing
+    seal_reported s = go v.closing refl (subst (λ (os : List Operation). IsClosing journal os v.closing) same closing)
       where
         go : (o : Option Closing) → v.closing ≡ o → IsClosing journal h v.closing → first_seal h ≡ option_map (λ (c : Closing). c.value) v.closing
         go None is k = absurd (false≢true (sym (subst (IsClosing journal h) is k) ∙ s))
@@ -157,10 +157,10 @@ module _ (m : Contents) (f : ℕ) (journal : Journals) (schedule : List Schedule
     left_is r shut =
         let t = closes_left m f journal schedule given r shut in
         let after : after_commands (opened m) (commands_of h) ≡ map_of (written_by m (up_to_seal h)) (first_seal h) = seal_closes_lem m h t.0 in
-        let told : left_by (opened m) v.history.items ≡ written_by m (up_to_seal h) =
+        let reported : left_by (opened m) v.history.items ≡ written_by m (up_to_seal h) =
         ap (λ cs. (after_commands (opened m) cs).contents) (commands_are_of v.history.items ∙ ap commands_of same) ∙ ap (λ (s : Store). s.contents) after
         in
-        t.1 ∙ ap₂ (λ (n : Contents) (o : Option (List ℕ)). map_of n o) (sym told) (seal_told t.0)
+        t.1 ∙ ap₂ (λ (n : Contents) (o : Option (List ℕ)). map_of n o) (sym reported) (seal_reported t.0)
 
     somebody : (c : Closing) → v.closing ≡ Some c → (r : ℕ) × (store_left m f journal r ≡ record { contents = left_by (opened m) v.history.items; seal = Some c.value })
     somebody c is =

@@ -25,9 +25,9 @@ pub record IsLeastTurn (n : ℕ) (journal : Journals) (t : EntryPlace) : Type 0 
   pub first : first_turn t.replica (journal t.replica) ≡ Some t
   pub least : (q : ℕ) (u : EntryPlace) → q < n → first_turn q (journal q) ≡ Some u → (t.stamp < u.stamp) ⊎ ((t.stamp ≡ u.stamp) × (t.replica ≤ q))
 
-abbrev pub Tells : ℕ → Journals → Option EntryPlace → Type 0
-Tells n journal None = (q : ℕ) → q < n → journal q ≡ []
-Tells n journal (Some t) = IsLeastTurn n journal t
+abbrev pub Reports : ℕ → Journals → Option EntryPlace → Type 0
+Reports n journal None = (q : ℕ) → q < n → journal q ≡ []
+Reports n journal (Some t) = IsLeastTurn n journal t
 
 none_first : (r : ℕ) (t : EntryPlace) (es : List Entry) → es ≡ [] → first_turn r es ≡ Some t → ⊥
 none_first r t [] e h = cc
@@ -39,7 +39,7 @@ stamp_here n q u x es journal e same is =
     let k : Some t ≡ Some u = sym (ap (λ z. first_turn z (journal z)) same ∙ ap (first_turn n) e) ∙ is in
     ap (λ (z : EntryPlace). z.stamp) (same_Some t u k)
 
-more : (n : ℕ) (journal : Journals) (o : Option EntryPlace) (es : List Entry) → journal n ≡ es → Tells n journal o → Tells (suc n) journal (earlier o (first_turn n es))
+more : (n : ℕ) (journal : Journals) (o : Option EntryPlace) (es : List Entry) → journal n ≡ es → Reports n journal o → Reports (suc n) journal (earlier o (first_turn n es))
 more n journal None [] e h = λ q lt. elim (cases_eq q n) [ inl is ↦ ap journal is ∙ e | inr ne ↦ h q (omega arith) ]
 more n journal None (x ∷ es) e h = record {
   below = omega arith;
@@ -59,7 +59,7 @@ more n journal (Some t) [] e h = record {
 }
 more n journal (Some t) (x ∷ es) e h = go (ltb x.stamp t.stamp) refl
   where
-    go : (b : Bool) → ltb x.stamp t.stamp ≡ b → Tells (suc n) journal (cond b (Some (record { replica = n; number = x.number; stamp = x.stamp })) (Some t))
+    go : (b : Bool) → ltb x.stamp t.stamp ≡ b → Reports (suc n) journal (cond b (Some (record { replica = n; number = x.number; stamp = x.stamp })) (Some t))
     go true b =
         let lower : x.stamp < t.stamp = ltb-true x.stamp t.stamp b in
         record {
@@ -82,7 +82,7 @@ more n journal (Some t) (x ∷ es) e h = go (ltb x.stamp t.stamp) refl
           ];
         }
 
-pub least_is : (n : ℕ) (journal : Journals) → Tells n journal (least_turn n journal)
+pub least_is : (n : ℕ) (journal : Journals) → Reports n journal (least_turn n journal)
 least_is zero journal = λ q lt. absurd (omega arith)
 least_is (suc n) journal = more n journal (least_turn n journal) (journal n) refl (least_is n journal)
 
@@ -310,8 +310,8 @@ pub record Remains (all : Bool) (journal : Journals) (done : List ℕ) (made : L
   pub scheduled : IsSchedule (rests all journal done) rest
   pub whole : made ++ places_of rest ≡ places_of schedule
 
-pub is_next : (n : ℕ) (journal : Journals) (o : Option EntryPlace) → o ≡ least_turn n journal → Tells n journal o
-is_next n journal o e = subst (Tells n journal) (sym e) (least_is n journal)
+pub is_next : (n : ℕ) (journal : Journals) (o : Option EntryPlace) → o ≡ least_turn n journal → Reports n journal o
+is_next n journal o e = subst (Reports n journal) (sym e) (least_is n journal)
 
 -- none beyond the cluster
 none_beyond : (all : Bool) (base : Store) (f : ℕ) (journal : Journals) (done : List ℕ) → AreLocalRuns base f journal → (q : ℕ) → size f ≤ q → rests all journal done q ≡ []

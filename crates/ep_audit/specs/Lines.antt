@@ -11,15 +11,15 @@ use Rattle.ep_rules.specs.Journals.{Scheduled}
 use Rattle.ep_rules.specs.Steps.{order_of}
 use Rattle.ep_audit.specs.declared.happening.Happening.{Happening}
 
--- the reply that an answer tells; absent where the proposal was lost
-abbrev pub told_by : Answer → Reply
-told_by Lost = Absent
-told_by (Replied r) = r
+-- the reply that an answer reports; absent where the proposal was lost
+abbrev pub reported_by : Answer → Reply
+reported_by Lost = Absent
+reported_by (Replied r) = r
 
 -- the line of i where this is agreed on; none where it is a no-op
 abbrev pub line_at : ℕ → Answer → Option Decree → List Happening
 line_at i answer None = []
-line_at i answer (Some x) = cond (is_noop x.command) [] (record { instance = i; command = x.command; reply = told_by answer } ∷ [])
+line_at i answer (Some x) = cond (is_noop x.command) [] (record { instance = i; command = x.command; reply = reported_by answer } ∷ [])
 
 module _ (agreed : ℕ → Option Decree) where
   -- the line of i where it wasn't seen

@@ -1,4 +1,4 @@
--- What journals say, as the code tells it.
+-- What journals say, as the code computes it.
 use Rattle.std.specs.Prelude.{◌≡◌, ℕ, List, [], ◌∷◌, ◌++◌, map}
 use Rattle.ep_base.specs.Places.{Has}
 use Rattle.ep_base.specs.Commands.{Command}
@@ -12,7 +12,7 @@ use Rattle.ep_rules.specs.Verdicts.{command_at, history_of, IsTable}
 use Rattle.ep_rules.specs.Worlds.{In}
 use Rattle.ep_audit.specs.declared.happening.Happening.{Happening}
 use Rattle.ep_audit.specs.Closings.{operations_in, IsClosing}
-use Rattle.ep_audit.specs.Lines.{told_by}
+use Rattle.ep_audit.specs.Lines.{reported_by}
 use Rattle.ep_audit.specs.declared.summary.Summary.{Summary}
 use Rattle.ep_audit.specs.declared.verdict.Verdict.{Verdict}
 
@@ -42,12 +42,12 @@ pub record AnswersFirst (schedule : List Scheduled) (i : ℕ) (answer : Answer) 
   pub new : (a : Scheduled) → In a before → ¬ Has (order_of a.entry.done) i
   pub done : In (i, answer) first.entry.done
 
--- the history of a schedule: each command once, at its first execution, no-ops left out, with the reply that this told; these are the replies of one map, from
+-- the history of a schedule: each command once, at its first execution, no-ops left out, with the reply that this reported; these are the replies of one map, from
 -- base on, where the journals match
 pub record IsHistory (base : Store) (f : ℕ) (journal : Journals) (schedule : List Scheduled) (lines : List Happening) : Type 0 where
   pub instances : instances_in lines ≡ history_of (command_at base f journal) schedule
   pub commands : commands_in lines ≡ map (command_at base f journal) (instances_in lines)
-  pub told : (h : Happening) → In h lines → (answer : Answer) × AnswersFirst schedule h.instance answer × (told_by answer ≡ h.reply)
+  pub reported : (h : Happening) → In h lines → (answer : Answer) × AnswersFirst schedule h.instance answer × (reported_by answer ≡ h.reply)
   pub replies : Merges base f journal schedule → replies_in lines ≡ replies base (commands_in lines)
 
 -- what a verdict says besides its schedule

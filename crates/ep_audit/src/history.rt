@@ -5,7 +5,7 @@ ghost use Rattle.ep_base.specs.Places.{Has};
 ghost use Rattle.ep_rules.specs.Journals.{Scheduled, IsSchedule};
 ghost use Rattle.ep_rules.specs.Steps.{order_of};
 ghost use Rattle.ep_journal.specs.Entries.{journals_of};
-ghost use Rattle.ep_audit.specs.Lines.{told_by, line_at, line_of, lines_of, lines_in};
+ghost use Rattle.ep_audit.specs.Lines.{reported_by, line_at, line_of, lines_of, lines_in};
 ghost use Rattle.ep_audit.specs.Tables.{agreed_in};
 ghost use Rattle.ep_audit.specs.Turns.{taken_of};
 ghost use Rattle.ep_audit.specs.Verdicts.{places_of};
@@ -18,9 +18,9 @@ use ep_exec::Executed;
 use ep_journal::Journals;
 use std::alloc::{AllocError, Global};
 
-/// The reply that the answer tells; absent where the proposal was lost.
+/// The reply that the answer reports; absent where the proposal was lost.
 fn reply_in(alloc: Global, answer: &Answer) -> Result<Reply, AllocError>
-    ensures { IfOk result (λ r. r ≡ told_by answer.now) }
+    ensures { IfOk result (λ r. r ≡ reported_by answer.now) }
 {
     match answer {
         Answer::Lost => Ok(Reply::Absent),

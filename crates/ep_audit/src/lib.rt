@@ -2,7 +2,7 @@
 //!
 //! `ep_main` audits replays and bundles by it, and so may any program that holds `Journals`. `audit` carries the headline in
 //! its contract, for any journals and receipts handed in: where it answers a verdict, they merge into one run with one
-//! history; otherwise it tells the first fault. `audit_chain` audits generations, one after the other: where it answers their verdicts, their
+//! history; otherwise it reports the first fault. `audit_chain` audits generations, one after the other: where it answers their verdicts, their
 //! histories are one.
 //!
 //! Start with `auditing.rt` and specs/Audited.antt: `IsAudited`, `IsOneHistory`, `IsOneClosing`, `IsRefused`; then `chain.rt` and specs/Chained.antt.
@@ -11,7 +11,7 @@
 //! receipts, and answers the first one that isn't as `IsAccepted` of `ep_rules`, specs/Audits.antt, asks. Frames and proposals are found by
 //! their places, so that an audit is one pass. `summary.rt` says what the journals say (specs/Verdicts.antt): it
 //! collects what is committed, merges the entries that execute something by stamp and replica, and takes each command at its first execution. `verdict.rt` adds the
-//! schedule: all entries, merged. That the replies told are one map's is a law of `ep_rules` on journals
+//! schedule: all entries, merged. That the replies reported are one map's is a law of `ep_rules` on journals
 //! that match, and not work done here.
 //!
 //! The order of the checks is part of the contract: which fault is reported first. How things are found, merged and looked up isn't.

@@ -85,8 +85,8 @@ pub fn is_request(event: &Event, client: u32, request: u32) -> bool
 fn has_answer(done: &[(InstanceId, Answer)], instance: InstanceId, answer: &Answer) -> bool
     ensures { result ≡ has_answer done.now instance answer.now }
 {
-    for (other, told) in done {
-        if *other == instance && told.is_same(answer) {
+    for (other, reported) in done {
+        if *other == instance && reported.is_same(answer) {
             return true;
         }
     }

@@ -6,7 +6,7 @@ use Rattle.std.proofs.Math.Seq.{take-append_seam, drop-append_seam}
 use Rattle.std.proofs.lemmas.Bool.{and_parts}
 use Rattle.std.proofs.lemmas.List.{append-nil}
 use Rattle.ep_base.specs.Attributes.{same_list}
-use Rattle.ep_base.specs.Items.{Item, told_count, rise_above}
+use Rattle.ep_base.specs.Items.{Item, reported_count, rise_above}
 use Rattle.ep_base.specs.Ops.{is_items_len}
 use Rattle.ep_base.specs.CommandParts.{part_bytes, part_at, flag, write_flag, flags_of, guard_bytes, put_bytes, write_bytes, item_bytes, items_bytes, tx_bytes, guard_in, put_in, write_in, write_behind, item_with, item_at, items_at, items_in, all_items, are_items, is_tx}
 use Rattle.ep_base.proofs.Same.{Decides-same_list}
@@ -18,21 +18,21 @@ part_again (Some v) rest = ap Some (ap (λ n. take n (v ++ rest)) (let e : lengt
 put_again : (v rest : List ℕ) → put_in (put_bytes v ++ rest) ≡ v
 put_again v rest = ap (λ n. take n (v ++ rest)) (let e : length v / 256 * 256 + length v % 256 ≡ length v = omega arith in e) ∙ take-append_seam v rest
 
--- The flags tell each of the three.
+-- The flags determine each of the three.
 
-told_again : (t : Bool) (g w : Option (Option (List ℕ))) → eqb ((flag 1 t + flag 2 (is_some g) + write_flag w) % 2) 1 ≡ t
-told_again false None None = refl
-told_again false None (Some None) = refl
-told_again false None (Some (Some v)) = refl
-told_again false (Some o) None = refl
-told_again false (Some o) (Some None) = refl
-told_again false (Some o) (Some (Some v)) = refl
-told_again true None None = refl
-told_again true None (Some None) = refl
-told_again true None (Some (Some v)) = refl
-told_again true (Some o) None = refl
-told_again true (Some o) (Some None) = refl
-told_again true (Some o) (Some (Some v)) = refl
+reported_again : (t : Bool) (g w : Option (Option (List ℕ))) → eqb ((flag 1 t + flag 2 (is_some g) + write_flag w) % 2) 1 ≡ t
+reported_again false None None = refl
+reported_again false None (Some None) = refl
+reported_again false None (Some (Some v)) = refl
+reported_again false (Some o) None = refl
+reported_again false (Some o) (Some None) = refl
+reported_again false (Some o) (Some (Some v)) = refl
+reported_again true None None = refl
+reported_again true None (Some None) = refl
+reported_again true None (Some (Some v)) = refl
+reported_again true (Some o) None = refl
+reported_again true (Some o) (Some None) = refl
+reported_again true (Some o) (Some (Some v)) = refl
 
 guard_again : (t : Bool) (g w : Option (Option (List ℕ))) (rest : List ℕ) → guard_in (flag 1 t + flag 2 (is_some g) + write_flag w) (guard_bytes g ++ rest) ≡ g
 guard_again false None None rest = refl
@@ -70,16 +70,16 @@ write_again true (Some o) (Some (Some v)) rest = some_put v rest
 behind_again : (i : Item) (b rest : List ℕ) → b ≡ guard_bytes i.guard ++ (write_bytes i.write ++ rest) → write_behind (flags_of i) b ≡ i.write
 behind_again i b rest e =
     let rest_of = write_bytes i.write ++ rest in
-    let guard : guard_in (flags_of i) b ≡ i.guard = ap (guard_in (flags_of i)) e ∙ guard_again i.told i.guard i.write rest_of in
+    let guard : guard_in (flags_of i) b ≡ i.guard = ap (guard_in (flags_of i)) e ∙ guard_again i.reported i.guard i.write rest_of in
     ap (λ (g : Option (Option (List ℕ))). write_in (flags_of i) (drop (length (guard_bytes g)) b)) guard
     ∙ ap (λ x. write_in (flags_of i) (drop (length (guard_bytes i.guard)) x)) e
     ∙ ap (write_in (flags_of i)) (drop-append_seam (guard_bytes i.guard) rest_of)
-    ∙ write_again i.told i.guard i.write rest
+    ∙ write_again i.reported i.guard i.write rest
 
 with_again : (i : Item) (k b rest : List ℕ) → k ≡ i.key → b ≡ guard_bytes i.guard ++ (write_bytes i.write ++ rest) → item_with k (flags_of i) b ≡ i
 with_again i k b rest f e =
-    let guard : guard_in (flags_of i) b ≡ i.guard = ap (guard_in (flags_of i)) e ∙ guard_again i.told i.guard i.write (write_bytes i.write ++ rest) in
-    λ n. record { key = f n; guard = guard n; told = told_again i.told i.guard i.write n; write = behind_again i b rest e n }
+    let guard : guard_in (flags_of i) b ≡ i.guard = ap (guard_in (flags_of i)) e ∙ guard_again i.reported i.guard i.write (write_bytes i.write ++ rest) in
+    λ n. record { key = f n; guard = guard n; reported = reported_again i.reported i.guard i.write n; write = behind_again i b rest e n }
 
 pub item_again : (i : Item) (rest : List ℕ) → item_at (item_bytes i ++ rest) ≡ i
 item_again i rest =
@@ -128,7 +128,7 @@ tx_there is h =
 pub tx_len : (is : List Item) → are_items is ≡ true → is_items_len (length (tx_bytes is)) ≡ true
 tx_len is h =
     let long = is_items_len (length (tx_bytes is)) in
-    let some = and_parts (nat_le 1 (length is) && nat_le (length is) 1024) (all_items is && (rise_above [] is && (nat_le (told_count is) 16 && long))) h in
-    let all = and_parts (all_items is) (rise_above [] is && (nat_le (told_count is) 16 && long)) some.1 in
-    let rise = and_parts (rise_above [] is) (nat_le (told_count is) 16 && long) all.1 in
-    (and_parts (nat_le (told_count is) 16) long rise.1).1
+    let some = and_parts (nat_le 1 (length is) && nat_le (length is) 1024) (all_items is && (rise_above [] is && (nat_le (reported_count is) 16 && long))) h in
+    let all = and_parts (all_items is) (rise_above [] is && (nat_le (reported_count is) 16 && long)) some.1 in
+    let rise = and_parts (rise_above [] is) (nat_le (reported_count is) 16 && long) all.1 in
+    (and_parts (nat_le (reported_count is) 16) long rise.1).1

@@ -8,7 +8,7 @@ use Rattle.std.proofs.lemmas.List.{take_rest}
 use Rattle.ep_base.specs.Commands.{Command, Noop, Get, Put, Del, Swap, Cas, Seal, Opaque, Tx}
 use Rattle.ep_base.specs.Interference.{is_many}
 use Rattle.ep_base.specs.Attributes.{same_list}
-use Rattle.ep_base.specs.Items.{Item, told_count, rise_above}
+use Rattle.ep_base.specs.Items.{Item, reported_count, rise_above}
 use Rattle.ep_base.specs.Ops.{is_items_len}
 use Rattle.ep_base.specs.CommandParts.{parts_of, items_of, items_in, items_at, item_at, item_bytes, items_bytes, tx_bytes, all_items, are_items, are_items_at, are_counted, is_tx, part_at, guard_in, guard_bytes, is_short_in, are_parts, body_said, command_of, IsPartLen, IsGuardLen, IsInRange}
 use Rattle.ep_base.proofs.Bodies.{tx_again, tx_there, tx_parts}
@@ -84,15 +84,15 @@ record Counted (is : List Item) : Type 0 where
   some : (nat_le 1 (length is) && nat_le (length is) 1024) ≡ true
   all : all_items is ≡ true
   rise : rise_above [] is ≡ true
-  few : nat_le (told_count is) 16 ≡ true
+  few : nat_le (reported_count is) 16 ≡ true
 
 counted : (is : List Item) → are_items is ≡ true → Counted is
 counted is h =
     let long = is_items_len (length (tx_bytes is)) in
-    let some = and_parts (nat_le 1 (length is) && nat_le (length is) 1024) (all_items is && (rise_above [] is && (nat_le (told_count is) 16 && long))) h in
-    let all = and_parts (all_items is) (rise_above [] is && (nat_le (told_count is) 16 && long)) some.1 in
-    let rise = and_parts (rise_above [] is) (nat_le (told_count is) 16 && long) all.1 in
-    record { some = some.0; all = all.0; rise = rise.0; few = (and_parts (nat_le (told_count is) 16) long rise.1).0 }
+    let some = and_parts (nat_le 1 (length is) && nat_le (length is) 1024) (all_items is && (rise_above [] is && (nat_le (reported_count is) 16 && long))) h in
+    let all = and_parts (all_items is) (rise_above [] is && (nat_le (reported_count is) 16 && long)) some.1 in
+    let rise = and_parts (rise_above [] is) (nat_le (reported_count is) 16 && long) all.1 in
+    record { some = some.0; all = all.0; rise = rise.0; few = (and_parts (nat_le (reported_count is) 16) long rise.1).0 }
 
 abbrev within : ℕ → Bool
 within n = nat_le 1 n && nat_le n 1024
@@ -105,10 +105,10 @@ tx_from : (a c : ℕ) (x : List ℕ) → c < 256 → 5 ≤ length (a ∷ c ∷ x
 tx_from a c x small low high h =
     let n = a * 256 + c in
     let is = items_at n x in
-    let p = and_parts (within n) (are_items_at n x && (rise_above [] is && nat_le (told_count is) 16)) h in
-    let q = and_parts (are_items_at n x) (rise_above [] is && nat_le (told_count is) 16) p.1 in
+    let p = and_parts (within n) (are_items_at n x && (rise_above [] is && nat_le (reported_count is) 16)) h in
+    let q = and_parts (are_items_at n x) (rise_above [] is && nat_le (reported_count is) 16) p.1 in
     let r = and_parts (same_list x (items_bytes is)) (all_items is) q.0 in
-    let s = and_parts (rise_above [] is) (nat_le (told_count is) 16) q.1 in
+    let s = and_parts (rise_above [] is) (nat_le (reported_count is) 16) q.1 in
     let bytes : x ≡ items_bytes is = (Decides-same_list x (items_bytes is)).0 r.0 in
     let len : length is ≡ n = items_len n x in
     let first : a ≡ length is / 256 = omega (arith, len, small) in
@@ -137,10 +137,10 @@ tx_length b h =
     let p = tx_parts b h in
     let is = items_in b in
     let long = is_items_len (length (tx_bytes is)) in
-    let some = and_parts (nat_le 1 (length is) && nat_le (length is) 1024) (all_items is && (rise_above [] is && (nat_le (told_count is) 16 && long))) p.1 in
-    let all = and_parts (all_items is) (rise_above [] is && (nat_le (told_count is) 16 && long)) some.1 in
-    let rise = and_parts (rise_above [] is) (nat_le (told_count is) 16 && long) all.1 in
-    ap (λ x. is_items_len (length x)) p.0 ∙ (and_parts (nat_le (told_count is) 16) long rise.1).1
+    let some = and_parts (nat_le 1 (length is) && nat_le (length is) 1024) (all_items is && (rise_above [] is && (nat_le (reported_count is) 16 && long))) p.1 in
+    let all = and_parts (all_items is) (rise_above [] is && (nat_le (reported_count is) 16 && long)) some.1 in
+    let rise = and_parts (rise_above [] is) (nat_le (reported_count is) 16 && long) all.1 in
+    ap (λ x. is_items_len (length x)) p.0 ∙ (and_parts (nat_le (reported_count is) 16) long rise.1).1
 
 not_then : (t : Bool) → (t ≡ true → ⊥) → false ≡ t
 not_then true h = absurd (h refl)

@@ -32,7 +32,7 @@ Decides-same_attrs a b =
     let parts = Decides-and (eqb a.seq b.seq) (same_list a.deps b.deps) (Decides-eqb a.seq b.seq) (Decides-same_list a.deps b.deps) in
     Decides-like (same_attrs a b) (λ h. attrs_from_parts a b h.0 h.1) (λ e. (ap (λ (x : Attrs). x.seq) e, ap (λ (x : Attrs). x.deps) e)) parts
 
--- values that a mark tells apart are not equal
+-- values that a mark distinguishes are not equal
 apart : {X : Type 0} {x y : X} (mark : X → ℕ) → eqb (mark x) (mark y) ≡ false → Decides false (x ≡ y)
 apart mark differs = (λ e. absurd (false≢true e), λ e. absurd (eqb-false _ _ differs (ap mark e)))
 
@@ -188,16 +188,16 @@ Decides-same_asked (Some o) (Some p) = Decides-like (same_option o p) (ap Some) 
 Decides-same_asked None (Some p) = apart asked_kind refl
 Decides-same_asked (Some o) None = apart asked_kind refl
 
-item_from_parts : (i j : Item) → i.key ≡ j.key → i.guard ≡ j.guard → i.told ≡ j.told → i.write ≡ j.write → i ≡ j
-item_from_parts i j k g t w = λ n. record { key = k n; guard = g n; told = t n; write = w n }
+item_from_parts : (i j : Item) → i.key ≡ j.key → i.guard ≡ j.guard → i.reported ≡ j.reported → i.write ≡ j.write → i ≡ j
+item_from_parts i j k g t w = λ n. record { key = k n; guard = g n; reported = t n; write = w n }
 
 Decides-same_item : (i j : Item) → Decides (same_item i j) (i ≡ j)
 Decides-same_item i j =
-    let last = Decides-and (same_bool i.told j.told) (same_asked i.write j.write) (Decides-same_bool i.told j.told) (Decides-same_asked i.write j.write) in
-    let rest = Decides-and (same_asked i.guard j.guard) (same_bool i.told j.told && same_asked i.write j.write) (Decides-same_asked i.guard j.guard) last in
-    let parts = Decides-and (same_list i.key j.key) (same_asked i.guard j.guard && (same_bool i.told j.told && same_asked i.write j.write)) (Decides-same_list i.key j.key) rest in
+    let last = Decides-and (same_bool i.reported j.reported) (same_asked i.write j.write) (Decides-same_bool i.reported j.reported) (Decides-same_asked i.write j.write) in
+    let rest = Decides-and (same_asked i.guard j.guard) (same_bool i.reported j.reported && same_asked i.write j.write) (Decides-same_asked i.guard j.guard) last in
+    let parts = Decides-and (same_list i.key j.key) (same_asked i.guard j.guard && (same_bool i.reported j.reported && same_asked i.write j.write)) (Decides-same_list i.key j.key) rest in
     Decides-like (same_item i j) (λ h. item_from_parts i j h.0 h.1.0 h.1.1.0 h.1.1.1)
-    (λ e. (ap (λ (x : Item). x.key) e, (ap (λ (x : Item). x.guard) e, (ap (λ (x : Item). x.told) e, ap (λ (x : Item). x.write) e))))
+    (λ e. (ap (λ (x : Item). x.key) e, (ap (λ (x : Item). x.guard) e, (ap (λ (x : Item). x.reported) e, ap (λ (x : Item). x.write) e))))
     parts
 
 -- lists, by a test of what they have
@@ -271,40 +271,40 @@ reply_kind Ordered = 3
 reply_kind (Done os) = 4
 reply_kind (Undone os) = 5
 
-abbrev told_value : Reply → List ℕ
-told_value Absent = []
-told_value (Present v) = v
-told_value Closed = []
-told_value Ordered = []
-told_value (Done os) = []
-told_value (Undone os) = []
+abbrev reported_value : Reply → List ℕ
+reported_value Absent = []
+reported_value (Present v) = v
+reported_value Closed = []
+reported_value Ordered = []
+reported_value (Done os) = []
+reported_value (Undone os) = []
 
-abbrev told_values : Reply → List (Option (List ℕ))
-told_values Absent = []
-told_values (Present v) = []
-told_values Closed = []
-told_values Ordered = []
-told_values (Done os) = os
-told_values (Undone os) = os
+abbrev reply_values : Reply → List (Option (List ℕ))
+reply_values Absent = []
+reply_values (Present v) = []
+reply_values Closed = []
+reply_values Ordered = []
+reply_values (Done os) = os
+reply_values (Undone os) = os
 
 pub Decides-same_reply : (r s : Reply) → Decides (same_reply r s) (r ≡ s)
 Decides-same_reply Absent Absent = (λ _. refl, λ _. refl)
-Decides-same_reply (Present v) (Present w) = Decides-like (same_list v w) (ap Present) (ap told_value) (Decides-same_list v w)
+Decides-same_reply (Present v) (Present w) = Decides-like (same_list v w) (ap Present) (ap reported_value) (Decides-same_list v w)
 Decides-same_reply Closed Closed = (λ _. refl, λ _. refl)
 Decides-same_reply Ordered Ordered = (λ _. refl, λ _. refl)
-Decides-same_reply (Done os) (Done ps) = Decides-like (same_options os ps) (ap Done) (ap told_values) (Decides-same_options os ps)
-Decides-same_reply (Undone os) (Undone ps) = Decides-like (same_options os ps) (ap Undone) (ap told_values) (Decides-same_options os ps)
+Decides-same_reply (Done os) (Done ps) = Decides-like (same_options os ps) (ap Done) (ap reply_values) (Decides-same_options os ps)
+Decides-same_reply (Undone os) (Undone ps) = Decides-like (same_options os ps) (ap Undone) (ap reply_values) (Decides-same_options os ps)
 Decides-same_reply r s = apart reply_kind refl
 
 abbrev answer_kind : Answer → ℕ
 answer_kind Lost = 0
 answer_kind (Replied r) = 1
 
-abbrev told_reply : Answer → Reply
-told_reply Lost = Absent
-told_reply (Replied r) = r
+abbrev reported_reply : Answer → Reply
+reported_reply Lost = Absent
+reported_reply (Replied r) = r
 
 pub Decides-same_answer : (a b : Answer) → Decides (same_answer a b) (a ≡ b)
 Decides-same_answer Lost Lost = (λ _. refl, λ _. refl)
-Decides-same_answer (Replied r) (Replied s) = Decides-like (same_reply r s) (ap Replied) (ap told_reply) (Decides-same_reply r s)
+Decides-same_answer (Replied r) (Replied s) = Decides-like (same_reply r s) (ap Replied) (ap reported_reply) (Decides-same_reply r s)
 Decides-same_answer a b = apart answer_kind refl

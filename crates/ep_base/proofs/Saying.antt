@@ -94,7 +94,7 @@ module _ (k f : ℕ) (y : List ℕ) (some : 1 ≤ k) (byte : k ≤ 255) (low : 1
       let front : take (k + n) y ≡ take k y ++ take n z =
       (λ d. take (sym key_long d + n) (sym (take-append-drop k y) d)) ∙ take-append-add (take k y) z n in
       let key : is_key_len (length (take k y)) ≡ true = ap is_key_len key_long ∙ both_true (le-leb 1 k some) (le-leb k 255 byte) in
-      let says : (i.told || is_some i.guard || is_some i.write) ≡ true = says_some i.told i.guard i.write (subst (λ m. 1 ≤ m) (sym flags_are) low) in (
+      let says : (i.reported || is_some i.guard || is_some i.write) ≡ true = says_some i.reported i.guard i.write (subst (λ m. 1 ≤ m) (sym flags_are) low) in (
         omega arith,
         ap (λ m. take m (k ∷ f ∷ y)) count ∙ (λ d. sym key_long d ∷ sym flags_are d ∷ front d) ∙ ap (λ x. length (take k y) ∷ flags_of i ∷ (take k y ++ x)) h.1,
         both_true key (both_true says (both_true h.2 h.3)),
@@ -104,8 +104,8 @@ module _ (k f : ℕ) (y : List ℕ) (some : 1 ≤ k) (byte : k ≤ 255) (low : 1
   one_none none = λ is rest e.
       let i = item_at (k ∷ f ∷ y) in
       let said = said_bytes f (drop k y) in
-      let p = and_parts (is_key_len (length i.key)) ((i.told || is_some i.guard || is_some i.write) && (is_short_in i.guard && is_short_in i.write)) is in
-      let q = and_parts (i.told || is_some i.guard || is_some i.write) (is_short_in i.guard && is_short_in i.write) p.1 in
+      let p = and_parts (is_key_len (length i.key)) ((i.reported || is_some i.guard || is_some i.write) && (is_short_in i.guard && is_short_in i.write)) is in
+      let q = and_parts (i.reported || is_some i.guard || is_some i.write) (is_short_in i.guard && is_short_in i.write) p.1 in
       let r = and_parts (is_short_in i.guard) (is_short_in i.write) q.1 in
       let tail : y ≡ (take k y ++ said) ++ rest = ap (λ b. drop 2 b) e in
       none r.0 r.1 rest (ap (λ m. drop m y) (sym key_long) ∙ ap (λ x. drop (length (take k y)) x) (tail ∙ append_assoc (take k y) said rest) ∙ drop-append_seam (take k y) (said ++ rest))
@@ -127,14 +127,14 @@ item_none (k ∷ f ∷ y) r two some byte low high there e h = one_none k f y so
 
 -- the item that is seen is the one that the bytes begin with
 pub item_seen : (b r key : List ℕ) (g w : Option (Option (List ℕ))) → r ≡ drop (2 + slice_index b 0) b → key ≡ take (2 + slice_index b 0 - 2) (drop 2 b) → g ≡ guard_in (slice_index b 1) r → w ≡ write_behind (slice_index b 1) r
-    → record { key = key; guard = g; told = eqb (slice_index b 1 % 2) 1; write = w } ≡ item_at b
+    → record { key = key; guard = g; reported = eqb (slice_index b 1 % 2) 1; write = w } ≡ item_at b
 item_seen b r key g w e is eg ew =
     let k = slice_index b 0 in
     let rest : r ≡ drop k (drop 2 b) = e ∙ sym (drop-drop k 2 b) in
     let own : key ≡ take k (drop 2 b) = is ∙ ap (λ m. take m (drop 2 b)) (let s : 2 + k - 2 ≡ k = omega arith in s) in
     let guard : g ≡ guard_in (slice_index b 1) (drop k (drop 2 b)) = eg ∙ ap (guard_in (slice_index b 1)) rest in
     let write : w ≡ write_behind (slice_index b 1) (drop k (drop 2 b)) = ew ∙ ap (write_behind (slice_index b 1)) rest in
-    λ d. record { key = own d; guard = guard d; told = eqb (slice_index b 1 % 2) 1; write = write d }
+    λ d. record { key = own d; guard = guard d; reported = eqb (slice_index b 1 % 2) 1; write = write d }
 
 -- One item of several.
 

@@ -1,7 +1,7 @@
 -- A command in parts: its op, at most two keys, and its body. What it has not has no bytes.
 use Rattle.std.specs.Prelude.{◌≡◌, ◌≢◌, ℕ, zero, suc, ◌+◌, ◌*◌, ◌/◌, ◌%◌, ◌≤◌, List, [], ◌∷◌, ◌++◌, length, take, drop, slice_index, Option, Some, None, is_some, Bool, true, false, not, ◌&&◌, ◌||◌, ◌==◌, nat_le, if◌then◌else◌}
 use Rattle.ep_base.specs.Commands.{Command, Noop, Get, Put, Del, Swap, Cas, Seal, Opaque, Tx}
-use Rattle.ep_base.specs.Items.{Item, told_count, rise_above}
+use Rattle.ep_base.specs.Items.{Item, reported_count, rise_above}
 use Rattle.ep_base.specs.declared.op.Op.{Op}
 use Rattle.ep_base.specs.declared.op.Op.TheVariants as op
 use Rattle.ep_base.specs.Ops.{first_fits, second_fits, body_fits, is_key_len, is_items_len}
@@ -75,7 +75,7 @@ write_flag (Some (Some v)) = 4
 
 -- 1 where the key is reported, 2 where it is guarded, and that of what is written
 abbrev pub flags_of : Item → ℕ
-flags_of i = flag 1 i.told + flag 2 (is_some i.guard) + write_flag i.write
+flags_of i = flag 1 i.reported + flag 2 (is_some i.guard) + write_flag i.write
 
 -- a guard: the value or none that must be there
 abbrev pub guard_bytes : Option (Option (List ℕ)) → List ℕ
@@ -125,7 +125,7 @@ said_bytes flags b = guard_bytes (guard_in flags b) ++ write_bytes (write_behind
 
 -- the item of this key and these flags, where what is behind the key is b
 abbrev pub item_with : List ℕ → ℕ → List ℕ → Item
-item_with k flags b = record { key = k; guard = guard_in flags b; told = flags % 2 == 1; write = write_behind flags b }
+item_with k flags b = record { key = k; guard = guard_in flags b; reported = flags % 2 == 1; write = write_behind flags b }
 
 -- the item that these bytes begin with
 abbrev pub item_at : List ℕ → Item
@@ -146,7 +146,7 @@ is_short_in (Some o) = is_short o
 
 -- a key of 1 to 255 bytes, of which something is said, and values of at most 65,535 bytes
 abbrev pub is_item : Item → Bool
-is_item i = is_key_len (length i.key) && ((i.told || is_some i.guard || is_some i.write) && (is_short_in i.guard && is_short_in i.write))
+is_item i = is_key_len (length i.key) && ((i.reported || is_some i.guard || is_some i.write) && (is_short_in i.guard && is_short_in i.write))
 
 abbrev pub all_items : List Item → Bool
 all_items [] = true
@@ -154,7 +154,7 @@ all_items (i ∷ is) = is_item i && all_items is
 
 -- 1 to 1,024 items, in rising order of keys, of which at most 16 are reported, and which have at most 131,080 bytes
 abbrev pub are_items : List Item → Bool
-are_items is = (nat_le 1 (length is) && nat_le (length is) 1024) && (all_items is && (rise_above [] is && (nat_le (told_count is) 16 && is_items_len (length (tx_bytes is)))))
+are_items is = (nat_le 1 (length is) && nat_le (length is) 1024) && (all_items is && (rise_above [] is && (nat_le (reported_count is) 16 && is_items_len (length (tx_bytes is)))))
 
 -- such items, with nothing left over
 abbrev pub is_tx : List ℕ → Bool
@@ -189,7 +189,7 @@ are_items_at n b = same_list b (items_bytes (items_at n b)) && all_items (items_
 
 -- these bytes are so many items, as many as a command may have, in order, and few enough are reported
 abbrev pub are_counted : ℕ → List ℕ → Bool
-are_counted n b = (nat_le 1 n && nat_le n 1024) && (are_items_at n b && (rise_above [] (items_at n b) && nat_le (told_count (items_at n b)) 16))
+are_counted n b = (nat_le 1 n && nat_le n 1024) && (are_items_at n b && (rise_above [] (items_at n b) && nat_le (reported_count (items_at n b)) 16))
 
 abbrev pub body_said : Op → List ℕ → Bool
 body_said op.Noop b = true

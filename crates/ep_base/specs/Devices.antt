@@ -10,14 +10,14 @@ Pulls old new had has r buf = MatchResult r (λ n. Consumes old new (take n buf)
 abbrev pub Puts : {T E : Type 0} → Option (List ℕ) → Option (List ℕ) → Bool → Bool → Result T E → List ℕ → Type 0
 Puts old new had has r bytes = MatchResult r (λ _. Appends old new bytes × (has ≡ had)) (λ _. has ≡ true)
 
--- whether a call tells the fault of its device, which `is_its` picks out of the faults that the call can tell
-abbrev pub tells : {T E : Type 0} → (E → Bool) → Result T E → Bool
-tells is_its (Ok x) = false
-tells is_its (Err e) = is_its e
+-- whether a call reports the fault of its device, which `is_its` picks out of the faults that the call can report
+abbrev pub reports : {T E : Type 0} → (E → Bool) → Result T E → Bool
+reports is_its (Ok x) = false
+reports is_its (Err e) = is_its e
 
 -- after a call its device has failed where the call says so or it had failed before, and nowhere else
-abbrev pub FailsAsTold : {T E : Type 0} → (E → Bool) → Result T E → Bool → Bool → Type 0
-FailsAsTold is_its r had has = has ≡ (tells is_its r || had)
+abbrev pub FailsAsReported : {T E : Type 0} → (E → Bool) → Result T E → Bool → Bool → Type 0
+FailsAsReported is_its r had has = has ≡ (reports is_its r || had)
 
 -- a device, and whether it has failed
 pub record Watched (T : Type 0) : Type 0 where

@@ -9,7 +9,7 @@ pub record Item : Type 0 where
   -- the guard: what the key must have, be it a value or none, if the item asks for that
   pub guard : Option (Option (List ℕ))
   -- the reply says what the key has
-  pub told : Bool
+  pub reported : Bool
   -- what the key is given, be it a value or none, if the item writes
   pub write : Option (Option (List ℕ))
 
@@ -23,9 +23,9 @@ none_writes [] = true
 none_writes (i ∷ is) = is_none i.write && none_writes is
 
 -- how many items are reported
-abbrev pub told_count : List Item → ℕ
-told_count [] = 0
-told_count (i ∷ is) = if i.told then suc (told_count is) else told_count is
+abbrev pub reported_count : List Item → ℕ
+reported_count [] = 0
+reported_count (i ∷ is) = if i.reported then suc (reported_count is) else reported_count is
 
 -- the keys rise, as unsigned bytes, from one above k on
 abbrev pub rise_above : List ℕ → List Item → Bool

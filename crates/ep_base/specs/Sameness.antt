@@ -32,7 +32,7 @@ abbrev pub same_touched : Touched → Touched → Bool
 same_touched p q = same_list p.first q.first && (same_option p.second q.second && same_bool p.reads q.reads)
 
 abbrev pub same_item : Item → Item → Bool
-same_item i j = same_list i.key j.key && (same_asked i.guard j.guard && (same_bool i.told j.told && same_asked i.write j.write))
+same_item i j = same_list i.key j.key && (same_asked i.guard j.guard && (same_bool i.reported j.reported && same_asked i.write j.write))
 
 abbrev pub same_items : List Item → List Item → Bool
 same_items [] [] = true

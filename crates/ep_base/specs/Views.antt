@@ -19,7 +19,7 @@ asked o = option_map (λ p. option_copied p) o
 
 -- the item that is borrowed
 abbrev pub seen : ItemView → Item
-seen i = record { key = i.key.now; guard = asked i.guard; told = i.told; write = asked i.write }
+seen i = record { key = i.key.now; guard = asked i.guard; reported = i.reported; write = asked i.write }
 
 abbrev pub means : CommandView → Command
 means view.Noop = Noop

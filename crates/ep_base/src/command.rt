@@ -279,7 +279,7 @@ impl Command {
     }
 
     /// The body: a put's or a seal's value, a comparison's two values, the items of a command over many keys, or what a machine
-    /// outside is told.
+    /// outside is answered.
     #[inline(always)]
     pub fn body(&self) -> &[u8]
         ensures { result.now ≡ (parts_of self.now).body }
@@ -536,7 +536,7 @@ fn joined(alloc: Global, first: &[u8], second: &[u8], body: &[u8]) -> Result<Byt
     Ok(Bytes::from_vec(run)?)
 }
 
-/// A command is its parts, which tell its keys and whether it only reads.
+/// A command is its parts, which report its keys and whether it only reads.
 pub fn parts_law()
     ensures { PartsLaw }
 {}

@@ -1,7 +1,7 @@
 //! Bodies of commands over many keys.
 
 ghost use Rattle.std.specs.Prelude.{◌≡◌, ◌∷◌, ◌≤◌, ◌<◌, ◌+◌, ◌*◌, ◌^◌, length, slice_index, true, IfNone, IfSome, [], Some, None};
-ghost use Rattle.ep_base.specs.Items.{none_writes, told_count, rise_above, item_keys};
+ghost use Rattle.ep_base.specs.Items.{none_writes, reported_count, rise_above, item_keys};
 ghost use Rattle.ep_base.specs.Interference.{has_key};
 ghost use Rattle.ep_base.specs.CommandParts.{is_tx, items_in, are_items_at, is_item, item_at, guard_in, write_in, write_behind, IsItemLen, IsSaidLen, IsGuardLen, IsWriteLen, IsPutLen, are_counted};
 ghost use Rattle.ep_base.specs.Views.{asked, seen};
@@ -12,8 +12,8 @@ use std::marker::Model;
 /// How many keys a command names at most.
 pub const MOST_KEYS: usize = 1_024;
 
-/// How many keys a reply tells at most.
-pub const MOST_TOLD: usize = 16;
+/// How many keys a reply reports at most.
+pub const MOST_REPORTED: usize = 16;
 
 /// What a command over many keys says of one of them, its parts borrowed.
 #[derive(Clone, Copy)]
@@ -23,7 +23,7 @@ pub struct ItemView<'a> {
     /// What the key must have, be it a value or none, if the item asks for that.
     pub guard: Option<Option<&'a [u8]>>,
     /// Whether the reply says what the key has.
-    pub told: bool,
+    pub reported: bool,
     /// What the key is given, be it a value or none, if the item writes.
     pub write: Option<Option<&'a [u8]>>,
 }
@@ -108,7 +108,7 @@ fn are_counted(left: usize, rest: &[u8]) -> bool
     if left < 1 || MOST_KEYS < left || !are_items_at(left, rest) {
         return false;
     }
-    do_rise(Items { left, rest }) && told_count(Items { left, rest }) <= MOST_TOLD
+    do_rise(Items { left, rest }) && reported_count(Items { left, rest }) <= MOST_REPORTED
 }
 
 // How many items the body says that it has.
@@ -152,14 +152,14 @@ fn do_rise(items: Items<'_>) -> bool
     true
 }
 
-fn told_count(items: Items<'_>) -> usize
+fn reported_count(items: Items<'_>) -> usize
     requires { length items ≤ 65535 }
-    ensures { result ≡ told_count items.entry }
+    ensures { result ≡ reported_count items.entry }
 {
     let mut items = items;
     let mut count = 0;
     while let Some(item) = items.next() {
-        if item.told {
+        if item.reported {
             count += 1;
         }
     }
@@ -211,7 +211,7 @@ fn item_of(bytes: &[u8]) -> Option<(ItemView<'_>, usize)>
     let item = ItemView {
         key: &bytes[2..behind],
         guard: said.0,
-        told: flags % 2 == 1,
+        reported: flags % 2 == 1,
         write: said.1,
     };
     Some((item, behind + said.2))

@@ -1,4 +1,4 @@
-//! What replicas tell one another.
+//! What replicas say to one another.
 
 ghost use Rattle.std.specs.Prelude.{◌≡◌, IfOk};
 ghost use Rattle.ep_base.specs.Messages.{instance_of_message};

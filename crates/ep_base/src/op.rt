@@ -72,7 +72,7 @@ impl Op {
         }
     }
 
-    /// Whether a command of this op only reads: a get or an ask. One over many keys may, too: its items tell that.
+    /// Whether a command of this op only reads: a get or an ask. One over many keys may, too: its items say that.
     #[inline(always)]
     pub fn reads(self) -> bool
         ensures { result ≡ reads self }

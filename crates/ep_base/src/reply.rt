@@ -3,12 +3,12 @@
 ghost use Rattle.std.specs.Prelude.{◌≡◌, ◌↔◌, IsTrue, IfOk};
 ghost use Rattle.ep_base.specs.Sameness.{same_reply, same_answer};
 
-use crate::told_values::ToldValues;
+use crate::reply_values::ReplyValues;
 use crate::value::Value;
 use std::alloc::{AllocError, Global};
 
 /// What a command's key had just before the command; or that the map was closed then; or, to a command of a machine outside, that it is
-/// in order; or whether a command over many keys wrote, and what those that it tells had.
+/// in order; or whether a command over many keys wrote, and what those that it reports had.
 #[derive(Debug, Drop)]
 pub enum Reply {
     /// The key had no value.
@@ -19,10 +19,10 @@ pub enum Reply {
     Closed,
     /// The command is one of a machine outside, and has its place in the order.
     Ordered,
-    /// The guards of a command over many keys held, and it wrote; each key that it tells had this just before.
-    Done(ToldValues),
+    /// The guards of a command over many keys held, and it wrote; each key that it reports had this just before.
+    Done(ReplyValues),
     /// They didn't, and it wrote nothing.
-    Undone(ToldValues),
+    Undone(ReplyValues),
 }
 
 impl Reply {
@@ -35,8 +35,8 @@ impl Reply {
             Reply::Present(value) => Ok(Reply::Present(value.copy(alloc)?)),
             Reply::Closed => Ok(Reply::Closed),
             Reply::Ordered => Ok(Reply::Ordered),
-            Reply::Done(told) => Ok(Reply::Done(told.copy(alloc)?)),
-            Reply::Undone(told) => Ok(Reply::Undone(told.copy(alloc)?)),
+            Reply::Done(reported) => Ok(Reply::Done(reported.copy(alloc)?)),
+            Reply::Undone(reported) => Ok(Reply::Undone(reported.copy(alloc)?)),
         }
     }
 
@@ -50,8 +50,12 @@ impl Reply {
             (Reply::Present(value), Reply::Present(other_value)) => value.is_same(other_value),
             (Reply::Closed, Reply::Closed) => true,
             (Reply::Ordered, Reply::Ordered) => true,
-            (Reply::Done(told), Reply::Done(other_told)) => told.is_same(other_told),
-            (Reply::Undone(told), Reply::Undone(other_told)) => told.is_same(other_told),
+            (Reply::Done(reported), Reply::Done(other_reported)) => reported.is_same(
+                other_reported,
+            ),
+            (Reply::Undone(reported), Reply::Undone(other_reported)) => reported.is_same(
+                other_reported,
+            ),
             _ => false,
         }
     }

@@ -1,4 +1,4 @@
--- Commands: each took its own bytes, the lengths as its version tells them and the parts as all do.
+-- Commands: each took its own bytes, the lengths as its version reports them and the parts as all do.
 use Rattle.std.proofs.Common.{◌≡◌, ℕ, ◌+◌, ◌≤◌, Bool, true, false, ◌&&◌, not, cond, leb, List, [], ◌++◌, length, length-append, append-nil, append_assoc, Option, Some, None, Result, Ok, Err, refl, sym, ap, ◌∙◌, subst, arith}
 use Rattle.std.proofs.lemmas.Bool.{leb-true, and_parts}
 use Rattle.ep_base.specs.Commands.{Command}
@@ -55,7 +55,7 @@ op_gives v l h =
 
 -- the lengths
 
--- as they are told after the first key's
+-- as they are reported after the first key's
 abbrev pub other_in : Version → Lengths → List ℕ
 other_in V1 s = number_bytes 2 (s.second + s.body)
 other_in V2 s = number_bytes 2 (s.second + s.body)
@@ -70,7 +70,7 @@ pub record IsOther (v : Version) (o : Op) (k : ℕ) (s : Lengths) : Type 0 where
   pub fit : (second_fits o s.second ≡ true) × (body_fits o s.body ≡ true)
   pub short : IsShortIn v s.body
 
--- the lengths that a command of version 1 or 2 tells are of its parts
+-- the lengths that a command of version 1 or 2 reports are of its parts
 pub early_lengths_are : (o : Op) (k n : ℕ) → first_fits o k ≡ true → early_fits o n ≡ true → AreLengths (record { op = o; first = k; second = second_in o n; body = body_in o n })
 early_lengths_are o k n h e =
     let p = and_parts (second_fits o (second_in o n)) (leb (body_in o n) 1024 && body_fits o (body_in o n)) e in
@@ -85,14 +85,14 @@ divided false n = omega arith
 
 early_gives : (v : Version) (o : Op) (k : ℕ) (l : Left) → ((s : Lengths) → number_bytes 2 (s.second + s.body) ≡ other_in v s) → ((n : ℕ) → n ≤ 1024 → IsShortIn v n) → AreBytes l.bytes
     → Gives (other_in v) (IsOther v o k) l (early_lengths o k l)
-early_gives v o k l told short h =
+early_gives v o k l reported short h =
     whole (step (allowed named.TextLength (LengthFor o) 2 (early_fits o) l) (λ n m. Ok (record { op = o; first = k; second = second_in o n; body = body_in o n }, m)) h (allowed_gives _ _ 2 wide2 (early_fits o) l h)
     (λ n m p hm.
     let e = and_parts (second_fits o (second_in o n)) (leb (body_in o n) 1024 && body_fits o (body_in o n)) p in
     let f = and_parts (leb (body_in o n) 1024) (body_fits o (body_in o n)) e.1 in
     let s : Lengths = record { op = o; first = k; second = second_in o n; body = body_in o n } in
     done s (
-      append-nil (number_bytes 2 n) ∙ ap (λ x. number_bytes 2 x) (divided (second_fits o 0) n) ∙ told s,
+      append-nil (number_bytes 2 n) ∙ ap (λ x. number_bytes 2 x) (divided (second_fits o 0) n) ∙ reported s,
       record { op = refl; first = refl; fit = (e.0, f.1); short = short (body_in o n) (leb-true (body_in o n) 1024 f.0) },
     )))
 
@@ -104,13 +104,13 @@ other_gives (V3 g) o k l h =
     (λ x m p hm. step (allowed named.BodyLength (LengthFor o) 4 (body_fits o) m) (λ n m. Ok (record { op = o; first = k; second = x; body = n }, m)) hm (allowed_gives _ _ 4 wide4 (body_fits o) m hm)
     (λ n m q hn. done (record { op = o; first = k; second = x; body = n }) (ap (λ y. number_bytes 1 x ++ y) (append-nil (number_bytes 4 n)), record { op = refl; first = refl; fit = (p, q); short = tt }))))
 
-pub record Told (v : Version) (s : Lengths) : Type 0 where
+pub record Reported (v : Version) (s : Lengths) : Type 0 where
   pub op : op_number s.op ≤ highest_op v
   pub fit : AreLengths s
   pub short : IsShortIn v s.body
 
-told_lengths : (v : Version) (o : Op) (k : ℕ) (s : Lengths) → op_number o ≤ highest_op v → first_fits o k ≡ true → IsOther v o k s → Told v s
-told_lengths v o k s high first is =
+reported_lengths : (v : Version) (o : Op) (k : ℕ) (s : Lengths) → op_number o ≤ highest_op v → first_fits o k ≡ true → IsOther v o k s → Reported v s
+reported_lengths v o k s high first is =
     let same : o ≡ s.op = sym is.op in
     record {
       op = subst (λ (x : Op). op_number x ≤ highest_op v) same high;
@@ -118,16 +118,16 @@ told_lengths v o k s high first is =
       short = is.short;
     }
 
-told_bytes : (v : Version) (o : Op) (k : ℕ) (s : Lengths) → IsOther v o k s → number_bytes 1 (op_number o) ++ (number_bytes 1 k ++ other_in v s) ≡ lengths_in v s
-told_bytes v o k s is =
+reported_bytes : (v : Version) (o : Op) (k : ℕ) (s : Lengths) → IsOther v o k s → number_bytes 1 (op_number o) ++ (number_bytes 1 k ++ other_in v s) ≡ lengths_in v s
+reported_bytes v o k s is =
     (λ t. number_bytes 1 (op_number (sym is.op t)) ++ (number_bytes 1 (sym is.first t) ++ other_in v s))
     ∙ sym (append_assoc (number_bytes 1 (op_number s.op)) (number_bytes 1 s.first) (other_in v s))
 
-lengths_gives : (v : Version) (l : Left) → AreBytes l.bytes → Gives (lengths_in v) (Told v) l (lengths v l)
+lengths_gives : (v : Version) (l : Left) → AreBytes l.bytes → Gives (lengths_in v) (Reported v) l (lengths v l)
 lengths_gives v l h =
     whole (step (op v l) (λ o l. and_then (allowed named.KeyLength (LengthFor o) 1 (first_fits o) l) (λ k l. other_lengths v o k l)) h (op_gives v l h)
     (λ o m p hm. step (allowed named.KeyLength (LengthFor o) 1 (first_fits o) m) (λ k l. other_lengths v o k l) hm (allowed_gives _ _ 1 wide1 (first_fits o) m hm)
-    (λ k m q hk. last (other_gives v o k m hk) (λ s r. (told_bytes v o k s r, told_lengths v o k s p q r)))))
+    (λ k m q hk. last (other_gives v o k m hk) (λ s r. (reported_bytes v o k s r, reported_lengths v o k s p q r)))))
 
 -- the parts
 
@@ -179,15 +179,15 @@ pub record Read (v : Version) (c : Command) (bs : List ℕ) : Type 0 where
   pub bytes : bs ≡ command_bytes v c
   pub fits : CommandFits v c
 
-made_bytes : (v : Version) (s : Lengths) (c : Command) (bs : List ℕ) → Told v s → Made s c bs → Read v c (lengths_in v s ++ bs)
-made_bytes v s c bs told m =
+made_bytes : (v : Version) (s : Lengths) (c : Command) (bs : List ℕ) → Reported v s → Made s c bs → Read v c (lengths_in v s ++ bs)
+made_bytes v s c bs reported m =
     let back : parts_of c ≡ m.parts = parts_law_lem.back m.parts c m.is in
     record {
       bytes = ap (λ x. lengths_in v s ++ x) m.bytes
           ∙ (λ t. number_bytes 1 (op_number (sym m.op t)) ++ number_bytes 1 (sym m.first t) ++ same_lengths v s m.parts m.second m.body t ++ (m.parts.first ++ m.parts.second ++ m.parts.body))
           ∙ ap (part_bytes v) (sym back);
-      fits = op_known v c (subst (λ (p : CommandParts). op_number p.op ≤ highest_op v) (sym back) (subst (λ (o : Op). op_number o ≤ highest_op v) (sym m.op) told.op))
-          (subst (λ (p : CommandParts). IsShortIn v (length p.body)) (sym back) (subst (IsShortIn v) (sym m.body) told.short));
+      fits = op_known v c (subst (λ (p : CommandParts). op_number p.op ≤ highest_op v) (sym back) (subst (λ (o : Op). op_number o ≤ highest_op v) (sym m.op) reported.op))
+          (subst (λ (p : CommandParts). IsShortIn v (length p.body)) (sym back) (subst (IsShortIn v) (sym m.body) reported.short));
     }
 
 pub command_gives : (v : Version) (l : Left) → AreBytes l.bytes → Gives (command_bytes v) (CommandFits v) l (command v l)

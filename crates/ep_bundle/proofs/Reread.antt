@@ -1,4 +1,4 @@
--- What reading the bytes as a bundle tells of them.
+-- What reading the bytes as a bundle says of them.
 use Rattle.std.proofs.Common.{◌≡◌, ℕ, List, Some, Option, Result, Ok, Err}
 use Rattle.ep_bundle.specs.Contents.{contents_of}
 use Rattle.ep_bundle.specs.Journals.{Contents, Finds, ReadsBundle}

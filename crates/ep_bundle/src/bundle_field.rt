@@ -75,10 +75,10 @@ pub enum BundleField {
     AnswerLength,
     /// The value.
     AnswerValue,
-    /// The number of keys that an answer tells.
-    ToldKeys,
+    /// The number of keys that an answer reports.
+    ReportedKeys,
     /// Whether such a key had a value.
-    ToldMark,
+    ReportedMark,
     /// The replica that executed what a receipt is for.
     Executor,
     /// The number of the entry that executed it.

@@ -1,7 +1,7 @@
-//! Commands: an op, the lengths of its parts, and these, one after the other. The versions tell the lengths differently, and nothing else.
+//! Commands: an op, the lengths of its parts, and these, one after the other. The versions report the lengths differently, and nothing else.
 
 ghost use Rattle.std.specs.Prelude.{◌≡◌, ◌≤◌, not, ℕ, List, Some, IfOk, OnOk, true, false, length};
-ghost use Rattle.ep_base.specs.Devices.{FailsAsTold};
+ghost use Rattle.ep_base.specs.Devices.{FailsAsReported};
 ghost use Rattle.ep_base.specs.Ops.{first_fits, second_fits, body_fits};
 ghost use Rattle.ep_base.specs.CommandParts.{command_of, is_twice};
 ghost use Rattle.ep_frame.specs.Faults.{highest_op, op_of};
@@ -38,7 +38,7 @@ fn read_op_number<S: Source>(
 ) -> Result<u8, BundleFault>
     ensures bytes { (zs : List ℕ) → S.left source.old ≡ Some zs → Reads (field BundleField.Op 1 2 (highest_op version) (record { at = place.old; bytes = zs })) result place.new (S.left source.new) }
     ensures range { IfOk result (λ n. (1 ≤ n) × (n ≤ 10)) }
-    ensures told { FailsAsTold is_read_failed result (S.has_failed source.old) (S.has_failed source.new) }
+    ensures reported { FailsAsReported is_read_failed result (S.has_failed source.old) (S.has_failed source.new) }
 {
     field_u8(source, place, BundleField::Op, 2, highest_op(version))
 }
@@ -58,7 +58,7 @@ fn known_op(number: u8) -> Op
 /// The op of a command of the version.
 fn read_op<S: Source>(source: &mut S, place: &mut u64, version: Version) -> Result<Op, BundleFault>
     ensures bytes { (zs : List ℕ) → S.left source.old ≡ Some zs → Reads (op_of_command version (record { at = place.old; bytes = zs })) result place.new (S.left source.new) }
-    ensures told { FailsAsTold is_read_failed result (S.has_failed source.old) (S.has_failed source.new) }
+    ensures reported { FailsAsReported is_read_failed result (S.has_failed source.old) (S.has_failed source.new) }
 {
     let number = read_op_number(source, place, version)?;
     Ok(known_op(number))
@@ -67,7 +67,7 @@ fn read_op<S: Source>(source: &mut S, place: &mut u64, version: Version) -> Resu
 /// How many bytes the op's first key has.
 fn read_first_len<S: Source>(source: &mut S, place: &mut u64, op: Op) -> Result<u8, BundleFault>
     ensures bytes { (zs : List ℕ) → S.left source.old ≡ Some zs → Reads (allowed BundleField.KeyLength (Wanted.LengthFor op) 1 (first_fits op) (record { at = place.old; bytes = zs })) result place.new (S.left source.new) }
-    ensures told { FailsAsTold is_read_failed result (S.has_failed source.old) (S.has_failed source.new) }
+    ensures reported { FailsAsReported is_read_failed result (S.has_failed source.old) (S.has_failed source.new) }
     ensures fits { IfOk result (λ n. first_fits op n ≡ true) }
 {
     let at = *place;
@@ -86,7 +86,7 @@ fn read_first_len<S: Source>(source: &mut S, place: &mut u64, op: Op) -> Result<
 /// How many bytes its second key has.
 fn read_second_len<S: Source>(source: &mut S, place: &mut u64, op: Op) -> Result<u8, BundleFault>
     ensures bytes { (zs : List ℕ) → S.left source.old ≡ Some zs → Reads (allowed BundleField.SecondLength (Wanted.LengthFor op) 1 (second_fits op) (record { at = place.old; bytes = zs })) result place.new (S.left source.new) }
-    ensures told { FailsAsTold is_read_failed result (S.has_failed source.old) (S.has_failed source.new) }
+    ensures reported { FailsAsReported is_read_failed result (S.has_failed source.old) (S.has_failed source.new) }
     ensures fits { IfOk result (λ n. second_fits op n ≡ true) }
 {
     let at = *place;
@@ -105,7 +105,7 @@ fn read_second_len<S: Source>(source: &mut S, place: &mut u64, op: Op) -> Result
 /// How many bytes its body has.
 fn read_body_len<S: Source>(source: &mut S, place: &mut u64, op: Op) -> Result<u32, BundleFault>
     ensures bytes { (zs : List ℕ) → S.left source.old ≡ Some zs → Reads (allowed BundleField.BodyLength (Wanted.LengthFor op) 4 (body_fits op) (record { at = place.old; bytes = zs })) result place.new (S.left source.new) }
-    ensures told { FailsAsTold is_read_failed result (S.has_failed source.old) (S.has_failed source.new) }
+    ensures reported { FailsAsReported is_read_failed result (S.has_failed source.old) (S.has_failed source.new) }
     ensures fits { IfOk result (λ n. body_fits op n ≡ true) }
 {
     let at = *place;
@@ -163,7 +163,7 @@ fn early_of(op: Op, first: u8, len: u16) -> Lengths
 /// How many bytes follow the first key in version 1 or 2.
 fn read_early_len<S: Source>(source: &mut S, place: &mut u64, op: Op) -> Result<u16, BundleFault>
     ensures bytes { (zs : List ℕ) → S.left source.old ≡ Some zs → Reads (allowed BundleField.TextLength (Wanted.LengthFor op) 2 (early_fits op) (record { at = place.old; bytes = zs })) result place.new (S.left source.new) }
-    ensures told { FailsAsTold is_read_failed result (S.has_failed source.old) (S.has_failed source.new) }
+    ensures reported { FailsAsReported is_read_failed result (S.has_failed source.old) (S.has_failed source.new) }
     ensures fits { IfOk result (λ n. early_fits op n ≡ true) }
 {
     let at = *place;
@@ -188,7 +188,7 @@ fn read_early_lengths<S: Source>(
 ) -> Result<Lengths, BundleFault>
     requires { first_fits op first ≡ true }
     ensures bytes { (zs : List ℕ) → S.left source.old ≡ Some zs → Reads (early_lengths op first (record { at = place.old; bytes = zs })) result place.new (S.left source.new) }
-    ensures told { FailsAsTold is_read_failed result (S.has_failed source.old) (S.has_failed source.new) }
+    ensures reported { FailsAsReported is_read_failed result (S.has_failed source.old) (S.has_failed source.new) }
     ensures fit { IfOk result (λ s. AreLengths s) }
 {
     let len = read_early_len(source, place, op)?;
@@ -204,7 +204,7 @@ fn read_late_lengths<S: Source>(
 ) -> Result<Lengths, BundleFault>
     requires { first_fits op first ≡ true }
     ensures bytes { (zs : List ℕ) (g : ℕ) → S.left source.old ≡ Some zs → Reads (other_lengths (VersionKind.V3 g) op first (record { at = place.old; bytes = zs })) result place.new (S.left source.new) }
-    ensures told { FailsAsTold is_read_failed result (S.has_failed source.old) (S.has_failed source.new) }
+    ensures reported { FailsAsReported is_read_failed result (S.has_failed source.old) (S.has_failed source.new) }
     ensures fit { IfOk result (λ s. AreLengths s) }
 {
     let second = read_second_len(source, place, op)?;
@@ -227,7 +227,7 @@ fn read_other_lengths<S: Source>(
 ) -> Result<Lengths, BundleFault>
     requires { first_fits op first ≡ true }
     ensures bytes { (zs : List ℕ) → S.left source.old ≡ Some zs → Reads (other_lengths version op first (record { at = place.old; bytes = zs })) result place.new (S.left source.new) }
-    ensures told { FailsAsTold is_read_failed result (S.has_failed source.old) (S.has_failed source.new) }
+    ensures reported { FailsAsReported is_read_failed result (S.has_failed source.old) (S.has_failed source.new) }
     ensures fit { IfOk result (λ s. AreLengths s) }
 {
     match version.kind() {
@@ -243,7 +243,7 @@ fn read_lengths<S: Source>(
     version: Version,
 ) -> Result<Lengths, BundleFault>
     ensures bytes { (zs : List ℕ) → S.left source.old ≡ Some zs → Reads (lengths version (record { at = place.old; bytes = zs })) result place.new (S.left source.new) }
-    ensures told { FailsAsTold is_read_failed result (S.has_failed source.old) (S.has_failed source.new) }
+    ensures reported { FailsAsReported is_read_failed result (S.has_failed source.old) (S.has_failed source.new) }
     ensures fit { IfOk result (λ s. AreLengths s) }
 {
     let op = read_op(source, place, version)?;
@@ -267,7 +267,7 @@ fn read_second<S: Source>(
     second: &mut Vec<u8>,
 ) -> Result<(), BundleFault>
     ensures bytes { (zs : List ℕ) → S.left source.old ≡ Some zs → Reads (allowed_run BundleField.SecondKey Wanted.OtherKey len (λ m. not (is_twice first.now m)) (record { at = place.old; bytes = zs })) (map_ok (λ _. second.new.items) result) place.new (S.left source.new) }
-    ensures told { FailsAsTold is_read_failed result (S.has_failed source.old) (S.has_failed source.new) }
+    ensures reported { FailsAsReported is_read_failed result (S.has_failed source.old) (S.has_failed source.new) }
     ensures other { OnOk result ((length second.new.items ≡ len) × (is_twice first.now second.new.items ≡ false)) }
 {
     let at = *place;
@@ -311,7 +311,7 @@ fn read_parts<S: Source>(
 ) -> Result<Command, BundleFault>
     requires { AreLengths lengths }
     ensures bytes { (zs : List ℕ) → S.left source.old ≡ Some zs → Reads (parts lengths (record { at = place.old; bytes = zs })) result place.new (S.left source.new) }
-    ensures told { FailsAsTold is_read_failed result (S.has_failed source.old) (S.has_failed source.new) }
+    ensures reported { FailsAsReported is_read_failed result (S.has_failed source.old) (S.has_failed source.new) }
 {
     read_over(
         source,
@@ -354,7 +354,7 @@ pub(crate) fn read_command_in<S: Source>(
     room: &mut PartRoom,
 ) -> Result<Command, BundleFault>
     ensures bytes { (zs : List ℕ) → S.left source.old ≡ Some zs → Reads (command version (record { at = place.old; bytes = zs })) result place.new (S.left source.new) }
-    ensures told { FailsAsTold is_read_failed result (S.has_failed source.old) (S.has_failed source.new) }
+    ensures reported { FailsAsReported is_read_failed result (S.has_failed source.old) (S.has_failed source.new) }
 {
     let lengths = read_lengths(source, place, version)?;
     read_parts(alloc, source, place, lengths, room)
@@ -368,7 +368,7 @@ pub fn read_command<S: Source>(
     version: Version,
 ) -> Result<Command, BundleFault>
     ensures bytes { (zs : List ℕ) → S.left source.old ≡ Some zs → Reads (command version (record { at = place.old; bytes = zs })) result place.new (S.left source.new) }
-    ensures told { FailsAsTold is_read_failed result (S.has_failed source.old) (S.has_failed source.new) }
+    ensures reported { FailsAsReported is_read_failed result (S.has_failed source.old) (S.has_failed source.new) }
 {
     let mut room = PartRoom::new(alloc);
     read_command_in(alloc, source, place, version, &mut room)

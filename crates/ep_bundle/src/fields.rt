@@ -1,7 +1,7 @@
 //! The fields that all else is read by: numbers, the highest byte first, and runs of bytes.
 
 ghost use Rattle.std.specs.Prelude.{◌≡◌, ◌≤◌, ℕ, List, Some, length, take, IfOk, OnOk, true};
-ghost use Rattle.ep_base.specs.Devices.{FailsAsTold};
+ghost use Rattle.ep_base.specs.Devices.{FailsAsReported};
 ghost use Rattle.ep_bundle.specs.Reading.{map_ok, field, number, run, is_read_failed, Reads};
 ghost use Rattle.ep_bundle.specs.Filling.{Begun, Fills, FillsTo};
 
@@ -20,7 +20,7 @@ use std::alloc::Global;
 pub(crate) fn fill_to<S: Source>(source: &mut S, buf: &mut [u8]) -> Result<usize, ReadFailed>
     ensures bytes { (zs : List ℕ) → S.left source.old ≡ Some zs → IfOk result (λ n. FillsTo n zs buf.new (S.left source.new)) }
     ensures long { length buf.new ≡ length buf.old }
-    ensures told { FailsAsTold (λ _. true) result (S.has_failed source.old) (S.has_failed source.new) }
+    ensures reported { FailsAsReported (λ _. true) result (S.has_failed source.old) (S.has_failed source.new) }
 {
     if buf.is_empty() {
         return Ok(0);
@@ -40,7 +40,7 @@ pub(crate) fn fill_to<S: Source>(source: &mut S, buf: &mut [u8]) -> Result<usize
 pub(crate) fn fill<S: Source>(source: &mut S, buf: &mut [u8]) -> Result<bool, ReadFailed>
     ensures bytes { (zs : List ℕ) → S.left source.old ≡ Some zs → IfOk result (λ full. Fills full zs buf.new (S.left source.new)) }
     ensures long { length buf.new ≡ length buf.old }
-    ensures told { FailsAsTold (λ _. true) result (S.has_failed source.old) (S.has_failed source.new) }
+    ensures reported { FailsAsReported (λ _. true) result (S.has_failed source.old) (S.has_failed source.new) }
 {
     let count = fill_to(source, buf)?;
     if count < buf.len() {
@@ -55,7 +55,7 @@ fn fill_from<S: Source>(source: &mut S, buf: &mut [u8], from: usize) -> Result<u
     requires { from ≤ length buf.old }
     ensures bytes { (zs : List ℕ) → Begun zs (take from buf.old) (S.left source.old) → IfOk result (λ n. FillsTo n zs buf.new (S.left source.new)) }
     ensures long { length buf.new ≡ length buf.old }
-    ensures told { FailsAsTold (λ _. true) result (S.has_failed source.old) (S.has_failed source.new) }
+    ensures reported { FailsAsReported (λ _. true) result (S.has_failed source.old) (S.has_failed source.new) }
 {
     let mut at = from;
     while at < buf.len() {
@@ -78,7 +78,7 @@ pub(crate) fn take<S: Source>(
 ) -> Result<(), BundleFault>
     ensures bytes { (zs : List ℕ) → S.left source.old ≡ Some zs → Reads (run name (length buf.old) (record { at = place.old; bytes = zs })) (map_ok (λ _. buf.new) result) place.new (S.left source.new) }
     ensures long { length buf.new ≡ length buf.old }
-    ensures told { FailsAsTold is_read_failed result (S.has_failed source.old) (S.has_failed source.new) }
+    ensures reported { FailsAsReported is_read_failed result (S.has_failed source.old) (S.has_failed source.new) }
 {
     let len = buf.len() as u64;
     if !fill(source, buf)? {
@@ -103,7 +103,7 @@ pub fn read_run<S: Source>(
 ) -> Result<Vec<u8>, BundleFault>
     ensures bytes { (zs : List ℕ) → S.left source.old ≡ Some zs → Reads (run name len (record { at = place.old; bytes = zs })) (map_ok (λ v. v.items) result) place.new (S.left source.new) }
     ensures long { IfOk result (λ v. length v.items ≡ len) }
-    ensures told { FailsAsTold is_read_failed result (S.has_failed source.old) (S.has_failed source.new) }
+    ensures reported { FailsAsReported is_read_failed result (S.has_failed source.old) (S.has_failed source.new) }
 {
     let mut bytes = vec![in alloc; 0; len]?;
     take(source, place, name, &mut bytes)?;
@@ -121,7 +121,7 @@ pub(crate) fn read_over<S: Source>(
 ) -> Result<(), BundleFault>
     ensures bytes { (zs : List ℕ) → S.left source.old ≡ Some zs → Reads (run name len (record { at = place.old; bytes = zs })) (map_ok (λ _. bytes.new.items) result) place.new (S.left source.new) }
     ensures long { OnOk result (length bytes.new.items ≡ len) }
-    ensures told { FailsAsTold is_read_failed result (S.has_failed source.old) (S.has_failed source.new) }
+    ensures reported { FailsAsReported is_read_failed result (S.has_failed source.old) (S.has_failed source.new) }
 {
     bytes.resize(len, 0)?;
     take(source, place, name, bytes)
@@ -135,7 +135,7 @@ fn take_block<S: Source>(
     block: &mut BytesMut,
 ) -> Result<Bytes, BundleFault>
     ensures bytes { (zs : List ℕ) → S.left source.old ≡ Some zs → Reads (run name (length block.old.items) (record { at = place.old; bytes = zs })) result place.new (S.left source.new) }
-    ensures told { FailsAsTold is_read_failed result (S.has_failed source.old) (S.has_failed source.new) }
+    ensures reported { FailsAsReported is_read_failed result (S.has_failed source.old) (S.has_failed source.new) }
 {
     take(source, place, name, block.as_mut_slice())?;
     let run = block.freeze_to(block.len())?;
@@ -152,7 +152,7 @@ pub(crate) fn read_shared<S: Source>(
     room: &mut Room,
 ) -> Result<Bytes, BundleFault>
     ensures bytes { (zs : List ℕ) → S.left source.old ≡ Some zs → Reads (run name len (record { at = place.old; bytes = zs })) result place.new (S.left source.new) }
-    ensures told { FailsAsTold is_read_failed result (S.has_failed source.old) (S.has_failed source.new) }
+    ensures reported { FailsAsReported is_read_failed result (S.has_failed source.old) (S.has_failed source.new) }
 {
     room.open(len)?;
     take_block(source, place, name, &mut room.block)
@@ -165,7 +165,7 @@ pub(crate) fn read_u8<S: Source>(
     name: BundleField,
 ) -> Result<u8, BundleFault>
     ensures bytes { (zs : List ℕ) → S.left source.old ≡ Some zs → Reads (number name 1 (record { at = place.old; bytes = zs })) result place.new (S.left source.new) }
-    ensures told { FailsAsTold is_read_failed result (S.has_failed source.old) (S.has_failed source.new) }
+    ensures reported { FailsAsReported is_read_failed result (S.has_failed source.old) (S.has_failed source.new) }
 {
     let mut bytes = [0; 1];
     take(source, place, name, &mut bytes)?;
@@ -179,7 +179,7 @@ pub(crate) fn read_u16<S: Source>(
     name: BundleField,
 ) -> Result<u16, BundleFault>
     ensures bytes { (zs : List ℕ) → S.left source.old ≡ Some zs → Reads (number name 2 (record { at = place.old; bytes = zs })) result place.new (S.left source.new) }
-    ensures told { FailsAsTold is_read_failed result (S.has_failed source.old) (S.has_failed source.new) }
+    ensures reported { FailsAsReported is_read_failed result (S.has_failed source.old) (S.has_failed source.new) }
 {
     let mut bytes = [0; 2];
     take(source, place, name, &mut bytes)?;
@@ -193,7 +193,7 @@ pub(crate) fn read_u32<S: Source>(
     name: BundleField,
 ) -> Result<u32, BundleFault>
     ensures bytes { (zs : List ℕ) → S.left source.old ≡ Some zs → Reads (number name 4 (record { at = place.old; bytes = zs })) result place.new (S.left source.new) }
-    ensures told { FailsAsTold is_read_failed result (S.has_failed source.old) (S.has_failed source.new) }
+    ensures reported { FailsAsReported is_read_failed result (S.has_failed source.old) (S.has_failed source.new) }
 {
     let mut bytes = [0; 4];
     take(source, place, name, &mut bytes)?;
@@ -208,7 +208,7 @@ pub fn read_u64<S: Source>(
     name: BundleField,
 ) -> Result<u64, BundleFault>
     ensures bytes { (zs : List ℕ) → S.left source.old ≡ Some zs → Reads (number name 8 (record { at = place.old; bytes = zs })) result place.new (S.left source.new) }
-    ensures told { FailsAsTold is_read_failed result (S.has_failed source.old) (S.has_failed source.new) }
+    ensures reported { FailsAsReported is_read_failed result (S.has_failed source.old) (S.has_failed source.new) }
 {
     let mut bytes = [0; 8];
     take(source, place, name, &mut bytes)?;
@@ -226,7 +226,7 @@ pub fn field_u8<S: Source>(
 ) -> Result<u8, BundleFault>
     ensures bytes { (zs : List ℕ) → S.left source.old ≡ Some zs → Reads (field name 1 low high (record { at = place.old; bytes = zs })) result place.new (S.left source.new) }
     ensures range { IfOk result (λ x. (low ≤ x) × (x ≤ high)) }
-    ensures told { FailsAsTold is_read_failed result (S.has_failed source.old) (S.has_failed source.new) }
+    ensures reported { FailsAsReported is_read_failed result (S.has_failed source.old) (S.has_failed source.new) }
 {
     let at = *place;
     let number = read_u8(source, place, name)?;
@@ -252,7 +252,7 @@ pub(crate) fn field_u16<S: Source>(
 ) -> Result<u16, BundleFault>
     ensures bytes { (zs : List ℕ) → S.left source.old ≡ Some zs → Reads (field name 2 low high (record { at = place.old; bytes = zs })) result place.new (S.left source.new) }
     ensures range { IfOk result (λ x. (low ≤ x) × (x ≤ high)) }
-    ensures told { FailsAsTold is_read_failed result (S.has_failed source.old) (S.has_failed source.new) }
+    ensures reported { FailsAsReported is_read_failed result (S.has_failed source.old) (S.has_failed source.new) }
 {
     let at = *place;
     let number = read_u16(source, place, name)?;
@@ -278,7 +278,7 @@ pub fn field_u32<S: Source>(
 ) -> Result<u32, BundleFault>
     ensures bytes { (zs : List ℕ) → S.left source.old ≡ Some zs → Reads (field name 4 low high (record { at = place.old; bytes = zs })) result place.new (S.left source.new) }
     ensures range { IfOk result (λ x. (low ≤ x) × (x ≤ high)) }
-    ensures told { FailsAsTold is_read_failed result (S.has_failed source.old) (S.has_failed source.new) }
+    ensures reported { FailsAsReported is_read_failed result (S.has_failed source.old) (S.has_failed source.new) }
 {
     let at = *place;
     let number = read_u32(source, place, name)?;
@@ -303,7 +303,7 @@ pub fn field_u64<S: Source>(
 ) -> Result<u64, BundleFault>
     ensures bytes { (zs : List ℕ) → S.left source.old ≡ Some zs → Reads (field name 8 low high (record { at = place.old; bytes = zs })) result place.new (S.left source.new) }
     ensures range { IfOk result (λ x. (low ≤ x) × (x ≤ high)) }
-    ensures told { FailsAsTold is_read_failed result (S.has_failed source.old) (S.has_failed source.new) }
+    ensures reported { FailsAsReported is_read_failed result (S.has_failed source.old) (S.has_failed source.new) }
 {
     let at = *place;
     let number = read_u64(source, place, name)?;

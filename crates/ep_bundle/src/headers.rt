@@ -1,7 +1,7 @@
 //! Reading what stands before a bundle's journals.
 
 ghost use Rattle.std.specs.Prelude.{◌≡◌, ◌≤◌, ℕ, List, Some, IfOk};
-ghost use Rattle.ep_base.specs.Devices.{FailsAsTold};
+ghost use Rattle.ep_base.specs.Devices.{FailsAsReported};
 ghost use Rattle.ep_journal.specs.Openings.{OpensIn};
 ghost use Rattle.ep_base.specs.Versions.{version_of};
 ghost use Rattle.ep_bundle.specs.Headers.{StartsAt, cluster, edition, header, header_of, late_edition};
@@ -21,7 +21,7 @@ use std::alloc::Global;
 /// The number of replicas: 3, 5 or 7.
 pub fn read_cluster<S: Source>(source: &mut S, place: &mut u64) -> Result<Size, BundleFault>
     ensures bytes { (zs : List ℕ) → S.left source.old ≡ Some zs → Reads (cluster (record { at = place.old; bytes = zs })) result place.new (S.left source.new) }
-    ensures told { FailsAsTold is_read_failed result (S.has_failed source.old) (S.has_failed source.new) }
+    ensures reported { FailsAsReported is_read_failed result (S.has_failed source.old) (S.has_failed source.new) }
 {
     let at = *place;
     let count = read_u8(source, place, BundleField::Replicas)?;
@@ -43,7 +43,7 @@ fn read_late_edition<S: Source>(
     ensures bytes { (zs : List ℕ) → S.left source.old ≡ Some zs → Reads (late_edition (record { at = place.old; bytes = zs })) result place.new (S.left source.new) }
     ensures starts { IfOk result (λ e. StartsAt e.0 e.1) }
     ensures base_stamp { IfOk result (λ e. e.1 ≤ 281474976710655) }
-    ensures told { FailsAsTold is_read_failed result (S.has_failed source.old) (S.has_failed source.new) }
+    ensures reported { FailsAsReported is_read_failed result (S.has_failed source.old) (S.has_failed source.new) }
 {
     let generation = field_u32(source, place, BundleField::Generation, 1, u32::MAX)?;
     let base_stamp = field_u64(
@@ -75,7 +75,7 @@ fn read_edition<S: Source>(
     ensures bytes { (zs : List ℕ) → S.left source.old ≡ Some zs → Reads (edition number (record { at = place.old; bytes = zs })) result place.new (S.left source.new) }
     ensures starts { IfOk result (λ e. StartsAt e.0 e.1) }
     ensures base_stamp { IfOk result (λ e. e.1 ≤ 281474976710655) }
-    ensures told { FailsAsTold is_read_failed result (S.has_failed source.old) (S.has_failed source.new) }
+    ensures reported { FailsAsReported is_read_failed result (S.has_failed source.old) (S.has_failed source.new) }
 {
     if number == 3 {
         return read_late_edition(source, place);
@@ -92,7 +92,7 @@ pub fn read_header<S: Source>(
 ) -> Result<BundleHeader, BundleFault>
     ensures bytes { (zs : List ℕ) → S.left source.old ≡ Some zs → Reads (header (record { at = place.old; bytes = zs })) result place.new (S.left source.new) }
     ensures opens { IfOk result (λ h. OpensIn h.version h.opening) }
-    ensures told { FailsAsTold is_read_failed result (S.has_failed source.old) (S.has_failed source.new) }
+    ensures reported { FailsAsReported is_read_failed result (S.has_failed source.old) (S.has_failed source.new) }
 {
     read_header_of(alloc, source, place, 1, 3)
 }
@@ -108,7 +108,7 @@ pub(crate) fn read_header_of<S: Source>(
     requires { (1 ≤ low) × (high ≤ 3) }
     ensures bytes { (zs : List ℕ) → S.left source.old ≡ Some zs → Reads (header_of low high (record { at = place.old; bytes = zs })) result place.new (S.left source.new) }
     ensures opens { IfOk result (λ h. OpensIn h.version h.opening) }
-    ensures told { FailsAsTold is_read_failed result (S.has_failed source.old) (S.has_failed source.new) }
+    ensures reported { FailsAsReported is_read_failed result (S.has_failed source.old) (S.has_failed source.new) }
 {
     field_u32(source, place, BundleField::Magic, 0x4550_4a42, 0x4550_4a42)?;
     let number = field_u8(source, place, BundleField::Version, low, high)?;

@@ -9,8 +9,8 @@
 //! bundles, are `read_laws.rt` and `write_laws.rt`.
 //!
 //! Bytes are judged in their order: a field where it is read, an entry once it is whole. The first field at fault is
-//! told by its name, its offset and what may stand there (`BadField`), as the grammar's definition says. A stage that
-//! is added to the reader wants its definition in specs/Stages.antt first.
+//! reported by its name, its offset and what may stand there (`BadField`), as the grammar's definition says. A stage
+//! that is added to the reader wants its definition in specs/Stages.antt first.
 #![tactic(auto)]
 
 mod bad_field;
@@ -78,5 +78,6 @@ pub use write_laws::{
 };
 pub use writing::{
     put_answer, put_command, put_entry, put_frame, put_instance, put_pairs, put_receipt,
-    put_receipts, put_told, put_value, write_bundle, write_contents, write_entry, write_journal,
+    put_receipts, put_reported, put_value, write_bundle, write_contents, write_entry,
+    write_journal,
 };

@@ -2,7 +2,7 @@
 
 ghost use Rattle.std.specs.Prelude.{◌≡◌, ◌≤◌, ◌∷◌, ◌++◌, ℕ, List, [], Some, IfOk, OnOk, length, true};
 ghost use Rattle.std.specs.FinMap.{entries as entries_in, is_sorted};
-ghost use Rattle.ep_base.specs.Devices.{FailsAsTold};
+ghost use Rattle.ep_base.specs.Devices.{FailsAsReported};
 ghost use Rattle.ep_exec.specs.Table.{key_cmp};
 ghost use Rattle.ep_bundle.specs.Headers.{HoldsAt, contents, key_above, map_in, pair};
 ghost use Rattle.ep_bundle.specs.Reading.{map_ok, is_read_failed, Reads, run};
@@ -27,7 +27,7 @@ fn read_key<S: Source>(
     requires { 1 ≤ len }
     ensures bytes { (zs : List ℕ) → S.left source.old ≡ Some zs → Reads (key_above (entries_in before.now) len (record { at = place.old; bytes = zs })) result place.new (S.left source.new) }
     ensures above { IfOk result (λ k. (value : List ℕ) → is_sorted key_cmp (entries_in before.now ++ (k, value) ∷ []) ≡ true) }
-    ensures told { FailsAsTold is_read_failed result (S.has_failed source.old) (S.has_failed source.new) }
+    ensures reported { FailsAsReported is_read_failed result (S.has_failed source.old) (S.has_failed source.new) }
 {
     let at = *place;
     let bytes = read_run(alloc, source, place, BundleField::PairKey, len as usize)?;
@@ -55,7 +55,7 @@ fn read_value_of<S: Source>(
 ) -> Result<Value, BundleFault>
     requires { len ≤ 65535 }
     ensures bytes { (zs : List ℕ) → S.left source.old ≡ Some zs → Reads (run BundleField.PairValue len (record { at = place.old; bytes = zs })) result place.new (S.left source.new) }
-    ensures told { FailsAsTold is_read_failed result (S.has_failed source.old) (S.has_failed source.new) }
+    ensures reported { FailsAsReported is_read_failed result (S.has_failed source.old) (S.has_failed source.new) }
 {
     let bytes = read_run(alloc, source, place, BundleField::PairValue, len as usize)?;
     Value::new(alloc, &bytes).map_err(|_| BundleFault::Memory)
@@ -70,7 +70,7 @@ fn read_pair<S: Source>(
 ) -> Result<(), BundleFault>
     ensures bytes { (zs : List ℕ) → S.left source.old ≡ Some zs → (key value : List ℕ) → OnOk result (entries_in map.new ≡ entries_in map.old ++ (key, value) ∷ []) → Reads (pair (entries_in map.old) (record { at = place.old; bytes = zs })) (map_ok (λ _. (key, value)) result) place.new (S.left source.new) }
     ensures one { OnOk result ((key : List ℕ) × (value : List ℕ) × (entries_in map.new ≡ entries_in map.old ++ (key, value) ∷ [])) }
-    ensures told { FailsAsTold is_read_failed result (S.has_failed source.old) (S.has_failed source.new) }
+    ensures reported { FailsAsReported is_read_failed result (S.has_failed source.old) (S.has_failed source.new) }
 {
     let key_len = field_u8(source, place, BundleField::PairKeyLength, 1, 255)?;
     let value_len = field_u32(source, place, BundleField::PairValueLength, 0, 65_535)?;
@@ -92,7 +92,7 @@ fn read_contents<S: Source>(
 ) -> Result<Contents, BundleFault>
     ensures bytes { (zs : List ℕ) → S.left source.old ≡ Some zs → Reads (contents count (record { at = place.old; bytes = zs })) result place.new (S.left source.new) }
     ensures many { IfOk result (λ m. length (entries_in m) ≡ count) }
-    ensures told { FailsAsTold is_read_failed result (S.has_failed source.old) (S.has_failed source.new) }
+    ensures reported { FailsAsReported is_read_failed result (S.has_failed source.old) (S.has_failed source.new) }
 {
     let mut map = Listing::new(alloc);
     for _ in 0..count {
@@ -112,7 +112,7 @@ pub fn read_map<S: Source>(
     ensures bytes { (zs : List ℕ) → S.left source.old ≡ Some zs → Reads (map_in version (record { at = place.old; bytes = zs })) result place.new (S.left source.new) }
     ensures holds { IfOk result (λ m. HoldsAt version m) }
     ensures few { IfOk result (λ m. length (entries_in m) ≤ 4000000000) }
-    ensures told { FailsAsTold is_read_failed result (S.has_failed source.old) (S.has_failed source.new) }
+    ensures reported { FailsAsReported is_read_failed result (S.has_failed source.old) (S.has_failed source.new) }
 {
     match version.kind() {
         VersionKind::V1 | VersionKind::V2 => Ok(Contents::new(alloc)),
@@ -128,7 +128,7 @@ fn read_counted_map<S: Source>(
 ) -> Result<Contents, BundleFault>
     ensures bytes { (zs : List ℕ) (g : ℕ) → S.left source.old ≡ Some zs → Reads (map_in (VersionKind.V3 g) (record { at = place.old; bytes = zs })) result place.new (S.left source.new) }
     ensures few { IfOk result (λ m. length (entries_in m) ≤ 4000000000) }
-    ensures told { FailsAsTold is_read_failed result (S.has_failed source.old) (S.has_failed source.new) }
+    ensures reported { FailsAsReported is_read_failed result (S.has_failed source.old) (S.has_failed source.new) }
 {
     let count = field_u32(source, place, BundleField::Keys, 0, 4_000_000_000)?;
     read_contents(alloc, source, place, count)

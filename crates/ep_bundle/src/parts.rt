@@ -1,19 +1,19 @@
 //! Instances and answers.
 
 ghost use Rattle.std.specs.Prelude.{◌≡◌, ◌≤◌, ℕ, List, Option as Maybe, Some, true, IfOk};
-ghost use Rattle.ep_base.specs.Devices.{FailsAsTold};
+ghost use Rattle.ep_base.specs.Devices.{FailsAsReported};
 ghost use Rattle.ep_base.specs.Quorums.{size};
 ghost use Rattle.ep_base.specs.Versions.{highest_in};
 ghost use Rattle.ep_bundle.specs.Reading.{field, is_read_failed, Compares, Reads};
-ghost use Rattle.ep_bundle.specs.Stages.{answer, highest_code, instance, plain_answer, replica, reply_by, told_answer, told_in};
+ghost use Rattle.ep_bundle.specs.Stages.{answer, highest_code, instance, plain_answer, replica, reply_by, reported_answer, reported_in};
 
 use crate::bundle_fault::BundleFault;
 use crate::bundle_field::BundleField;
 use crate::fields::{field_u8, field_u16};
 use crate::room::Room;
-use crate::values::{read_same_told, read_same_value, read_told, read_value};
+use crate::values::{read_reported, read_same_reported, read_same_value, read_value};
 use ep_base::{
-    Answer, InstanceId, ReplicaId, Reply, Size, Source, ToldValues, Value, Version, VersionKind,
+    Answer, InstanceId, ReplicaId, Reply, ReplyValues, Size, Source, Value, Version, VersionKind,
 };
 
 /// A replica of the cluster.
@@ -24,7 +24,7 @@ pub(crate) fn read_replica<S: Source>(
     cluster: Size,
 ) -> Result<ReplicaId, BundleFault>
     ensures bytes { (zs : List ℕ) → S.left source.old ≡ Some zs → Reads (replica name (size cluster) (record { at = place.old; bytes = zs })) result place.new (S.left source.new) }
-    ensures told { FailsAsTold is_read_failed result (S.has_failed source.old) (S.has_failed source.new) }
+    ensures reported { FailsAsReported is_read_failed result (S.has_failed source.old) (S.has_failed source.new) }
 {
     let index = field_u8(source, place, name, 0, cluster.count() - 1)?;
     // The number is in range, so the replica is made.
@@ -38,7 +38,7 @@ fn read_number<S: Source>(
     version: Version,
 ) -> Result<u16, BundleFault>
     ensures bytes { (zs : List ℕ) → S.left source.old ≡ Some zs → Reads (field BundleField.Number 2 1 (highest_in version) (record { at = place.old; bytes = zs })) result place.new (S.left source.new) }
-    ensures told { FailsAsTold is_read_failed result (S.has_failed source.old) (S.has_failed source.new) }
+    ensures reported { FailsAsReported is_read_failed result (S.has_failed source.old) (S.has_failed source.new) }
 {
     field_u16(
         source,
@@ -58,7 +58,7 @@ pub fn read_instance<S: Source>(
     cluster: Size,
 ) -> Result<InstanceId, BundleFault>
     ensures bytes { (zs : List ℕ) → S.left source.old ≡ Some zs → Reads (instance version (size cluster) (record { at = place.old; bytes = zs })) result place.new (S.left source.new) }
-    ensures told { FailsAsTold is_read_failed result (S.has_failed source.old) (S.has_failed source.new) }
+    ensures reported { FailsAsReported is_read_failed result (S.has_failed source.old) (S.has_failed source.new) }
 {
     let replica = read_replica(source, place, BundleField::Leader, cluster)?;
     let number = read_number(source, place, version)?;
@@ -78,14 +78,14 @@ fn plain_answer(code: u8) -> Answer
     }
 }
 
-/// The answer of a code that told values follow.
-fn told_answer(code: u8, told: ToldValues) -> Answer
-    ensures { result ≡ told_answer code told }
+/// The answer of a code that reported values follow.
+fn reported_answer(code: u8, reported: ReplyValues) -> Answer
+    ensures { result ≡ reported_answer code reported }
 {
     if code == 5 {
-        Answer::Replied(Reply::Done(told))
+        Answer::Replied(Reply::Done(reported))
     } else {
-        Answer::Replied(Reply::Undone(told))
+        Answer::Replied(Reply::Undone(reported))
     }
 }
 
@@ -98,7 +98,7 @@ fn read_reply<S: Source>(
     room: &mut Room,
 ) -> Result<Answer, BundleFault>
     ensures bytes { (zs : List ℕ) → S.left source.old ≡ Some zs → Reads (reply_by version code (record { at = place.old; bytes = zs })) result place.new (S.left source.new) }
-    ensures told { FailsAsTold is_read_failed result (S.has_failed source.old) (S.has_failed source.new) }
+    ensures reported { FailsAsReported is_read_failed result (S.has_failed source.old) (S.has_failed source.new) }
 {
     if code == 1 {
         let value = read_value(source, place, version, room)?;
@@ -107,8 +107,8 @@ fn read_reply<S: Source>(
     if code < 5 {
         return Ok(plain_answer(code));
     }
-    let told = read_told(source, place, version, room)?;
-    Ok(told_answer(code, told))
+    let reported = read_reported(source, place, version, room)?;
+    Ok(reported_answer(code, reported))
 }
 
 /// The highest code of an answer: versions 1 and 2 have no closed maps, no commands of machines outside, and none over many keys.
@@ -129,7 +129,7 @@ fn read_code<S: Source>(
 ) -> Result<u8, BundleFault>
     ensures bytes { (zs : List ℕ) → S.left source.old ≡ Some zs → Reads (field BundleField.AnswerCode 1 0 (highest_code version) (record { at = place.old; bytes = zs })) result place.new (S.left source.new) }
     ensures range { IfOk result (λ x. x ≤ 6) }
-    ensures told { FailsAsTold is_read_failed result (S.has_failed source.old) (S.has_failed source.new) }
+    ensures reported { FailsAsReported is_read_failed result (S.has_failed source.old) (S.has_failed source.new) }
 {
     field_u8(
         source,
@@ -148,28 +148,28 @@ pub(crate) fn read_answer<S: Source>(
     room: &mut Room,
 ) -> Result<Answer, BundleFault>
     ensures bytes { (zs : List ℕ) → S.left source.old ≡ Some zs → Reads (answer version (record { at = place.old; bytes = zs })) result place.new (S.left source.new) }
-    ensures told { FailsAsTold is_read_failed result (S.has_failed source.old) (S.has_failed source.new) }
+    ensures reported { FailsAsReported is_read_failed result (S.has_failed source.old) (S.has_failed source.new) }
 {
     let code = read_code(source, place, version)?;
     read_reply(source, place, version, code, room)
 }
 
-/// The values that the answer tells of many keys; none where it is another one.
-fn told_in(answer: &Answer) -> &[Option<Value>]
-    ensures { result.now ≡ told_in answer.now }
+/// The values that the answer reports of many keys; none where it is another one.
+fn reported_in(answer: &Answer) -> &[Option<Value>]
+    ensures { result.now ≡ reported_in answer.now }
 {
     match answer {
-        Answer::Replied(Reply::Done(told)) => told.as_slice(),
-        Answer::Replied(Reply::Undone(told)) => told.as_slice(),
+        Answer::Replied(Reply::Done(reported)) => reported.as_slice(),
+        Answer::Replied(Reply::Undone(reported)) => reported.as_slice(),
         _ => &[],
     }
 }
 
-/// Whether the answer has this code, 5 or 6, whatever it tells.
+/// Whether the answer has this code, 5 or 6, whatever it reports.
 fn has_code(answer: &Answer, code: u8) -> bool
     requires { (5 ≤ code) × (code ≤ 6) }
-    ensures yes { result ≡ true → answer.now ≡ told_answer code (told_in answer.now) }
-    ensures other { (os : List (Maybe (List ℕ))) → answer.now ≡ told_answer code os → result ≡ true }
+    ensures yes { result ≡ true → answer.now ≡ reported_answer code (reported_in answer.now) }
+    ensures other { (os : List (Maybe (List ℕ))) → answer.now ≡ reported_answer code os → result ≡ true }
 {
     match answer {
         Answer::Replied(Reply::Done(_)) => code == 5,
@@ -183,21 +183,21 @@ pub(crate) fn read_same_answer<S: Source>(
     source: &mut S,
     place: &mut u64,
     version: Version,
-    told: &Answer,
+    reported: &Answer,
     spare: &mut Vec<u8>,
 ) -> Result<bool, BundleFault>
-    ensures bytes { (zs : List ℕ) → S.left source.old ≡ Some zs → Compares told.now (answer version (record { at = place.old; bytes = zs })) result place.new (S.left source.new) }
-    ensures told { FailsAsTold is_read_failed result (S.has_failed source.old) (S.has_failed source.new) }
+    ensures bytes { (zs : List ℕ) → S.left source.old ≡ Some zs → Compares reported.now (answer version (record { at = place.old; bytes = zs })) result place.new (S.left source.new) }
+    ensures reported { FailsAsReported is_read_failed result (S.has_failed source.old) (S.has_failed source.new) }
 {
     let code = read_code(source, place, version)?;
     if code == 1 {
-        return read_same_value(source, place, version, told, spare);
+        return read_same_value(source, place, version, reported, spare);
     }
     if code < 5 {
-        let same = plain_answer(code).is_same(told);
+        let same = plain_answer(code).is_same(reported);
         return Ok(same);
     }
-    let same = read_same_told(source, place, version, told_in(told), spare)?;
-    let here = has_code(told, code);
+    let same = read_same_reported(source, place, version, reported_in(reported), spare)?;
+    let here = has_code(reported, code);
     Ok(same & here)
 }

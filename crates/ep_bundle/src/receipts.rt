@@ -1,7 +1,7 @@
 //! Receipts.
 
 ghost use Rattle.std.specs.Prelude.{◌≡◌, ℕ, List, [], Some};
-ghost use Rattle.ep_base.specs.Devices.{FailsAsTold};
+ghost use Rattle.ep_base.specs.Devices.{FailsAsReported};
 ghost use Rattle.ep_base.specs.Quorums.{size};
 ghost use Rattle.ep_bundle.specs.Reading.{map_ok, many, is_read_failed, Reads};
 ghost use Rattle.ep_bundle.specs.Stages.{receipt};
@@ -26,7 +26,7 @@ pub fn read_receipt<S: Source>(
     cluster: Size,
 ) -> Result<Receipt, BundleFault>
     ensures bytes { (zs : List ℕ) → S.left source.old ≡ Some zs → Reads (receipt version (size cluster) (record { at = place.old; bytes = zs })) result place.new (S.left source.new) }
-    ensures told { FailsAsTold is_read_failed result (S.has_failed source.old) (S.has_failed source.new) }
+    ensures reported { FailsAsReported is_read_failed result (S.has_failed source.old) (S.has_failed source.new) }
 {
     let mut room = Room::new(alloc);
     let dialect = Dialect {
@@ -44,7 +44,7 @@ fn read_receipt_in<S: Source>(
     room: &mut Room,
 ) -> Result<Receipt, BundleFault>
     ensures bytes { (zs : List ℕ) → S.left source.old ≡ Some zs → Reads (receipt dialect.now.version (size dialect.now.size) (record { at = place.old; bytes = zs })) result place.new (S.left source.new) }
-    ensures told { FailsAsTold is_read_failed result (S.has_failed source.old) (S.has_failed source.new) }
+    ensures reported { FailsAsReported is_read_failed result (S.has_failed source.old) (S.has_failed source.new) }
 {
     let client = read_counted(source, place, BundleField::Client)?;
     let request = read_counted(source, place, BundleField::Request)?;
@@ -75,7 +75,7 @@ pub(crate) fn read_receipts<S: Source>(
     count: u32,
 ) -> Result<Vec<Receipt>, BundleFault>
     ensures bytes { (zs : List ℕ) → S.left source.old ≡ Some zs → Reads (many (receipt dialect.now.version (size dialect.now.size)) count [] (record { at = place.old; bytes = zs })) (map_ok (λ v. v.items) result) place.new (S.left source.new) }
-    ensures told { FailsAsTold is_read_failed result (S.has_failed source.old) (S.has_failed source.new) }
+    ensures reported { FailsAsReported is_read_failed result (S.has_failed source.old) (S.has_failed source.new) }
 {
     let mut room = Room::new(alloc);
     let mut receipts = Vec::new(alloc);

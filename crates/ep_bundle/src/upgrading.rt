@@ -14,7 +14,7 @@ use std::alloc::Global;
 use std::mem::forget;
 
 /// What a fault of bytes in memory is reported as: reading them never fails.
-fn told(fault: BundleFault) -> BundleFault
+fn reported(fault: BundleFault) -> BundleFault
     ensures { (zs : List ℕ) → IsUnread zs fault → IsNoBundle zs result }
 {
     match fault {
@@ -35,11 +35,11 @@ fn check(alloc: Global, bytes: &[u8]) -> Result<(), BundleFault>
             forget(bundle);
             Ok(())
         }
-        Err(fault) => Err(told(fault)),
+        Err(fault) => Err(reported(fault)),
     }
 }
 
-/// The bytes of the bundle of these journals in version 3, of generation 1, which opens with nothing, and of these receipts. `NotARun` tells
+/// The bytes of the bundle of these journals in version 3, of generation 1, which opens with nothing, and of these receipts. `NotARun` reports
 /// the first entry that is no step in version 3.
 pub fn in_third(
     alloc: Global,

@@ -1,17 +1,17 @@
-//! Values, and those that a command over many keys is told.
+//! Values, and those that a command over many keys is answered.
 
 ghost use Rattle.std.specs.Prelude.{◌≡◌, ◌≤◌, ℕ, List, [], Option as Maybe, Some, None, Ok, true, IfOk, length, get_or};
-ghost use Rattle.ep_base.specs.Devices.{FailsAsTold};
+ghost use Rattle.ep_base.specs.Devices.{FailsAsReported};
 ghost use Rattle.ep_base.specs.declared.reply.Answer.TheVariants.{Replied};
 ghost use Rattle.ep_base.specs.declared.reply.Reply.TheVariants.{Present};
 ghost use Rattle.ep_bundle.specs.Reading.{and_then, field, is_read_failed, map_ok, many, Compares, Reads};
-ghost use Rattle.ep_bundle.specs.Stages.{one_told, told_values, value, value_length};
+ghost use Rattle.ep_bundle.specs.Stages.{one_reported, reply_values, value, value_length};
 
 use crate::bundle_fault::BundleFault;
 use crate::bundle_field::BundleField;
 use crate::fields::{field_u8, field_u16, field_u32, read_over};
 use crate::room::Room;
-use ep_base::{Answer, Reply, Source, ToldValues, Value, Version, VersionKind};
+use ep_base::{Answer, Reply, ReplyValues, Source, Value, Version, VersionKind};
 
 /// How many bytes a value has: its length takes 2 bytes, or 4 in version 3.
 fn read_value_len<S: Source>(
@@ -20,7 +20,7 @@ fn read_value_len<S: Source>(
     version: Version,
 ) -> Result<u32, BundleFault>
     ensures bytes { (zs : List ℕ) → S.left source.old ≡ Some zs → Reads (value_length version (record { at = place.old; bytes = zs })) result place.new (S.left source.new) }
-    ensures told { FailsAsTold is_read_failed result (S.has_failed source.old) (S.has_failed source.new) }
+    ensures reported { FailsAsReported is_read_failed result (S.has_failed source.old) (S.has_failed source.new) }
 {
     match version.kind() {
         VersionKind::V1 | VersionKind::V2 => read_short_len(source, place),
@@ -31,7 +31,7 @@ fn read_value_len<S: Source>(
 /// The same in versions 1 and 2.
 fn read_short_len<S: Source>(source: &mut S, place: &mut u64) -> Result<u32, BundleFault>
     ensures bytes { (zs : List ℕ) → S.left source.old ≡ Some zs → Reads (field BundleField.AnswerLength 2 0 1024 (record { at = place.old; bytes = zs })) result place.new (S.left source.new) }
-    ensures told { FailsAsTold is_read_failed result (S.has_failed source.old) (S.has_failed source.new) }
+    ensures reported { FailsAsReported is_read_failed result (S.has_failed source.old) (S.has_failed source.new) }
 {
     match field_u16(source, place, BundleField::AnswerLength, 0, 1024) {
         Ok(len) => Ok(len as u32),
@@ -47,7 +47,7 @@ pub(crate) fn read_value<S: Source>(
     room: &mut Room,
 ) -> Result<Value, BundleFault>
     ensures bytes { (zs : List ℕ) → S.left source.old ≡ Some zs → Reads (value version (record { at = place.old; bytes = zs })) result place.new (S.left source.new) }
-    ensures told { FailsAsTold is_read_failed result (S.has_failed source.old) (S.has_failed source.new) }
+    ensures reported { FailsAsReported is_read_failed result (S.has_failed source.old) (S.has_failed source.new) }
 {
     let len = read_value_len(source, place, version)?;
     read_over(
@@ -61,17 +61,17 @@ pub(crate) fn read_value<S: Source>(
     Value::new(room.alloc, &room.spare).map_err(|_| BundleFault::Memory)
 }
 
-/// What one key had that is told: a value, or none; by way of what the room has to spare.
-fn read_one_told<S: Source>(
+/// What one key had that is reported: a value, or none; by way of what the room has to spare.
+fn read_one_reported<S: Source>(
     source: &mut S,
     place: &mut u64,
     version: Version,
     room: &mut Room,
 ) -> Result<Option<Value>, BundleFault>
-    ensures bytes { (zs : List ℕ) → S.left source.old ≡ Some zs → Reads (one_told version (record { at = place.old; bytes = zs })) result place.new (S.left source.new) }
-    ensures told { FailsAsTold is_read_failed result (S.has_failed source.old) (S.has_failed source.new) }
+    ensures bytes { (zs : List ℕ) → S.left source.old ≡ Some zs → Reads (one_reported version (record { at = place.old; bytes = zs })) result place.new (S.left source.new) }
+    ensures reported { FailsAsReported is_read_failed result (S.has_failed source.old) (S.has_failed source.new) }
 {
-    let code = field_u8(source, place, BundleField::ToldMark, 0, 1)?;
+    let code = field_u8(source, place, BundleField::ReportedMark, 0, 1)?;
     if code == 0 {
         return Ok(None);
     }
@@ -80,52 +80,52 @@ fn read_one_told<S: Source>(
 }
 
 /// So many of them.
-fn read_each_told<S: Source>(
+fn read_each_reported<S: Source>(
     source: &mut S,
     place: &mut u64,
     version: Version,
     count: u16,
     room: &mut Room,
 ) -> Result<Vec<Option<Value>>, BundleFault>
-    ensures bytes { (zs : List ℕ) → S.left source.old ≡ Some zs → Reads (many (one_told version) count [] (record { at = place.old; bytes = zs })) (map_ok (λ v. v.items) result) place.new (S.left source.new) }
+    ensures bytes { (zs : List ℕ) → S.left source.old ≡ Some zs → Reads (many (one_reported version) count [] (record { at = place.old; bytes = zs })) (map_ok (λ v. v.items) result) place.new (S.left source.new) }
     ensures count { IfOk result (λ v. length v.items ≡ count) }
-    ensures told { FailsAsTold is_read_failed result (S.has_failed source.old) (S.has_failed source.new) }
+    ensures reported { FailsAsReported is_read_failed result (S.has_failed source.old) (S.has_failed source.new) }
 {
     let mut values = Vec::new(room.alloc);
     for _ in 0..count {
-        let value = read_one_told(source, place, version, room)?;
+        let value = read_one_reported(source, place, version, room)?;
         values.push(value)?;
     }
     Ok(values)
 }
 
-/// What a command over many keys is told, at most 16 values; by way of what the room has to spare.
-pub(crate) fn read_told<S: Source>(
+/// What a command over many keys is answered, at most 16 values; by way of what the room has to spare.
+pub(crate) fn read_reported<S: Source>(
     source: &mut S,
     place: &mut u64,
     version: Version,
     room: &mut Room,
-) -> Result<ToldValues, BundleFault>
-    ensures bytes { (zs : List ℕ) → S.left source.old ≡ Some zs → Reads (told_values version (record { at = place.old; bytes = zs })) result place.new (S.left source.new) }
-    ensures told { FailsAsTold is_read_failed result (S.has_failed source.old) (S.has_failed source.new) }
+) -> Result<ReplyValues, BundleFault>
+    ensures bytes { (zs : List ℕ) → S.left source.old ≡ Some zs → Reads (reply_values version (record { at = place.old; bytes = zs })) result place.new (S.left source.new) }
+    ensures reported { FailsAsReported is_read_failed result (S.has_failed source.old) (S.has_failed source.new) }
 {
-    let count = field_u16(source, place, BundleField::ToldKeys, 0, 16)?;
-    let values = read_each_told(source, place, version, count, room)?;
-    Ok(ToldValues::of(values))
+    let count = field_u16(source, place, BundleField::ReportedKeys, 0, 16)?;
+    let values = read_each_reported(source, place, version, count, room)?;
+    Ok(ReplyValues::of(values))
 }
 
 /// Whether the answer is the reply of this value.
-fn tells(answer: &Answer, value: &[u8]) -> bool
+fn reports(answer: &Answer, value: &[u8]) -> bool
     ensures yes { result ≡ true → answer.now ≡ Replied (Present value.now) }
     ensures other { answer.now ≡ Replied (Present value.now) → result ≡ true }
 {
     match answer {
-        Answer::Replied(Reply::Present(told)) => told.as_slice() == value,
+        Answer::Replied(Reply::Present(reported)) => reported.as_slice() == value,
         _ => false,
     }
 }
 
-/// Whether a value, which is read with its length before it, is the one that the answer tells. It is read over what `spare` had.
+/// Whether a value, which is read with its length before it, is the one that the answer reports. It is read over what `spare` had.
 pub(crate) fn read_same_value<S: Source>(
     source: &mut S,
     place: &mut u64,
@@ -134,11 +134,11 @@ pub(crate) fn read_same_value<S: Source>(
     spare: &mut Vec<u8>,
 ) -> Result<bool, BundleFault>
     ensures bytes { (zs : List ℕ) → S.left source.old ≡ Some zs → Compares answer.now (and_then (value version (record { at = place.old; bytes = zs })) (λ x l. Ok (Replied (Present x), l))) result place.new (S.left source.new) }
-    ensures told { FailsAsTold is_read_failed result (S.has_failed source.old) (S.has_failed source.new) }
+    ensures reported { FailsAsReported is_read_failed result (S.has_failed source.old) (S.has_failed source.new) }
 {
     let len = read_value_len(source, place, version)?;
     read_over(source, place, BundleField::AnswerValue, len as usize, spare)?;
-    let same = tells(answer, spare);
+    let same = reports(answer, spare);
     Ok(same)
 }
 
@@ -162,7 +162,7 @@ fn read_same_some<S: Source>(
     spare: &mut Vec<u8>,
 ) -> Result<bool, BundleFault>
     ensures bytes { (zs : List ℕ) → S.left source.old ≡ Some zs → Compares option.now (and_then (value version (record { at = place.old; bytes = zs })) (λ x l. Ok (Some x, l))) result place.new (S.left source.new) }
-    ensures told { FailsAsTold is_read_failed result (S.has_failed source.old) (S.has_failed source.new) }
+    ensures reported { FailsAsReported is_read_failed result (S.has_failed source.old) (S.has_failed source.new) }
 {
     let len = read_value_len(source, place, version)?;
     read_over(source, place, BundleField::AnswerValue, len as usize, spare)?;
@@ -178,17 +178,17 @@ fn is_none(option: &Option<Value>) -> bool
 }
 
 /// Whether what one key had, which is read, is this; `spare` is as for `read_same_value`.
-fn read_same_one_told<S: Source>(
+fn read_same_one_reported<S: Source>(
     source: &mut S,
     place: &mut u64,
     version: Version,
     option: &Option<Value>,
     spare: &mut Vec<u8>,
 ) -> Result<bool, BundleFault>
-    ensures bytes { (zs : List ℕ) → S.left source.old ≡ Some zs → Compares option.now (one_told version (record { at = place.old; bytes = zs })) result place.new (S.left source.new) }
-    ensures told { FailsAsTold is_read_failed result (S.has_failed source.old) (S.has_failed source.new) }
+    ensures bytes { (zs : List ℕ) → S.left source.old ≡ Some zs → Compares option.now (one_reported version (record { at = place.old; bytes = zs })) result place.new (S.left source.new) }
+    ensures reported { FailsAsReported is_read_failed result (S.has_failed source.old) (S.has_failed source.new) }
 {
-    let code = field_u8(source, place, BundleField::ToldMark, 0, 1)?;
+    let code = field_u8(source, place, BundleField::ReportedMark, 0, 1)?;
     if code == 0 {
         let same = is_none(option);
         return Ok(same);
@@ -217,23 +217,23 @@ fn are_as_many(values: &[Option<Value>], count: u16) -> bool
     values.len() == count as usize
 }
 
-/// Whether what is told, which is read, are these values; `spare` is as for `read_same_value`.
-pub(crate) fn read_same_told<S: Source>(
+/// Whether what is reported, which is read, are these values; `spare` is as for `read_same_value`.
+pub(crate) fn read_same_reported<S: Source>(
     source: &mut S,
     place: &mut u64,
     version: Version,
     values: &[Option<Value>],
     spare: &mut Vec<u8>,
 ) -> Result<bool, BundleFault>
-    ensures bytes { (zs : List ℕ) → S.left source.old ≡ Some zs → Compares values.now (told_values version (record { at = place.old; bytes = zs })) result place.new (S.left source.new) }
-    ensures told { FailsAsTold is_read_failed result (S.has_failed source.old) (S.has_failed source.new) }
+    ensures bytes { (zs : List ℕ) → S.left source.old ≡ Some zs → Compares values.now (reply_values version (record { at = place.old; bytes = zs })) result place.new (S.left source.new) }
+    ensures reported { FailsAsReported is_read_failed result (S.has_failed source.old) (S.has_failed source.new) }
 {
-    let count = field_u16(source, place, BundleField::ToldKeys, 0, 16)?;
+    let count = field_u16(source, place, BundleField::ReportedKeys, 0, 16)?;
     let mut same = are_as_many(values, count);
     let none = None;
     for index in 0..count {
         let this = value_at(values, index as usize, &none);
-        let next = read_same_one_told(source, place, version, this, spare)?;
+        let next = read_same_one_reported(source, place, version, this, spare)?;
         same = same & next;
     }
     Ok(same)

@@ -36,8 +36,8 @@ abbrev pub WroteNothing : Output → Type 0
 WroteNothing o = Wrote o []
 
 -- this line was written, and nothing else, unless the output has failed
-abbrev pub Told : Output → List ℕ → Type 0
-Told o line = (o.failed ≡ true) ⊎ Wrote o line
+abbrev pub Reported : Output → List ℕ → Type 0
+Reported o line = (o.failed ≡ true) ⊎ Wrote o line
 
 -- In between, neither failed, or just the input, or just the output.
 

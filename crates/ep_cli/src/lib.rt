@@ -18,9 +18,9 @@ mod files_fault;
 mod made;
 mod printing;
 mod printout;
+mod reporting;
 mod status;
 mod streams;
-mod telling;
 mod words_fault;
 
 pub use arg_kind::ArgKind;
@@ -30,13 +30,15 @@ pub use buffered::{Buffered, read_ahead};
 pub use causes::{push_cause, push_number};
 pub use command_row::CommandRow;
 pub use commands::program;
-pub use endings::{decline, put_printout, told, turned_away};
+pub use endings::{decline, put_printout, reported, turned_away};
 pub use files::{read_file, read_files, unread};
 pub use files_fault::FilesFault;
 pub use made::Made;
 pub use printing::{put_made, put_text};
 pub use printout::Printout;
+pub use reporting::{
+    write_bad_bundle, write_not_a_run, write_number, write_script_refused, write_words_refused,
+};
 pub use status::Status;
 pub use streams::Streams;
-pub use telling::{tell_bad_bundle, tell_not_a_run, tell_number, tell_script, tell_words};
 pub use words_fault::WordsFault;

@@ -1,6 +1,6 @@
 //! The standard streams.
 
-/// The streams of a program: where it reads, where it prints, and where it tells its faults.
+/// The streams of a program: where it reads, where it prints, and where it reports its faults.
 #[derive(Drop)]
 pub struct Streams<S, W, F> {
     /// Standard input.

@@ -64,9 +64,9 @@ module _ (at : Place) where
   handed_on :
       (n q c : ℕ) → drop n at.moves ≡ Within at.g (HandOut q c) ∷ drop (suc n) at.moves →
       length ((nodes n).journal q) ≡ c → IsKept at.start at.f at.moves at.g q n (suc n)
-  handed_on n q c told is =
+  handed_on n q c reported is =
       let m : LifeMove = Within at.g (HandOut q c) in
-      let moved_on = next_is at.f (newborn at.start) at.moves n m (drop (suc n) at.moves) told in
+      let moved_on = next_is at.f (newborn at.start) at.moves n m (drop (suc n) at.moves) reported in
       let next : nodes (suc n) ≡ moved (nodes n) (HandOut q c) =
       ap (λ (l : Generations). l.cluster at.g) moved_on
       ∙ at_same at.g (moved (nodes n) (HandOut q c)) (generations n).cluster in
@@ -107,14 +107,14 @@ module _ (at : Place) where
       here = λ q n looked. let x = a.looks q n looked in opened_it n q x.replica x.has;
       reader = opened_it r.answered r.reader reader a.answer.has;
       kept =
-          handed_on r.answered r.reader (length reader.entries) a.answer.told
+          handed_on r.answered r.reader (length reader.entries) a.answer.reported
           (entries_are r.answered r.reader reader a.answer.has);
       executed = λ q n i looked has.
           subst (λ (s : State). Has s.executed i) reads_here (a.answer.reading.0 i (found_here q n i looked has));
     }
 
-    told_is : y ≡ reply (state r.answered r.reader).store r.command
-    told_is = a.answer.reading.1 ∙ ap (λ (s : State). reply s.store r.command) reads_here
+    reported_is : y ≡ reply (state r.answered r.reader).store r.command
+    reported_is = a.answer.reading.1 ∙ ap (λ (s : State). reply s.store r.command) reads_here
 
 pub asked_reads_are_linearizable_lem : AskedReadsAreLinearizable
 asked_reads_are_linearizable_lem start first f sizes moves are g r given y a =
@@ -122,5 +122,5 @@ asked_reads_are_linearizable_lem start first f sizes moves are g r given y a =
     let next = (generations_at start f moves r.asked).has_opened (suc g) in
     let is = is_read at r given y a in
     let t = crash_life_reads_are_linearizable_lem start f sizes moves are g r (suc r.answered) is in
-    let told = sym (told_is at r given y a) in
-    (t.0, t.1, t.2, subst (λ z. IsRightOrClosed start.map f (life_of moves) g r.command z next t.0) told t.3)
+    let reported = sym (reported_is at r given y a) in
+    (t.0, t.1, t.2, subst (λ z. IsRightOrClosed start.map f (life_of moves) g r.command z next t.0) reported t.3)

@@ -225,14 +225,14 @@ module _ (start : Start) (f : ℕ → ℕ) (sizes : (g : ℕ) → (0 < f g) × (
       abbrev counted : Read
       counted = in_run start.map f sizes turns life g there
 
-      module _ (told : ℕ) (is : IsCrashLifeRead start f moves g r told) where
+      module _ (reported : ℕ) (is : IsCrashLifeRead start f moves g r reported) where
         is_ahead : IsAheadRead first (f g) these counted (seen r.looked)
         is_ahead = record {
           reads = is.reads;
           in_order = rises start.map f sizes turns life g (point r.asked) (point r.answered) (points_rise r.asked r.answered is.in_order);
           many = many_seen r.looked is.many;
           goes_on = goes_on_seen r.looked r.asked is.later is.here;
-          executed = found_then r.looked r.command r.reader r.answered told is.kept is.reader is.executed;
+          executed = found_then r.looked r.command r.reader r.answered reported is.kept is.reader is.executed;
         }
 
         right : (p : ℕ) × (length (history_to start.map f turns g there.asked) ≤ p) × (p ≤ length (history_to start.map f turns g there.answered))
@@ -244,16 +244,16 @@ module _ (start : Start) (f : ℕ → ℕ) (sizes : (g : ℕ) → (0 < f g) × (
               asked,
               subst (λ os. t.0 ≤ length os) (same_history start.map f sizes turns life g there.answered) t.1.answered,
               right_then r.command (node_reply start f moves g r) r.asked t.0 is.reads.only asked
-                  (ap (λ (s : State). reply s.store r.command) (reader_is r.reader r.answered told is.kept is.reader) ∙ t.2),
+                  (ap (λ (s : State). reply s.store r.command) (reader_is r.reader r.answered reported is.kept is.reader) ∙ t.2),
             )
 
-      module _ (told : ℕ) (is : IsCrashLifeWholeRead start f moves g r told) where
+      module _ (reported : ℕ) (is : IsCrashLifeWholeRead start f moves g r reported) where
         is_ahead_whole : IsAheadWholeRead first (f g) these counted (seen r.looked)
         is_ahead_whole = record {
           only = is.only;
           many = many_seen r.looked is.many;
           goes_on = goes_on_seen r.looked r.asked is.later is.here;
-          executed = found_then r.looked r.command r.reader r.asked told is.kept is.reader is.executed;
+          executed = found_then r.looked r.command r.reader r.asked reported is.kept is.reader is.executed;
         }
 
         abbrev early : List Operation
@@ -270,7 +270,7 @@ module _ (start : Start) (f : ℕ → ℕ) (sizes : (g : ℕ) → (0 < f g) × (
 
         whole_right : IsRightOrClosed start.map f turns g r.command (reply (state_at start f moves g r.asked r.reader).store r.command) ((at r.asked).has_opened (suc g)) (length early)
         whole_right = right_then r.command (reply (state_at start f moves g r.asked r.reader).store r.command) r.asked (length early) is.only (omega arith) (
-            ap (λ (s : State). reply s.store r.command) (reader_is r.reader r.asked told is.kept is.reader)
+            ap (λ (s : State). reply s.store r.command) (reader_is r.reader r.asked reported is.kept is.reader)
             ∙ ahead_whole_reads_are_linearizable_lem first (f g) (sizes g).0 (sizes g).1 these (run start.map f sizes turns life g) counted (seen r.looked) is_ahead_whole
             ∙ ap (λ os. reply (after_commands first (commands_of os)) r.command) (same_history start.map f sizes turns life g there.asked ∙ sym front))
 
@@ -300,10 +300,10 @@ module _ (start : Start) (f : ℕ → ℕ) (sizes : (g : ℕ) → (0 < f g) × (
         }
 
 pub crash_life_reads_are_linearizable_lem : CrashLifeReadsAreLinearizable
-crash_life_reads_are_linearizable_lem start f sizes moves are g r told is = right start f sizes moves are g r told is
+crash_life_reads_are_linearizable_lem start f sizes moves are g r reported is = right start f sizes moves are g r reported is
 
 pub crash_life_whole_reads_are_linearizable_lem : CrashLifeWholeReadsAreLinearizable
-crash_life_whole_reads_are_linearizable_lem start f sizes moves are g r told is = whole_right start f sizes moves are g r told is
+crash_life_whole_reads_are_linearizable_lem start f sizes moves are g r reported is = whole_right start f sizes moves are g r reported is
 
 pub crash_life_reads_keep_real_time_lem : CrashLifeReadsKeepRealTime
 crash_life_reads_keep_real_time_lem start f sizes moves are g r reader p right_at = keeps_time start f sizes moves are g r reader p right_at

@@ -37,15 +37,15 @@ pub record IsLook (at : Place) (n q : ℕ) (c : Command) (given : List ℕ) : Ty
   pub has : IsReplicaOf at n q replica
   pub all : (i : ℕ) → Has (found (state_of replica) c) i → Has given i
 
--- It has this one, and tells this reply, given that. So it hands out of all its entries, which are on its disk then:
+-- It has this one, and reports this reply, given that. So it hands out of all its entries, which are on its disk then:
 -- that is the move at this point.
 pub record IsAnswer (at : Place) (n q : ℕ) (c : Command) (given : List ℕ) (y : Reply) : Type 0 where
   pub replica : Kept
   pub has : IsReplicaOf at n q replica
   pub reading : IsReading (state_of replica) c given (Replied y)
-  pub told : drop n at.moves ≡ Within at.g (HandOut q (length replica.entries)) ∷ drop (suc n) at.moves
+  pub reported : drop n at.moves ≡ Within at.g (HandOut q (length replica.entries)) ∷ drop (suc n) at.moves
 
--- a read of one key in the generation, for which more than F nodes are asked after the question, and which is told this
+-- a read of one key in the generation, for which more than F nodes are asked after the question, and which gets this
 pub record IsAskedRead (at : Place) (r : Read) (given : List ℕ) (y : Reply) : Type 0 where
   pub reads : ReadsOneKey r.command
   pub in_order : r.asked ≤ r.answered

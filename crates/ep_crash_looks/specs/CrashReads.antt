@@ -45,7 +45,7 @@ pub record IsCrashRead (start : Start) (f : ℕ) (moves : List Move) (r : Read) 
       (q n i : ℕ) → r.looked q ≡ Some n → Has (found (state_at start f moves n q) r.command) i →
       Has (state_at start f moves r.answered r.reader).executed i
 
--- Whatever crashed, every read of one key takes effect between its question and its answer, in the history of what stands: a crash takes nothing that it was told.
+-- Whatever crashed, every read of one key takes effect between its question and its answer, in the history of what stands: a crash takes nothing that it was answered.
 abbrev pub CrashReadsAreLinearizable : Type 0
 CrashReadsAreLinearizable =
     (start : Start) (f : ℕ) → 0 < f → size f ≤ 256 → (moves : List Move) → AreMoves start f fresh_cluster moves → (r : Read) → IsCrashRead start f moves r →

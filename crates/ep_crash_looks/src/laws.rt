@@ -23,8 +23,8 @@ pub fn crash_life_reads_are_linearizable()
     ensures { CrashLifeReadsAreLinearizable }
 {}
 
-/// So is what a read of one key is told by the calls of nodes: each node that is looked at says what interferes with
-/// the read; the reader, which is given all of that, tells a reply once all its entries are on its disk.
+/// So is what a read of one key is answered by the calls of nodes: each node that is looked at says what interferes
+/// with the read; the reader, which is given all of that, reports a reply once all its entries are on its disk.
 pub fn asked_reads_are_linearizable()
     ensures { AskedReadsAreLinearizable }
 {}

@@ -14,10 +14,10 @@ pub(crate) struct Countdown {
 }
 
 impl Countdown {
-    /// Counts a call. `Err` where it fails: the one that is told to, and each one after it.
+    /// Counts a call. `Err` where it fails: the one that is reported to, and each one after it.
     pub(crate) fn count(&mut self) -> Result<(), DeviceFailed>
         ensures failed { is_some self.new.failed ≡ (self.old.call == 1 || is_some self.old.failed) }
-        ensures told { MatchResult result (λ _. self.new.failed ≡ None) (λ e. self.new.failed ≡ Some e.cause) }
+        ensures reported { MatchResult result (λ _. self.new.failed ≡ None) (λ e. self.new.failed ≡ Some e.cause) }
         ensures first { IfSome self.old.failed (λ cause. self.new.failed ≡ Some cause) }
         ensures call { self.new.call ≡ self.old.call - 1 }
     {
@@ -34,11 +34,11 @@ impl Countdown {
         }
     }
 
-    /// Notes a fault, out of memory too, and tells the first one.
-    pub(crate) fn told(&mut self, answer: Result<(), DeviceFault>) -> Result<(), DeviceFailed>
+    /// Notes a fault, out of memory too, and reports the first one.
+    pub(crate) fn reported(&mut self, answer: Result<(), DeviceFault>) -> Result<(), DeviceFailed>
         ensures result { IsOk result ↔ IsOk answer }
         ensures failed { is_some self.new.failed ≡ (is_err result || is_some self.old.failed) }
-        ensures told { IfErr result (λ e. self.new.failed ≡ Some e.cause) }
+        ensures reported { IfErr result (λ e. self.new.failed ≡ Some e.cause) }
         ensures first { IfSome self.old.failed (λ cause. self.new.failed ≡ Some cause) }
     {
         let why = match answer {

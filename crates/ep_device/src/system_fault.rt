@@ -2,7 +2,7 @@
 
 use thiserror::Error;
 
-/// Why a device failed, as far as the operating system tells.
+/// Why a device failed, as far as the operating system reports it.
 #[derive(Clone, Copy, Debug, PartialEq, Eq, Error)]
 pub enum SystemFault {
     /// There is no such file, or no such folder.

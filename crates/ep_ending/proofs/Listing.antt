@@ -74,12 +74,12 @@ module _ (P : ℕ → Type 0) (line : ℕ → List ℕ) (lines : List ℕ → Li
 
   pub goes_on :
       (n : ℕ) (next : Option ℕ) (old mid new : List ℕ) → Listed P lines (Some n) old mid → IsLeast (λ i. P i × IsAbove (Some n) i) next → new ≡ mid ++ line n → Listed P lines next old new
-  goes_on n next old mid new was found told = record {
+  goes_on n next old mid new was found reported = record {
     is = was.is ++ n ∷ [];
     rising = rising_more was.is n was.rising (λ i h. ((was.these i).0 h).1);
     these = (λ i. (to i, from i));
     too = such_too n next found;
-    text = told ∙ ap (λ (z : List ℕ). z ++ line n) was.text ∙ append_assoc old (lines was.is) (line n) ∙ ap (λ (z : List ℕ). old ++ z) (sym (lines_more was.is n));
+    text = reported ∙ ap (λ (z : List ℕ). z ++ line n) was.text ∙ append_assoc old (lines was.is) (line n) ∙ ap (λ (z : List ℕ). old ++ z) (sym (lines_more was.is n));
   }
     where
       to : (i : ℕ) → In i (was.is ++ n ∷ []) → P i × IsBefore next i
@@ -100,10 +100,10 @@ module _ (P : ℕ → Type 0) (line : ℕ → List ℕ) (lines : List ℕ → Li
               in_left i was.is (n ∷ []) ((was.these i).1 (h.0, omega arith))
 
   pub longer :
-      (n : ℕ) (next : Option ℕ) (old mid new : List ℕ) (was : Listed P lines (Some n) old mid) (found : IsLeast (λ i. P i × IsAbove (Some n) i) next) (told : new ≡ mid ++ line n) →
-      length (goes_on n next old mid new was found told).is ≡ length was.is + 1
+      (n : ℕ) (next : Option ℕ) (old mid new : List ℕ) (was : Listed P lines (Some n) old mid) (found : IsLeast (λ i. P i × IsAbove (Some n) i) next) (reported : new ≡ mid ++ line n) →
+      length (goes_on n next old mid new was found reported).is ≡ length was.is + 1
   unfolding goes_on
-  longer n next old mid new was found told = length-append was.is (n ∷ [])
+  longer n next old mid new was found reported = length-append was.is (n ∷ [])
 
   -- all of them
   pub record ListsAll (old new : List ℕ) : Type 0 where

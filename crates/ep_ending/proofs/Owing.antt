@@ -21,16 +21,16 @@ use Rattle.ep_ending.specs.Endings.AddsIfOwed.{settled, owed}
 pub is_settled : (l : Log) (i : ℕ) (t : List ℕ) → ¬ IsOwedBy l i → AddsIfOwed l i t t
 is_settled l i t h = settled h refl
 
-pub is_told :
+pub is_reported :
     {T E : Type 0} (r : Result T E) (l : Log) (i : ℕ) (old new : List ℕ) → IsOwedBy l i → OnOk r ((line : List ℕ) × IsOwedLine l i line × (new ≡ old ++ line)) → OnOk r (AddsIfOwed l i old new)
-is_told (Err e) l i old new is told = tt
-is_told (Ok x) l i old new is told = owed told.0 is told.1 told.2
+is_reported (Err e) l i old new is reported = tt
+is_reported (Ok x) l i old new is reported = owed reported.0 is reported.1 reported.2
 
 pub one_owed :
     {T E : Type 0} (r : Result T E) (l : Log) (i me : ℕ) (missing : Option ℕ) (old new : List ℕ) → IsMissing (graph_in (state_of l).records) i missing → me ≡ l.me →
     OnOk r (new ≡ old ++ owed_line me i missing) → OnOk r ((line : List ℕ) × IsOwedLine l i line × (new ≡ old ++ line))
-one_owed (Err e) l i me missing old new lacks here told = tt
-one_owed (Ok x) l i me missing old new lacks here told = (owed_line l.me i missing, (missing, lacks, refl), told ∙ ap (λ (r : ℕ). old ++ owed_line r i missing) here)
+one_owed (Err e) l i me missing old new lacks here reported = tt
+one_owed (Ok x) l i me missing old new lacks here reported = (owed_line l.me i missing, (missing, lacks, refl), reported ∙ ap (λ (r : ℕ). old ++ owed_line r i missing) here)
 
 -- before the first instance nothing is owed
 pub owed_first : (c : Collected) (end : ℕ) (t : List ℕ) → end ≡ 0 → AddsOwedBefore c end t t
@@ -63,13 +63,13 @@ owed_next c l i end first mid new is there here next before (settled none same) 
   where
     own : (j : ℕ) → i ≤ j → j < end → log_at c (leader_of j) ≡ l
     own j ge lt = let e : j ≡ i = omega (arith, ge, lt, next) in ap (λ (k : ℕ). log_at c (leader_of k)) e ∙ sym here
-owed_next c l i end first mid new is there here next before (owed line owes told text) = (
+owed_next c l i end first mid new is there here next before (owed line owes reported text) = (
   before.0 ++ i ∷ [],
   rising_more before.0 i before.1 (λ j m. ((before.2 j).0 m).1),
   (λ j. (to j, from j)),
   (
     before.3.0 ++ line,
-    lines_more c before.0 i before.3.0 line before.3.1 (subst (λ (g : Log). IsOwedLine g i line) here told),
+    lines_more c before.0 i before.3.0 line before.3.1 (subst (λ (g : Log). IsOwedLine g i line) here reported),
     text ∙ ap (λ (t : List ℕ). t ++ line) before.3.2 ∙ append_assoc first before.3.0 line,
   ),
 )

@@ -102,17 +102,17 @@ fn push_more(text: &mut Vec<u8>, instance: InstanceId) -> Result<(), AllocError>
 pub(crate) fn push_all_open(text: &mut Vec<u8>, journals: &Journals) -> Result<(), AllocError>
     ensures { OnOk result (AddsOpen journals.now text.old.items text.new.items) }
 {
-    let mut told = 0;
+    let mut reported = 0;
     let mut next = next_open(journals, None);
     while let Some(instance) = next {
         // (that it is in range is known by asking for its number)
         let _number = instance.number();
-        if told == MOST_LINES {
+        if reported == MOST_LINES {
             return push_more(text, instance);
         }
         push_open(text, journals.size(), instance)?;
         next = next_open(journals, Some(instance));
-        told += 1;
+        reported += 1;
     }
     Ok(())
 }

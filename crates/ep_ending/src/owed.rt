@@ -100,7 +100,7 @@ fn push_owed(
 }
 
 /// Appends the line of the instance, if its execution is owed.
-#[tactic(auto, using(crate::proofs::Owing::is_settled, crate::proofs::Owing::is_told))]
+#[tactic(auto, using(crate::proofs::Owing::is_settled, crate::proofs::Owing::is_reported))]
 fn push_if_owed(
     alloc: Global,
     text: &mut Vec<u8>,

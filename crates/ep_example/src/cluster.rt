@@ -155,7 +155,7 @@ fn last_proposed(replica: &Replica) -> Option<InstanceId> {
     Some(frame.instance())
 }
 
-/// What the replica tells the client of its command in the instance.
+/// What the replica answers the client of its command in the instance.
 fn receipt_of(
     alloc: Global,
     replica: &Replica,

@@ -3,11 +3,11 @@
 
 mod cluster;
 mod example_fault;
-mod telling;
+mod reporting;
 
 use crate::cluster::Cluster;
 use crate::example_fault::ExampleFault;
-use crate::telling::tell;
+use crate::reporting::print_receipt;
 use ep_base::{Command, ReplicaId};
 use ep_journal::Event;
 use std::alloc::Global;
@@ -34,16 +34,16 @@ fn play(rt: &impl Print, alloc: Global, cluster: &mut Cluster) -> Result<(), Exa
     let put = Command::put(alloc, b"x", b"1")?;
     let first = cluster.propose(zero, request(1, put, 0))?;
     cluster.deliver()?;
-    let seen = tell(rt, cluster.executed(zero, first)?)?;
+    let seen = print_receipt(rt, cluster.executed(zero, first)?)?;
 
     // It hands that stamp in with its second request, at another replica.
     let get = Command::get(alloc, b"x")?;
     let second = cluster.propose(one, request(2, get, seen))?;
     cluster.deliver()?;
-    tell(rt, cluster.executed(one, second)?)?;
+    print_receipt(rt, cluster.executed(one, second)?)?;
 
     cluster.restart(one)?;
-    tell(rt, cluster.executed(one, second)?)?;
+    print_receipt(rt, cluster.executed(one, second)?)?;
     Ok(())
 }
 

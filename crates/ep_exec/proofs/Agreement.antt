@@ -14,10 +14,10 @@ use Rattle.ep_rules.proofs.Commuting.{is_key}
 use Rattle.ep_rules.specs.OneMap.{Contents, value_at}
 use Rattle.ep_space.specs.Index.{is_at}
 use Rattle.ep_exec.specs.Agreeing.{agree_at, agree_by, agree_in, is_same_at}
-use Rattle.ep_exec.specs.Layers.{Layer, layers_of, said_or, stacked, told_by, told_over}
+use Rattle.ep_exec.specs.Layers.{Layer, layers_of, said_or, stacked, reported_by, reported_over}
 use Rattle.ep_exec.specs.Table.{Entry, key_cmp}
 use Rattle.ep_exec.proofs.Entries.{same_contents}
-use Rattle.ep_exec.proofs.Layered.{told_is}
+use Rattle.ep_exec.proofs.Layered.{reported_is}
 use Rattle.ep_exec.proofs.Rising.{and_first, and_second}
 use Rattle.ep_exec.proofs.Sorting.{Pair}
 
@@ -49,31 +49,31 @@ module _ (m n : Contents) where
       go false is (inl none) = inl (ap (λ b. cond b (Some e.1) (lookup (is_at q) es)) (texts_ties q e.0.items ∙ is) ∙ none)
       go false is (inr same) = inr same
 
-  told_same : (q : List ℕ) (ls : List (List Entry)) (t : Option (Option (List ℕ))) → agree_in m n ls ≡ true → (told_by q t ls ≡ t) ⊎ (value_at m q ≡ value_at n q)
-  told_same q [] t h = inl refl
-  told_same q (l ∷ ls) t h = go (changed_same q l (and_first _ _ h)) (told_same q ls (told_over (lookup (is_at q) l) t) (and_second _ _ h))
+  reported_same : (q : List ℕ) (ls : List (List Entry)) (t : Option (Option (List ℕ))) → agree_in m n ls ≡ true → (reported_by q t ls ≡ t) ⊎ (value_at m q ≡ value_at n q)
+  reported_same q [] t h = inl refl
+  reported_same q (l ∷ ls) t h = go (changed_same q l (and_first _ _ h)) (reported_same q ls (reported_over (lookup (is_at q) l) t) (and_second _ _ h))
     where
-      go : (lookup (is_at q) l ≡ None) ⊎ (value_at m q ≡ value_at n q) → (told_by q (told_over (lookup (is_at q) l) t) ls ≡ told_over (lookup (is_at q) l) t) ⊎ (value_at m q ≡ value_at n q)
-          → (told_by q (told_over (lookup (is_at q) l) t) ls ≡ t) ⊎ (value_at m q ≡ value_at n q)
-      go (inl none) (inl stays) = inl (stays ∙ ap (λ o. told_over o t) none)
+      go : (lookup (is_at q) l ≡ None) ⊎ (value_at m q ≡ value_at n q) → (reported_by q (reported_over (lookup (is_at q) l) t) ls ≡ reported_over (lookup (is_at q) l) t) ⊎ (value_at m q ≡ value_at n q)
+          → (reported_by q (reported_over (lookup (is_at q) l) t) ls ≡ t) ⊎ (value_at m q ≡ value_at n q)
+      go (inl none) (inl stays) = inl (stays ∙ ap (λ o. reported_over o t) none)
       go (inl none) (inr same) = inr same
       go (inr same) stays = inr same
 
   -- of a map of these layers over this listing
   named : (w a : Contents) (ls : List (List Entry)) (q : List ℕ) → w ≡ stacked a ls → agree_at m n (entries a) ≡ true → agree_in m n ls ≡ true → (value_at w q ≡ None) ⊎ (value_at m q ≡ value_at n q)
-  named w a ls q is h g = go (found_same q (entries a) h) (told_same q ls None g)
+  named w a ls q is h g = go (found_same q (entries a) h) (reported_same q ls None g)
     where
-      go : (find key_cmp q (entries a) ≡ None) ⊎ (value_at m q ≡ value_at n q) → (told_by q None ls ≡ None) ⊎ (value_at m q ≡ value_at n q) → (value_at w q ≡ None) ⊎ (value_at m q ≡ value_at n q)
-      go (inl none) (inl unsaid) = inl (ap (λ (x : Contents). value_at x q) is ∙ told_is a q ls None (value_at a q) refl ∙ ap (λ t. said_or t (value_at a q)) unsaid ∙ get-entries a q ∙ none)
+      go : (find key_cmp q (entries a) ≡ None) ⊎ (value_at m q ≡ value_at n q) → (reported_by q None ls ≡ None) ⊎ (value_at m q ≡ value_at n q) → (value_at w q ≡ None) ⊎ (value_at m q ≡ value_at n q)
+      go (inl none) (inl unsaid) = inl (ap (λ (x : Contents). value_at x q) is ∙ reported_is a q ls None (value_at a q) refl ∙ ap (λ t. said_or t (value_at a q)) unsaid ∙ get-entries a q ∙ none)
       go (inl none) (inr same) = inr same
       go (inr same) unsaid = inr same
 
   -- of a map of these layers over another one
   named_over : (w a : Contents) (ls : List (List Entry)) (q : List ℕ) → w ≡ stacked a ls → (value_at a q ≡ None) ⊎ (value_at m q ≡ value_at n q) → agree_in m n ls ≡ true → (value_at w q ≡ None) ⊎ (value_at m q ≡ value_at n q)
-  named_over w a ls q is h g = go h (told_same q ls None g)
+  named_over w a ls q is h g = go h (reported_same q ls None g)
     where
-      go : (value_at a q ≡ None) ⊎ (value_at m q ≡ value_at n q) → (told_by q None ls ≡ None) ⊎ (value_at m q ≡ value_at n q) → (value_at w q ≡ None) ⊎ (value_at m q ≡ value_at n q)
-      go (inl none) (inl unsaid) = inl (ap (λ (x : Contents). value_at x q) is ∙ told_is a q ls None (value_at a q) refl ∙ ap (λ t. said_or t (value_at a q)) unsaid ∙ none)
+      go : (value_at a q ≡ None) ⊎ (value_at m q ≡ value_at n q) → (reported_by q None ls ≡ None) ⊎ (value_at m q ≡ value_at n q) → (value_at w q ≡ None) ⊎ (value_at m q ≡ value_at n q)
+      go (inl none) (inl unsaid) = inl (ap (λ (x : Contents). value_at x q) is ∙ reported_is a q ls None (value_at a q) refl ∙ ap (λ t. said_or t (value_at a q)) unsaid ∙ none)
       go (inl none) (inr same) = inr same
       go (inr same) unsaid = inr same
 

@@ -9,7 +9,7 @@ use Rattle.std.specs.HashMap.{HashMap}
 use Rattle.std.specs.Map.{lookup}
 use Rattle.ep_rules.specs.OneMap.{Contents, value_at, with_key}
 use Rattle.ep_space.specs.Index.{is_at}
-use Rattle.ep_exec.specs.Layers.{Layer, changes_in, layers_of, said_or, stacked, told_by, told_over}
+use Rattle.ep_exec.specs.Layers.{Layer, changes_in, layers_of, said_or, stacked, reported_by, reported_over}
 use Rattle.ep_exec.specs.Table.{Entry, over}
 use Rattle.ep_exec.proofs.Entries.{value_of}
 
@@ -33,19 +33,19 @@ layer_joined all rest l changes joined m whole is join was =
     join (stacked m (layers_of rest)) ∙ ap (λ (n : Contents). over n changes) (sym (layer_more m all rest l is)) ∙ was
 
 -- what a key has below the layers, unless they say something of it
-pub told_is : (m : Contents) (q : List ℕ) (ls : List (List Entry)) (t : Option (Option (List ℕ))) (v : Option (List ℕ)) → value_at m q ≡ said_or t v → value_at (stacked m ls) q ≡ said_or (told_by q t ls) v
-told_is m q [] t v is = is
-told_is m q (l ∷ ls) t v is =
-    told_is (over m l) q ls (told_over (lookup (is_at q) l) t) v (value_of m l q ∙ ap (said_or (lookup (is_at q) l)) is ∙ once (lookup (is_at q) l) t)
+pub reported_is : (m : Contents) (q : List ℕ) (ls : List (List Entry)) (t : Option (Option (List ℕ))) (v : Option (List ℕ)) → value_at m q ≡ said_or t v → value_at (stacked m ls) q ≡ said_or (reported_by q t ls) v
+reported_is m q [] t v is = is
+reported_is m q (l ∷ ls) t v is =
+    reported_is (over m l) q ls (reported_over (lookup (is_at q) l) t) v (value_of m l q ∙ ap (said_or (lookup (is_at q) l)) is ∙ once (lookup (is_at q) l) t)
   where
-    once : (o u : Option (Option (List ℕ))) → said_or o (said_or u v) ≡ said_or (told_over o u) v
+    once : (o u : Option (Option (List ℕ))) → said_or o (said_or u v) ≡ said_or (reported_over o u) v
     once None u = refl
     once (Some o) u = refl
 
--- so what the layers tell of it is what it has
-pub told_in : {S : Type 0} (m w : Contents) (q : List ℕ) (ls ms : List (Layer S)) → ls ≡ ms → stacked m (layers_of ms) ≡ w → said_or (told_by q None (layers_of ls)) (value_at m q) ≡ value_at w q
-told_in {S = S} m w q ls ms e is =
-    sym (told_is m q (layers_of ls) None (value_at m q) refl) ∙ ap (λ (xs : List (Layer S)). value_at (stacked m (layers_of xs)) q) e ∙ ap (λ (x : Contents). value_at x q) is
+-- so what the layers say of it is what it has
+pub reported_in : {S : Type 0} (m w : Contents) (q : List ℕ) (ls ms : List (Layer S)) → ls ≡ ms → stacked m (layers_of ms) ≡ w → said_or (reported_by q None (layers_of ls)) (value_at m q) ≡ value_at w q
+reported_in {S = S} m w q ls ms e is =
+    sym (reported_is m q (layers_of ls) None (value_at m q) refl) ∙ ap (λ (xs : List (Layer S)). value_at (stacked m (layers_of xs)) q) e ∙ ap (λ (x : Contents). value_at x q) is
 
 -- a map with no layer is its listing
 pub bare_is : {S : Type 0} (m w : Contents) (ls : List (Layer S)) (n : ℕ) (b : Bool) → b ≡ eqb n 0 → n ≡ length ls → b ≡ true → stacked m (layers_of ls) ≡ w → m ≡ w

@@ -19,7 +19,7 @@ pub mod Placed
 pub mod Nexts
 pub mod Standing
 pub mod Mixed
-pub mod Telling
+pub mod Reporting
 pub mod Writing
 pub mod Below
 pub mod Layered

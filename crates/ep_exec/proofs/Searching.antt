@@ -19,20 +19,20 @@ use Rattle.ep_exec.proofs.Size.{weight, weight_falls}
 
 -- What is lacking in a list.
 
-pub told_none : (g : Graph) (skipped seen rest : List ℕ) (i : ℕ) (o : Option ℕ) (seen' edges' : List ℕ) → is_some o ≡ false → Visits g skipped seen rest i o seen' edges' → Visits g skipped seen rest i None seen' edges'
-told_none g skipped seen rest i None seen' edges' e v = v
-told_none g skipped seen rest i (Some d) seen' edges' e v = absurd (false≢true (sym e))
+pub reported_none : (g : Graph) (skipped seen rest : List ℕ) (i : ℕ) (o : Option ℕ) (seen' edges' : List ℕ) → is_some o ≡ false → Visits g skipped seen rest i o seen' edges' → Visits g skipped seen rest i None seen' edges'
+reported_none g skipped seen rest i None seen' edges' e v = v
+reported_none g skipped seen rest i (Some d) seen' edges' e v = absurd (false≢true (sym e))
 
 none_at : (o : Option Attrs) → is_none o ≡ true → o ≡ None
 none_at None e = refl
 none_at (Some a) e = absurd (false≢true e)
 
-none_tells : (o : Option Attrs) → o ≡ None → is_none o ≡ true
-none_tells None e = refl
-none_tells (Some a) e = absurd (cc)
+none_reports : (o : Option Attrs) → o ≡ None → is_none o ≡ true
+none_reports None e = refl
+none_reports (Some a) e = absurd (cc)
 
 lacks : (g : Graph) (skipped : List ℕ) (i : ℕ) → ¬ Has skipped i → g i ≡ None → is_lacking g skipped i ≡ true
-lacks g skipped i n e = and_from (is_out skipped i) (is_none (g i)) (out_yes skipped i n) (none_tells (g i) e)
+lacks g skipped i n e = and_from (is_out skipped i) (is_none (g i)) (out_yes skipped i n) (none_reports (g i) e)
 
 none_lacking : (g : Graph) (skipped xs : List ℕ) (d : ℕ) → first_lacking g skipped xs ≡ None → Has xs d → ¬ Has skipped d → ¬ (g d ≡ None)
 none_lacking g skipped [] d e h n = absurd (omega arith)
@@ -162,10 +162,10 @@ module _ (g : Graph) (skipped us : List ℕ) (root : ℕ) where
         let k = some_lacking g skipped (deps_at (g i)) d v in
         (onward a.0 (s.reached i here) a.1 (subst (λ o. Has (deps_at o) d) a.1 k.0), k.1)
 
-    -- the same of what a look tells
-    pub told_some : (o : Option ℕ) (seen' edges' : List ℕ) → is_some o ≡ true → Visits g skipped seen rest i o seen' edges' → IsMissing g root o
-    told_some None seen' edges' e v = absurd (false≢true e)
-    told_some (Some d) seen' edges' e v = search_finds seen' edges' d v
+    -- the same of what a look reports
+    pub reported_some : (o : Option ℕ) (seen' edges' : List ℕ) → is_some o ≡ true → Visits g skipped seen rest i o seen' edges' → IsMissing g root o
+    reported_some None seen' edges' e v = absurd (false≢true e)
+    reported_some (Some d) seen' edges' e v = search_finds seen' edges' d v
 
   -- where nothing is to be followed any more
   module _ (closed : IsClosed g skipped) (seen : List ℕ) (s : IsSearch g skipped us root seen []) where

@@ -12,7 +12,7 @@ use crate::agreeing::agree_in;
 use crate::changes::Changes;
 use crate::contents_fault::ContentsFault;
 use crate::ground::Ground;
-use crate::layers::{all_gathered, count, gathered, shared, told};
+use crate::layers::{all_gathered, count, gathered, reported, shared};
 use crate::listing::Listing;
 use crate::merging::merged;
 use ep_base::Value;
@@ -87,7 +87,7 @@ impl Contents {
     pub fn get(&self, key: &[u8]) -> Option<&Value>
         ensures { option_copied result ≡ value_at self.now key.now }
     {
-        match told(&self.layers, key) {
+        match reported(&self.layers, key) {
             Some(value) => value.as_ref(),
             None => self.ground.get(key),
         }

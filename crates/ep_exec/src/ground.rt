@@ -11,7 +11,7 @@ use crate::agreeing::{agree_at, agree_in};
 use crate::changes::Changes;
 use crate::contents::Contents;
 use crate::gathering::{Gathering, all_in_order, gathered_on};
-use crate::layers::{count, shared, told};
+use crate::layers::{count, reported, shared};
 use crate::listing::Listing;
 use crate::slices::{Slices, all_merged, merged_on, whole};
 use ep_base::{Key, Value};
@@ -92,7 +92,7 @@ impl Ground {
     pub fn get(&self, key: &[u8]) -> Option<&Value>
         ensures { option_copied result ≡ value_at self.now key.now }
     {
-        match told(&self.older, key) {
+        match reported(&self.older, key) {
             Some(value) => value.as_ref(),
             None => self.listing.get(key),
         }

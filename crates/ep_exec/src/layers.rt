@@ -6,7 +6,7 @@ ghost use Rattle.std.specs.Map.{lookup};
 ghost use Rattle.std.specs.Option.{option_copied};
 ghost use Rattle.ep_rules.specs.OneMap.{Contents};
 ghost use Rattle.ep_space.specs.Index.{is_at};
-ghost use Rattle.ep_exec.specs.Layers.{changes_in, layers_of, stacked, told_by, told_over};
+ghost use Rattle.ep_exec.specs.Layers.{changes_in, layers_of, stacked, reported_by, reported_over};
 ghost use Rattle.ep_exec.specs.Table.{over};
 
 use crate::changes::{Changes, copy_changes, put_over};
@@ -14,29 +14,29 @@ use ep_base::Value;
 use std::alloc::{AllocError, Global};
 use std::sync::Arc;
 
-/// What the layer says of the key, or else what is told already.
-fn told_over<'a>(
+/// What the layer says of the key, or else what is reported already.
+fn reported_over<'a>(
     layer: &'a Changes,
     key: &[u8],
-    told: Option<&'a Option<Value>>,
+    reported: Option<&'a Option<Value>>,
 ) -> Option<&'a Option<Value>>
-    ensures { option_copied result ≡ told_over (lookup (is_at key.now) layer.now.entries) (option_copied told.entry) }
+    ensures { option_copied result ≡ reported_over (lookup (is_at key.now) layer.now.entries) (option_copied reported.entry) }
 {
     match layer.get(key) {
         Some(value) => Some(value),
-        None => told,
+        None => reported,
     }
 }
 
 /// What the newest layer that says something of the key says of it.
-pub fn told<'a>(layers: &'a [Arc<Changes>], key: &[u8]) -> Option<&'a Option<Value>>
-    ensures { option_copied result ≡ told_by key.now None (layers_of layers.now) }
+pub fn reported<'a>(layers: &'a [Arc<Changes>], key: &[u8]) -> Option<&'a Option<Value>>
+    ensures { option_copied result ≡ reported_by key.now None (layers_of layers.now) }
 {
-    let mut told = None;
+    let mut reported = None;
     for layer in layers {
-        told = told_over(layer, key, told);
+        reported = reported_over(layer, key, reported);
     }
-    told
+    reported
 }
 
 /// How many changes there are in all.

@@ -6,14 +6,14 @@ ghost use Rattle.std.specs.Vec.{vec_len, vec_capacity};
 ghost use Rattle.ep_base.specs.Interference.{is_many};
 ghost use Rattle.ep_base.specs.CommandParts.{IsShort, items_of};
 ghost use Rattle.ep_base.specs.Views.{asked};
-ghost use Rattle.ep_rules.specs.OneMap.{Contents, value_at, with_key, holds_of, all_hold, told_values, with_writes, written, read};
+ghost use Rattle.ep_rules.specs.OneMap.{Contents, value_at, with_key, holds_of, all_hold, reply_values, with_writes, written, read};
 ghost use Rattle.ep_exec.specs.Held.{held};
 ghost use Rattle.ep_exec.specs.Many.{put_all, AreRoomy};
 ghost use Rattle.ep_exec.specs.Table.{HavePlaces, has_place, restored};
 
 use crate::changes::copied;
 use crate::table::{Table, has_value, made, make_place, put_back, value_of};
-use ep_base::{Command, Items, Reply, ToldValues, Value};
+use ep_base::{Command, Items, Reply, ReplyValues, Value};
 use std::alloc::{AllocError, Global};
 
 /// A key, with what it is given; and the key once more, to be put back.
@@ -47,34 +47,34 @@ fn holds(table: &Table, key: &[u8], guard: Option<Option<&[u8]>>) -> bool
     }
 }
 
-// What each key has that is told.
-fn told_values(
+// What each key has that is reported.
+fn reply_values(
     alloc: Global,
     table: &Table,
     items: Items<'_>,
 ) -> Result<Vec<Option<Value>>, AllocError>
-    ensures { IfOk result (λ v. v.items ≡ told_values (held table.now) items.entry) }
+    ensures { IfOk result (λ v. v.items ≡ reply_values (held table.now) items.entry) }
 {
     let mut items = items;
     let mut values = Vec::new(alloc);
     while let Some(item) = items.next() {
-        if item.told {
+        if item.reported {
             values.push(copied(alloc, value_of(table, item.key))?)?;
         }
     }
     Ok(values)
 }
 
-// What the reply tells, whether or not the command writes.
-#[tactic(auto, using(crate::proofs::Telling::few_told))]
-fn told(alloc: Global, table: &Table, command: &Command) -> Result<ToldValues, AllocError>
+// What the reply reports, whether or not the command writes.
+#[tactic(auto, using(crate::proofs::Reporting::few_reported))]
+fn reported(alloc: Global, table: &Table, command: &Command) -> Result<ReplyValues, AllocError>
     requires { is_many command.now ≡ true }
-    ensures { IfOk result (λ t. t ≡ told_values (held table.now) (items_of command.now)) }
+    ensures { IfOk result (λ t. t ≡ reply_values (held table.now) (items_of command.now)) }
 {
     // (what is asked of its parts says that it is in range)
     let _first = command.first();
-    let values = told_values(alloc, table, command.items())?;
-    Ok(ToldValues::of(values))
+    let values = reply_values(alloc, table, command.items())?;
+    Ok(ReplyValues::of(values))
 }
 
 /// What an open map would reply to a command over many keys.
@@ -82,11 +82,11 @@ pub fn reply_many(alloc: Global, table: &Table, command: &Command) -> Result<Rep
     requires { is_many command.now ≡ true }
     ensures { IfOk result (λ r. r ≡ read (held table.now) command.now) }
 {
-    let told = told(alloc, table, command)?;
+    let reported = reported(alloc, table, command)?;
     if all_hold(table, command.items()) {
-        return Ok(Reply::Done(told));
+        return Ok(Reply::Done(reported));
     }
-    Ok(Reply::Undone(told))
+    Ok(Reply::Undone(reported))
 }
 
 /// Does a command over many keys on an open map, and notes what it changes: all memory is taken before a key is written.
@@ -103,14 +103,14 @@ pub fn transact(
     ensures undo { restored undo.new.items (held table.new) ≡ restored undo.old.items (held table.old) }
     ensures places { HavePlaces table.old.changes.entries undo.old.items → HavePlaces table.new.changes.entries undo.new.items }
 {
-    let told = told(alloc, table, command)?;
+    let reported = reported(alloc, table, command)?;
     if !all_hold(table, command.items()) {
-        return Ok(Reply::Undone(told));
+        return Ok(Reply::Undone(reported));
     }
     let writes = writes_of(alloc, table, command.items())?;
     undo.reserve(writes.len())?;
     put_all(table, undo, writes);
-    Ok(Reply::Done(told))
+    Ok(Reply::Done(reported))
 }
 
 // What the items write. Each key has a place then.

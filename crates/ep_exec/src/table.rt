@@ -6,7 +6,7 @@ ghost use Rattle.std.specs.Option.{option_copied, option_flatten};
 ghost use Rattle.ep_base.specs.Commands.{Swap, Cas};
 ghost use Rattle.ep_base.specs.Interference.{is_many};
 ghost use Rattle.ep_base.specs.CommandParts.{IsShort};
-ghost use Rattle.ep_rules.specs.OneMap.{Contents, value_at, with_key, written, read, told, sealed_by};
+ghost use Rattle.ep_rules.specs.OneMap.{Contents, value_at, with_key, written, read, reported, sealed_by};
 ghost use Rattle.ep_space.specs.Index.{is_at};
 ghost use Rattle.ep_base.specs.Sameness.{same_option};
 ghost use Rattle.ep_exec.specs.Held.{held};
@@ -103,8 +103,8 @@ fn clear(alloc: Global, table: &mut Table, key: &[u8]) -> Result<Option<Value>, 
 }
 
 /// What a reply says of a key.
-pub fn told(value: Option<Value>) -> Reply
-    ensures { result ≡ told value }
+pub fn reported(value: Option<Value>) -> Reply
+    ensures { result ≡ reported value }
 {
     match value {
         Some(value) => Reply::Present(value),
@@ -308,7 +308,7 @@ pub fn reply_open(alloc: Global, table: &Table, command: &Command) -> Result<Rep
         | CommandView::Put(key, _)
         | CommandView::Del(key)
         | CommandView::Swap(key, _)
-        | CommandView::Cas(key, _, _) => Ok(told(copied(alloc, value_of(table, key))?)),
+        | CommandView::Cas(key, _, _) => Ok(reported(copied(alloc, value_of(table, key))?)),
     }
 }
 
@@ -322,16 +322,16 @@ pub fn apply_open(alloc: Global, table: &mut Table, command: &Command) -> Result
         CommandView::Noop | CommandView::Seal(_) => Ok(Reply::Absent),
         CommandView::Opaque(_, _) => Ok(Reply::Ordered),
         CommandView::Tx(_) => transact_open(alloc, table, command),
-        CommandView::Get(key) => Ok(told(copied(alloc, value_of(table, key))?)),
+        CommandView::Get(key) => Ok(reported(copied(alloc, value_of(table, key))?)),
         CommandView::Put(key, bytes) => {
             let name = Vec::from_slice(alloc, key)?;
             let value = Value::from_valid(alloc, bytes)?;
-            Ok(told(set(alloc, table, name, Some(value))?))
+            Ok(reported(set(alloc, table, name, Some(value))?))
         }
-        CommandView::Del(key) => Ok(told(clear(alloc, table, key)?)),
-        CommandView::Swap(first, second) => Ok(told(swap(alloc, table, first, second)?)),
+        CommandView::Del(key) => Ok(reported(clear(alloc, table, key)?)),
+        CommandView::Swap(first, second) => Ok(reported(swap(alloc, table, first, second)?)),
         CommandView::Cas(key, expected, new) => {
-            Ok(told(compare(alloc, table, key, expected, new)?))
+            Ok(reported(compare(alloc, table, key, expected, new)?))
         }
     }
 }

@@ -13,7 +13,7 @@ use crate::changes::copied;
 use crate::many::transact;
 use crate::store::Store;
 use crate::table::{
-    Change, Table, compare_noted, exchange, sealed, sweep_all, take_back, told, value_of, write,
+    Change, Table, compare_noted, exchange, reported, sealed, sweep_all, take_back, value_of, write,
 };
 use ep_base::{Answer, Command, CommandView, Reply, Value};
 use std::alloc::{AllocError, Global};
@@ -156,24 +156,27 @@ fn try_open(
         CommandView::Seal(_) => Ok(Answer::Replied(Reply::Absent)),
         CommandView::Opaque(_, _) => Ok(Answer::Replied(Reply::Ordered)),
         CommandView::Tx(_) => Ok(Answer::Replied(transact(alloc, table, undo, command)?)),
-        CommandView::Get(key) => Ok(Answer::Replied(told(copied(alloc, value_of(table, key))?))),
+        CommandView::Get(key) => Ok(Answer::Replied(reported(copied(
+            alloc,
+            value_of(table, key),
+        )?))),
         CommandView::Put(key, bytes) => {
             let value = Value::from_valid(alloc, bytes)?;
             let was = write(alloc, table, undo, key, Some(value))?;
-            Ok(Answer::Replied(told(was)))
+            Ok(Answer::Replied(reported(was)))
         }
         CommandView::Del(key) => {
             let was = write(alloc, table, undo, key, None)?;
-            Ok(Answer::Replied(told(was)))
+            Ok(Answer::Replied(reported(was)))
         }
         CommandView::Swap(first, second) => {
             let was = exchange(alloc, table, undo, first, second)?;
-            Ok(Answer::Replied(told(was)))
+            Ok(Answer::Replied(reported(was)))
         }
         CommandView::Cas(key, expected, new) => {
             let change = Change { expected, new };
             let was = compare_noted(alloc, table, undo, key, change)?;
-            Ok(Answer::Replied(told(was)))
+            Ok(Answer::Replied(reported(was)))
         }
     }
 }

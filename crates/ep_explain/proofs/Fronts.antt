@@ -1,7 +1,7 @@
 -- How the bytes begin that are taken for a script.
 use Rattle.std.proofs.Common.{◌≡◌, ◌≤◌, ℕ, suc, List, [], ◌∷◌, ◌++◌, length, take, Option, Some, None, Result, Ok, Err, IfOk, append-nil, codes, refl, sym, ap, subst, ◌∙◌, arith}
 use Rattle.std.specs.Prelude.{Bool, true, false, min}
-use Rattle.ep_explain.specs.Explained.{IsExplained, IsScriptTold, script}
+use Rattle.ep_explain.specs.Explained.{IsExplained, IsScriptReported, script}
 use Rattle.ep_explain.specs.Kept.{followed}
 use Rattle.ep_explain.specs.Magic.{magic, HasMagic, MayBegin}
 use Rattle.ep_explain.specs.declared.explained.Explained.{Explained}
@@ -25,8 +25,8 @@ has_front (a ∷ b ∷ c ∷ d ∷ ps) r h =
 
 pub taken_if :
     {E : Type 0} (over : Bool) (p : List ℕ) (known : Option (List ℕ)) (zs : List ℕ) (subcommand : Subcommand) (r : Result Explained E) → followed over p known ≡ Some zs → ¬ MayBegin p →
-    IfOk r (λ told. IsScriptTold zs subcommand told.finding told.text.items) → IfOk r (λ told. IsExplained zs told.finding told.text.items)
-taken_if over p known zs subcommand (Err e) left never told = tt
-taken_if over p known zs subcommand (Ok t) left never told =
+    IfOk r (λ reported. IsScriptReported zs subcommand reported.finding reported.text.items) → IfOk r (λ reported. IsExplained zs reported.finding reported.text.items)
+taken_if over p known zs subcommand (Err e) left never reported = tt
+taken_if over p known zs subcommand (Ok t) left never reported =
     let front = ahead_of over p known zs left in
-    script subcommand (λ (h : HasMagic zs). never (has_front p front.0 (subst HasMagic (sym front.1) h))) told
+    script subcommand (λ (h : HasMagic zs). never (has_front p front.0 (subst HasMagic (sym front.1) h))) reported

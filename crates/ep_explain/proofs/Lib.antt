@@ -1,3 +1,3 @@
 pub mod Fronts
-pub mod Telling
+pub mod Reporting
 pub mod Keeping

@@ -1,4 +1,4 @@
--- What is told of the bytes of a script.
+-- What is reported of the bytes of a script.
 use Rattle.std.specs.Prelude.{◌≡◌, ℕ, Bool, true, false, List, [], ◌∷◌, ◌++◌, Option, Some, None, Result, Ok, Err, codes, decimal}
 use Rattle.ep_report.specs.Reports.{text_of}
 use Rattle.ep_script.specs.Plan.{script_of, run_of}

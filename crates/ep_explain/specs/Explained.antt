@@ -1,4 +1,4 @@
--- What is told of bytes that are to be a bundle or a script.
+-- What is reported of bytes that are to be a bundle or a script.
 use Rattle.std.specs.Prelude.{◌≡◌, ℕ, Bool, true, false, List, [], ◌∷◌, ◌++◌, Ok, Err, codes}
 use Rattle.ep_bundle.specs.Journals.{Contents, ReadsBundle}
 use Rattle.ep_bundle.specs.Reading.{Left}
@@ -17,7 +17,7 @@ use Rattle.ep_explain.specs.Advice.{IsAdvice, refused_at}
 use Rattle.ep_explain.specs.Magic.{HasMagic}
 use Rattle.ep_explain.specs.Reasons.{section}
 use Rattle.ep_explain.specs.declared.subcommand.Subcommand.{Subcommand}
-use Rattle.ep_explain.specs.Sections.{AreTold}
+use Rattle.ep_explain.specs.Sections.{AreReported}
 use Rattle.ep_explain.specs.declared.finding.Finding.{Finding}
 use Rattle.ep_explain.specs.declared.finding.Finding.TheVariants.{Accepted, Refused, Unreadable, Script}
 
@@ -29,21 +29,21 @@ IsNoBundle (BadBundle field) = Unit {0}
 IsNoBundle (NotARun replica entry) = Unit {0}
 
 -- the reader's fault, with its reasons
-pub record IsRefusalTold (e : BundleFault) (finding : Finding) (text : List ℕ) : Type 0 where
+pub record IsRefusalReported (e : BundleFault) (finding : Finding) (text : List ℕ) : Type 0 where
   pub found : finding ≡ Unreadable
   pub reasons : List (List ℕ)
-  pub told : text ≡ text_of (section (refusal_text e) reasons)
+  pub reported : text ≡ text_of (section (refusal_text e) reasons)
 
 -- the verdict of these faults, which are all that there are, the line of the edition, and then each of them; or what would end what is open, where there are none
-abbrev pub IsVerdictTold : Collected → List AuditFault → Finding → List ℕ → Type 0
-IsVerdictTold c [] finding text = (finding ≡ Accepted) × AddsEndings c (text_of (codes "verdict accepted" ∷ []) ++ edition_line c.version c.opening) text
-IsVerdictTold c (x ∷ xs) finding text =
-    (finding ≡ Refused) × (told : List ℕ) × AreTold (x ∷ xs) told × (text ≡ text_of (codes "verdict refused" ∷ []) ++ edition_line c.version c.opening ++ told)
+abbrev pub IsVerdictReported : Collected → List AuditFault → Finding → List ℕ → Type 0
+IsVerdictReported c [] finding text = (finding ≡ Accepted) × AddsEndings c (text_of (codes "verdict accepted" ∷ []) ++ edition_line c.version c.opening) text
+IsVerdictReported c (x ∷ xs) finding text =
+    (finding ≡ Refused) × (reported : List ℕ) × AreReported (x ∷ xs) reported × (text ≡ text_of (codes "verdict refused" ∷ []) ++ edition_line c.version c.opening ++ reported)
 
 -- all faults of the journals and the receipts are reported, of which the first is the audit's; where there are none, it accepts
 pub record IsJudged (c : Collected) (ts : List Receipt) (finding : Finding) (text : List ℕ) : Type 0 where
   pub first : IsFirst (opens c.opening) c.faults (journals_of c) ts (all_faults c ts)
-  pub told : IsVerdictTold c (all_faults c ts) finding text
+  pub reported : IsVerdictReported c (all_faults c ts) finding text
 
 -- the bytes, none of which is read yet
 abbrev pub unread : List ℕ → Left
@@ -53,16 +53,16 @@ abbrev pub script_finding : Bool → Finding
 script_finding true = Script
 script_finding false = Unreadable
 
--- what is told of bytes that are taken for a script for this subcommand
-pub record IsScriptTold (bytes : List ℕ) (subcommand : Subcommand) (finding : Finding) (text : List ℕ) : Type 0 where
+-- what is reported of bytes that are taken for a script for this subcommand
+pub record IsScriptReported (bytes : List ℕ) (subcommand : Subcommand) (finding : Finding) (text : List ℕ) : Type 0 where
   pub is_read : Bool
   pub advice : IsAdvice subcommand (refused_at subcommand bytes) is_read text
   pub found : finding ≡ script_finding is_read
 
 pub data IsExplained (bytes : List ℕ) (finding : Finding) (text : List ℕ) : Type 0 where
   -- they are no bundle
-  unreadable : (e : BundleFault) → ReadsBundle (unread bytes) (Err e) → IsRefusalTold e finding text → IsExplained bytes finding text
+  unreadable : (e : BundleFault) → ReadsBundle (unread bytes) (Err e) → IsRefusalReported e finding text → IsExplained bytes finding text
   -- they are a bundle
   read : (c : Contents) (rest : Left) → ReadsBundle (unread bytes) (Ok (c, rest)) → IsJudged c.0 c.1 finding text → IsExplained bytes finding text
   -- they don't begin as a bundle does, and are taken for a script for this subcommand
-  script : (subcommand : Subcommand) → (¬ HasMagic bytes) → IsScriptTold bytes subcommand finding text → IsExplained bytes finding text
+  script : (subcommand : Subcommand) → (¬ HasMagic bytes) → IsScriptReported bytes subcommand finding text → IsExplained bytes finding text

@@ -20,7 +20,7 @@ followed false bs known = prepend_known bs known
 abbrev pub known_left : {S : Type 0} → (S → Option (List ℕ)) → Keeper S → Option (List ℕ)
 known_left left k = followed k.is_over (drop k.at k.bytes) (left k.source)
 
--- a source tells its end that gives no byte where there is room
+-- a source reports its end that gives no byte where there is room
 abbrev pub ends : ℕ → ℕ → Bool
 ends count room = eqb count 0 && not (eqb room 0)
 

@@ -10,8 +10,8 @@ abbrev pub fault_section : AuditFault → List (List ℕ) → List (List ℕ)
 fault_section x reasons = section (fault_text (fault_of x)) reasons
 
 -- the faults in their order, each with reasons of its own
-pub data AreTold : List AuditFault → List ℕ → Type 0 where
-  none : AreTold [] []
+pub data AreReported : List AuditFault → List ℕ → Type 0 where
+  none : AreReported [] []
   more :
-      (xs : List AuditFault) (text : List ℕ) (x : AuditFault) (reasons : List (List ℕ)) → AreTold xs text →
-      AreTold (xs ++ x ∷ []) (text ++ text_of (fault_section x reasons))
+      (xs : List AuditFault) (text : List ℕ) (x : AuditFault) (reasons : List (List ℕ)) → AreReported xs text →
+      AreReported (xs ++ x ∷ []) (text ++ text_of (fault_section x reasons))

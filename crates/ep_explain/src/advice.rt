@@ -1,4 +1,4 @@
-//! What is told of a script.
+//! What is reported of a script.
 
 /// Whether a script is read, and what is said of it.
 #[derive(Drop)]

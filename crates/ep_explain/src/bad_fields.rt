@@ -27,7 +27,7 @@ pub(crate) fn add_field(alloc: Global, bytes: &[u8], field: &BadField, reasons: 
     if add_other_input(bytes, reasons) {
         return;
     }
-    reasons.tell(
+    reasons.say_with(
         b"do: copy the bundle again from where it was made, or make it anew from the logs by `epaxos collect`",
         &[],
     );
@@ -40,11 +40,11 @@ pub(crate) fn add_field(alloc: Global, bytes: &[u8], field: &BadField, reasons: 
 
 /// The bundle is over, and bytes are left.
 fn add_left(reasons: &mut Reasons) {
-    reasons.tell(
+    reasons.say_with(
         b"likely: something was appended to the bundle, or a count before this place was changed",
         &[],
     );
-    reasons.tell(
+    reasons.say_with(
         b"found: a byte or more after the last receipt, where the bundle is over",
         &[],
     );
@@ -52,12 +52,12 @@ fn add_left(reasons: &mut Reasons) {
 
 /// The bytes end within the field.
 fn add_cut(alloc: Global, bytes: &[u8], field: &BadField, reasons: &mut Reasons) {
-    reasons.tell(
+    reasons.say_with(
         b"likely: the bundle was cut, or a length or a count before this place was changed",
         &[],
     );
     add_place(alloc, bytes, field, reasons);
-    reasons.tell(
+    reasons.say_with(
         b"found: # of the field's # bytes, and then the end",
         &[(bytes.len() as u64).saturating_sub(field.at), field.len],
     );
@@ -65,16 +65,16 @@ fn add_cut(alloc: Global, bytes: &[u8], field: &BadField, reasons: &mut Reasons)
 
 /// The field isn't what it may be.
 fn add_changed(alloc: Global, bytes: &[u8], field: &BadField, reasons: &mut Reasons) {
-    reasons.tell(
+    reasons.say_with(
         b"likely: the bundle was changed here, or a length or a count before this place was",
         &[],
     );
     add_place(alloc, bytes, field, reasons);
     let mut line = reasons.line(b"allowed: ");
-    tell_allowed(&mut line, field);
+    say_allowed(&mut line, field);
     reasons.add(line);
     let mut line = reasons.line(b"found: ");
-    tell_found(&mut line, bytes, field);
+    say_found(&mut line, bytes, field);
     reasons.add(line);
 }
 
@@ -85,21 +85,21 @@ fn add_place(alloc: Global, bytes: &[u8], field: &BadField, reasons: &mut Reason
     line.say(name_of(field.name, is_late));
     line.say(b", in ");
     match region_of(alloc, bytes, field) {
-        Some(region) => line.tell(region.words, &region.numbers),
+        Some(region) => line.say_with(region.words, &region.numbers),
         None => reasons.cut(),
     }
     reasons.add(line);
 }
 
 /// Appends what the field may be.
-fn tell_allowed(line: &mut Wording, field: &BadField) {
+fn say_allowed(line: &mut Wording, field: &BadField) {
     match field.wanted {
         Wanted::Whole | Wanted::Nothing | Wanted::Unsaid => {}
         Wanted::Range(_, _) if field.name == BundleField::Magic => line.say(b"EPJB"),
-        Wanted::Range(low, high) => tell_range(line, low, high),
+        Wanted::Range(low, high) => say_range(line, low, high),
         Wanted::ClusterSize => line.say(b"3, 5 or 7"),
-        Wanted::LengthFor(op) => tell_lengths(line, field.name, op),
-        Wanted::OtherReplica(count) => line.tell(
+        Wanted::LengthFor(op) => say_lengths(line, field.name, op),
+        Wanted::OtherReplica(count) => line.say_with(
             b"0 to #, and not the journal's own replica",
             &[(count as u64).saturating_sub(1)],
         ),
@@ -114,27 +114,27 @@ fn tell_allowed(line: &mut Wording, field: &BadField) {
 }
 
 /// Appends the numbers from one to another.
-fn tell_range(line: &mut Wording, low: u64, high: u64) {
+fn say_range(line: &mut Wording, low: u64, high: u64) {
     if low == high {
         line.number(low);
     } else {
-        line.tell(b"# to #", &[low, high]);
+        line.say_with(b"# to #", &[low, high]);
     }
 }
 
 /// Appends how long this part of a command with this op may be.
-fn tell_lengths(line: &mut Wording, name: BundleField, op: Op) {
+fn say_lengths(line: &mut Wording, name: BundleField, op: Op) {
     let (low, high) = match name {
         BundleField::KeyLength => first_lengths(op),
         BundleField::SecondLength => second_lengths(op),
         BundleField::BodyLength => body_lengths(op),
         _ => early_lengths(op),
     };
-    tell_range(line, low as u64, high as u64);
+    say_range(line, low as u64, high as u64);
 }
 
 /// Appends what the field is.
-fn tell_found(line: &mut Wording, bytes: &[u8], field: &BadField) {
+fn say_found(line: &mut Wording, bytes: &[u8], field: &BadField) {
     let start = field.at as usize;
     let end = start.saturating_add(field.len as usize);
     let found = bytes.get(start..end).unwrap_or(&[]);
@@ -200,8 +200,8 @@ fn plain_name(name: BundleField) -> &'static [u8] {
         BundleField::AnswerCode => b"code of an answer (0 absent, 1 present, 2 lost)",
         BundleField::AnswerLength => b"length of an answer's value",
         BundleField::AnswerValue => b"answer's value",
-        BundleField::ToldKeys => b"number of told keys",
-        BundleField::ToldMark => b"mark of a told key (0 absent, 1 present)",
+        BundleField::ReportedKeys => b"number of told keys",
+        BundleField::ReportedMark => b"mark of a told key (0 absent, 1 present)",
         BundleField::Executor => b"replica that executed",
         BundleField::ExecutorEntry => b"entry that executed",
         BundleField::ExecutorStamp => b"stamp of the entry that executed",

@@ -51,14 +51,14 @@ fn receipt_at(receipts: &[Receipt], place: usize) -> Option<&Receipt> {
 /// What the receipt says.
 fn add_claim(receipt: &Receipt, reasons: &mut Reasons) {
     let mut line = reasons.line(b"claimed: ");
-    line.tell(
+    line.say_with(
         b"client # request # ",
         &[receipt.client as u64, receipt.request as u64],
     );
     line.instance(receipt.instance);
     line.say(b" ");
     line.answer(&receipt.answer);
-    line.tell(
+    line.say_with(
         b", executed by replica # entry # stamp #, proposed after seen stamp #",
         &[
             receipt.replica.index() as u64,
@@ -96,7 +96,7 @@ fn add_proposal(receipt: &Receipt, proposal: Option<&Entry>, reasons: &mut Reaso
     match proposal {
         None => {
             let mut line = reasons.line(b"proposal: none; ");
-            line.tell(b"replica # proposes nothing as ", &[leader.index() as u64]);
+            line.say_with(b"replica # proposes nothing as ", &[leader.index() as u64]);
             line.instance(receipt.instance);
             reasons.add(line);
         }
@@ -129,7 +129,7 @@ fn add_execution(journals: &Journals, receipt: &Receipt, reasons: &mut Reasons)
     requires { AreJournals journals.now }
 {
     match entry_at(journals, receipt.replica, receipt.entry) {
-        None => reasons.tell(
+        None => reasons.say_with(
             b"execution: none; replica # entry # isn't there: its journal ends with entry #",
             &[
                 receipt.replica.index() as u64,
@@ -173,7 +173,7 @@ fn answer_in(done: &[(InstanceId, Answer)], instance: InstanceId) -> Option<&Ans
 /// What to do where a receipt is unknown, and what that usually means.
 fn add_false_claim(receipt: &Receipt, reasons: &mut Reasons) {
     let replica = receipt.replica.index() as u64;
-    reasons.tell(
+    reasons.say_with(
         b"do: ask client # for the answer to request # that replica # gave; if the receipt is that, copy the log of replica # again, and audit it with the others",
         &[
             receipt.client as u64,
@@ -182,11 +182,11 @@ fn add_false_claim(receipt: &Receipt, reasons: &mut Reasons) {
             replica,
         ],
     );
-    reasons.tell(
+    reasons.say_with(
         b"likely: a false claim: the receipt was made up, or changed after it was given",
         &[],
     );
-    reasons.tell(
+    reasons.say_with(
         b"else: the log of replica # was copied before it gave the receipt; or it forgot: it lost the end of its journal, or was set back to an older copy",
         &[replica],
     );
@@ -198,17 +198,17 @@ fn add_order(receipt: &Receipt, proposal: Option<&Entry>, reasons: &mut Reasons)
     match proposal {
         Some(entry) if has_seen(&entry.event, receipt.seen) => {
             add_clock(receipt.instance.replica(), reasons);
-            reasons.tell(
+            reasons.say_with(
                 b"since: a proposal has a greater stamp than the seen stamp that it comes with",
                 &[],
             );
         }
         _ => {
-            reasons.tell(
+            reasons.say_with(
                 b"do: ask client # with which seen stamp it proposed request #: # is the receipt's, and not the proposal's",
                 &[receipt.client as u64, receipt.request as u64, receipt.seen],
             );
-            reasons.tell(
+            reasons.say_with(
                 b"likely: a false claim: the client proposed with another seen stamp, or the receipt was changed",
                 &[],
             );

@@ -1,4 +1,4 @@
-//! What is told of bytes.
+//! What is reported of bytes.
 
 use crate::finding::Finding;
 

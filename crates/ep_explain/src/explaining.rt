@@ -1,12 +1,12 @@
-//! What is told of bytes that are to be a bundle.
+//! What is reported of bytes that are to be a bundle.
 
 ghost use Rattle.std.specs.Prelude.{◌≡◌, ◌++◌, ℕ, List, Some, IfOk, IfErr, OnOk};
-ghost use Rattle.ep_base.specs.Devices.{FailsAsTold, tells};
+ghost use Rattle.ep_base.specs.Devices.{FailsAsReported, reports};
 ghost use Rattle.ep_bundle.specs.Reading.{is_read_failed as is_bundle_unread};
 ghost use Rattle.ep_explain.specs.Kept.{is_read_failed, known_left};
 ghost use Rattle.ep_explain.specs.declared.explain_fault.ExplainFault.TheVariants.{Memory};
-ghost use Rattle.ep_explain.specs.Explained.{IsExplained, IsJudged, IsNoBundle, IsRefusalTold, IsScriptTold, IsVerdictTold, script_finding};
-ghost use Rattle.ep_explain.specs.Sections.{AreTold, fault_section};
+ghost use Rattle.ep_explain.specs.Explained.{IsExplained, IsJudged, IsNoBundle, IsRefusalReported, IsScriptReported, IsVerdictReported, script_finding};
+ghost use Rattle.ep_explain.specs.Sections.{AreReported, fault_section};
 ghost use Rattle.ep_report.specs.Reports.{text_of};
 ghost use Rattle.ep_view.specs.Editions.{edition_line};
 
@@ -41,8 +41,8 @@ const AHEAD: usize = 65_536;
 /// stand its reasons, a line each, indented by two spaces. Under the verdict of a bundle of version 3 stands the line of its
 /// edition. Of a script see `explain_script`.
 pub fn explain<S: Source>(alloc: Global, source: &mut Kept<S>) -> Result<Explained, ExplainFault>
-    ensures told { (bytes : List ℕ) → known_left S.left source.old ≡ Some bytes → IfOk result (λ told. IsExplained bytes told.finding told.text.items) }
-    ensures failed { FailsAsTold is_read_failed result (S.has_failed source.old.source) (S.has_failed source.new.source) }
+    ensures reported { (bytes : List ℕ) → known_left S.left source.old ≡ Some bytes → IfOk result (λ reported. IsExplained bytes reported.finding reported.text.items) }
+    ensures failed { FailsAsReported is_read_failed result (S.has_failed source.old.source) (S.has_failed source.new.source) }
 {
     source.look_ahead(AHEAD)?;
     match subcommand_of(source.ahead()) {
@@ -51,14 +51,14 @@ pub fn explain<S: Source>(alloc: Global, source: &mut Kept<S>) -> Result<Explain
     }
 }
 
-/// What is told of a script.
+/// What is reported of a script.
 fn explain_as<S: Source>(
     alloc: Global,
     subcommand: Subcommand,
     source: &mut Kept<S>,
 ) -> Result<Explained, ExplainFault>
-    ensures told { (bytes : List ℕ) → known_left S.left source.old ≡ Some bytes → IfOk result (λ told. IsScriptTold bytes subcommand told.finding told.text.items) }
-    ensures failed { FailsAsTold is_read_failed result (S.has_failed source.old.source) (S.has_failed source.new.source) }
+    ensures reported { (bytes : List ℕ) → known_left S.left source.old ≡ Some bytes → IfOk result (λ reported. IsScriptReported bytes subcommand reported.finding reported.text.items) }
+    ensures failed { FailsAsReported is_read_failed result (S.has_failed source.old.source) (S.has_failed source.new.source) }
 {
     let Advice { is_read, text } = explain_script(alloc, subcommand, source)?;
     Ok(Explained {
@@ -77,52 +77,52 @@ fn script_finding(is_read: bool) -> Finding
     }
 }
 
-/// What is told of bytes that are taken for a bundle.
+/// What is reported of bytes that are taken for a bundle.
 fn explain_bytes<S: Source>(alloc: Global, source: &mut Kept<S>) -> Result<Explained, ExplainFault>
-    ensures told { (bytes : List ℕ) → known_left S.left source.old ≡ Some bytes → IfOk result (λ told. IsExplained bytes told.finding told.text.items) }
-    ensures failed { FailsAsTold is_read_failed result (S.has_failed source.old.source) (S.has_failed source.new.source) }
+    ensures reported { (bytes : List ℕ) → known_left S.left source.old ≡ Some bytes → IfOk result (λ reported. IsExplained bytes reported.finding reported.text.items) }
+    ensures failed { FailsAsReported is_read_failed result (S.has_failed source.old.source) (S.has_failed source.new.source) }
 {
     match read_bundle(alloc, source) {
         Ok(bundle) => {
-            let told = explain_bundle(alloc, &bundle);
+            let reported = explain_bundle(alloc, &bundle);
             drop(bundle);
-            told
+            reported
         }
         Err(fault) => explain_refusal(alloc, source.bytes(), fault),
     }
 }
 
-/// What is told where the reader refuses the bytes.
+/// What is reported where the reader refuses the bytes.
 fn explain_refusal(
     alloc: Global,
     bytes: Option<&[u8]>,
     fault: BundleFault,
 ) -> Result<Explained, ExplainFault>
-    ensures told { IfOk result (λ told. IsRefusalTold fault told.finding told.text.items) }
+    ensures reported { IfOk result (λ reported. IsRefusalReported fault reported.finding reported.text.items) }
     ensures named { IfOk result (λ _. IsNoBundle fault) }
-    ensures failed { tells is_read_failed result ≡ is_bundle_unread fault }
+    ensures failed { reports is_read_failed result ≡ is_bundle_unread fault }
 {
     match fault {
         BundleFault::Memory => Err(ExplainFault::Memory),
         BundleFault::ReadFailed => Err(ExplainFault::ReadFailed),
-        BundleFault::BadBundle(_) => Ok(tell_refusal(alloc, bytes, fault)?),
-        BundleFault::NotARun(_, _) => Ok(tell_refusal(alloc, bytes, fault)?),
+        BundleFault::BadBundle(_) => Ok(say_refusal(alloc, bytes, fault)?),
+        BundleFault::NotARun(_, _) => Ok(say_refusal(alloc, bytes, fault)?),
     }
 }
 
-fn tell_refusal(
+fn say_refusal(
     alloc: Global,
     bytes: Option<&[u8]>,
     fault: BundleFault,
 ) -> Result<Explained, AllocError>
-    ensures { IfOk result (λ told. IsRefusalTold fault told.finding told.text.items) }
+    ensures { IfOk result (λ reported. IsRefusalReported fault reported.finding reported.text.items) }
 {
     let line = fault.to_string(alloc)?;
     let reasons = refusal_reasons(alloc, bytes, fault);
     let mut text = Vec::new(alloc);
-    let told = push_section(&mut text, line.as_bytes(), &reasons);
+    let reported = push_section(&mut text, line.as_bytes(), &reasons);
     drop(reasons);
-    told?;
+    reported?;
     Ok(Explained {
         finding: Finding::Unreadable,
         text,
@@ -148,13 +148,13 @@ fn add_refusal(alloc: Global, bytes: &[u8], fault: BundleFault, reasons: &mut Re
     }
 }
 
-/// What is told of a bundle.
+/// What is reported of a bundle.
 fn explain_bundle(alloc: Global, bundle: &Bundle) -> Result<Explained, ExplainFault>
-    ensures told { IfOk result (λ told. IsJudged bundle.now.journals bundle.now.receipts.items told.finding told.text.items) }
+    ensures reported { IfOk result (λ reported. IsJudged bundle.now.journals bundle.now.receipts.items reported.finding reported.text.items) }
     ensures memory { IfErr result (λ e. e ≡ Memory) }
 {
     let found = faults(alloc, &bundle.journals, &bundle.receipts)?;
-    Ok(tell_verdict(alloc, bundle, &found)?)
+    Ok(say_verdict(alloc, bundle, &found)?)
 }
 
 /// A verdict, and under it the line of the bundle's edition.
@@ -168,12 +168,12 @@ fn headed(alloc: Global, bundle: &Bundle, verdict: &[u8]) -> Result<Vec<u8>, All
 }
 
 /// What an audit says that finds these faults, and the reasons.
-fn tell_verdict(
+fn say_verdict(
     alloc: Global,
     bundle: &Bundle,
     found: &[AuditFault],
 ) -> Result<Explained, AllocError>
-    ensures { IfOk result (λ told. IsVerdictTold bundle.now.journals found.now told.finding told.text.items) }
+    ensures { IfOk result (λ reported. IsVerdictReported bundle.now.journals found.now reported.finding reported.text.items) }
 {
     if found.is_empty() {
         let mut text = headed(alloc, bundle, b"verdict accepted\n")?;
@@ -198,7 +198,7 @@ fn push_faults(
     bundle: &Bundle,
     found: &[AuditFault],
 ) -> Result<(), AllocError>
-    ensures { OnOk result ((told : List ℕ) × AreTold found.now told × (text.new.items ≡ text.old.items ++ told)) }
+    ensures { OnOk result ((reported : List ℕ) × AreReported found.now reported × (text.new.items ≡ text.old.items ++ reported)) }
 {
     for fault in found {
         push_fault(alloc, text, bundle, *fault)?;
@@ -217,9 +217,9 @@ fn push_fault(
 {
     let line = fault.to_string(alloc)?;
     let reasons = reasons_of(alloc, bundle, fault);
-    let told = push_section(text, line.as_bytes(), &reasons);
+    let reported = push_section(text, line.as_bytes(), &reasons);
     drop(reasons);
-    told
+    reported
 }
 
 /// The reasons of a fault of the bundle.

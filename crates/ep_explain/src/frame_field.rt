@@ -55,21 +55,21 @@ pub(crate) fn words_of(name: FieldName) -> &'static [u8] {
 }
 
 /// Appends the value that the field has in these bytes, as far as there are any.
-pub(crate) fn tell_value(line: &mut Wording, field: FrameField, bytes: &[u8]) {
+pub(crate) fn say_value(line: &mut Wording, field: FrameField, bytes: &[u8]) {
     let end = field.start.saturating_add(field.len).min(bytes.len());
     let bytes = bytes.get(field.start..end).unwrap_or(&[]);
     match field.name {
-        FieldName::Kind => tell_kind(line, number_of(bytes)),
+        FieldName::Kind => say_kind(line, number_of(bytes)),
         FieldName::Key | FieldName::Text | FieldName::SecondKey | FieldName::Body => line.front(
             bytes, SHOWN,
         ),
-        FieldName::Dependency => tell_dependency(line, bytes),
+        FieldName::Dependency => say_dependency(line, bytes),
         _ => line.number(number_of(bytes)),
     }
 }
 
 /// Appends the name of the kind of this code, or else the code.
-fn tell_kind(line: &mut Wording, code: u64) {
+fn say_kind(line: &mut Wording, code: u64) {
     match KINDS.get((code as usize).wrapping_sub(1)) {
         Some(name) => line.say(name),
         None => line.number(code),
@@ -85,7 +85,7 @@ fn instance_of(bytes: &[u8]) -> Option<InstanceId> {
     InstanceId::new(replica, u16::from_be_bytes([*high, *low])).ok()
 }
 
-fn tell_dependency(line: &mut Wording, bytes: &[u8]) {
+fn say_dependency(line: &mut Wording, bytes: &[u8]) {
     match instance_of(bytes) {
         Some(instance) => line.instance(instance),
         None => line.say(b"none"),

@@ -1,6 +1,6 @@
 //! Frames in words, and how two of them differ.
 
-use crate::frame_field::{tell_value, words_of};
+use crate::frame_field::{say_value, words_of};
 use crate::reasons::Reasons;
 use crate::side::Side;
 use crate::wording::Wording;
@@ -9,29 +9,29 @@ use ep_frame::{Frame, FrameFault, FrameField, field_at};
 use std::alloc::AllocError;
 
 /// Appends the frame that the bytes are, or why they are none.
-pub(crate) fn tell_bytes(line: &mut Wording, bytes: &Bytes) {
+pub(crate) fn say_bytes(line: &mut Wording, bytes: &Bytes) {
     match bytes.clone() {
         Ok(shared) => {
             let read = Frame::read(shared);
-            tell_read(line, bytes.as_slice(), &read);
+            say_read(line, bytes.as_slice(), &read);
             drop(read);
         }
         Err(_) => line.note(Err(AllocError)),
     }
 }
 
-fn tell_read(line: &mut Wording, bytes: &[u8], read: &Result<Frame, FrameFault>) {
+fn say_read(line: &mut Wording, bytes: &[u8], read: &Result<Frame, FrameFault>) {
     match read {
         Ok(frame) => line.frame(frame),
         Err(fault) => {
             line.say(b"no frame: ");
-            tell_fault(line, bytes, *fault);
+            say_fault(line, bytes, *fault);
         }
     }
 }
 
 /// Appends why bytes are no frame, of which some begin so: with their version, if they have one.
-pub(crate) fn tell_fault(line: &mut Wording, bytes: &[u8], fault: FrameFault) {
+pub(crate) fn say_fault(line: &mut Wording, bytes: &[u8], fault: FrameFault) {
     line.text(fault.to_string(line.allocator()));
     if let FrameFault::Field(place) = fault {
         line.say(b" (");
@@ -56,15 +56,15 @@ pub(crate) fn add_difference(one: &Side<'_>, other: &Side<'_>, reasons: &mut Rea
     let field = field_at(one.bytes, first_difference(one.bytes, other.bytes));
     let mut line = reasons.line(b"first difference: ");
     line.say(words_of(field.name));
-    line.tell(b" (byte #), ", &[field.start as u64]);
-    tell_side(&mut line, field, one);
+    line.say_with(b" (byte #), ", &[field.start as u64]);
+    say_side(&mut line, field, one);
     line.say(b", ");
-    tell_side(&mut line, field, other);
+    say_side(&mut line, field, other);
     reasons.add(line);
 }
 
-fn tell_side(line: &mut Wording, field: FrameField, side: &Side<'_>) {
+fn say_side(line: &mut Wording, field: FrameField, side: &Side<'_>) {
     line.say(side.name);
     line.say(b" ");
-    tell_value(line, field, side.bytes);
+    say_value(line, field, side.bytes);
 }

@@ -12,7 +12,7 @@ const SEEN: usize = 64;
 /// How many lines are looked at.
 const LINES: usize = 70_000;
 
-/// What the first word of a line tells of its script.
+/// What the first word of a line says of its script.
 #[derive(Drop)]
 enum Hint {
     /// It is of this subcommand's scripts alone.

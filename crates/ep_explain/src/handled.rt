@@ -57,7 +57,7 @@ fn add_unsent(journals: &Journals, replica: ReplicaId, frame: &Frame, reasons: &
     match entry_at(journals, sender, number) {
         None => {
             add_behind(replica, frame, reasons);
-            reasons.tell(
+            reasons.say_with(
                 b"sent: nothing; replica # entry # isn't there: its journal ends with entry #",
                 &[
                     sender.index() as u64,
@@ -68,7 +68,7 @@ fn add_unsent(journals: &Journals, replica: ReplicaId, frame: &Frame, reasons: &
         }
         Some(entry) => {
             add_forgot(replica, frame, reasons);
-            reasons.tell(
+            reasons.say_with(
                 b"sent: nothing; replica # entry # sends # in all, counted from 0",
                 &[
                     sender.index() as u64,
@@ -85,11 +85,11 @@ fn add_unsent(journals: &Journals, replica: ReplicaId, frame: &Frame, reasons: &
 fn add_behind(replica: ReplicaId, frame: &Frame, reasons: &mut Reasons) {
     let sender = frame.from().index() as u64;
     let receiver = replica.index() as u64;
-    reasons.tell(
+    reasons.say_with(
         b"do: copy the log of replica # again, and audit it with the others; if this stays, stop replica #, and see from which log it was last started, and whether its disk kept what was synced",
         &[sender, sender],
     );
-    reasons.tell(
+    reasons.say_with(
         b"likely: the log of replica # was copied before that of replica #; or replica # forgot: it lost the end of its journal, or was set back to an older copy",
         &[sender, receiver, sender],
     );
@@ -100,11 +100,11 @@ fn add_behind(replica: ReplicaId, frame: &Frame, reasons: &mut Reasons) {
 fn add_forgot(replica: ReplicaId, frame: &Frame, reasons: &mut Reasons) {
     let sender = frame.from().index() as u64;
     let receiver = replica.index() as u64;
-    reasons.tell(
+    reasons.say_with(
         b"do: stop replica #, and see from which log it was last started, and whether its disk kept what was synced; replica # only handled what came",
         &[sender, receiver],
     );
-    reasons.tell(
+    reasons.say_with(
         b"likely: replica # forgot: it lost the end of its journal, or was set back to an older copy, and went on from there",
         &[sender],
     );
@@ -113,7 +113,7 @@ fn add_forgot(replica: ReplicaId, frame: &Frame, reasons: &mut Reasons) {
 
 /// What else it can mean; and the frame.
 fn add_forged(receiver: u64, frame: &Frame, reasons: &mut Reasons) {
-    reasons.tell(
+    reasons.say_with(
         b"else: the frame was forged, or changed on its way to replica # or in a journal afterwards",
         &[receiver],
     );
@@ -154,12 +154,12 @@ fn add_sender(journals: &Journals, frame: &Frame, reasons: &mut Reasons)
 /// The stamps aren't in order.
 fn add_early(replica: ReplicaId, entry: &Entry, frame: &Frame, reasons: &mut Reasons) {
     add_clock(replica, reasons);
-    reasons.tell(
+    reasons.say_with(
         b"since: an entry has a greater stamp than the frame that it handles",
         &[],
     );
     add_frame(b"handled: ", frame, reasons);
-    reasons.tell(
+    reasons.say_with(
         b"stamps: the frame has #, and the entry that handles it #",
         &[frame.origin().stamp.ticks(), entry.stamp.ticks()],
     );
@@ -168,11 +168,11 @@ fn add_early(replica: ReplicaId, entry: &Entry, frame: &Frame, reasons: &mut Rea
 /// What to do where a replica stamped too low, and what that usually means.
 pub(crate) fn add_clock(replica: ReplicaId, reasons: &mut Reasons) {
     let replica = replica.index() as u64;
-    reasons.tell(
+    reasons.say_with(
         b"do: compare the journal of replica # with its log, and see what stamps its entries",
         &[replica],
     );
-    reasons.tell(
+    reasons.say_with(
         b"likely: the journal of replica # was changed afterwards, or its program stamps by a clock of its own, which was set back",
         &[replica],
     );
@@ -186,7 +186,7 @@ pub(crate) fn entry_line(
     reasons: &Reasons,
 ) -> Wording {
     let mut line = reasons.line(b"");
-    line.tell(
+    line.say_with(
         form,
         &[
             replica.index() as u64,

@@ -2,7 +2,7 @@
 
 ghost use Rattle.std.specs.Prelude.{◌≡◌, ◌≤◌, ◌<◌, [], false, length, take, drop, IfOk, IfErr};
 ghost use Rattle.std.specs.Io.KnownBytes.{Keeps};
-ghost use Rattle.ep_base.specs.Devices.{Pulls, FailsAsTold};
+ghost use Rattle.ep_base.specs.Devices.{Pulls, FailsAsReported};
 ghost use Rattle.ep_explain.specs.Kept.{known_left, ends, Gives, is_read_failed};
 
 use crate::explain_fault::ExplainFault;
@@ -57,7 +57,7 @@ impl<S: Source> Kept<S> {
     /// stays as it was, unless memory is refused.
     pub fn look_ahead(&mut self, count: usize) -> Result<(), ExplainFault>
         ensures left { IfOk result (λ _. Keeps (known_left S.left self.old) (known_left S.left self.new)) }
-        ensures failed { FailsAsTold is_read_failed result (S.has_failed self.old.source) (S.has_failed self.new.source) }
+        ensures failed { FailsAsReported is_read_failed result (S.has_failed self.old.source) (S.has_failed self.new.source) }
     {
         self.keeps = true;
         let mut room = [0; ROOM];
@@ -74,14 +74,14 @@ impl<S: Source> Kept<S> {
     fn look(&mut self, room: &mut [u8]) -> Result<(), ExplainFault>
         requires { self.old.is_over ≡ false }
         ensures left { IfOk result (λ _. Keeps (known_left S.left self.old) (known_left S.left self.new)) }
-        ensures failed { FailsAsTold is_read_failed result (S.has_failed self.old.source) (S.has_failed self.new.source) }
+        ensures failed { FailsAsReported is_read_failed result (S.has_failed self.old.source) (S.has_failed self.new.source) }
     {
         let count = self.pull_source(room)?;
         self.bytes.extend_from_slice(&room[..count])?;
         Ok(())
     }
 
-    // Pulls from the source, which hasn't reported its end, and notes whether it tells it now.
+    // Pulls from the source, which hasn't reported its end, and notes whether it reports it now.
     fn pull_source(&mut self, buf: &mut [u8]) -> Result<usize, ReadFailed>
         requires { self.old.is_over ≡ false }
         ensures bound { IfOk result (λ n. n ≤ length buf.new) }

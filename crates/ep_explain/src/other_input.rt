@@ -56,13 +56,13 @@ fn name_of(bytes: &[u8]) -> &'static [u8] {
 
 /// What to do where something else was given for a bundle, and what it is.
 fn add_other(found: &[u8], reasons: &mut Reasons) {
-    reasons.tell(
+    reasons.say_with(
         b"do: give explain a bundle, as `epaxos replay --emit bundle` and `epaxos collect` write it, or a script",
         &[],
     );
-    reasons.tell(
+    reasons.say_with(
         b"likely: another file or another program's output was given",
         &[],
     );
-    reasons.tell(found, &[]);
+    reasons.say_with(found, &[]);
 }

@@ -49,9 +49,9 @@ impl Reasons {
     }
 
     /// Adds a line of these words, with these numbers in the places of `#`.
-    pub(crate) fn tell(&mut self, form: &[u8], numbers: &[u64]) {
+    pub(crate) fn say_with(&mut self, form: &[u8], numbers: &[u64]) {
         let mut line = Wording::new(*self.lines.allocator());
-        line.tell(form, numbers);
+        line.say_with(form, numbers);
         self.add(line);
     }
 

@@ -9,7 +9,7 @@ use ep_script::{COMMANDS, Form, LINES, Operand, Refusal, Standing, Why};
 const SHOWN: usize = 60;
 
 /// Appends why the line is refused, behind its number.
-pub(crate) fn tell_refusal(line: &mut Wording, refusal: &Refusal<'_>) {
+pub(crate) fn say_refusal(line: &mut Wording, refusal: &Refusal<'_>) {
     match refusal.why {
         Why::Nothing => line.say(b": it isn't of the grammar"),
         Why::Over => {
@@ -18,15 +18,15 @@ pub(crate) fn tell_refusal(line: &mut Wording, refusal: &Refusal<'_>) {
         Why::Lines => line.say(b": a script has at most 100000 lines"),
         Why::Bytes => line.say(b": a line has at most 8192 bytes, and this one has more"),
         Why::Lacks => {
-            tell_place(line, refusal);
+            say_place(line, refusal);
             line.say(b"nothing stands here: ");
-            tell_lacking(line, refusal);
+            say_lacking(line, refusal);
         }
         _ => {
-            tell_place(line, refusal);
+            say_place(line, refusal);
             show(line, refusal.word);
             line.say(b" ");
-            tell_why(line, refusal);
+            say_why(line, refusal);
         }
     }
 }
@@ -35,25 +35,25 @@ pub(crate) fn tell_refusal(line: &mut Wording, refusal: &Refusal<'_>) {
 pub(crate) fn add_size(refusal: &Refusal<'_>, reasons: &mut Reasons) {
     if let Some(size) = refusal.size {
         let count = u64::from(size.count());
-        reasons.tell(
+        reasons.say_with(
             b"line #: there are # replicas, 0 to #",
             &[u64::from(refusal.size_line), count, count.saturating_sub(1)],
         );
     }
 }
 
-fn tell_place(line: &mut Wording, refusal: &Refusal<'_>) {
-    line.tell(b", word #: ", &[u64::from(refusal.place)]);
+fn say_place(line: &mut Wording, refusal: &Refusal<'_>) {
+    line.say_with(b", word #: ", &[u64::from(refusal.place)]);
 }
 
-/// Appends a word as it is told: by % and two digits where a byte isn't printed.
+/// Appends a word as it is reported: by % and two digits where a byte isn't printed.
 fn show(line: &mut Wording, word: &[u8]) {
     for byte in word.iter().take(SHOWN) {
         if *byte > b' ' && *byte <= b'~' {
             line.say(&[*byte]);
         } else {
             line.say(b"%");
-            tell_digits(line, *byte);
+            say_digits(line, *byte);
         }
     }
     if word.len() > SHOWN {
@@ -61,7 +61,7 @@ fn show(line: &mut Wording, word: &[u8]) {
     }
 }
 
-fn tell_digits(line: &mut Wording, byte: u8) {
+fn say_digits(line: &mut Wording, byte: u8) {
     line.say(&[digit(byte / 16), digit(byte % 16)]);
 }
 
@@ -74,60 +74,60 @@ fn digit(value: u8) -> u8 {
 }
 
 /// Appends what the word is.
-fn tell_why(line: &mut Wording, refusal: &Refusal<'_>) {
+fn say_why(line: &mut Wording, refusal: &Refusal<'_>) {
     match refusal.why {
-        Why::More => tell_more(line, refusal),
-        Why::Unlike => tell_unlike(line, refusal),
+        Why::More => say_more(line, refusal),
+        Why::Unlike => say_unlike(line, refusal),
         Why::Misplaced => line.say(place_of(refusal.standing)),
-        Why::Late => tell_late(line, refusal),
-        Why::Other => tell_other(line, refusal),
-        Why::NoNumber => tell_ranged(line, b"is no number: ", refusal),
-        Why::Long => tell_ranged(line, b"is too long; expected ", refusal),
-        Why::OutOfRange => tell_ranged(line, b"is out of range: ", refusal),
-        Why::NoInstance => line.tell(
+        Why::Late => say_late(line, refusal),
+        Why::Other => say_other(line, refusal),
+        Why::NoNumber => say_ranged(line, b"is no number: ", refusal),
+        Why::Long => say_ranged(line, b"is too long; expected ", refusal),
+        Why::OutOfRange => say_ranged(line, b"is out of range: ", refusal),
+        Why::NoInstance => line.say_with(
             b"is no instance: R.I, a replica R, a dot and a number I, 1 to #",
             &[most(refusal)],
         ),
         Why::Length(count) => {
-            line.tell(b"spells # bytes: the length of ", &[count]);
-            tell_range(line, refusal);
+            line.say_with(b"spells # bytes: the length of ", &[count]);
+            say_range(line, refusal);
         }
-        Why::Byte(place) => tell_byte(line, byte_at(refusal.word, place)),
-        Why::Escape(place) => tell_escape(line, refusal.word, place),
+        Why::Byte(place) => say_byte(line, byte_at(refusal.word, place)),
+        Why::Escape(place) => say_escape(line, refusal.word, place),
         Why::Same => line.say(same(refusal)),
-        Why::SecondStamp(before) => line.tell(
+        Why::SecondStamp(before) => line.say_with(
             b"is the script's second line since, after line #",
             &[u64::from(before)],
         ),
-        Why::SecondKey(before) => line.tell(
+        Why::SecondKey(before) => line.say_with(
             b"spells a key that has a value already, by line #",
             &[u64::from(before)],
         ),
-        Why::SecondFrame(before) => line.tell(
+        Why::SecondFrame(before) => line.say_with(
             b"is the section's second line for this frame, after line #",
             &[u64::from(before)],
         ),
-        Why::SecondItem(before) => line.tell(
+        Why::SecondItem(before) => line.say_with(
             b"spells a key that has such an item already, by word #: a key has at most one if, one get, and one put or del",
             &[u64::from(before)],
         ),
-        Why::Told => line.say(b"is the 17th get: a tx tells at most 16 keys"),
+        Why::Reported => line.say(b"is the 17th get: a tx tells at most 16 keys"),
         Why::Keys => line.say(b"spells the 1025th key: a tx names at most 1024"),
         _ => {}
     }
 }
 
 /// What may stand there is reported behind these words.
-fn tell_ranged(line: &mut Wording, words: &[u8], refusal: &Refusal<'_>) {
+fn say_ranged(line: &mut Wording, words: &[u8], refusal: &Refusal<'_>) {
     line.say(words);
-    tell_range(line, refusal);
+    say_range(line, refusal);
 }
 
-fn tell_range(line: &mut Wording, refusal: &Refusal<'_>) {
+fn say_range(line: &mut Wording, refusal: &Refusal<'_>) {
     line.say(name_of(refusal.operand));
     if refusal.operand != Operand::Size {
         let (least, most) = refusal.operand.range(refusal.size, refusal.version);
-        line.tell(b", # to #", &[least, most]);
+        line.say_with(b", # to #", &[least, most]);
     }
 }
 
@@ -157,17 +157,17 @@ fn name_of(operand: Operand) -> &'static [u8] {
 }
 
 /// Appends what may stand there, where no word does.
-fn tell_lacking(line: &mut Wording, refusal: &Refusal<'_>) {
+fn say_lacking(line: &mut Wording, refusal: &Refusal<'_>) {
     match refusal.operand {
         Operand::Command => {
             line.say(b"a command, ");
-            tell_words(line, &COMMANDS, refusal);
+            say_words(line, &COMMANDS, refusal);
         }
         Operand::Propose => {
             line.say(b"propose: ");
-            tell_line(line, refusal);
+            say_line(line, refusal);
         }
-        Operand::Instance => line.tell(
+        Operand::Instance => line.say_with(
             b"an instance R.I, of a replica R and a number I, 1 to #",
             &[most(refusal)],
         ),
@@ -177,19 +177,19 @@ fn tell_lacking(line: &mut Wording, refusal: &Refusal<'_>) {
         | Operand::MaybeValue
         | Operand::Body
         | Operand::Item => line.say(name_of(refusal.operand)),
-        _ => tell_range(line, refusal),
+        _ => say_range(line, refusal),
     }
 }
 
 /// Appends the line that a command ends.
-fn tell_line(line: &mut Wording, refusal: &Refusal<'_>) {
+fn say_line(line: &mut Wording, refusal: &Refusal<'_>) {
     line.say(b"the line is ");
     line.say(refusal.lead);
     line.say(b"COMMAND");
 }
 
 /// Appends the first words that lines, or commands, may have behind a head of this version.
-fn tell_words(line: &mut Wording, forms: &[Form], refusal: &Refusal<'_>) {
+fn say_words(line: &mut Wording, forms: &[Form], refusal: &Refusal<'_>) {
     let mut last: &[u8] = b"";
     let mut between: &[u8] = b"";
     for form in forms {
@@ -206,7 +206,7 @@ fn tell_words(line: &mut Wording, forms: &[Form], refusal: &Refusal<'_>) {
     line.say(last);
 }
 
-fn tell_more(line: &mut Wording, refusal: &Refusal<'_>) {
+fn say_more(line: &mut Wording, refusal: &Refusal<'_>) {
     line.say(b"is one word more than the line has: ");
     line.say(refusal.lead);
     line.say(refusal.form);
@@ -216,15 +216,15 @@ fn tell_more(line: &mut Wording, refusal: &Refusal<'_>) {
 }
 
 /// Appends which words may stand there.
-fn tell_unlike(line: &mut Wording, refusal: &Refusal<'_>) {
+fn say_unlike(line: &mut Wording, refusal: &Refusal<'_>) {
     match refusal.operand {
         Operand::Command => {
             line.say(b"is no command: ");
-            tell_words(line, &COMMANDS, refusal);
+            say_words(line, &COMMANDS, refusal);
         }
         Operand::Propose => {
             line.say(b"isn't propose: ");
-            tell_line(line, refusal);
+            say_line(line, refusal);
         }
         Operand::Item => {
             line.say(b"begins no item of tx: if K E, get K, put K V or del K");
@@ -234,7 +234,7 @@ fn tell_unlike(line: &mut Wording, refusal: &Refusal<'_>) {
         }
         _ if refusal.size.is_some() => {
             line.say(b"is unknown; a line begins with ");
-            tell_words(line, &LINES, refusal);
+            say_words(line, &LINES, refusal);
         }
         _ if refusal.word.starts_with(ORDER_MARK) => {
             line.say(b"begins with a byte order mark: scripts have none");
@@ -253,7 +253,7 @@ fn place_of(standing: Standing) -> &'static [u8] {
 }
 
 /// Appends that the word is one of version 3.
-fn tell_late(line: &mut Wording, refusal: &Refusal<'_>) {
+fn say_late(line: &mut Wording, refusal: &Refusal<'_>) {
     if refusal.standing == Standing::Opening {
         line.say(
             b"is a line of version 3: behind replicas stands generation G, and then such lines",
@@ -262,7 +262,7 @@ fn tell_late(line: &mut Wording, refusal: &Refusal<'_>) {
     }
     if refusal.operand == Operand::Command {
         line.say(b"is a command of version 3: here may stand ");
-        tell_words(line, &COMMANDS, refusal);
+        say_words(line, &COMMANDS, refusal);
         line.say(b"; ");
     } else {
         line.say(b"is a line of version 3: ");
@@ -271,7 +271,7 @@ fn tell_late(line: &mut Wording, refusal: &Refusal<'_>) {
 }
 
 /// Appends that scripts for the other subcommand have such lines.
-fn tell_other(line: &mut Wording, refusal: &Refusal<'_>) {
+fn say_other(line: &mut Wording, refusal: &Refusal<'_>) {
     line.say(b"is a line of ");
     line.say(if refusal.standing == Standing::Run {
         b"run".as_slice()
@@ -279,7 +279,7 @@ fn tell_other(line: &mut Wording, refusal: &Refusal<'_>) {
         b"replay".as_slice()
     });
     line.say(b" alone: here may stand ");
-    tell_words(line, &LINES, refusal);
+    say_words(line, &LINES, refusal);
 }
 
 fn same(refusal: &Refusal<'_>) -> &'static [u8] {
@@ -300,14 +300,14 @@ fn byte_at(word: &[u8], place: usize) -> u8 {
     }
 }
 
-fn tell_byte(line: &mut Wording, byte: u8) {
+fn say_byte(line: &mut Wording, byte: u8) {
     line.say(b"has the byte ");
-    tell_digits(line, byte);
+    say_digits(line, byte);
     line.say(b": bytes outside 21 to 7e (hexadecimal) are written %");
-    tell_digits(line, byte);
+    say_digits(line, byte);
 }
 
-fn tell_escape(line: &mut Wording, word: &[u8], place: usize) {
+fn say_escape(line: &mut Wording, word: &[u8], place: usize) {
     let rest = word.get(place..).unwrap_or(&[]);
     line.say(b"has ");
     show(line, &rest[..rest.len().min(3)]);

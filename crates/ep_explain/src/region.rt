@@ -77,12 +77,12 @@ fn pass_parts<S: Source>(
     let mut place = 0;
     let header = read_header(alloc, source, &mut place)?;
     let passed = pass_journals(alloc, source, &mut place, &header, region);
-    let told = match passed {
+    let reported = match passed {
         Ok(()) => pass_receipts(alloc, source, &mut place, &header, region),
         Err(fault) => Err(fault),
     };
     drop(header);
-    told
+    reported
 }
 
 /// Reads the journals, without a step.

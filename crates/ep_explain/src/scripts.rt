@@ -1,7 +1,7 @@
-//! What is told of a script.
+//! What is reported of a script.
 
 ghost use Rattle.std.specs.Prelude.{◌≡◌, ◌++◌, ◌∷◌, [], ℕ, List, None, Some, false, true, codes, IfOk, OnOk};
-ghost use Rattle.ep_base.specs.Devices.{FailsAsTold};
+ghost use Rattle.ep_base.specs.Devices.{FailsAsReported};
 ghost use Rattle.ep_script.specs.Plan.{script_of, run_of};
 ghost use Rattle.ep_explain.specs.Advice.{IsAdvice, at_line, line_refused, refused_at, script_read, script_refused};
 ghost use Rattle.ep_explain.specs.Kept.{is_read_failed, known_left};
@@ -12,7 +12,7 @@ use crate::explain_fault::ExplainFault;
 use crate::guess::deciding_line;
 use crate::kept::Kept;
 use crate::reasons::{Reasons, push_led};
-use crate::refusals::{add_size, tell_refusal};
+use crate::refusals::{add_size, say_refusal};
 use crate::subcommand::Subcommand;
 use crate::wording::Wording;
 use ep_base::Source;
@@ -30,8 +30,8 @@ pub(crate) fn explain_script<S: Source>(
     subcommand: Subcommand,
     source: &mut Kept<S>,
 ) -> Result<Advice, ExplainFault>
-    ensures told { (bytes : List ℕ) → known_left S.left source.old ≡ Some bytes → IfOk result (λ a. IsAdvice subcommand (refused_at subcommand bytes) a.is_read a.text.items) }
-    ensures failed { FailsAsTold is_read_failed result (S.has_failed source.old.source) (S.has_failed source.new.source) }
+    ensures reported { (bytes : List ℕ) → known_left S.left source.old ≡ Some bytes → IfOk result (λ a. IsAdvice subcommand (refused_at subcommand bytes) a.is_read a.text.items) }
+    ensures failed { FailsAsReported is_read_failed result (S.has_failed source.old.source) (S.has_failed source.new.source) }
 {
     let refused = match subcommand {
         Subcommand::Replay => replay_refused(alloc, source)?,
@@ -46,7 +46,7 @@ fn replay_refused<S: Source>(
     source: &mut Kept<S>,
 ) -> Result<Option<u32>, ExplainFault>
     ensures line { (bytes : List ℕ) → known_left S.left source.old ≡ Some bytes → IfOk result (λ o. o ≡ line_refused (script_of bytes)) }
-    ensures failed { FailsAsTold is_read_failed result (S.has_failed source.old.source) (S.has_failed source.new.source) }
+    ensures failed { FailsAsReported is_read_failed result (S.has_failed source.old.source) (S.has_failed source.new.source) }
 {
     match read_script(alloc, source) {
         Ok(script) => {
@@ -62,7 +62,7 @@ fn replay_refused<S: Source>(
 // The line at which a script for a run is refused.
 fn run_refused<S: Source>(alloc: Global, source: &mut Kept<S>) -> Result<Option<u32>, ExplainFault>
     ensures line { (bytes : List ℕ) → known_left S.left source.old ≡ Some bytes → IfOk result (λ o. o ≡ line_refused (run_of bytes)) }
-    ensures failed { FailsAsTold is_read_failed result (S.has_failed source.old.source) (S.has_failed source.new.source) }
+    ensures failed { FailsAsReported is_read_failed result (S.has_failed source.old.source) (S.has_failed source.new.source) }
 {
     match read_run(alloc, source) {
         Ok(script) => {
@@ -133,12 +133,12 @@ fn read_for_run(alloc: Global, bytes: Option<&[u8]>) -> Result<Vec<u8>, AllocErr
     ensures { IfOk result (λ text. IsAdvice Run None true text.items) }
 {
     let reasons = Reasons::new(alloc);
-    let text = told_for_run(alloc, bytes, &reasons);
+    let text = reported_for_run(alloc, bytes, &reasons);
     drop(reasons);
     text
 }
 
-fn told_for_run(
+fn reported_for_run(
     alloc: Global,
     bytes: Option<&[u8]>,
     reasons: &Reasons,
@@ -170,13 +170,13 @@ fn refuses(alloc: Global, why: &Wording) -> Result<Vec<u8>, AllocError>
 
 // The number of that line, and its first word.
 fn run_line(alloc: Global, bytes: &[u8]) -> Wording {
-    let mut told = Wording::new(alloc);
+    let mut reported = Wording::new(alloc);
     if let Some((line, _)) = deciding_line(bytes) {
-        told.tell(b"#, as ", &[line]);
-        told.say(word_at(bytes, line));
-        told.say(b" is a line of run alone");
+        reported.say_with(b"#, as ", &[line]);
+        reported.say(word_at(bytes, line));
+        reported.say(b" is a line of run alone");
     }
-    told
+    reported
 }
 
 // The first word of the line with this number, from 1.
@@ -259,7 +259,7 @@ fn first_reason(
     let refusal = Refusal::find(bytes, of, line);
     add_size(&refusal, reasons);
     let mut fault = Wording::new(alloc);
-    tell_refusal(&mut fault, &refusal);
+    say_refusal(&mut fault, &refusal);
     led(alloc, line, &fault)
 }
 
@@ -274,15 +274,15 @@ fn led(alloc: Global, line: u32, fault: &Wording) -> Result<Vec<u8>, AllocError>
 
 // For which subcommand the script is taken, and why.
 fn add_taken_for(subcommand: Subcommand, bytes: &[u8], reasons: &mut Reasons) {
-    let mut told = reasons.line(b"read as a script for ");
-    told.say(match subcommand {
+    let mut reported = reasons.line(b"read as a script for ");
+    reported.say(match subcommand {
         Subcommand::Replay => b"replay".as_slice(),
         Subcommand::Run => b"run".as_slice(),
     });
     match deciding_line(bytes) {
-        Some((line, other)) if other == subcommand => told.tell(b", by line #", &[line]),
+        Some((line, other)) if other == subcommand => reported.say_with(b", by line #", &[line]),
         _ => {}
     }
-    told.say(b"; docs/CLI.md, section 4, has all lines");
-    reasons.add(told);
+    reported.say(b"; docs/CLI.md, section 4, has all lines");
+    reasons.add(reported);
 }

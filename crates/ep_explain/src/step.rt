@@ -3,7 +3,7 @@
 ghost use Rattle.std.specs.Prelude.{IfSome};
 ghost use Rattle.ep_journal.specs.Leaving.{MarksNext};
 
-use crate::frames::{add_difference, tell_bytes, tell_fault};
+use crate::frames::{add_difference, say_bytes, say_fault};
 use crate::reasons::Reasons;
 use crate::side::Side;
 use bytes::Bytes;
@@ -43,7 +43,7 @@ fn take(
         Err(fault) => {
             // (the bytes that are handled are taken for bytes of the journal's version)
             let mut line = reasons.line(b"cause: the bytes that are handled are no frame: ");
-            tell_fault(&mut line, &[0, 0, journal.version().number()], fault);
+            say_fault(&mut line, &[0, 0, journal.version().number()], fault);
             reasons.add(line);
             false
         }
@@ -66,7 +66,7 @@ fn add_event(version: Version, event: &Event, reasons: &mut Reasons) {
 
 fn add_generations(found: u32, own: u32, reasons: &mut Reasons) {
     if found != own && found != 0 && own != 0 {
-        reasons.tell(
+        reasons.say_with(
             b"generations: the frame's is #, the bundle's is #",
             &[found as u64, own as u64],
         );
@@ -115,7 +115,7 @@ fn add_stamps(journal: &Journal, stamp: Stamp, reasons: &mut Reasons) {
     } else {
         b"cause: its stamp # isn't above the stamp of the entry before it, #".as_slice()
     };
-    reasons.tell(form, &[stamp.ticks(), journal.last_stamp()]);
+    reasons.say_with(form, &[stamp.ticks(), journal.last_stamp()]);
 }
 
 /// The event is refused.
@@ -191,7 +191,7 @@ fn has_frame(expected: Option<&Frame>, found: Option<&Bytes>) -> bool {
 
 /// The frames differ, first at this place.
 fn add_frames(expected: &[Frame], found: &[Bytes], place: usize, reasons: &mut Reasons) {
-    reasons.tell(
+    reasons.say_with(
         b"cause: its frames aren't those of the step: expected #, found #; the first that differs is at place #, counted from 0",
         &[expected.len() as u64, found.len() as u64, place as u64],
     );
@@ -217,7 +217,7 @@ fn add_expected(expected: Option<&Frame>, reasons: &mut Reasons) {
 fn add_found(found: Option<&Bytes>, reasons: &mut Reasons) {
     let mut line = reasons.line(b"found: ");
     match found {
-        Some(bytes) => tell_bytes(&mut line, bytes),
+        Some(bytes) => say_bytes(&mut line, bytes),
         None => line.say(b"none"),
     }
     reasons.add(line);
@@ -245,7 +245,7 @@ fn add_executions(
     reasons: &mut Reasons,
 ) {
     let place = first_other_execution(expected, found);
-    reasons.tell(
+    reasons.say_with(
         b"cause: its executions aren't those of the step: expected #, found #; the first that differs is at place #, counted from 0",
         &[expected.len() as u64, found.len() as u64, place as u64],
     );

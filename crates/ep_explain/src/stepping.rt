@@ -22,16 +22,16 @@ pub(crate) fn add_step(
     number: u32,
     reasons: &mut Reasons,
 ) {
-    reasons.tell(
+    reasons.say_with(
         b"do: make the bundle anew from the logs by `epaxos collect`, which names a log that is at fault",
         &[],
     );
-    reasons.tell(
+    reasons.say_with(
         b"likely: this entry, or one before it, was changed after it was written, or one before it is missing",
         &[],
     );
-    let told = add_entry(alloc, &mut Noted::new(bytes), replica, number, reasons);
-    if let Err(BundleFault::Memory) = told {
+    let reported = add_entry(alloc, &mut Noted::new(bytes), replica, number, reasons);
+    if let Err(BundleFault::Memory) = reported {
         reasons.cut();
     }
 }
@@ -46,9 +46,9 @@ fn add_entry<S: Source>(
 ) -> Result<(), BundleFault> {
     let mut place = 0;
     let mut journal = read_up_to(alloc, source, &mut place, replica, number)?;
-    let told = add_next(alloc, source, &mut place, &mut journal, reasons);
+    let reported = add_next(alloc, source, &mut place, &mut journal, reasons);
     drop(journal);
-    told
+    reported
 }
 
 /// Reads the entry, and says what is wrong with it as the journal's next one.

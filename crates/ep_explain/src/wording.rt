@@ -1,4 +1,4 @@
-//! Words of a line, as they are told.
+//! Words of a line, as they are reported.
 
 ghost use Rattle.std.specs.Prelude.{◌≡◌, IfOk};
 
@@ -46,16 +46,16 @@ impl Wording {
     }
 
     /// Notes whether memory was refused.
-    pub(crate) fn note(&mut self, told: Result<(), AllocError>) {
-        if told.is_err() {
+    pub(crate) fn note(&mut self, reported: Result<(), AllocError>) {
+        if reported.is_err() {
             self.is_cut = true;
         }
     }
 
     /// Appends words.
     pub(crate) fn say(&mut self, words: &[u8]) {
-        let told = self.words.extend_from_slice(words);
-        self.note(told);
+        let reported = self.words.extend_from_slice(words);
+        self.note(reported);
     }
 
     /// Appends a text, if memory was given for it.
@@ -73,20 +73,20 @@ impl Wording {
 
     /// Appends a number in decimal digits.
     pub(crate) fn number(&mut self, number: u64) {
-        let told = push_number(&mut self.words, number);
-        self.note(told);
+        let reported = push_number(&mut self.words, number);
+        self.note(reported);
     }
 
     /// Appends words, with these numbers in the places of `#`.
-    pub(crate) fn tell(&mut self, form: &[u8], numbers: &[u64]) {
+    pub(crate) fn say_with(&mut self, form: &[u8], numbers: &[u64]) {
         let mut rest = numbers;
         for byte in form {
-            rest = self.tell_byte(*byte, rest);
+            rest = self.say_byte(*byte, rest);
         }
     }
 
     // Appends a byte, or in the place of `#` the first of these numbers, and gives those that are left.
-    fn tell_byte<'a>(&mut self, byte: u8, numbers: &'a [u64]) -> &'a [u64] {
+    fn say_byte<'a>(&mut self, byte: u8, numbers: &'a [u64]) -> &'a [u64] {
         match numbers {
             [first, rest @ ..] if byte == b'#' => {
                 self.number(*first);
@@ -102,8 +102,8 @@ impl Wording {
     /// Appends these bytes as a word; where they are more than `most`, the first of them, and `...`.
     pub(crate) fn front(&mut self, bytes: &[u8], most: usize) {
         let (front, rest) = bytes.split_at(most.min(bytes.len()));
-        let told = push_word(&mut self.words, front);
-        self.note(told);
+        let reported = push_word(&mut self.words, front);
+        self.note(reported);
         if !rest.is_empty() {
             self.say(b"...");
         }
@@ -111,32 +111,32 @@ impl Wording {
 
     /// Appends an instance.
     pub(crate) fn instance(&mut self, instance: InstanceId) {
-        let told = push_instance(&mut self.words, instance);
-        self.note(told);
+        let reported = push_instance(&mut self.words, instance);
+        self.note(reported);
     }
 
     /// Appends an answer.
     pub(crate) fn answer(&mut self, answer: &Answer) {
-        let told = push_answer(&mut self.words, answer);
-        self.note(told);
+        let reported = push_answer(&mut self.words, answer);
+        self.note(reported);
     }
 
     /// Appends an event.
     pub(crate) fn event(&mut self, event: &Event) {
-        let told = push_event(&mut self.words, event);
-        self.note(told);
+        let reported = push_event(&mut self.words, event);
+        self.note(reported);
     }
 
     /// Appends a frame: which one it is, to whom it goes, its stamp and its message.
     pub(crate) fn frame(&mut self, frame: &Frame) {
         let origin = frame.origin();
-        let told = push_origin(&mut self.words, frame);
-        self.note(told);
-        self.tell(
+        let reported = push_origin(&mut self.words, frame);
+        self.note(reported);
+        self.say_with(
             b" to # stamp # ",
             &[origin.to.index() as u64, origin.stamp.ticks()],
         );
-        let told = push_message(&mut self.words, frame);
-        self.note(told);
+        let reported = push_message(&mut self.words, frame);
+        self.note(reported);
     }
 }

@@ -17,7 +17,7 @@ pub mod Reorigin
 pub mod Repeating
 pub mod Joining
 pub mod Upgrading
-pub mod Told
+pub mod Reported
 pub mod Faulting
 pub mod Within
 pub mod Places

@@ -80,7 +80,7 @@ instance_at b = instance_in (parts_at b).header
 abbrev pub message_at : List ℕ → Message
 message_at b = message_of (parts_at b)
 
--- what a frame's bytes tell of their message
+-- what a frame's bytes say of their message
 
 abbrev pub kind_of : ℕ → Kind
 kind_of n =
@@ -134,26 +134,26 @@ message_by kind.PrepareOk b = PrepareOk (instance_at b) (ballot_at b) (vote_at b
 message_by kind.Nack b = Nack (instance_at b) (ballot_at b) (other_at b)
 
 -- every message of this kind has attributes
-abbrev pub tells_attrs : Kind → Bool
-tells_attrs kind.PreAccept = true
-tells_attrs kind.PreAcceptOk = true
-tells_attrs kind.Accept = true
-tells_attrs kind.AcceptOk = false
-tells_attrs kind.Commit = true
-tells_attrs kind.Prepare = false
-tells_attrs kind.PrepareOk = false
-tells_attrs kind.Nack = false
+abbrev pub carries_attrs : Kind → Bool
+carries_attrs kind.PreAccept = true
+carries_attrs kind.PreAcceptOk = true
+carries_attrs kind.Accept = true
+carries_attrs kind.AcceptOk = false
+carries_attrs kind.Commit = true
+carries_attrs kind.Prepare = false
+carries_attrs kind.PrepareOk = false
+carries_attrs kind.Nack = false
 
 -- every message of this kind has a command and attributes
-abbrev pub tells_decree : Kind → Bool
-tells_decree kind.PreAccept = true
-tells_decree kind.PreAcceptOk = false
-tells_decree kind.Accept = true
-tells_decree kind.AcceptOk = false
-tells_decree kind.Commit = true
-tells_decree kind.Prepare = false
-tells_decree kind.PrepareOk = false
-tells_decree kind.Nack = false
+abbrev pub carries_decree : Kind → Bool
+carries_decree kind.PreAccept = true
+carries_decree kind.PreAcceptOk = false
+carries_decree kind.Accept = true
+carries_decree kind.AcceptOk = false
+carries_decree kind.Commit = true
+carries_decree kind.Prepare = false
+carries_decree kind.PrepareOk = false
+carries_decree kind.Nack = false
 
 -- its sender, its receiver and every replica that its message names are below n
 abbrev pub is_within : ℕ → List ℕ → Bool

@@ -33,7 +33,7 @@ pub enum FrameFault {
     /// items, with nothing left over.
     #[error("the body does not fit the op")]
     Body,
-    /// The frame is of the state's version, but of another generation. `Frame::read` never tells it.
+    /// The frame is of the state's version, but of another generation. `Frame::read` never reports it.
     #[error("of another generation")]
     Generation,
 }

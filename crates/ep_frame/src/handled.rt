@@ -9,7 +9,7 @@ ghost use Rattle.ep_rules.specs.Steps.{are_within};
 ghost use Rattle.ep_frame.specs.DepBytes.{AreDepBytes};
 ghost use Rattle.ep_frame.specs.Faults.{HasNoFault, deps_place, frame_len, has_attributes};
 ghost use Rattle.ep_frame.specs.Fields.{deps_in, header_at};
-ghost use Rattle.ep_frame.specs.Meaning.{version_at, sender_at, origin_at, kind_at, command_parts_at, run_at, ballot_at, other_at, command_at, attrs_at, decree_at, vote_at, message_at, message_by, tells_attrs, tells_decree, is_within, parts_within};
+ghost use Rattle.ep_frame.specs.Meaning.{version_at, sender_at, origin_at, kind_at, command_parts_at, run_at, ballot_at, other_at, command_at, attrs_at, decree_at, vote_at, message_at, message_by, carries_attrs, carries_decree, is_within, parts_within};
 ghost use Rattle.ep_frame.specs.declared.kind.Kind.TheVariants.{PrepareOk};
 ghost use Rattle.ep_frame.specs.Ranges.{InRange, Readable};
 ghost use Rattle.ep_frame.specs.Spelling.{Spells, parts_at};
@@ -209,7 +209,7 @@ fn is_within(bytes: &[u8], count: u8) -> bool
 }
 
 // The message that the bytes spell.
-#[tactic(auto, using(crate::proofs::Told::by_kind))]
+#[tactic(auto, using(crate::proofs::Reported::by_kind))]
 fn message_in(alloc: Global, bytes: &Bytes) -> Result<Message, AllocError>
     requires long { 40 ≤ length bytes.now }
     requires whole { length bytes.now ≡ frame_len (header_at bytes.now) }
@@ -257,7 +257,7 @@ fn message_in(alloc: Global, bytes: &Bytes) -> Result<Message, AllocError>
 
 impl<'a> FrameView<'a> {
     /// Which message it spells.
-    #[tactic(auto, using(crate::proofs::Told::by_kind, crate::proofs::Frames::frame_long))]
+    #[tactic(auto, using(crate::proofs::Reported::by_kind, crate::proofs::Frames::frame_long))]
     pub fn kind(&self) -> Kind
         ensures value { result ≡ kind_at self.now }
         ensures message { message_at self.now ≡ message_by result self.now }
@@ -282,9 +282,9 @@ impl<'a> FrameView<'a> {
     }
 
     /// Its command, which shares the frame's bytes.
-    #[tactic(auto, using(crate::proofs::Told::decree_there))]
+    #[tactic(auto, using(crate::proofs::Reported::decree_there))]
     pub fn to_command(&self) -> Result<Command, AllocError>
-        requires { tells_decree (kind_at self.now) ≡ true }
+        requires { carries_decree (kind_at self.now) ≡ true }
         ensures { IfOk result (λ c. c ≡ command_at self.now) }
     {
         are_known(self.bytes.as_slice());
@@ -292,9 +292,9 @@ impl<'a> FrameView<'a> {
     }
 
     /// Its attributes, copied.
-    #[tactic(auto, using(crate::proofs::Told::attrs_there))]
+    #[tactic(auto, using(crate::proofs::Reported::attrs_there))]
     pub fn to_attrs(&self, alloc: Global) -> Result<Attrs, AllocError>
-        requires { tells_attrs (kind_at self.now) ≡ true }
+        requires { carries_attrs (kind_at self.now) ≡ true }
         ensures { IfOk result (λ a. a ≡ attrs_at self.now) }
     {
         are_known(self.bytes.as_slice());
@@ -302,9 +302,9 @@ impl<'a> FrameView<'a> {
     }
 
     /// Its command, which shares the frame's bytes, and its attributes, copied.
-    #[tactic(auto, using(crate::proofs::Told::decree_there, crate::proofs::Told::decree_attrs_there))]
+    #[tactic(auto, using(crate::proofs::Reported::decree_there, crate::proofs::Reported::decree_attrs_there))]
     pub fn to_decree(&self, alloc: Global) -> Result<Decree, AllocError>
-        requires { tells_decree (kind_at self.now) ≡ true }
+        requires { carries_decree (kind_at self.now) ≡ true }
         ensures { IfOk result (λ x. x ≡ decree_at self.now) }
     {
         are_known(self.bytes.as_slice());
@@ -312,7 +312,7 @@ impl<'a> FrameView<'a> {
     }
 
     /// The vote that it answers: its command shares the frame's bytes, the rest is copied.
-    #[tactic(auto, using(crate::proofs::Told::vote_there))]
+    #[tactic(auto, using(crate::proofs::Reported::vote_there))]
     pub fn to_vote(&self, alloc: Global) -> Result<Option<Vote>, AllocError>
         requires { kind_at self.now ≡ PrepareOk }
         ensures { IfOk result (λ v. v ≡ vote_at self.now) }
@@ -330,9 +330,9 @@ impl<'a> FrameView<'a> {
     }
 
     /// Whether this is its decree.
-    #[tactic(auto, using(crate::proofs::Told::decree_there))]
+    #[tactic(auto, using(crate::proofs::Reported::decree_there))]
     pub fn has_decree(&self, decree: &Decree) -> bool
-        requires { tells_decree (kind_at self.now) ≡ true }
+        requires { carries_decree (kind_at self.now) ≡ true }
         ensures { result ≡ same_decree (decree_at self.now) decree.now }
     {
         are_known(self.bytes.as_slice());
@@ -341,9 +341,9 @@ impl<'a> FrameView<'a> {
     }
 
     /// Joins its attributes to these. It takes no memory where they are the same.
-    #[tactic(auto, using(crate::proofs::Told::attrs_there))]
+    #[tactic(auto, using(crate::proofs::Reported::attrs_there))]
     pub fn join_to(&self, alloc: Global, attrs: &mut Attrs) -> Result<(), AllocError>
-        requires { tells_attrs (kind_at self.now) ≡ true }
+        requires { carries_attrs (kind_at self.now) ≡ true }
         ensures ok { OnOk result (attrs.new ≡ join (attrs_at self.now) attrs.old) }
         ensures err { OnErr result (attrs.new ≡ attrs.old) }
     {

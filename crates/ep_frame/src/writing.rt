@@ -6,7 +6,7 @@ ghost use Rattle.ep_frame.specs.Fields.{spelled, start_fields, origin_fields, ba
 ghost use Rattle.ep_frame.specs.Spelling.{IsFrame, Spells, parts_bytes};
 ghost use Rattle.ep_base.specs.Fitting.{BallotsFit};
 ghost use Rattle.ep_base.specs.Versions.{CanSay};
-ghost use Rattle.ep_frame.specs.Layouts.{parts_in, told_by};
+ghost use Rattle.ep_frame.specs.Layouts.{parts_in, reported_by};
 ghost use Rattle.ep_frame.specs.Origins.{readdressed, OriginFits};
 ghost use Rattle.ep_frame.specs.Rounds.{AreFramesTo, OriginsFit, readdressed_to};
 
@@ -209,70 +209,70 @@ pub fn write(
     requires sayable { CanSay version message.now }
     ensures { IfOk result (λ f. Spells version f from origin message.now) }
 {
-    let telling = InstanceMessage {
+    let reporting = InstanceMessage {
         instance: message.instance(),
         said: message.said(),
     };
-    write_said(alloc, version, from, &telling, origin)
+    write_said(alloc, version, from, &reporting, origin)
 }
 
-/// The frame of what is told, as `write` writes it.
+/// The frame of what is reported, as `write` writes it.
 pub fn write_said(
     alloc: Global,
     version: Version,
     from: ReplicaId,
-    telling: &InstanceMessage<'_>,
+    reporting: &InstanceMessage<'_>,
     origin: Origin,
 ) -> Result<Frame, AllocError>
     requires apart { origin.to ≢ from }
     requires entry { 1 ≤ origin.entry }
-    requires ballots { BallotsFit (told_by telling.now) }
-    requires sayable { CanSay version (told_by telling.now) }
-    ensures { IfOk result (λ f. Spells version f from origin (told_by telling.now)) }
+    requires ballots { BallotsFit (reported_by reporting.now) }
+    requires sayable { CanSay version (reported_by reporting.now) }
+    ensures { IfOk result (λ f. Spells version f from origin (reported_by reporting.now)) }
 {
-    let bytes = written(alloc, version, from, telling, origin)?;
+    let bytes = written(alloc, version, from, reporting, origin)?;
     Ok(Frame::written(Bytes::from_vec(bytes)?))
 }
 
-/// The frames of what is told to each of these receivers, in order, each as `write` writes it. They share one run of bytes.
+/// The frames of what is reported to each of these receivers, in order, each as `write` writes it. They share one run of bytes.
 ///
 /// The caller sees to what the types leave open, as for `write`. There are one to seven receivers.
 pub fn write_each(
     alloc: Global,
     version: Version,
     from: ReplicaId,
-    telling: &InstanceMessage<'_>,
+    reporting: &InstanceMessage<'_>,
     round: &Round<'_>,
 ) -> Result<Vec<Frame>, AllocError>
     requires apart { AllByRecursion (λ to. to ≢ from) round.now.receivers.now }
     requires some { 1 ≤ length round.now.receivers.now }
     requires few { length round.now.receivers.now ≤ 7 }
     requires entry { 1 ≤ round.now.entry }
-    requires ballots { BallotsFit (told_by telling.now) }
-    requires sayable { CanSay version (told_by telling.now) }
-    ensures { IfOk result (λ f. AreFramesTo version from (told_by telling.now) round.now.entry round.now.stamp 0 round.now.receivers.now f.items) }
+    requires ballots { BallotsFit (reported_by reporting.now) }
+    requires sayable { CanSay version (reported_by reporting.now) }
+    ensures { IfOk result (λ f. AreFramesTo version from (reported_by reporting.now) round.now.entry round.now.stamp 0 round.now.receivers.now f.items) }
 {
-    let first = written(alloc, version, from, telling, round.origin(0))?;
+    let first = written(alloc, version, from, reporting, round.origin(0))?;
     let all = repeated(alloc, &first, round)?;
     cut(alloc, Bytes::from_vec(all)?, &first, round)
 }
 
-/// The bytes of the frame of what is told.
+/// The bytes of the frame of what is reported.
 fn written(
     alloc: Global,
     version: Version,
     from: ReplicaId,
-    telling: &InstanceMessage<'_>,
+    reporting: &InstanceMessage<'_>,
     origin: Origin,
 ) -> Result<Vec<u8>, AllocError>
     requires apart { origin.to ≢ from }
     requires entry { 1 ≤ origin.entry }
-    requires ballots { BallotsFit (told_by telling.now) }
-    requires sayable { CanSay version (told_by telling.now) }
-    ensures { IfOk result (λ b. Spells version b.items from origin (told_by telling.now)) }
+    requires ballots { BallotsFit (reported_by reporting.now) }
+    requires sayable { CanSay version (reported_by reporting.now) }
+    ensures { IfOk result (λ b. Spells version b.items from origin (reported_by reporting.now)) }
 {
     let _kind = version.kind();
-    let parts = Layout::of(version, from, origin, telling);
+    let parts = Layout::of(version, from, origin, reporting);
     let mut out = Vec::with_capacity(alloc, parts.header.len())?;
     put_parts(&mut out, &parts)?;
     Ok(out)

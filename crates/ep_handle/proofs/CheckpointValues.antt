@@ -23,7 +23,7 @@ use Rattle.std.proofs.GlobalToken.{dealloc_token-Testable}
 use Rattle.std.specs.contracts.impls.GlobalAllocator.TheImpl.{ghosts}
 use Rattle.ep_handle.specs.Held.{heap, boxed, held}
 use Rattle.ep_handle.specs.contracts.checkpoint_handle.CheckpointHandle as handle
-use Rattle.ep_hosted.specs.contracts.hosted_checkpoint.HostedCheckpoint.{the_row as K}
+use Rattle.ep_embedded.specs.contracts.hosted_checkpoint.HostedCheckpoint.{the_row as K}
 
 abbrev pub H : RattleType
 H = handle.the_row

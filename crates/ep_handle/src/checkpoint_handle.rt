@@ -5,12 +5,12 @@ ghost use Rattle.std.specs.Coded.{coded_option};
 ghost use Rattle.std.specs.Option.{option_map};
 ghost use Rattle.std.specs.declared.option.Option.{Option as Maybe};
 ghost use Rattle.std.specs.declared.option.Option.TheVariants.{None, Some};
-ghost use Rattle.ep_hosted.specs.contracts.hosted_checkpoint.HostedCheckpoint as checkpoint_facts;
-ghost use Rattle.ep_hosted.specs.declared.hosted_checkpoint.HostedCheckpoint.{HostedCheckpoint as Giver};
+ghost use Rattle.ep_embedded.specs.contracts.hosted_checkpoint.HostedCheckpoint as checkpoint_facts;
+ghost use Rattle.ep_embedded.specs.declared.hosted_checkpoint.HostedCheckpoint.{HostedCheckpoint as Giver};
 ghost use Rattle.ep_handle.specs.Held.{held};
 
 use crate::loose::Loose;
-use ep_hosted::HostedCheckpoint;
+use ep_embedded::HostedCheckpoint;
 use std::alloc::Global;
 use std::marker::{Model, Send};
 use std::ptr::null_mut;
@@ -26,7 +26,7 @@ pub struct CheckpointHandle {
 
 impl Model for CheckpointHandle {
     ghost use Rattle.ep_handle.specs.Held.{held};
-    ghost use Rattle.ep_hosted.specs.contracts.hosted_checkpoint.HostedCheckpoint.{the_row as checkpoint_row};
+    ghost use Rattle.ep_embedded.specs.contracts.hosted_checkpoint.HostedCheckpoint.{the_row as checkpoint_row};
 
     ghost also_owns = { λ h. held checkpoint_row h.at h.value };
 }

@@ -5,11 +5,11 @@ ghost use Rattle.std.specs.Coded.{coded_option};
 ghost use Rattle.std.specs.Option.{option_map};
 ghost use Rattle.std.specs.declared.option.Option.{Option as Maybe};
 ghost use Rattle.std.specs.declared.option.Option.TheVariants.{None, Some};
-ghost use Rattle.ep_hosted.specs.Hosting.{hosting_code, Hosting};
+ghost use Rattle.ep_embedded.specs.Hosting.{hosting_code, Hosting};
 ghost use Rattle.ep_handle.specs.Held.{held};
 
 use crate::loose::Loose;
-use ep_hosted::Hosted;
+use ep_embedded::Hosted;
 use std::alloc::Global;
 use std::marker::{Model, Send};
 use std::ptr::null_mut;
@@ -25,7 +25,7 @@ pub struct Handle {
 
 impl Model for Handle {
     ghost use Rattle.ep_handle.specs.Held.{held};
-    ghost use Rattle.ep_hosted.specs.contracts.hosted.Hosted.{the_row as hosted_row};
+    ghost use Rattle.ep_embedded.specs.contracts.hosted.Hosted.{the_row as hosted_row};
 
     ghost also_owns = { λ h. held hosted_row h.at h.value };
 }

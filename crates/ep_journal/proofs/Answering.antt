@@ -15,7 +15,7 @@ use Rattle.ep_rules.specs.Cells.{committed_at, committed_decree}
 use Rattle.std.specs.FinMap.{get-empty}
 use Rattle.ep_base.proofs.Versions.{knows_later}
 use Rattle.ep_rules.proofs.Commuting.{is_key, value_with}
-use Rattle.ep_rules.specs.OneMap.{Contents, Store, opened, empty, value_at, with_key, written, told, sealed_by, after, after_under, after_all, reply_under, answer, answers_of}
+use Rattle.ep_rules.specs.OneMap.{Contents, Store, opened, empty, value_at, with_key, written, reported, sealed_by, after, after_under, after_all, reply_under, answer, answers_of}
 use Rattle.ep_rules.specs.States.{command_of}
 use Rattle.ep_journal.specs.Entries.{IsEarlyAnswer, IsAnswerIn}
 use Rattle.ep_journal.specs.Holding.{IsEarly, IsStoreIn}
@@ -91,17 +91,17 @@ early_under (Some v) m c e all h = absurd (cc)
 early_after : (s : Store) (c : Command) → IsEarly s → knows V2 c ≡ true → IsEarly (after s c)
 early_after s c e h = early_under s.seal s.contents c e.unsealed e.short h
 
-told_early : (o : Option (List ℕ)) → IsShort o → IsEarlyAnswer (Replied (told o))
-told_early None h = tt
-told_early (Some x) h = h x refl
+reported_early : (o : Option (List ℕ)) → IsShort o → IsEarlyAnswer (Replied (reported o))
+reported_early None h = tt
+reported_early (Some x) h = h x refl
 
 answer_open : (m : Contents) (c : Command) → AreShort m → knows V2 c ≡ true → IsEarlyAnswer (answer (opened m) c)
 answer_open m Noop all h = tt
-answer_open m (Get k) all h = told_early (value_at m k) (all k)
-answer_open m (Put k x) all h = told_early (value_at m k) (all k)
-answer_open m (Del k) all h = told_early (value_at m k) (all k)
-answer_open m (Swap p) all h = told_early (value_at m p.first) (all p.first)
-answer_open m (Cas k x y) all h = told_early (value_at m k) (all k)
+answer_open m (Get k) all h = reported_early (value_at m k) (all k)
+answer_open m (Put k x) all h = reported_early (value_at m k) (all k)
+answer_open m (Del k) all h = reported_early (value_at m k) (all k)
+answer_open m (Swap p) all h = reported_early (value_at m p.first) (all p.first)
+answer_open m (Cas k x y) all h = reported_early (value_at m k) (all k)
 answer_open m (Seal x) all h = tt
 answer_open m (Opaque p b) all h = absurd (true≢false (sym h))
 answer_open m (Tx is) all h = absurd (true≢false (sym h))

@@ -6,7 +6,7 @@ use Rattle.ep_base.specs.declared.message.Message.{Message}
 use Rattle.ep_base.specs.declared.vote.Vote.{Vote}
 use Rattle.ep_frame.specs.Meaning.{decree_at, kind_at, message_at, message_by}
 use Rattle.ep_frame.specs.declared.kind.Kind.TheVariants.{Commit}
-use Rattle.ep_frame.proofs.Told.{by_kind}
+use Rattle.ep_frame.proofs.Reported.{by_kind}
 use Rattle.ep_phase.proofs.Settled.{same_settled}
 use Rattle.ep_phase.specs.Changes.{change_of}
 use Rattle.ep_phase.specs.InstanceViews.{InstanceView, record_of}
@@ -40,7 +40,7 @@ done ch = Ok ch
 
 -- what changes where this is what an instance has then
 abbrev with_entry_alone : Option Record → rules.Change
-with_entry_alone o = record { entry = o; led = Some None; told = None; out = [] }
+with_entry_alone o = record { entry = o; led = Some None; reported = None; out = [] }
 
 -- a Commit of what was voted for, where nothing is committed
 pub settled_by : (k : InstanceView) (from : ℕ) (b : List ℕ) (v : Vote) (same : Bool) → kind_at b ≡ Commit → rules.is_committed (record_of k).vote ≡ false → Some v ≡ (record_of k).vote → same ≡ same_decree (decree_at b) v.decree → same ≡ true →

@@ -342,11 +342,11 @@ module _ (version : Version) where
       (split (eqb b r.promised) nothing (recorded (record { promised = b; vote = r.vote }) from (PrepareOk i b r.vote)) nothing_in
       (recorded_in (record { promised = b; vote = r.vote }) from (PrepareOk i b r.vote) known (low, known)))
 
-  recover_in : (f i me : ℕ) (r : Record) (told : ℕ) → IsInstanceIn version i → IsVoteIn version r.vote → IsOutcomeIn (recover f i me r told)
-  recover_in f i me r told low known =
-      let b : ℕ = ballot_of (next_counter r told) me in
+  recover_in : (f i me : ℕ) (r : Record) (reported : ℕ) → IsInstanceIn version i → IsVoteIn version r.vote → IsOutcomeIn (recover f i me r reported)
+  recover_in f i me r reported low known =
+      let b : ℕ = ballot_of (next_counter r reported) me in
       split_outcome (is_committed r.vote) _ _ tt
-      (split_outcome (leb (next_counter r told) highest_counter) (Ok (prepare_phase f i me b r)) (Err BallotsExhausted)
+      (split_outcome (leb (next_counter r reported) highest_counter) (Ok (prepare_phase f i me b r)) (Err BallotsExhausted)
       (record { entry = known; lead = (known, tt); out = said_those (is_other me) (size f) (Prepare i b) low })
       tt)
 
@@ -420,7 +420,7 @@ module _ (version : Version) where
     acts_in f me (Propose client request c seen named) has room = proposed_in f me (spared f me named) c (free_number s.records me) (and_parts (knows version c) (names version named) has).0 room
     acts_in f me (Handle m) has room = placed_in (instance_of_message m.sent.message) _ (instance_in m.sent.message has) (handled_in f me m.sent.from m.sent.message has)
     acts_in f me (GiveUp i) has room = placed_in i _ has (give_up_in f i me (record_in s i) (get s.leads i) has (recorded_vote i) (led_in i))
-    acts_in f me (Recover i) has room = placed_in i _ has (recover_in f i me (record_in s i) (cell_in s i).told has (recorded_vote i))
+    acts_in f me (Recover i) has room = placed_in i _ has (recover_in f i me (record_in s i) (cell_in s i).reported has (recorded_vote i))
     acts_in f me (Execute root) has room = (has, nothing_in)
 
   -- What is sent.

@@ -105,7 +105,7 @@ moved : (v : Version) (me : ℕ) (s s' : Records) (l l' : Lead) (done : List ℕ
 moved v me s s' l l' done store mark out (Err e) h = absurd h
 moved v me s s' l l' done store mark out (Ok p) h =
     let is = sym h.0 in
-    record { taken = tt; sent = h.1; changed = λ t. record { records = (is t).records; leads = (is t).leads; told = (is t).told; executed = done; store = store } }
+    record { taken = tt; sent = h.1; changed = λ t. record { records = (is t).records; leads = (is t).leads; reported = (is t).reported; executed = done; store = store } }
 
 -- what a step that executes nothing gives
 abbrev sent : List (List ℕ) → Taken
@@ -135,7 +135,7 @@ advanced p p' event mark out r a moves =
         version = moves.version t;
         faults = moves.faults t;
         me = moves.me t;
-        state = record { records = (is t).records; leads = (is t).leads; told = (is t).told; executed = (moves.executed ∙ sym (append-nil p.executed.list)) t; store = moves.store t };
+        state = record { records = (is t).records; leads = (is t).leads; reported = (is t).reported; executed = (moves.executed ∙ sym (append-nil p.executed.list)) t; store = moves.store t };
       };
     }
 
@@ -210,19 +210,19 @@ refused_full p client request seen c named mark m given h full = full_by p clien
 -- What is asked, done or refused.
 
 -- where there is a mark
-pub changed_steps : (p p' : ReplicaState) (event : Happening) (mark : Option Mark) (m : Mark) (r : Result (ℕ × Change) Refusal) (told : Result Taken StepFault) → mark ≡ Some m → IsAsked (standing_of p) event r →
-    IfOk told (λ t. Moves r m p t p') → IfErr told (λ e. parts.IsRefused r e) → OnErr told (standing_of p' ≡ standing_of p) → Steps (standing_of p) event mark told (standing_of p')
+pub changed_steps : (p p' : ReplicaState) (event : Happening) (mark : Option Mark) (m : Mark) (r : Result (ℕ × Change) Refusal) (reported : Result Taken StepFault) → mark ≡ Some m → IsAsked (standing_of p) event r →
+    IfOk reported (λ t. Moves r m p t p') → IfErr reported (λ e. parts.IsRefused r e) → OnErr reported (standing_of p' ≡ standing_of p) → Steps (standing_of p) event mark reported (standing_of p')
 changed_steps p p' event mark m r (Ok t) given a ok refused err = subst (MarkedBy (λ x. Advances (standing_of p) x event (entry_by x event t) (standing_of p'))) (sym given) (advanced_by p p' event m t r a ok)
 changed_steps p p' event mark m r (Err fault) given a ok refused err = (refused_rule (standing_of p) event mark m fault r given a refused, err)
 
 -- the same of a Commit of what was voted for
-pub settled_steps : (p p' : ReplicaState) (event : Happening) (mark : Option Mark) (m : Mark) (i : ℕ) (b : List ℕ) (told : Result Taken StepFault) → mark ≡ Some m → IsAsked (standing_of p) event (heard_of p i b) → heard_of p i b ≡ Ok (i, settling_at p i) →
-    IfOk told (λ t. (x : Mark) → Moves (Ok (i, settling_at p i)) x p t p') → IfErr told (λ e. e ≡ Memory) → OnErr told (standing_of p' ≡ standing_of p) → Steps (standing_of p) event mark told (standing_of p')
+pub settled_steps : (p p' : ReplicaState) (event : Happening) (mark : Option Mark) (m : Mark) (i : ℕ) (b : List ℕ) (reported : Result Taken StepFault) → mark ≡ Some m → IsAsked (standing_of p) event (heard_of p i b) → heard_of p i b ≡ Ok (i, settling_at p i) →
+    IfOk reported (λ t. (x : Mark) → Moves (Ok (i, settling_at p i)) x p t p') → IfErr reported (λ e. e ≡ Memory) → OnErr reported (standing_of p' ≡ standing_of p) → Steps (standing_of p) event mark reported (standing_of p')
 settled_steps p p' event mark m i b (Ok t) given a is ok refused err = changed_steps p p' event mark m (Ok (i, settling_at p i)) (Ok t) given (subst (IsAsked (standing_of p) event) is a) (ok m) tt tt
 settled_steps p p' event mark m i b (Err fault) given a is ok refused err = changed_steps p p' event mark m (heard_of p i b) (Err fault) given a tt (subst (parts.IsRefused (heard_of p i b)) (sym refused) tt) err
 
 -- a refusal that is passed on, and nothing has changed
-pub refused_on : (s s' : Standing) (event : Happening) (mark : Option Mark) (fault : StepFault) (told : Result Taken StepFault) → IsErrAnd told (λ e. e ≡ fault) → IsRefused s event mark fault → s' ≡ s → Steps s event mark told s'
+pub refused_on : (s s' : Standing) (event : Happening) (mark : Option Mark) (fault : StepFault) (reported : Result Taken StepFault) → IsErrAnd reported (λ e. e ≡ fault) → IsRefused s event mark fault → s' ≡ s → Steps s event mark reported s'
 refused_on s s' event mark fault (Ok t) h why same = absurd h
 refused_on s s' event mark fault (Err e) h why same = (subst (IsRefused s event mark) (sym h) why, same)
 
@@ -235,16 +235,16 @@ let_as p event e v f is version readable has count through = record {
   unscreened = subst (λ n. screened n p.me (event_of e) ≡ None) count through;
 }
 
-pub screened_as : (p : ReplicaState) (event e : Happening) (v : Version) (f : ℕ) (mark : Option Mark) (fault : StepFault) (told : Result Taken StepFault) → event ≡ e → v ≡ p.space.version → IsReadable event → lacking v event ≡ None → f ≡ p.space.faults →
-    IsScreened (screened f p.me (event_of e)) fault → IsErrAnd told (λ x. x ≡ fault) → Steps (standing_of p) event mark told (standing_of p)
-screened_as p event e v f mark fault told is version readable has count out passed =
-    refused_on (standing_of p) (standing_of p) event mark fault told passed
+pub screened_as : (p : ReplicaState) (event e : Happening) (v : Version) (f : ℕ) (mark : Option Mark) (fault : StepFault) (reported : Result Taken StepFault) → event ≡ e → v ≡ p.space.version → IsReadable event → lacking v event ≡ None → f ≡ p.space.faults →
+    IsScreened (screened f p.me (event_of e)) fault → IsErrAnd reported (λ x. x ≡ fault) → Steps (standing_of p) event mark reported (standing_of p)
+screened_as p event e v f mark fault reported is version readable has count out passed =
+    refused_on (standing_of p) (standing_of p) event mark fault reported passed
     (refused_screen (standing_of p) event mark fault readable (subst (λ w. lacking w event ≡ None) version has)
     (subst (λ x. IsScreened (screened p.space.faults p.me (event_of x)) fault) (sym is) (subst (λ n. IsScreened (screened n p.me (event_of e)) fault) count out)))
     refl
 
-pub steps_as : (s s' : Standing) (event e : Happening) (mark : Option Mark) (told : Result Taken StepFault) → event ≡ e → Steps s e mark told s' → Steps s event mark told s'
-steps_as s s' event e mark told is h = subst (λ x. Steps s x mark told s') (sym is) h
+pub steps_as : (s s' : Standing) (event e : Happening) (mark : Option Mark) (reported : Result Taken StepFault) → event ≡ e → Steps s e mark reported s' → Steps s event mark reported s'
+steps_as s s' event e mark reported is h = subst (λ x. Steps s x mark reported s') (sym is) h
 
 -- An execution.
 
@@ -273,7 +273,7 @@ executed_here p p' m root done held through me space lead h = record {
     version = (space t).version;
     faults = (space t).faults;
     me = me t;
-    state = record { records = (space t).records; leads = (lead t).leads; told = (lead t).told; executed = h.order t; store = h.map t };
+    state = record { records = (space t).records; leads = (lead t).leads; reported = (lead t).reported; executed = h.order t; store = h.map t };
   };
 }
 

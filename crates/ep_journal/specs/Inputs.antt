@@ -29,18 +29,18 @@ handled_at k from (AcceptOk i b) = Ok (on_accept_ok k.faults k.instance k.me fro
 handled_at k from (Commit i x) = Ok (on_commit k.instance x (record_of k))
 handled_at k from (Prepare i b) = Ok (on_prepare k.instance from b (record_of k))
 handled_at k from (PrepareOk i b v) = on_prepare_ok k.faults k.instance k.me from b v (interference k.records k.instance) (record_of k) k.led
-handled_at k from (Nack i b p) = Ok (on_nack p k.told)
+handled_at k from (Nack i b p) = Ok (on_nack p k.reported)
 
 -- what it answers to what is asked
 abbrev pub outcome_at : InstanceView → Input → Outcome
 outcome_at k (Start c s) = propose k.faults k.instance s.now c.now (interference k.records k.instance c.now)
 outcome_at k (Handles v) = handled_at k (sender_at v.now) (message_at v.now)
 outcome_at k GiveUp = give_up k.faults k.instance k.me (record_of k) k.led
-outcome_at k Recover = recover k.faults k.instance k.me (record_of k) k.told
+outcome_at k Recover = recover k.faults k.instance k.me (record_of k) k.reported
 
 -- what changes where a Commit is of what was voted for
 abbrev pub settling : InstanceView → Change
-settling k = record { entry = settled k.instance (record_of k) (record_of k).vote; led = Some None; told = None; out = [] }
+settling k = record { entry = settled k.instance (record_of k) (record_of k).vote; led = Some None; reported = None; out = [] }
 
 -- whether a replica is one of the receivers of what is known there
 abbrev pub receives : InstanceView → Receivers → ℕ → Bool

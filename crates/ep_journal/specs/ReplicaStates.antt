@@ -6,7 +6,7 @@ use Rattle.ep_rules.specs.States.{State}
 use Rattle.ep_space.specs.Records.{Records}
 
 abbrev pub state_of : Records → Lead → List ℕ → Store → State
-state_of s l executed store = record { records = s.records; leads = l.leads; told = l.told; executed = executed; store = store }
+state_of s l executed store = record { records = s.records; leads = l.leads; reported = l.reported; executed = executed; store = store }
 
 -- what the protocol looks at
 abbrev pub known : Records → Lead → State

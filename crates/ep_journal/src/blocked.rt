@@ -39,11 +39,11 @@ pub fn known_missing(
 pub fn remembered(
     last: &Option<Blocked>,
     root: &Option<InstanceId>,
-    told: &Result<Taken, StepFault>,
+    reported: &Result<Taken, StepFault>,
 ) -> Option<Blocked>
-    ensures { IsRemembered last.now root.now told.now result }
+    ensures { IsRemembered last.now root.now reported.now result }
 {
-    match (root, told) {
+    match (root, reported) {
         (None, Ok(_)) => None,
         (Some(root), Err(StepFault::NotCommitted(missing))) => Some(Blocked {
             root: *root,

@@ -121,109 +121,121 @@ pub(crate) fn written(
     requires said { AllSayable version (sends cell.now change.now) }
     ensures { IfOk result (λ f. AreSpelled version mark.number mark.stamp 0 f (sent_from cell.now.me (sends cell.now change.now))) }
 {
-    let Some((to, telling)) = change.said(cell) else {
+    let Some((to, reporting)) = change.said(cell) else {
         return Ok(Frames::none(alloc));
     };
-    let told = Multicast {
+    let reported = Multicast {
         version,
         mark,
         to,
-        telling: &telling,
+        reporting: &reporting,
     };
-    written_of(alloc, cell, &told)
+    written_of(alloc, cell, &reported)
 }
 
-/// The frames of what is told, by rising receiver.
+/// The frames of what is reported, by rising receiver.
 #[inline(always)]
 fn written_of(
     alloc: Global,
     cell: &InstanceView<'_>,
-    told: &Multicast<'_>,
+    reported: &Multicast<'_>,
 ) -> Result<Frames, AllocError>
-    requires number { 1 ≤ told.now.mark.number }
-    requires fit { AllFit cell.now.me (to_receivers cell.now.faults cell.now.me cell.now.instance told.now.to (says told.now.telling.now.instance told.now.telling.now.said)) }
-    requires said { AllSayable told.now.version (to_receivers cell.now.faults cell.now.me cell.now.instance told.now.to (says told.now.telling.now.instance told.now.telling.now.said)) }
-    ensures { IfOk result (λ f. AreSpelled told.now.version told.now.mark.number told.now.mark.stamp 0 f (sent_from cell.now.me (to_receivers cell.now.faults cell.now.me cell.now.instance told.now.to (says told.now.telling.now.instance told.now.telling.now.said)))) }
+    requires number { 1 ≤ reported.now.mark.number }
+    requires fit { AllFit cell.now.me (to_receivers cell.now.faults cell.now.me cell.now.instance reported.now.to (says reported.now.reporting.now.instance reported.now.reporting.now.said)) }
+    requires said { AllSayable reported.now.version (to_receivers cell.now.faults cell.now.me cell.now.instance reported.now.to (says reported.now.reporting.now.instance reported.now.reporting.now.said)) }
+    ensures { IfOk result (λ f. AreSpelled reported.now.version reported.now.mark.number reported.now.mark.stamp 0 f (sent_from cell.now.me (to_receivers cell.now.faults cell.now.me cell.now.instance reported.now.to (says reported.now.reporting.now.instance reported.now.reporting.now.said)))) }
 {
-    match &told.to {
-        Receivers::One(to) => written_to(alloc, cell, told, *to),
-        Receivers::FastQuorum(_) => written_to_each(alloc, cell, told),
-        Receivers::Others => written_to_each(alloc, cell, told),
+    match &reported.to {
+        Receivers::One(to) => written_to(alloc, cell, reported, *to),
+        Receivers::FastQuorum(_) => written_to_each(alloc, cell, reported),
+        Receivers::Others => written_to_each(alloc, cell, reported),
     }
 }
 
-/// The frame of what is told to this replica alone.
+/// The frame of what is reported to this replica alone.
 #[inline(always)]
 fn written_to(
     alloc: Global,
     cell: &InstanceView<'_>,
-    told: &Multicast<'_>,
+    reported: &Multicast<'_>,
     to: ReplicaId,
 ) -> Result<Frames, AllocError>
-    requires number { 1 ≤ told.now.mark.number }
+    requires number { 1 ≤ reported.now.mark.number }
     requires apart { to ≢ cell.now.me }
-    requires fits { BallotsFit (says told.now.telling.now.instance told.now.telling.now.said) }
-    requires said { CanSay told.now.version (says told.now.telling.now.instance told.now.telling.now.said) }
-    ensures { IfOk result (λ f. AreSpelled told.now.version told.now.mark.number told.now.mark.stamp 0 f (sent_from cell.now.me ((to, says told.now.telling.now.instance told.now.telling.now.said) ∷ []))) }
+    requires fits { BallotsFit (says reported.now.reporting.now.instance reported.now.reporting.now.said) }
+    requires said { CanSay reported.now.version (says reported.now.reporting.now.instance reported.now.reporting.now.said) }
+    ensures { IfOk result (λ f. AreSpelled reported.now.version reported.now.mark.number reported.now.mark.stamp 0 f (sent_from cell.now.me ((to, says reported.now.reporting.now.instance reported.now.reporting.now.said) ∷ []))) }
 {
     let origin = Origin {
         to,
         out: 0,
-        entry: told.mark.number,
-        stamp: told.mark.stamp,
+        entry: reported.mark.number,
+        stamp: reported.mark.stamp,
     };
     let mut items = Vec::with_capacity(alloc, 1)?;
-    let frame = write_said(alloc, told.version, cell.me(), told.telling, origin)?;
+    let frame = write_said(
+        alloc,
+        reported.version,
+        cell.me(),
+        reported.reporting,
+        origin,
+    )?;
     items.push_reserved(frame);
     Ok(Frames { items })
 }
 
-/// The frames of what is told to each of several replicas, by rising receiver. They share one run of bytes.
+/// The frames of what is reported to each of several replicas, by rising receiver. They share one run of bytes.
 fn written_to_each(
     alloc: Global,
     cell: &InstanceView<'_>,
-    told: &Multicast<'_>,
+    reported: &Multicast<'_>,
 ) -> Result<Frames, AllocError>
-    requires number { 1 ≤ told.now.mark.number }
-    requires fit { AllFit cell.now.me (to_those (receives cell.now told.now.to) (size cell.now.faults) (says told.now.telling.now.instance told.now.telling.now.said)) }
-    requires said { AllSayable told.now.version (to_those (receives cell.now told.now.to) (size cell.now.faults) (says told.now.telling.now.instance told.now.telling.now.said)) }
-    ensures { IfOk result (λ f. AreSpelled told.now.version told.now.mark.number told.now.mark.stamp 0 f (sent_from cell.now.me (to_those (receives cell.now told.now.to) (size cell.now.faults) (says told.now.telling.now.instance told.now.telling.now.said)))) }
+    requires number { 1 ≤ reported.now.mark.number }
+    requires fit { AllFit cell.now.me (to_those (receives cell.now reported.now.to) (size cell.now.faults) (says reported.now.reporting.now.instance reported.now.reporting.now.said)) }
+    requires said { AllSayable reported.now.version (to_those (receives cell.now reported.now.to) (size cell.now.faults) (says reported.now.reporting.now.instance reported.now.reporting.now.said)) }
+    ensures { IfOk result (λ f. AreSpelled reported.now.version reported.now.mark.number reported.now.mark.stamp 0 f (sent_from cell.now.me (to_those (receives cell.now reported.now.to) (size cell.now.faults) (says reported.now.reporting.now.instance reported.now.reporting.now.said)))) }
 {
-    let chosen = receivers_of(cell, told);
+    let chosen = receivers_of(cell, reported);
     let receivers = chosen.as_slice();
     if receivers.is_empty() {
         return Ok(Frames::none(alloc));
     }
     let round = Round {
-        entry: told.mark.number,
-        stamp: told.mark.stamp,
+        entry: reported.mark.number,
+        stamp: reported.mark.stamp,
         receivers,
     };
-    let items = write_each(alloc, told.version, cell.me(), told.telling, &round)?;
+    let items = write_each(
+        alloc,
+        reported.version,
+        cell.me(),
+        reported.reporting,
+        &round,
+    )?;
     Ok(Frames { items })
 }
 
 /// The cluster's replicas that are receivers, by rising number.
-fn receivers_of(cell: &InstanceView<'_>, told: &Multicast<'_>) -> Chosen
+fn receivers_of(cell: &InstanceView<'_>, reported: &Multicast<'_>) -> Chosen
     ensures few { length result ≤ 7 }
-    ensures sent { (m : Message) → to_each result m ≡ to_those (receives cell.now told.now.to) (size cell.now.faults) m }
+    ensures sent { (m : Message) → to_each result m ≡ to_those (receives cell.now reported.now.to) (size cell.now.faults) m }
 {
     let mut chosen = Chosen::none(cell.me());
     for r in 0..cell.size().count() {
-        add_if(&mut chosen, cell, told, r);
+        add_if(&mut chosen, cell, reported, r);
     }
     chosen
 }
 
 /// Adds the replica of this number, if it is one of the receivers.
 #[tactic(auto, using(crate::proofs::Spelling::each_added, crate::proofs::Spelling::each_passed))]
-fn add_if(chosen: &mut Chosen, cell: &InstanceView<'_>, told: &Multicast<'_>, r: u8)
+fn add_if(chosen: &mut Chosen, cell: &InstanceView<'_>, reported: &Multicast<'_>, r: u8)
     requires replica { r ≤ 6 }
     requires room { length chosen.old ≤ r }
     ensures few { length chosen.new ≤ r + 1 }
-    ensures sent { (m : Message) → to_each chosen.new m ≡ to_each chosen.old m ++ cond (receives cell.now told.now.to r) ((r, m) ∷ []) [] }
+    ensures sent { (m : Message) → to_each chosen.new m ≡ to_each chosen.old m ++ cond (receives cell.now reported.now.to r) ((r, m) ∷ []) [] }
 {
-    if is_receiver(cell, told.to, r) {
+    if is_receiver(cell, reported.to, r) {
         chosen.push(replica(r));
     }
 }
@@ -245,7 +257,7 @@ struct Multicast<'a> {
     version: Version,
     mark: Mark,
     to: Receivers,
-    telling: &'a InstanceMessage<'a>,
+    reporting: &'a InstanceMessage<'a>,
 }
 
 /// The replica of this number.

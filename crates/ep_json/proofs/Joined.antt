@@ -23,10 +23,10 @@ pub joined_one : (m : List ℕ) → joined false (m ∷ []) ≡ codes "," ++ m
 joined_one m = append-nil (codes "," ++ m)
 
 -- a member that is an array, by its parts
-pub array_told :
+pub array_reported :
     (o a b c name : List ℕ) (items : List (List ℕ)) → a ≡ o ++ (codes "," ++ name_text name ++ codes "[") → b ≡ a ++ joined true items → c ≡ b ++ codes "]" →
     c ≡ o ++ joined false (member name (array items) ∷ [])
-array_told o a b c name items e f g =
+array_reported o a b c name items e f g =
     g
     ∙ ap (λ (t : List ℕ). t ++ codes "]") (f ∙ ap (λ (t : List ℕ). t ++ joined true items) e)
     ∙ append_assoc (o ++ (codes "," ++ name_text name ++ codes "[")) (joined true items) (codes "]")

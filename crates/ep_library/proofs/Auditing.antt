@@ -1,4 +1,4 @@
--- What is read of bytes, and what an audit then tells.
+-- What is read of bytes, and what an audit then reports.
 use Rattle.std.proofs.Common.{ℕ, List, Option, Result, Ok, Err, inl}
 use Rattle.std.specs.Prelude.{IfOk}
 use Rattle.ep_bundle.specs.Journals.{Finds, ReadsBundle}

@@ -6,7 +6,7 @@ use Rattle.ep_base.specs.CommandParts.{is_tx, items_in}
 use Rattle.ep_base.specs.declared.command.Command.{Command}
 use Rattle.ep_base.specs.declared.command_fault.CommandFault.{CommandFault}
 use Rattle.ep_base.specs.declared.command_fault.CommandFault.TheVariants.{Memory, OutOfRange}
-use Rattle.ep_hosted.specs.Hosting.{Hosting}
+use Rattle.ep_embedded.specs.Hosting.{Hosting}
 use Rattle.ep_library.specs.Calls.{Asks, Made, ProposesMany}
 use Rattle.ep_library.specs.declared.call.Call.{Call}
 

@@ -21,13 +21,13 @@ BeginsWith bytes out = take (length bytes) out ≡ bytes
 
 -- the text is copied, with this status; or the buffer is too short; how long the text is is reported in any case
 abbrev pub Copies : ℕ → ℕ → List ℕ → List ℕ → List ℕ → ℕ → Type 0
-Copies status well text out out' told =
-    (told ≡ length text)
+Copies status well text out out' reported =
+    (reported ≡ length text)
     × (((status ≡ well) × BeginsWith text out') ⊎ ((status ≡ too_short) × (length out < length text) × (out' ≡ out)))
 
 -- there was no memory, and nothing is written
 abbrev pub Leaves : ℕ → ℕ → List ℕ → ℕ → List ℕ → ℕ → Type 0
-Leaves status why out told out' told' = (status ≡ why) × (out' ≡ out) × (told' ≡ told)
+Leaves status why out reported out' reported' = (status ≡ why) × (out' ≡ out) × (reported' ≡ reported)
 
 -- The first generation.
 
@@ -35,10 +35,10 @@ abbrev pub first_file : ℕ → File
 first_file faults = record { faults = faults; generation = 1; opening = no_opening; seal = None; executed = [] }
 
 abbrev pub OpensFirst : ℕ → ℕ → List ℕ → ℕ → List ℕ → ℕ → Type 0
-OpensFirst status replicas out told out' told' =
-    ((¬ IsSize replicas) × Leaves status out_of_range out told out' told')
-    ⊎ (Leaves status memory out told out' told'
-    ⊎ ((faults : ℕ) × (size faults ≡ replicas) × Copies status done (opening_bytes (first_file faults)) out out' told'))
+OpensFirst status replicas out reported out' reported' =
+    ((¬ IsSize replicas) × Leaves status out_of_range out reported out' reported')
+    ⊎ (Leaves status memory out reported out' reported'
+    ⊎ ((faults : ℕ) × (size faults ≡ replicas) × Copies status done (opening_bytes (first_file faults)) out out' reported'))
 
 -- Audits.
 
@@ -65,13 +65,13 @@ IsOfBytes ReadFailed = ⊥
 IsOfBytes (BadBundle field) = Unit {0}
 IsOfBytes (NotARun replica entry) = Unit {0}
 
--- what an audit of the bytes tells, and its status: what it says of the bundle that they are, or why they are none
+-- what an audit of the bytes reports, and its status: what it says of the bundle that they are, or why they are none
 abbrev pub IsFound : List ℕ → ℕ → List ℕ → Type 0
 IsFound bytes status text =
     ((journals : Collected) × (receipts : List Receipt) × IsRead bytes (Ok (journals, receipts)) × IsVerdict journals receipts status text)
     ⊎ ((fault : BundleFault) × IsOfBytes fault × IsRead bytes (Err fault) × (status ≡ bundle_status fault) × (text ≡ fault_text fault ++ 10 ∷ []))
 
 abbrev pub Audits : ℕ → List ℕ → List ℕ → ℕ → List ℕ → ℕ → Type 0
-Audits status bundle out told out' told' =
-    Leaves status memory out told out' told'
-    ⊎ ((well : ℕ) × (text : List ℕ) × IsFound bundle well text × Copies status well text out out' told')
+Audits status bundle out reported out' reported' =
+    Leaves status memory out reported out' reported'
+    ⊎ ((well : ℕ) × (text : List ℕ) × IsFound bundle well text × Copies status well text out out' reported')

@@ -1,13 +1,13 @@
 -- What a replica reports, by the status.
 use Rattle.std.specs.Prelude.{◌≡◌, ◌≢◌, ◌⊎◌, ◌<◌, ◌≤◌, ℕ, zero, suc, true, false, List, length, Option, Some, None}
 use Rattle.ep_base.specs.Quorums.{size}
-use Rattle.ep_hosted.specs.Hosting.{Hosting, IsOnDisk}
-use Rattle.ep_hosted.specs.Telling.{HasClosed, HasListed, HasLooked, IsUnclosed, IsUntold}
-use Rattle.ep_hosted.specs.declared.tell_fault.TellFault.{TellFault}
+use Rattle.ep_embedded.specs.Hosting.{Hosting, IsOnDisk}
+use Rattle.ep_embedded.specs.Reporting.{HasClosed, HasListed, HasLooked, IsUnclosed, IsUnreported}
+use Rattle.ep_embedded.specs.declared.report_fault.ReportFault.{ReportFault}
 use Rattle.ep_library.specs.Arguments.{instance_in, IsPlace, IsSize}
 use Rattle.ep_library.specs.Calls.{Stays, Unless}
 use Rattle.ep_library.specs.Executing.{instance_out}
-use Rattle.ep_library.specs.Statuses.{done, memory, none, out_of_range, close_status, tell_status}
+use Rattle.ep_library.specs.Statuses.{done, memory, none, out_of_range, close_status, report_status}
 use Rattle.ep_library.specs.Syncing.{IsRun}
 use Rattle.ep_library.specs.declared.instance.Instance.{Instance}
 use Rattle.ep_library.specs.declared.leading.Leading.{Leading}
@@ -23,7 +23,7 @@ use Rattle.ep_space.specs.Open.{IsNextOpen}
 
 -- nothing is reported, as the status says
 abbrev pub IsSilent : ℕ → Hosting → Type 0
-IsSilent status h = (fault : TellFault) × (status ≡ tell_status fault) × IsUntold h fault
+IsSilent status h = (fault : ReportFault) × (status ≡ report_status fault) × IsUnreported h fault
 
 -- A local read.
 
@@ -47,21 +47,21 @@ Lists status h k run = ((status ≡ done) × HasListed h k × IsRun k.answers ru
 
 -- the greatest entry number in the peer's frames that the replica has handled is reported; or there is no such peer
 abbrev pub Counts : ℕ → Option Hosting → ℕ → ℕ → Option Hosting → ℕ → Type 0
-Counts status old peer other new told =
-    ((¬ (peer ≤ 6)) × Stays out_of_range status old new × (told ≡ other))
-    ⊎ Unless status old new (λ h k. (status ≡ done) × (told ≡ handled_from peer h.node.replica.entries) × (k ≡ h))
+Counts status old peer other new reported =
+    ((¬ (peer ≤ 6)) × Stays out_of_range status old new × (reported ≡ other))
+    ⊎ Unless status old new (λ h k. (status ≡ done) × (reported ≡ handled_from peer h.node.replica.entries) × (k ≡ h))
 
 -- What is open.
 
 -- an instance, if there is one
 abbrev pub Shows : ℕ → Option ℕ → Instance → Instance → Type 0
-Shows status None old told = (status ≡ none) × (told ≡ old)
-Shows status (Some i) old told = (status ≡ done) × (told ≡ instance_out i)
+Shows status None old reported = (status ≡ none) × (reported ≡ old)
+Shows status (Some i) old reported = (status ≡ done) × (reported ≡ instance_out i)
 
 abbrev pub NextOpens : ℕ → Hosting → Option ℕ → Instance → Instance → Type 0
-NextOpens status h above old told =
-    ((found : Option ℕ) × IsOnDisk h × IsNextOpen (state_of h.node.replica).records above found × Shows status found old told)
-    ⊎ (IsSilent status h × (told ≡ old))
+NextOpens status h above old reported =
+    ((found : Option ℕ) × IsOnDisk h × IsNextOpen (state_of h.node.replica).records above found × Shows status found old reported)
+    ⊎ (IsSilent status h × (reported ≡ old))
 
 -- the instance above which to look; of number 0: none
 abbrev pub above_by : ℕ → Instance → Option ℕ
@@ -72,9 +72,9 @@ abbrev pub above_in : Instance → Option ℕ
 above_in i = above_by i.number i
 
 abbrev pub LooksOn : ℕ → Option Hosting → Instance → Instance → Option Hosting → Instance → Type 0
-LooksOn status old above other new told =
+LooksOn status old above other new reported =
     ((above.number ≢ 0) × (¬ IsPlace above) × Stays out_of_range status old new)
-    ⊎ Unless status old new (λ h k. NextOpens status h (above_in above) other told × (k ≡ h))
+    ⊎ Unless status old new (λ h k. NextOpens status h (above_in above) other reported × (k ≡ h))
 
 -- What is led.
 
@@ -84,18 +84,18 @@ phase_number Accepting = 2
 phase_number Preparing = 3
 
 abbrev pub ShowsLead : ℕ → Option (LeadPhase × ℕ) → Leading → Leading → Type 0
-ShowsLead status None old told = (status ≡ none) × (told ≡ old)
-ShowsLead status (Some lead) old told = (status ≡ done) × (told ≡ record { phase = phase_number lead.0; answers = lead.1 })
+ShowsLead status None old reported = (status ≡ none) × (reported ≡ old)
+ShowsLead status (Some lead) old reported = (status ≡ done) × (reported ≡ record { phase = phase_number lead.0; answers = lead.1 })
 
 abbrev pub AnswersLead : ℕ → Hosting → ℕ → Leading → Leading → Type 0
-AnswersLead status h i old told =
-    (IsOnDisk h × ShowsLead status (progress_in h.node.replica.faults h.node.replica.me (maps.get (state_of h.node.replica).leads i)) old told)
-    ⊎ (IsSilent status h × (told ≡ old))
+AnswersLead status h i old reported =
+    (IsOnDisk h × ShowsLead status (progress_in h.node.replica.faults h.node.replica.me (maps.get (state_of h.node.replica).leads i)) old reported)
+    ⊎ (IsSilent status h × (reported ≡ old))
 
 abbrev pub LooksAt : ℕ → Option Hosting → Instance → Leading → Option Hosting → Leading → Type 0
-LooksAt status old i other new told =
+LooksAt status old i other new reported =
     ((¬ IsPlace i) × Stays out_of_range status old new)
-    ⊎ Unless status old new (λ h k. AnswersLead status h (instance_in i) other told × (k ≡ h))
+    ⊎ Unless status old new (λ h k. AnswersLead status h (instance_in i) other reported × (k ≡ h))
 
 -- The end of a generation.
 

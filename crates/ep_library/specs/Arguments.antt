@@ -3,7 +3,7 @@ use Rattle.std.specs.Prelude.{Bool, true, false, ◌≡◌, ◌≤◌, ◌⊎◌
 use Rattle.ep_base.specs.Instances.{instance_of, highest_number}
 use Rattle.ep_base.specs.Quorums.{size}
 use Rattle.ep_base.specs.Touched.{Touched}
-use Rattle.ep_hosted.specs.declared.seat.Seat.{Seat}
+use Rattle.ep_embedded.specs.declared.seat.Seat.{Seat}
 use Rattle.ep_library.specs.declared.call.Call.{Call}
 use Rattle.ep_library.specs.declared.instance.Instance.{Instance}
 use Rattle.ep_library.specs.declared.touching.Touching.{Touching}

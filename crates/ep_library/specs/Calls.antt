@@ -5,9 +5,9 @@ use Rattle.ep_base.specs.Commands.{Tx}
 use Rattle.ep_base.specs.CommandParts.{is_tx, items_in, IsInRange}
 use Rattle.ep_base.specs.declared.command.Command.{Command}
 use Rattle.ep_base.specs.declared.command_fault.CommandFault.{CommandFault}
-use Rattle.ep_hosted.specs.Hosting.{Hosting}
-use Rattle.ep_hosted.specs.Taking.{HasTaken, IsNotTaken, IsUnheard, HasAdvanced, HasStopped, HasSwept, HasLeftOff}
-use Rattle.ep_hosted.specs.declared.taking_fault.TakingFault.{TakingFault}
+use Rattle.ep_embedded.specs.Hosting.{Hosting}
+use Rattle.ep_embedded.specs.Taking.{HasTaken, IsNotTaken, IsUnheard, HasAdvanced, HasStopped, HasSwept, HasLeftOff}
+use Rattle.ep_embedded.specs.declared.taking_fault.TakingFault.{TakingFault}
 use Rattle.ep_journal.specs.declared.event.Event.{Event as Happening}
 use Rattle.ep_journal.specs.declared.event.Event.TheVariants.{Propose, Handle}
 use Rattle.ep_library.specs.Arguments.{named_in, IsNamed, IsPlace}

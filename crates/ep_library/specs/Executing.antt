@@ -1,10 +1,10 @@
 -- What an execution reports.
 use Rattle.std.specs.Prelude.{◌≡◌, ◌⊎◌, ℕ, Option, Some, None}
 use Rattle.ep_base.specs.Instances.{leader_of, number_of}
-use Rattle.ep_hosted.specs.Hosting.{Hosting}
-use Rattle.ep_hosted.specs.Taking.{HasTaken, IsNotTaken}
-use Rattle.ep_hosted.specs.declared.taking_fault.TakingFault.{TakingFault}
-use Rattle.ep_hosted.specs.declared.taking_fault.TakingFault.TheVariants.{Lent, Refused}
+use Rattle.ep_embedded.specs.Hosting.{Hosting}
+use Rattle.ep_embedded.specs.Taking.{HasTaken, IsNotTaken}
+use Rattle.ep_embedded.specs.declared.taking_fault.TakingFault.{TakingFault}
+use Rattle.ep_embedded.specs.declared.taking_fault.TakingFault.TheVariants.{Lent, Refused}
 use Rattle.ep_journal.specs.Refusals.{names}
 use Rattle.ep_journal.specs.declared.event.Event.TheVariants.{Execute}
 use Rattle.ep_library.specs.Arguments.{instance_in, IsPlace}
@@ -27,11 +27,11 @@ named (Refused refusal) other = or_other (names refusal) other
 
 -- the instance was executed; or it wasn't, as the status says, and what it waits for is reported where that is why
 abbrev pub Tries : ℕ → Hosting → ℕ → Instance → Hosting → Instance → Type 0
-Tries status h i other k told =
-    ((status ≡ done) × HasTaken h (Execute i) k × (told ≡ other))
-    ⊎ ((fault : TakingFault) × (status ≡ taking_status fault) × IsNotTaken h (Execute i) fault k × (told ≡ named fault other))
+Tries status h i other k reported =
+    ((status ≡ done) × HasTaken h (Execute i) k × (reported ≡ other))
+    ⊎ ((fault : TakingFault) × (status ≡ taking_status fault) × IsNotTaken h (Execute i) fault k × (reported ≡ named fault other))
 
 abbrev pub Executes : ℕ → Option Hosting → Instance → Instance → Option Hosting → Instance → Type 0
-Executes status old i other new told =
-    ((¬ IsPlace i) × Stays out_of_range status old new × (told ≡ other))
-    ⊎ Unless status old new (λ h k. Tries status h (instance_in i) other k told)
+Executes status old i other new reported =
+    ((¬ IsPlace i) × Stays out_of_range status old new × (reported ≡ other))
+    ⊎ Unless status old new (λ h k. Tries status h (instance_in i) other k reported)

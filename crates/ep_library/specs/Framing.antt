@@ -48,8 +48,8 @@ abbrev pub IsHeadless : ℕ → FrameHead → FrameHead → Type 0
 IsHeadless status old new = (status ≡ bad_frame) × (new ≡ old)
 
 -- what the header says is reported, or there is none of version 3
-abbrev pub TellsHead : ℕ → List ℕ → FrameHead → FrameHead → Type 0
-TellsHead status bytes old new =
+abbrev pub ReportsHead : ℕ → List ℕ → FrameHead → FrameHead → Type 0
+ReportsHead status bytes old new =
     ((ltb (length bytes) 48 ≡ true) × IsHeadless status old new)
     ⊎ ((ltb (length bytes) 48 ≡ false)
     × (((is_third bytes ≡ false) × IsHeadless status old new)

@@ -56,14 +56,14 @@ head_at bytes = record {
 
 -- nothing is reported, as the status says
 abbrev pub IsFrontless : ℕ → ℕ → OpeningHead → OpeningHead → Type 0
-IsFrontless why status old told = (status ≡ why) × (told ≡ old)
+IsFrontless why status old reported = (status ≡ why) × (reported ≡ old)
 
 -- what they say is reported; or more bytes are needed, or they are no opening's
-abbrev pub TellsFront : ℕ → List ℕ → OpeningHead → OpeningHead → Type 0
-TellsFront status bytes old told =
-    ((ltb (length bytes) 23 ≡ true) × IsFrontless opening_short status old told)
+abbrev pub ReportsFront : ℕ → List ℕ → OpeningHead → OpeningHead → Type 0
+ReportsFront status bytes old reported =
+    ((ltb (length bytes) 23 ≡ true) × IsFrontless opening_short status old reported)
     ⊎ ((ltb (length bytes) 23 ≡ false)
-    × (((is_front bytes ≡ false) × IsFrontless opening_wrong status old told)
+    × (((is_front bytes ≡ false) × IsFrontless opening_wrong status old reported)
     ⊎ ((is_front bytes ≡ true)
-    × (((has_front bytes ≡ false) × IsFrontless opening_short status old told)
-    ⊎ ((has_front bytes ≡ true) × (status ≡ done) × (told ≡ head_at bytes))))))
+    × (((has_front bytes ≡ false) × IsFrontless opening_short status old reported)
+    ⊎ ((has_front bytes ≡ true) × (status ≡ done) × (reported ≡ head_at bytes))))))

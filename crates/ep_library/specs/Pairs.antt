@@ -23,12 +23,12 @@ pair_at bytes = record {
 
 -- nothing is reported
 abbrev pub IsPairless : ℕ → Pair → Pair → Type 0
-IsPairless status old told = (status ≡ none) × (told ≡ old)
+IsPairless status old reported = (status ≡ none) × (reported ≡ old)
 
 -- where they stand is reported, or they aren't there
-abbrev pub TellsPair : ℕ → List ℕ → Pair → Pair → Type 0
-TellsPair status bytes old told =
-    ((ltb (length bytes) 5 ≡ true) × IsPairless status old told)
+abbrev pub ReportsPair : ℕ → List ℕ → Pair → Pair → Type 0
+ReportsPair status bytes old reported =
+    ((ltb (length bytes) 5 ≡ true) × IsPairless status old reported)
     ⊎ ((ltb (length bytes) 5 ≡ false)
-    × (((has_pair bytes ≡ false) × IsPairless status old told)
-    ⊎ ((has_pair bytes ≡ true) × (status ≡ done) × (told ≡ pair_at bytes))))
+    × (((has_pair bytes ≡ false) × IsPairless status old reported)
+    ⊎ ((has_pair bytes ≡ true) × (status ≡ done) × (reported ≡ pair_at bytes))))

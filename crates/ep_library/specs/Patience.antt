@@ -8,7 +8,7 @@ use Rattle.ep_library.specs.Syncing.{IsRun}
 use Rattle.ep_library.specs.declared.instance.Instance.{Instance}
 use Rattle.ep_library.specs.declared.lent.Lent.{Lent}
 use Rattle.ep_library.specs.declared.waits.Waits.{Waits}
-use Rattle.ep_patience.specs.Hosting.{HasTold}
+use Rattle.ep_patience.specs.Hosting.{HasReported}
 use Rattle.ep_patience.specs.OpenBytes.{open_list}
 use Rattle.ep_patience.specs.Turning as turning
 use Rattle.ep_patience.specs.declared.hosted_patience.HostedPatience.{HostedPatience}
@@ -40,8 +40,8 @@ pub record HasPlace (w : Waits) : Type 0 where
 pub record IsBegun (w : Waits) (h : HostedPatience) : Type 0 where
   pub faults : ℕ
   pub cluster : size faults ≡ w.replicas
-  pub patience : turning.IsNew faults w.replica (record { granularity = w.granularity; initial = w.initial; told = w.told; longest = w.longest }) w.seed h.patience
-  pub told : h.told.items ≡ []
+  pub patience : turning.IsNew faults w.replica (record { granularity = w.granularity; initial = w.initial; reported = w.told; longest = w.longest }) w.seed h.patience
+  pub reported : h.reported.items ≡ []
 
 -- it is there; or there was no memory for it
 abbrev pub Puts : ℕ → HostedPatience → Option HostedPatience → Type 0
@@ -67,19 +67,19 @@ abbrev pub Hurries : ℕ → HostedPatience → HostedPatience → Type 0
 Hurries status h k = (status ≡ done) × (k ≡ record h { patience = turning.with_hurry h.patience })
 
 abbrev pub PutsOff : ℕ → HostedPatience → ℕ → ℕ → ℕ → HostedPatience → Type 0
-PutsOff status h i ballot now k = (status ≡ done) × turning.PutsOff h.patience i ballot now k.patience × (k.told ≡ h.told)
+PutsOff status h i ballot now k = (status ≡ done) × turning.PutsOff h.patience i ballot now k.patience × (k.reported ≡ h.reported)
 
 -- What it reports.
 
 -- there was a turn, and where what is asked for stands; or there was none, as the status says
 abbrev pub Turns : ℕ → HostedPatience → ℕ → List ℕ → HostedPatience → Lent → Type 0
 Turns status h now bytes k late =
-    ((status ≡ done) × HasTold h.patience now bytes k.patience k.told.items × IsRun k.told late)
+    ((status ≡ done) × HasReported h.patience now bytes k.patience k.reported.items × IsRun k.reported late)
     ⊎ (((status ≡ memory) × (k ≡ h)) ⊎ ((status ≡ out_of_range) × (open_list bytes ≡ None) × (k ≡ h)))
 
-abbrev pub TellsDue : ℕ → Option ℕ → ℕ → ℕ → Type 0
-TellsDue status None other told = (status ≡ none) × (told ≡ other)
-TellsDue status (Some due) other told = (status ≡ done) × (told ≡ due)
+abbrev pub ReportsDue : ℕ → Option ℕ → ℕ → ℕ → Type 0
+ReportsDue status None other reported = (status ≡ none) × (reported ≡ other)
+ReportsDue status (Some due) other reported = (status ≡ done) × (reported ≡ due)
 
 abbrev pub Dues : ℕ → HostedPatience → ℕ → ℕ → Type 0
-Dues status h other told = TellsDue status (turning.next_due h.patience) other told
+Dues status h other reported = ReportsDue status (turning.next_due h.patience) other reported

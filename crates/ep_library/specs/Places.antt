@@ -1,9 +1,9 @@
 -- Where faults are.
 use Rattle.std.specs.Prelude.{ℕ, Option, Some, None}
-use Rattle.ep_hosted.specs.declared.start_fault.StartFault.{StartFault}
-use Rattle.ep_hosted.specs.declared.start_fault.StartFault.TheVariants as start
-use Rattle.ep_hosted.specs.declared.succeed_fault.SucceedFault.{SucceedFault}
-use Rattle.ep_hosted.specs.declared.succeed_fault.SucceedFault.TheVariants as succeed
+use Rattle.ep_embedded.specs.declared.start_fault.StartFault.{StartFault}
+use Rattle.ep_embedded.specs.declared.start_fault.StartFault.TheVariants as start
+use Rattle.ep_embedded.specs.declared.succeed_fault.SucceedFault.{SucceedFault}
+use Rattle.ep_embedded.specs.declared.succeed_fault.SucceedFault.TheVariants as succeed
 use Rattle.ep_library.specs.declared.place.Place.{Place}
 use Rattle.ep_log.specs.declared.log_fault.LogFault.{LogFault}
 use Rattle.ep_log.specs.declared.log_fault.LogFault.TheVariants as log

@@ -60,37 +60,37 @@ fault_number (Broken g) = g
 
 -- this plan is reported; or why there is none, with the generation that this names
 abbrev pub Starts : ℕ → Result Plan StartFault → StartPlan → Place → StartPlan → Place → Type 0
-Starts status (Ok p) old other told place = (status ≡ done) × (told ≡ plan_out p) × (place ≡ other)
-Starts status (Err fault) old other told place =
-    (status ≡ fault_status fault) × (told ≡ old) × (place ≡ record { at = fault_number fault; by = 0 })
+Starts status (Ok p) old other reported place = (status ≡ done) × (reported ≡ plan_out p) × (place ≡ other)
+Starts status (Err fault) old other reported place =
+    (status ≡ fault_status fault) × (reported ≡ old) × (place ≡ record { at = fault_number fault; by = 0 })
 
 -- nothing is reported, as the status says
 abbrev pub IsUnplanned : ℕ → ℕ → StartPlan → Place → StartPlan → Place → Type 0
-IsUnplanned why status old other told place = (status ≡ why) × (told ≡ old) × (place ≡ other)
+IsUnplanned why status old other reported place = (status ≡ why) × (reported ≡ old) × (place ≡ other)
 
 -- the plan for what the folder has and what is asked for, unless that is nothing or memory was refused
 abbrev pub Plans : ℕ → List HeldGeneration → StartWish → StartPlan → Place → StartPlan → Place → Type 0
-Plans status held w old other told place =
-    ((wish_in w ≡ None) × IsUnplanned out_of_range status old other told place)
-    ⊎ (IsUnplanned memory status old other told place
+Plans status held w old other reported place =
+    ((wish_in w ≡ None) × IsUnplanned out_of_range status old other reported place)
+    ⊎ (IsUnplanned memory status old other reported place
     ⊎ ((asked : Wish) × (wish_in w ≡ Some asked)
-    × Starts status (plans.plan (map folder_of held) asked) old other told place))
+    × Starts status (plans.plan (map folder_of held) asked) old other reported place))
 
 -- from where on logs are replayed is reported; or why not, and by which generation
 abbrev pub StartsFrom : ℕ → Result ℕ StartFault → ℕ → Type 0
-StartsFrom status (Ok g) told = (status ≡ done) × (told ≡ g)
-StartsFrom status (Err fault) told = (status ≡ fault_status fault) × (told ≡ fault_number fault)
+StartsFrom status (Ok g) reported = (status ≡ done) × (reported ≡ g)
+StartsFrom status (Err fault) reported = (status ≡ fault_status fault) × (reported ≡ fault_number fault)
 
-abbrev pub TellsFirst : ℕ → List HeldGeneration → ℕ → ℕ → ℕ → Type 0
-TellsFirst status held generation old told =
-    ((status ≡ memory) × (told ≡ old)) ⊎ StartsFrom status (plans.first_of generation (map folder_of held)) told
+abbrev pub ReportsFirst : ℕ → List HeldGeneration → ℕ → ℕ → ℕ → Type 0
+ReportsFirst status held generation old reported =
+    ((status ≡ memory) × (reported ≡ old)) ⊎ StartsFrom status (plans.first_of generation (map folder_of held)) reported
 
 -- the greatest generation that is here is reported, unless memory was refused
-abbrev pub TellsNewest : ℕ → List HeldGeneration → ℕ → ℕ → Type 0
-TellsNewest status held old told =
-    ((status ≡ memory) × (told ≡ old)) ⊎ ((status ≡ done) × (told ≡ plans.newest (map folder_of held)))
+abbrev pub ReportsNewest : ℕ → List HeldGeneration → ℕ → ℕ → Type 0
+ReportsNewest status held old reported =
+    ((status ≡ memory) × (reported ≡ old)) ⊎ ((status ≡ done) × (reported ≡ plans.newest (map folder_of held)))
 
 -- the generation is reported, if there is one
 abbrev pub Names : ℕ → Option ℕ → ℕ → ℕ → Type 0
-Names status None old told = (status ≡ none) × (told ≡ old)
-Names status (Some g) old told = (status ≡ done) × (told ≡ g)
+Names status None old reported = (status ≡ none) × (reported ≡ old)
+Names status (Some g) old reported = (status ≡ done) × (reported ≡ g)

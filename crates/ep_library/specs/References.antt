@@ -13,8 +13,8 @@ abbrev pub read_of : Reference → ReferenceHead
 read_of r = record { length = r.length; generation = r.generation; replicas = size r.faults }
 
 -- what it says is reported; or it is none, where and why is reported; or there was no memory
-abbrev pub TellsReference : ℕ → List ℕ → ReferenceHead → Place → ReferenceHead → Place → Type 0
-TellsReference status bytes old other told place =
-    ((r : Reference) × (bytes ≡ reference_bytes r) × (status ≡ done) × (told ≡ read_of r) × (place ≡ other))
+abbrev pub ReportsReference : ℕ → List ℕ → ReferenceHead → Place → ReferenceHead → Place → Type 0
+ReportsReference status bytes old other reported place =
+    ((r : Reference) × (bytes ≡ reference_bytes r) × (status ≡ done) × (reported ≡ read_of r) × (place ≡ other))
     ⊎ ((fault : OpeningFault) × IsRefused fault bytes
-    × (status ≡ opening_status fault) × (told ≡ old) × (place ≡ opening_place fault))
+    × (status ≡ opening_status fault) × (reported ≡ old) × (place ≡ opening_place fault))

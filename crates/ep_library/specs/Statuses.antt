@@ -4,20 +4,20 @@ use Rattle.ep_base.specs.declared.command_fault.CommandFault.{CommandFault}
 use Rattle.ep_base.specs.declared.command_fault.CommandFault.TheVariants as command
 use Rattle.ep_bundle.specs.declared.bundle_fault.BundleFault.{BundleFault}
 use Rattle.ep_bundle.specs.declared.bundle_fault.BundleFault.TheVariants as bundle
-use Rattle.ep_hosted.specs.declared.ask_fault.AskFault.{AskFault}
-use Rattle.ep_hosted.specs.declared.ask_fault.AskFault.TheVariants as ask
-use Rattle.ep_hosted.specs.declared.prepare_fault.PrepareFault.{PrepareFault}
-use Rattle.ep_hosted.specs.declared.prepare_fault.PrepareFault.TheVariants as prepare
-use Rattle.ep_hosted.specs.declared.start_fault.StartFault.{StartFault}
-use Rattle.ep_hosted.specs.declared.start_fault.StartFault.TheVariants as start
-use Rattle.ep_hosted.specs.declared.succeed_fault.SucceedFault.{SucceedFault}
-use Rattle.ep_hosted.specs.declared.succeed_fault.SucceedFault.TheVariants as succeed
-use Rattle.ep_hosted.specs.declared.sync_fault.SyncFault.{SyncFault}
-use Rattle.ep_hosted.specs.declared.sync_fault.SyncFault.TheVariants as sync
-use Rattle.ep_hosted.specs.declared.taking_fault.TakingFault.{TakingFault}
-use Rattle.ep_hosted.specs.declared.taking_fault.TakingFault.TheVariants as taking
-use Rattle.ep_hosted.specs.declared.tell_fault.TellFault.{TellFault}
-use Rattle.ep_hosted.specs.declared.tell_fault.TellFault.TheVariants as tell
+use Rattle.ep_embedded.specs.declared.ask_fault.AskFault.{AskFault}
+use Rattle.ep_embedded.specs.declared.ask_fault.AskFault.TheVariants as ask
+use Rattle.ep_embedded.specs.declared.prepare_fault.PrepareFault.{PrepareFault}
+use Rattle.ep_embedded.specs.declared.prepare_fault.PrepareFault.TheVariants as prepare
+use Rattle.ep_embedded.specs.declared.start_fault.StartFault.{StartFault}
+use Rattle.ep_embedded.specs.declared.start_fault.StartFault.TheVariants as start
+use Rattle.ep_embedded.specs.declared.succeed_fault.SucceedFault.{SucceedFault}
+use Rattle.ep_embedded.specs.declared.succeed_fault.SucceedFault.TheVariants as succeed
+use Rattle.ep_embedded.specs.declared.sync_fault.SyncFault.{SyncFault}
+use Rattle.ep_embedded.specs.declared.sync_fault.SyncFault.TheVariants as sync
+use Rattle.ep_embedded.specs.declared.taking_fault.TakingFault.{TakingFault}
+use Rattle.ep_embedded.specs.declared.taking_fault.TakingFault.TheVariants as taking
+use Rattle.ep_embedded.specs.declared.report_fault.ReportFault.{ReportFault}
+use Rattle.ep_embedded.specs.declared.report_fault.ReportFault.TheVariants as report_faults
 use Rattle.ep_journal.specs.Refusals.{code_of}
 use Rattle.ep_log.specs.declared.log_fault.LogFault.{LogFault}
 use Rattle.ep_log.specs.declared.log_fault.LogFault.TheVariants as log
@@ -104,12 +104,12 @@ sync_status sync.NotAll = 37
 abbrev pub prepare_status : PrepareFault → ℕ
 prepare_status prepare.Memory = memory
 prepare_status prepare.Unlent = unsynced
-prepare_status prepare.Untold = 46
+prepare_status prepare.Unreported = 46
 
 -- why nothing is reported
-abbrev pub tell_status : TellFault → ℕ
-tell_status tell.Memory = memory
-tell_status tell.Unsynced = unsynced
+abbrev pub report_status : ReportFault → ℕ
+report_status report_faults.Memory = memory
+report_status report_faults.Unsynced = unsynced
 
 -- why a request wasn't done
 abbrev pub ask_status : AskFault → ℕ

@@ -2,12 +2,12 @@
 use Rattle.std.specs.Prelude.{◌≡◌, ◌≢◌, ◌≤◌, ◌<◌, ◌⊎◌, ℕ, List, [], ◌++◌, max, length, Option, Some, None, Result, Ok, Err}
 use Rattle.std.specs.Option.{MatchOption}
 use Rattle.ep_base.specs.Quorums.{size}
-use Rattle.ep_hosted.specs.Hosting.{Hosting}
-use Rattle.ep_hosted.specs.Succeeding.{HasSucceeded, IsLost, IsUnsucceeded}
-use Rattle.ep_hosted.specs.declared.heir.Heir.{Heir}
-use Rattle.ep_hosted.specs.declared.hosted_checkpoint.HostedCheckpoint.{HostedCheckpoint}
-use Rattle.ep_hosted.specs.declared.succeed_fault.SucceedFault.{SucceedFault}
-use Rattle.ep_hosted.specs.declared.succeed_fault.SucceedFault.TheVariants.{Memory}
+use Rattle.ep_embedded.specs.Hosting.{Hosting}
+use Rattle.ep_embedded.specs.Succeeding.{HasSucceeded, IsLost, IsUnsucceeded}
+use Rattle.ep_embedded.specs.declared.heir.Heir.{Heir}
+use Rattle.ep_embedded.specs.declared.hosted_checkpoint.HostedCheckpoint.{HostedCheckpoint}
+use Rattle.ep_embedded.specs.declared.succeed_fault.SucceedFault.{SucceedFault}
+use Rattle.ep_embedded.specs.declared.succeed_fault.SucceedFault.TheVariants.{Memory}
 use Rattle.ep_opening.specs.Bytes.{opening_bytes}
 use Rattle.ep_opening.specs.Files.{File}
 use Rattle.ep_opening.specs.Pieces.{longest_field}
@@ -48,11 +48,11 @@ AreDigests one other = (length one ≡ 32) × (length other ≡ 32)
 
 -- what binds the second's file to the first's reference is copied out, if there is room and memory
 abbrev pub Binds : ℕ → List ℕ × List ℕ → List ℕ → ℕ → List ℕ → ℕ → Type 0
-Binds status digests out told out' told' =
+Binds status digests out reported out' reported' =
     (AreDigests digests.0 digests.1
-    × (Copies status done (binding_bytes digests.0 digests.1) out out' told'
-    ⊎ Leaves status memory out told out' told'))
-    ⊎ ((¬ AreDigests digests.0 digests.1) × Leaves status out_of_range out told out' told')
+    × (Copies status done (binding_bytes digests.0 digests.1) out out' reported'
+    ⊎ Leaves status memory out reported out' reported'))
+    ⊎ ((¬ AreDigests digests.0 digests.1) × Leaves status out_of_range out reported out' reported')
 
 -- Who goes on.
 
@@ -109,25 +109,25 @@ Follows h heir log (Err fault) = IsLost h heir log fault
 
 -- It goes on; or it was refused, and is as it was; or it can't go on from the log, and where that is wrong is reported, or there was no memory, and it is gone.
 abbrev pub SucceedsAs : ℕ → Option Place → Hosting → Heir → Option (List ℕ) → Option Hosting → Option HostedCheckpoint → Type 0
-SucceedsAs status told h heir log new kept =
-    ((told ≡ None) × ((k : Hosting) × (file : File) × HasSucceeded h heir log file k × KeepsBoth status k file new kept))
-    ⊎ (((fault : SucceedFault) × (status ≡ succeed_status fault) × (fault ≢ Memory) × (told ≡ None) × IsUnsucceeded h heir fault × (new ≡ Some h) × (kept ≡ None))
-    ⊎ ((fault : SucceedFault) × (status ≡ succeed_status fault) × (told ≡ succeed_place fault) × IsLost h heir log fault × (new ≡ None) × (kept ≡ None)))
+SucceedsAs status reported h heir log new kept =
+    ((reported ≡ None) × ((k : Hosting) × (file : File) × HasSucceeded h heir log file k × KeepsBoth status k file new kept))
+    ⊎ (((fault : SucceedFault) × (status ≡ succeed_status fault) × (fault ≢ Memory) × (reported ≡ None) × IsUnsucceeded h heir fault × (new ≡ Some h) × (kept ≡ None))
+    ⊎ ((fault : SucceedFault) × (status ≡ succeed_status fault) × (reported ≡ succeed_place fault) × IsLost h heir log fault × (new ≡ None) × (kept ≡ None)))
 
 -- the same of the arguments, which may name no heir, or a new one with a log
 abbrev pub Succeeds : ℕ → Option Place → Hosting → Succession → Option Hosting → Option HostedCheckpoint → Type 0
-Succeeds status told h s new kept =
-    ((status ≡ out_of_range) × (told ≡ None) × (¬ HasHeir s) × (new ≡ Some h) × (kept ≡ None))
-    ⊎ (((status ≡ log_exists) × (told ≡ None) × IsSpareLog s × (new ≡ Some h) × (kept ≡ None))
-    ⊎ ((heir : Heir) × IsHeir s heir × (¬ IsSpareLog s) × SucceedsAs status told h heir (log_given s.is_new s.log.now) new kept))
+Succeeds status reported h s new kept =
+    ((status ≡ out_of_range) × (reported ≡ None) × (¬ HasHeir s) × (new ≡ Some h) × (kept ≡ None))
+    ⊎ (((status ≡ log_exists) × (reported ≡ None) × IsSpareLog s × (new ≡ Some h) × (kept ≡ None))
+    ⊎ ((heir : Heir) × IsHeir s heir × (¬ IsSpareLog s) × SucceedsAs status reported h heir (log_given s.is_new s.log.now) new kept))
 
 -- what a place is once this is reported, if anything is
-abbrev pub told_over : Place → Option Place → Place
-told_over other None = other
-told_over other (Some place) = place
+abbrev pub reported_over : Place → Option Place → Place
+reported_over other None = other
+reported_over other (Some place) = place
 
 -- there is a file already; there is no replica; or it goes on, if it may
 abbrev pub GoesOn : ℕ → Option Hosting → Option HostedCheckpoint → Succession → Place → Option Hosting → Option HostedCheckpoint → Place → Type 0
 GoesOn status old (Some begun) s other new kept place = (status ≡ has_checkpoint) × (new ≡ old) × (kept ≡ Some begun) × (place ≡ other)
 GoesOn status old None s other new kept place =
-    MatchOption old ((status ≡ no_replica) × (new ≡ None) × (kept ≡ None) × (place ≡ other)) (λ h. (told : Option Place) × Succeeds status told h s new kept × (place ≡ told_over other told))
+    MatchOption old ((status ≡ no_replica) × (new ≡ None) × (kept ≡ None) × (place ≡ other)) (λ h. (reported : Option Place) × Succeeds status reported h s new kept × (place ≡ reported_over other reported))

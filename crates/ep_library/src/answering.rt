@@ -4,7 +4,7 @@ ghost use Rattle.std.specs.Prelude.{◌≡◌, ◌≢◌};
 ghost use Rattle.ep_library.specs.Calls.{Unless};
 ghost use Rattle.ep_library.specs.Answering.{phase_number, Closes, ClosesFor, Counts, AnswersLead, Lists, Looks, LooksAt, LooksOn, LooksUp, NextOpens, Shows, ShowsLead};
 
-use crate::codes::{close_status, command_status, tell_status};
+use crate::codes::{close_status, command_status, report_status};
 use crate::instance::Instance;
 use crate::leading::Leading;
 use crate::lent::Lent;
@@ -12,16 +12,16 @@ use crate::making::{instance_in, instance_out};
 use crate::status::{DONE, NO_REPLICA, NONE, OUT_OF_RANGE};
 use crate::syncing::point;
 use ep_base::{InstanceId, Key, ReplicaId, Size};
+use ep_embedded::Hosted;
 use ep_handle::Handle;
-use ep_hosted::Hosted;
 use ep_phase::LeadPhase;
 use std::alloc::Global;
 use std::mem;
 
 /// What the replica's map has at the key.
 fn looks(alloc: Global, hosted: &mut Hosted, key: &Key, value: &mut Lent) -> u8
-    ensures told { Looks result hosted.old key.now hosted.new value.new }
-    ensures untold { result ≢ 0 → value.new ≡ value.old }
+    ensures reported { Looks result hosted.old key.now hosted.new value.new }
+    ensures unreported { result ≢ 0 → value.new ≡ value.old }
 {
     match hosted.look(alloc, key) {
         Ok(true) => {
@@ -29,14 +29,14 @@ fn looks(alloc: Global, hosted: &mut Hosted, key: &Key, value: &mut Lent) -> u8
             DONE
         }
         Ok(false) => NONE,
-        Err(fault) => tell_status(fault),
+        Err(fault) => report_status(fault),
     }
 }
 
 /// The replica, if there is one, says what its map has at the key.
 fn look_up(alloc: Global, handle: &mut Handle, key: &Key, value: &mut Lent) -> u8
-    ensures told { Unless result handle.old.value handle.new.value (λ h k. Looks result h key.now k value.new) }
-    ensures untold { result ≢ 0 → value.new ≡ value.old }
+    ensures reported { Unless result handle.old.value handle.new.value (λ h k. Looks result h key.now k value.new) }
+    ensures unreported { result ≢ 0 → value.new ≡ value.old }
 {
     let held = mem::replace(handle, Handle::empty());
     match held.into_box(alloc) {
@@ -53,8 +53,8 @@ fn look_up(alloc: Global, handle: &mut Handle, key: &Key, value: &mut Lent) -> u
 /// map has none; EP_OUT_OF_RANGE: the key hasn't 1 to 255 bytes.
 #[unsafe(no_mangle)]
 pub extern "C" fn ep_get(alloc: Global, handle: &mut Handle, key: &[u8], value: &mut Lent) -> u8
-    ensures told { LooksUp result handle.old.value key.now handle.new.value value.new }
-    ensures untold { result ≢ 0 → value.new ≡ value.old }
+    ensures reported { LooksUp result handle.old.value key.now handle.new.value value.new }
+    ensures unreported { result ≢ 0 → value.new ≡ value.old }
 {
     match Key::new(alloc, key) {
         Ok(key) => look_up(alloc, handle, &key, value),
@@ -64,15 +64,15 @@ pub extern "C" fn ep_get(alloc: Global, handle: &mut Handle, key: &[u8], value: 
 
 /// What the replica's map has, whole.
 fn lists(alloc: Global, hosted: &mut Hosted, contents: &mut Lent) -> u8
-    ensures told { Lists result hosted.old hosted.new contents.new }
-    ensures untold { result ≢ 0 → contents.new ≡ contents.old }
+    ensures reported { Lists result hosted.old hosted.new contents.new }
+    ensures unreported { result ≢ 0 → contents.new ≡ contents.old }
 {
     match hosted.list(alloc) {
         Ok(()) => {
             point(hosted.answers(), contents);
             DONE
         }
-        Err(fault) => tell_status(fault),
+        Err(fault) => report_status(fault),
     }
 }
 
@@ -80,8 +80,8 @@ fn lists(alloc: Global, hosted: &mut Hosted, contents: &mut Lent) -> u8
 /// order of keys, each with the length of the key (1), that of the value (4), the key and the value. EP_NO_REPLICA, EP_UNSYNCED, EP_MEMORY.
 #[unsafe(no_mangle)]
 pub extern "C" fn ep_contents(alloc: Global, handle: &mut Handle, contents: &mut Lent) -> u8
-    ensures told { Unless result handle.old.value handle.new.value (λ h k. Lists result h k contents.new) }
-    ensures untold { result ≢ 0 → contents.new ≡ contents.old }
+    ensures reported { Unless result handle.old.value handle.new.value (λ h k. Lists result h k contents.new) }
+    ensures unreported { result ≢ 0 → contents.new ≡ contents.old }
 {
     let held = mem::replace(handle, Handle::empty());
     match held.into_box(alloc) {
@@ -98,8 +98,8 @@ pub extern "C" fn ep_contents(alloc: Global, handle: &mut Handle, contents: &mut
 /// has fewer has lost what it promised, or was put back to an older copy, and must not go on. EP_NO_REPLICA; EP_OUT_OF_RANGE: there is no such replica.
 #[unsafe(no_mangle)]
 pub extern "C" fn ep_handled(alloc: Global, handle: &mut Handle, peer: u8, entries: &mut u32) -> u8
-    ensures told { Counts result handle.old.value peer entries.old handle.new.value entries.new }
-    ensures untold { result ≢ 0 → entries.new ≡ entries.old }
+    ensures reported { Counts result handle.old.value peer entries.old handle.new.value entries.new }
+    ensures unreported { result ≢ 0 → entries.new ≡ entries.old }
 {
     let Ok(peer) = ReplicaId::new(peer) else {
         return OUT_OF_RANGE;
@@ -116,12 +116,12 @@ pub extern "C" fn ep_handled(alloc: Global, handle: &mut Handle, peer: u8, entri
 }
 
 /// Reports an instance, if there is one.
-fn show(found: Option<InstanceId>, told: &mut Instance) -> u8
-    ensures { Shows result found told.old told.new }
+fn show(found: Option<InstanceId>, reported: &mut Instance) -> u8
+    ensures { Shows result found reported.old reported.new }
 {
     match found {
         Some(instance) => {
-            *told = instance_out(instance);
+            *reported = instance_out(instance);
             DONE
         }
         None => NONE,
@@ -129,12 +129,12 @@ fn show(found: Option<InstanceId>, told: &mut Instance) -> u8
 }
 
 /// The replica reports the least open instance above this one.
-fn next_opens(hosted: &Hosted, above: Option<InstanceId>, told: &mut Instance) -> u8
-    ensures { NextOpens result hosted.now above told.old told.new }
+fn next_opens(hosted: &Hosted, above: Option<InstanceId>, reported: &mut Instance) -> u8
+    ensures { NextOpens result hosted.now above reported.old reported.new }
 {
     match hosted.next_open(above) {
-        Ok(found) => show(found, told),
-        Err(fault) => tell_status(fault),
+        Ok(found) => show(found, reported),
+        Err(fault) => report_status(fault),
     }
 }
 
@@ -143,16 +143,16 @@ fn next_open(
     alloc: Global,
     handle: &mut Handle,
     above: Option<InstanceId>,
-    told: &mut Instance,
+    reported: &mut Instance,
 ) -> u8
-    ensures told { Unless result handle.old.value handle.new.value (λ h k. NextOpens result h above told.old told.new × (k ≡ h)) }
-    ensures untold { result ≢ 0 → told.new ≡ told.old }
+    ensures reported { Unless result handle.old.value handle.new.value (λ h k. NextOpens result h above reported.old reported.new × (k ≡ h)) }
+    ensures unreported { result ≢ 0 → reported.new ≡ reported.old }
 {
     let held = mem::replace(handle, Handle::empty());
     match held.into_box(alloc) {
         None => NO_REPLICA,
         Some(hosted) => {
-            let status = next_opens(&hosted, above, told);
+            let status = next_opens(&hosted, above, reported);
             *handle = Handle::of(hosted);
             status
         }
@@ -168,8 +168,8 @@ pub extern "C" fn ep_next_open(
     above: Instance,
     instance: &mut Instance,
 ) -> u8
-    ensures told { LooksOn result handle.old.value above instance.old handle.new.value instance.new }
-    ensures untold { result ≢ 0 → instance.new ≡ instance.old }
+    ensures reported { LooksOn result handle.old.value above instance.old handle.new.value instance.new }
+    ensures unreported { result ≢ 0 → instance.new ≡ instance.old }
 {
     if above.number == 0 {
         return next_open(alloc, handle, None, instance);
@@ -192,12 +192,12 @@ fn phase_number(phase: LeadPhase) -> u8
 }
 
 /// Says how far an instance is led, if it is.
-fn show_lead(found: Option<(LeadPhase, u8)>, told: &mut Leading) -> u8
-    ensures { ShowsLead result found told.old told.new }
+fn show_lead(found: Option<(LeadPhase, u8)>, reported: &mut Leading) -> u8
+    ensures { ShowsLead result found reported.old reported.new }
 {
     match found {
         Some((phase, answers)) => {
-            *told = Leading {
+            *reported = Leading {
                 phase: phase_number(phase),
                 answers,
             };
@@ -208,12 +208,12 @@ fn show_lead(found: Option<(LeadPhase, u8)>, told: &mut Leading) -> u8
 }
 
 /// The replica says how far it leads the instance.
-fn leads(hosted: &Hosted, instance: InstanceId, told: &mut Leading) -> u8
-    ensures { AnswersLead result hosted.now instance told.old told.new }
+fn leads(hosted: &Hosted, instance: InstanceId, reported: &mut Leading) -> u8
+    ensures { AnswersLead result hosted.now instance reported.old reported.new }
 {
     match hosted.leads(instance) {
-        Ok(found) => show_lead(found, told),
-        Err(fault) => tell_status(fault),
+        Ok(found) => show_lead(found, reported),
+        Err(fault) => report_status(fault),
     }
 }
 
@@ -225,8 +225,8 @@ pub extern "C" fn ep_leads(
     instance: Instance,
     leading: &mut Leading,
 ) -> u8
-    ensures told { LooksAt result handle.old.value instance leading.old handle.new.value leading.new }
-    ensures untold { result ≢ 0 → leading.new ≡ leading.old }
+    ensures reported { LooksAt result handle.old.value instance leading.old handle.new.value leading.new }
+    ensures unreported { result ≢ 0 → leading.new ≡ leading.old }
 {
     let Some(instance) = instance_in(instance) else {
         return OUT_OF_RANGE;
@@ -244,8 +244,8 @@ pub extern "C" fn ep_leads(
 
 /// The replica reports the opening of the next generation.
 fn closes(alloc: Global, hosted: &mut Hosted, next: Size, opening: &mut Lent) -> u8
-    ensures told { Closes result hosted.old next hosted.new opening.new }
-    ensures untold { result ≢ 0 → opening.new ≡ opening.old }
+    ensures reported { Closes result hosted.old next hosted.new opening.new }
+    ensures unreported { result ≢ 0 → opening.new ≡ opening.old }
 {
     match hosted.closing(alloc, next) {
         Ok(()) => {
@@ -265,8 +265,8 @@ pub extern "C" fn ep_close(
     replicas: u8,
     opening: &mut Lent,
 ) -> u8
-    ensures told { ClosesFor result handle.old.value replicas handle.new.value opening.new }
-    ensures untold { result ≢ 0 → opening.new ≡ opening.old }
+    ensures reported { ClosesFor result handle.old.value replicas handle.new.value opening.new }
+    ensures unreported { result ≢ 0 → opening.new ≡ opening.old }
 {
     let Ok(next) = Size::new(replicas) else {
         return OUT_OF_RANGE;

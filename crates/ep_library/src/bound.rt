@@ -10,8 +10,8 @@ use crate::place::Place;
 use crate::status::{HAS_REPLICA, LOG_EXISTS, OUT_OF_RANGE};
 use crate::succeeding::{heir_of, is_spare};
 use crate::succession::Succession;
+use ep_embedded::{Heir, Hosted, StartFault};
 use ep_handle::Handle;
-use ep_hosted::{Heir, Hosted, StartFault};
 use std::alloc::Global;
 use std::mem;
 

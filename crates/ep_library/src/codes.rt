@@ -1,7 +1,7 @@
 //! Faults by their statuses.
 
 ghost use Rattle.std.specs.Prelude.{◌≡◌, ◌≢◌};
-ghost use Rattle.ep_library.specs.Statuses.{ask_status, bundle_status, close_status, command_status, log_status, open_status, opening_status, prepare_status, start_status, succeed_status, sync_status, taking_status, tell_status};
+ghost use Rattle.ep_library.specs.Statuses.{ask_status, bundle_status, close_status, command_status, log_status, open_status, opening_status, prepare_status, start_status, succeed_status, sync_status, taking_status, report_status};
 
 use crate::status::{
     BAD_BUNDLE, BAD_CHECKSUM, BAD_ENTRY, BAD_LENGTH, LAST_GENERATION, LENT, LOG_EXISTS, MEMORY,
@@ -11,8 +11,8 @@ use crate::status::{
 };
 use ep_base::CommandFault;
 use ep_bundle::BundleFault;
-use ep_hosted::{
-    AskFault, PrepareFault, StartFault, SucceedFault, SyncFault, TakingFault, TellFault,
+use ep_embedded::{
+    AskFault, PrepareFault, ReportFault, StartFault, SucceedFault, SyncFault, TakingFault,
 };
 use ep_log::LogFault;
 use ep_node::{CloseFault, OpenFault};
@@ -59,18 +59,18 @@ pub(crate) fn prepare_status(fault: PrepareFault) -> u8
     match fault {
         PrepareFault::Memory => MEMORY,
         PrepareFault::Unlent => UNSYNCED,
-        PrepareFault::Untold => UNTOLD,
+        PrepareFault::Unreported => UNTOLD,
     }
 }
 
 /// Why nothing is reported.
-pub(crate) fn tell_status(fault: TellFault) -> u8
-    ensures value { result ≡ tell_status fault }
+pub(crate) fn report_status(fault: ReportFault) -> u8
+    ensures value { result ≡ report_status fault }
     ensures fault { result ≢ 0 }
 {
     match fault {
-        TellFault::Memory => MEMORY,
-        TellFault::Unsynced => UNSYNCED,
+        ReportFault::Memory => MEMORY,
+        ReportFault::Unsynced => UNSYNCED,
     }
 }
 

@@ -5,7 +5,7 @@ ghost use Rattle.ep_library.specs.Alone.{BeginsWith};
 
 /// Copies the bytes to the front of the buffer, if there is room. How many they are is reported in any case.
 pub(crate) fn copy_out(bytes: &[u8], out: &mut [u8], len: &mut usize) -> bool
-    ensures told { len.new ≡ length bytes.now }
+    ensures reported { len.new ≡ length bytes.now }
     ensures copied { result ≡ true → BeginsWith bytes.now out.new }
     ensures short { result ≡ false → (length out.old < length bytes.now) × (out.new ≡ out.old) }
 {

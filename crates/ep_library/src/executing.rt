@@ -9,13 +9,13 @@ use crate::instance::Instance;
 use crate::making::{instance_in, instance_out};
 use crate::status::{DONE, NO_REPLICA, OUT_OF_RANGE};
 use ep_base::InstanceId;
+use ep_embedded::{Hosted, TakingFault};
 use ep_handle::Handle;
-use ep_hosted::{Hosted, TakingFault};
 use std::alloc::Global;
 use std::mem;
 
 /// Reports the instance that the fault names, if it names one.
-fn tell_named(fault: &TakingFault, waits_for: &mut Instance)
+fn report_named(fault: &TakingFault, waits_for: &mut Instance)
     ensures { waits_for.new ≡ named fault.now waits_for.old }
 {
     match fault {
@@ -35,7 +35,7 @@ fn tries(hosted: &mut Hosted, instance: InstanceId, waits_for: &mut Instance) ->
     match hosted.execute(instance) {
         Ok(()) => DONE,
         Err(fault) => {
-            tell_named(&fault, waits_for);
+            report_named(&fault, waits_for);
             taking_status(fault)
         }
     }

@@ -2,7 +2,7 @@
 
 ghost use Rattle.std.specs.Prelude.{◌≡◌, ◌≤◌, ◌+◌, true, length};
 ghost use Rattle.ep_frame.specs.Fields.{header_at, number_at};
-ghost use Rattle.ep_library.specs.Framing.{head_at, head_of, is_third, TellsHead};
+ghost use Rattle.ep_library.specs.Framing.{head_at, head_of, is_third, ReportsHead};
 
 use crate::frame_head::FrameHead;
 use crate::status::{BAD_FRAME, DONE};
@@ -62,7 +62,7 @@ fn head_in(bytes: &[u8]) -> FrameHead
 /// there are fewer than 48, or they begin as no frame of version 3 does.
 #[unsafe(no_mangle)]
 pub extern "C" fn ep_frame_head(frame: &[u8], head: &mut FrameHead) -> u8
-    ensures { TellsHead result frame.now head.old head.new }
+    ensures { ReportsHead result frame.now head.old head.new }
 {
     if frame.len() < HEADER_LEN {
         return BAD_FRAME;

@@ -3,7 +3,7 @@
 ghost use Rattle.std.specs.Prelude.{◌≡◌, ◌≤◌, ◌<◌, ◌+◌, ◌^◌, length};
 ghost use Rattle.ep_frame.specs.Fields.{number_at};
 ghost use Rattle.ep_opening.specs.Reading.{mark_of};
-ghost use Rattle.ep_library.specs.Fronts.{has_front, head_at, is_front, is_known_size, is_lead, map_place, TellsFront};
+ghost use Rattle.ep_library.specs.Fronts.{has_front, head_at, is_front, is_known_size, is_lead, map_place, ReportsFront};
 ghost use Rattle.ep_library.specs.Fronts.{has_seal_at, is_dated, is_marked, seal_len_at};
 
 use crate::opening_head::OpeningHead;
@@ -134,7 +134,7 @@ fn has_front(bytes: &[u8]) -> bool
 /// needed; EP_OPENING_WRONG: no opening begins so.
 #[unsafe(no_mangle)]
 pub extern "C" fn ep_opening_head(opening: &[u8], head: &mut OpeningHead) -> u8
-    ensures { TellsFront result opening.now head.old head.new }
+    ensures { ReportsFront result opening.now head.old head.new }
 {
     if opening.len() < LEAST_LEN {
         return OPENING_SHORT;

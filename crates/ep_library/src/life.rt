@@ -3,7 +3,7 @@
 ghost use Rattle.std.specs.Prelude.{◌≡◌, ◌↔◌, None, IsTrue};
 ghost use Rattle.ep_library.specs.Arguments.{given, log_given};
 ghost use Rattle.ep_library.specs.Calls.{Unless};
-ghost use Rattle.ep_library.specs.Opening.{Begins, IsSpare, Opens, OpensNew, Seats, TellsCut};
+ghost use Rattle.ep_library.specs.Opening.{Begins, IsSpare, Opens, OpensNew, Seats, ReportsCut};
 
 use crate::codes::start_status;
 use crate::making::{given, log_given, seat_of};
@@ -11,8 +11,8 @@ use crate::place::Place;
 use crate::refusals::start_place;
 use crate::setup::Setup;
 use crate::status::{DONE, HAS_REPLICA, LOG_EXISTS, MEMORY, NO_REPLICA, NONE, OUT_OF_RANGE};
+use ep_embedded::{Hosted, Seat, StartFault};
 use ep_handle::Handle;
-use ep_hosted::{Hosted, Seat, StartFault};
 use ep_node::Cut;
 use std::alloc::Global;
 use std::mem;
@@ -97,7 +97,7 @@ pub extern "C" fn ep_open(
 
 /// Says what was cut off, if anything.
 fn show_cut(cut: Option<Cut>, place: &mut Place) -> u8
-    ensures { TellsCut result cut place.old place.new }
+    ensures { ReportsCut result cut place.old place.new }
 {
     match cut {
         Some(cut) => {
@@ -115,7 +115,7 @@ fn show_cut(cut: Option<Cut>, place: &mut Place) -> u8
 /// runs the replica. EP_NO_REPLICA; EP_NONE: nothing was cut off.
 #[unsafe(no_mangle)]
 pub extern "C" fn ep_cut(alloc: Global, handle: &mut Handle, place: &mut Place) -> u8
-    ensures { Unless result handle.old.value handle.new.value (λ h k. TellsCut result h.node.cut place.old place.new × (k ≡ h)) }
+    ensures { Unless result handle.old.value handle.new.value (λ h k. ReportsCut result h.node.cut place.old place.new × (k ≡ h)) }
 {
     let held = mem::replace(handle, Handle::empty());
     match held.into_box(alloc) {

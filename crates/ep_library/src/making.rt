@@ -6,7 +6,7 @@ ghost use Rattle.ep_library.specs.Arguments.{given, instance_in, log_given, part
 
 use crate::instance::Instance;
 use ep_base::{InstanceId, ReplicaId, Size};
-use ep_hosted::Seat;
+use ep_embedded::Seat;
 use std::alloc::{AllocError, Global};
 
 /// The place of this replica in a cluster of this many.

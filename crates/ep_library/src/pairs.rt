@@ -2,7 +2,7 @@
 
 ghost use Rattle.std.specs.Prelude.{◌≡◌, ◌≤◌, length};
 ghost use Rattle.ep_frame.specs.Fields.{number_at};
-ghost use Rattle.ep_library.specs.Pairs.{has_pair, pair_at, pair_len, TellsPair};
+ghost use Rattle.ep_library.specs.Pairs.{has_pair, pair_at, pair_len, ReportsPair};
 
 use crate::pair::Pair;
 use crate::status::{DONE, NONE};
@@ -49,7 +49,7 @@ fn pair_at(bytes: &[u8]) -> Pair
 /// so on. EP_NONE: there isn't a whole one.
 #[unsafe(no_mangle)]
 pub extern "C" fn ep_pair(pairs: &[u8], pair: &mut Pair) -> u8
-    ensures { TellsPair result pairs.now pair.old pair.new }
+    ensures { ReportsPair result pairs.now pair.old pair.new }
 {
     if pairs.len() < LENGTHS {
         return NONE;

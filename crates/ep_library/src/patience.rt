@@ -28,7 +28,7 @@ fn make(alloc: Global, waits: &Waits) -> Option<HostedPatience>
     let spans = Spans {
         granularity: waits.granularity,
         initial: waits.initial,
-        told: waits.told,
+        reported: waits.told,
         longest: waits.longest,
     };
     let patience = Patience::new(alloc, seat.cluster, seat.me, spans, waits.seed);
@@ -226,12 +226,12 @@ fn turns(
     instances: &[u8],
     late: &mut Lent,
 ) -> u8
-    ensures told { Turns result begun.old now instances.now begun.new late.new }
-    ensures untold { result ≢ 0 → late.new ≡ late.old }
+    ensures reported { Turns result begun.old now instances.now begun.new late.new }
+    ensures unreported { result ≢ 0 → late.new ≡ late.old }
 {
     match begun.turn(alloc, now, instances) {
         Ok(()) => {
-            point(&begun.told, late);
+            point(&begun.reported, late);
             DONE
         }
         Err(TurnFault::Memory) => MEMORY,
@@ -251,8 +251,8 @@ pub extern "C" fn ep_patience_turn(
     instances: &[u8],
     late: &mut Lent,
 ) -> u8
-    ensures told { WithPatience result patience.old.value patience.new.value (λ h k. Turns result h now instances.now k late.new) }
-    ensures untold { result ≢ 0 → late.new ≡ late.old }
+    ensures reported { WithPatience result patience.old.value patience.new.value (λ h k. Turns result h now instances.now k late.new) }
+    ensures unreported { result ≢ 0 → late.new ≡ late.old }
 {
     let held = mem::replace(patience, PatienceHandle::empty());
     match held.into_box(alloc) {
@@ -281,8 +281,8 @@ fn dues(begun: &HostedPatience, due: &mut u64) -> u8
 /// Says when to have the next turn at the latest, if no instance is opened before. EP_NO_PATIENCE; EP_NONE: nothing is waited for, or too few peers are reached.
 #[unsafe(no_mangle)]
 pub extern "C" fn ep_patience_due(alloc: Global, patience: &mut PatienceHandle, due: &mut u64) -> u8
-    ensures told { WithPatience result patience.old.value patience.new.value (λ h k. Dues result h due.old due.new × (k ≡ h)) }
-    ensures untold { result ≢ 0 → due.new ≡ due.old }
+    ensures reported { WithPatience result patience.old.value patience.new.value (λ h k. Dues result h due.old due.new × (k ≡ h)) }
+    ensures unreported { result ≢ 0 → due.new ≡ due.old }
 {
     let held = mem::replace(patience, PatienceHandle::empty());
     match held.into_box(alloc) {

@@ -4,7 +4,7 @@ ghost use Rattle.std.specs.Prelude.{◌≡◌, map, IfOk};
 ghost use Rattle.ep_folder.specs.Paths.{generation_in, left_in};
 ghost use Rattle.ep_folder.specs.Plans.{first_of, plan};
 ghost use Rattle.ep_library.specs.Planning.{fault_number, fault_status, folder_of, log_number, plan_out, wish_in};
-ghost use Rattle.ep_library.specs.Planning.{Names, Plans, Starts, StartsFrom, TellsFirst, TellsNewest};
+ghost use Rattle.ep_library.specs.Planning.{Names, Plans, Starts, StartsFrom, ReportsFirst, ReportsNewest};
 
 use crate::held_generation::HeldGeneration;
 use crate::place::Place;
@@ -112,12 +112,12 @@ fn fault_number(fault: StartFault) -> u32
 }
 
 /// How a replica whose folder has this starts, or why it doesn't.
-fn starts(held: &[GenerationFolder], wish: Wish, told: &mut StartPlan, place: &mut Place) -> u8
-    ensures { Starts result (plan held.now wish) told.old place.old told.new place.new }
+fn starts(held: &[GenerationFolder], wish: Wish, reported: &mut StartPlan, place: &mut Place) -> u8
+    ensures { Starts result (plan held.now wish) reported.old place.old reported.new place.new }
 {
     match ep_folder::plan_for(held, wish) {
         Ok(found) => {
-            *told = plan_out(found);
+            *reported = plan_out(found);
             DONE
         }
         Err(fault) => {
@@ -158,7 +158,7 @@ pub extern "C" fn ep_plan(
 /// EP_MEMORY.
 #[unsafe(no_mangle)]
 pub extern "C" fn ep_newest(alloc: Global, held: &[HeldGeneration], newest: &mut u32) -> u8
-    ensures { TellsNewest result held.now newest.old newest.new }
+    ensures { ReportsNewest result held.now newest.old newest.new }
 {
     match folders_of(alloc, held) {
         Ok(folders) => {
@@ -195,7 +195,7 @@ pub extern "C" fn ep_first(
     generation: u32,
     first: &mut u32,
 ) -> u8
-    ensures { TellsFirst result held.now generation first.old first.new }
+    ensures { ReportsFirst result held.now generation first.old first.new }
 {
     match folders_of(alloc, held) {
         Ok(folders) => starts_from(&folders, generation, first),

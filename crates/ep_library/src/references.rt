@@ -1,7 +1,7 @@
 //! References, as a host reads them.
 
 ghost use Rattle.std.specs.Prelude.{◌≡◌};
-ghost use Rattle.ep_library.specs.References.{read_of, TellsReference};
+ghost use Rattle.ep_library.specs.References.{read_of, ReportsReference};
 
 use crate::codes::opening_status;
 use crate::place::Place;
@@ -31,7 +31,7 @@ pub extern "C" fn ep_read_reference(
     read: &mut ReferenceHead,
     place: &mut Place,
 ) -> u8
-    ensures { TellsReference result reference.now read.old place.old read.new place.new }
+    ensures { ReportsReference result reference.now read.old place.old read.new place.new }
 {
     match ep_opening::read_reference(alloc, reference) {
         Ok(found) => {

@@ -4,7 +4,7 @@ ghost use Rattle.std.specs.Prelude.{◌≡◌};
 ghost use Rattle.ep_library.specs.Places.{log_place, open_place, opening_place, start_place, succeed_place};
 
 use crate::place::Place;
-use ep_hosted::{StartFault, SucceedFault};
+use ep_embedded::{StartFault, SucceedFault};
 use ep_log::LogFault;
 use ep_node::OpenFault;
 use ep_opening::OpeningFault;

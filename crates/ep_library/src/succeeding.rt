@@ -18,8 +18,8 @@ use crate::status::{
 use crate::succession::Succession;
 use crate::syncing::point;
 use ep_base::{Generation, Size};
+use ep_embedded::{Heir, Hosted, HostedCheckpoint, SucceedFault};
 use ep_handle::{CheckpointHandle, Handle};
-use ep_hosted::{Heir, Hosted, HostedCheckpoint, SucceedFault};
 use ep_opening::{Checkpoint, OpeningFile, OpeningReference, write_binding, write_reference};
 use std::alloc::Global;
 use std::mem;
@@ -245,9 +245,9 @@ pub extern "C" fn ep_succeed(
     match held.into_box(alloc) {
         None => NO_REPLICA,
         Some(hosted) => {
-            let (status, told) = succeeds(alloc, handle, checkpoint, hosted, succession);
-            if let Some(told) = told {
-                *place = told;
+            let (status, reported) = succeeds(alloc, handle, checkpoint, hosted, succession);
+            if let Some(reported) = reported {
+                *place = reported;
             }
             status
         }
@@ -256,8 +256,8 @@ pub extern "C" fn ep_succeed(
 
 /// The file gives its next bytes.
 fn gives(alloc: Global, begun: &mut HostedCheckpoint, most: usize, piece: &mut Lent) -> u8
-    ensures told { Gives result most begun.old begun.new piece.new }
-    ensures untold { result ≢ 0 → piece.new ≡ piece.old }
+    ensures reported { Gives result most begun.old begun.new piece.new }
+    ensures unreported { result ≢ 0 → piece.new ≡ piece.old }
 {
     if begun.checkpoint.is_over() {
         return NONE;
@@ -280,8 +280,8 @@ pub extern "C" fn ep_checkpoint_next(
     most: usize,
     piece: &mut Lent,
 ) -> u8
-    ensures told { WithCheckpoint result checkpoint.old.value checkpoint.new.value (λ h k. Gives result most h k piece.new) }
-    ensures untold { result ≢ 0 → piece.new ≡ piece.old }
+    ensures reported { WithCheckpoint result checkpoint.old.value checkpoint.new.value (λ h k. Gives result most h k piece.new) }
+    ensures unreported { result ≢ 0 → piece.new ≡ piece.old }
 {
     let held = mem::replace(checkpoint, CheckpointHandle::empty());
     match held.into_box(alloc) {

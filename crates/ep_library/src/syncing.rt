@@ -3,13 +3,13 @@
 ghost use Rattle.std.specs.Prelude.{◌≡◌, ◌≢◌, option_copied};
 ghost use Rattle.ep_library.specs.Calls.{Unless};
 ghost use Rattle.ep_library.specs.Syncing.{flag, Answers, Asks, IsRun, IsRunOf};
-ghost use Rattle.ep_library.specs.Syncing.{Lends, Prepares, PreparesAll, Releases, Syncs, TellsAll};
+ghost use Rattle.ep_library.specs.Syncing.{Lends, Prepares, PreparesAll, Releases, Syncs, ReportsAll};
 
-use crate::codes::{ask_status, prepare_status, sync_status, tell_status};
+use crate::codes::{ask_status, prepare_status, report_status, sync_status};
 use crate::lent::Lent;
 use crate::status::{DONE, MEMORY, NO_REPLICA, NONE};
+use ep_embedded::Hosted;
 use ep_handle::Handle;
-use ep_hosted::Hosted;
 use std::alloc::Global;
 use std::mem;
 
@@ -41,8 +41,8 @@ fn point_to(buffer: Option<&Vec<u8>>, run: &mut Lent)
 /// The replica lends what is to be written.
 #[tactic(auto, unfolding(crate::specs::Syncing::HasMadeReady))]
 fn lends(alloc: Global, hosted: &mut Hosted, log: &mut Lent, is_anew: &mut u8) -> u8
-    ensures told { Lends result hosted.old hosted.new log.new is_anew.new }
-    ensures untold { result ≢ 0 → (log.new ≡ log.old) × (is_anew.new ≡ is_anew.old) }
+    ensures reported { Lends result hosted.old hosted.new log.new is_anew.new }
+    ensures unreported { result ≢ 0 → (log.new ≡ log.old) × (is_anew.new ≡ is_anew.old) }
 {
     match hosted.ready(alloc) {
         Ok(()) => {
@@ -65,8 +65,8 @@ pub extern "C" fn ep_ready(
     log: &mut Lent,
     is_anew: &mut u8,
 ) -> u8
-    ensures told { Unless result handle.old.value handle.new.value (λ h k. Lends result h k log.new is_anew.new) }
-    ensures untold { result ≢ 0 → (log.new ≡ log.old) × (is_anew.new ≡ is_anew.old) }
+    ensures reported { Unless result handle.old.value handle.new.value (λ h k. Lends result h k log.new is_anew.new) }
+    ensures unreported { result ≢ 0 → (log.new ≡ log.old) × (is_anew.new ≡ is_anew.old) }
 {
     let held = mem::replace(handle, Handle::empty());
     match held.into_box(alloc) {
@@ -108,16 +108,16 @@ pub extern "C" fn ep_synced(alloc: Global, handle: &mut Handle, count: usize) ->
 }
 
 /// The replica lends the answers that wait.
-fn tells(alloc: Global, hosted: &mut Hosted, told: u32, most: u8, bytes: &mut Lent) -> u8
-    ensures told { Answers result hosted.old told most hosted.new bytes.new }
-    ensures untold { result ≢ 0 → bytes.new ≡ bytes.old }
+fn reports(alloc: Global, hosted: &mut Hosted, reported: u32, most: u8, bytes: &mut Lent) -> u8
+    ensures reported { Answers result hosted.old reported most hosted.new bytes.new }
+    ensures unreported { result ≢ 0 → bytes.new ≡ bytes.old }
 {
-    match hosted.answer(alloc, told, most) {
+    match hosted.answer(alloc, reported, most) {
         Ok(()) => {
             point(hosted.answers(), bytes);
             DONE
         }
-        Err(fault) => tell_status(fault),
+        Err(fault) => report_status(fault),
     }
 }
 
@@ -132,14 +132,14 @@ pub extern "C" fn ep_answers(
     most: u8,
     answers: &mut Lent,
 ) -> u8
-    ensures told { Unless result handle.old.value handle.new.value (λ h k. Answers result h told most k answers.new) }
-    ensures untold { result ≢ 0 → answers.new ≡ answers.old }
+    ensures reported { Unless result handle.old.value handle.new.value (λ h k. Answers result h told most k answers.new) }
+    ensures unreported { result ≢ 0 → answers.new ≡ answers.old }
 {
     let held = mem::replace(handle, Handle::empty());
     match held.into_box(alloc) {
         None => NO_REPLICA,
         Some(mut hosted) => {
-            let status = tells(alloc, &mut hosted, told, most, answers);
+            let status = reports(alloc, &mut hosted, told, most, answers);
             *handle = Handle::of(hosted);
             status
         }
@@ -147,10 +147,10 @@ pub extern "C" fn ep_answers(
 }
 
 /// The replica makes answers, and holds them.
-fn prepares(alloc: Global, hosted: &mut Hosted, told: u32, most: u8) -> u8
-    ensures { Prepares result hosted.old told most hosted.new }
+fn prepares(alloc: Global, hosted: &mut Hosted, reported: u32, most: u8) -> u8
+    ensures { Prepares result hosted.old reported most hosted.new }
 {
-    match hosted.prepare(alloc, told, most) {
+    match hosted.prepare(alloc, reported, most) {
         Ok(()) => DONE,
         Err(fault) => prepare_status(fault),
     }
@@ -174,16 +174,16 @@ pub extern "C" fn ep_prepare(alloc: Global, handle: &mut Handle, told: u32, most
 }
 
 /// The replica lends the answers that wait, with what its entries did.
-fn tells_all(alloc: Global, hosted: &mut Hosted, told: u32, most: u8, bytes: &mut Lent) -> u8
-    ensures told { TellsAll result hosted.old told most hosted.new bytes.new }
-    ensures untold { result ≢ 0 → bytes.new ≡ bytes.old }
+fn reports_all(alloc: Global, hosted: &mut Hosted, reported: u32, most: u8, bytes: &mut Lent) -> u8
+    ensures reported { ReportsAll result hosted.old reported most hosted.new bytes.new }
+    ensures unreported { result ≢ 0 → bytes.new ≡ bytes.old }
 {
-    match hosted.answer_all(alloc, told, most) {
+    match hosted.answer_all(alloc, reported, most) {
         Ok(()) => {
             point(hosted.answers(), bytes);
             DONE
         }
-        Err(fault) => tell_status(fault),
+        Err(fault) => report_status(fault),
     }
 }
 
@@ -200,14 +200,14 @@ pub extern "C" fn ep_answers_all(
     most: u8,
     answers: &mut Lent,
 ) -> u8
-    ensures told { Unless result handle.old.value handle.new.value (λ h k. TellsAll result h told most k answers.new) }
-    ensures untold { result ≢ 0 → answers.new ≡ answers.old }
+    ensures reported { Unless result handle.old.value handle.new.value (λ h k. ReportsAll result h told most k answers.new) }
+    ensures unreported { result ≢ 0 → answers.new ≡ answers.old }
 {
     let held = mem::replace(handle, Handle::empty());
     match held.into_box(alloc) {
         None => NO_REPLICA,
         Some(mut hosted) => {
-            let status = tells_all(alloc, &mut hosted, told, most, answers);
+            let status = reports_all(alloc, &mut hosted, told, most, answers);
             *handle = Handle::of(hosted);
             status
         }
@@ -215,10 +215,10 @@ pub extern "C" fn ep_answers_all(
 }
 
 /// The replica makes answers, with what its entries did, and holds them.
-fn prepares_all(alloc: Global, hosted: &mut Hosted, told: u32, most: u8) -> u8
-    ensures { PreparesAll result hosted.old told most hosted.new }
+fn prepares_all(alloc: Global, hosted: &mut Hosted, reported: u32, most: u8) -> u8
+    ensures { PreparesAll result hosted.old reported most hosted.new }
 {
-    match hosted.prepare_all(alloc, told, most) {
+    match hosted.prepare_all(alloc, reported, most) {
         Ok(()) => DONE,
         Err(fault) => prepare_status(fault),
     }
@@ -244,24 +244,24 @@ pub extern "C" fn ep_prepare_all(alloc: Global, handle: &mut Handle, told: u32, 
 /// The replica lends the answers that it holds.
 #[tactic(auto, unfolding(crate::specs::Syncing::HasReleased, crate::specs::Syncing::IsUnreleased))]
 fn releases(hosted: &mut Hosted, bytes: &mut Lent) -> u8
-    ensures told { Releases result hosted.old hosted.new bytes.new }
-    ensures untold { result ≢ 0 → bytes.new ≡ bytes.old }
+    ensures reported { Releases result hosted.old hosted.new bytes.new }
+    ensures unreported { result ≢ 0 → bytes.new ≡ bytes.old }
 {
-    match hosted.told() {
+    match hosted.reported() {
         Ok(true) => {
             point(hosted.answers(), bytes);
             DONE
         }
         Ok(false) => NONE,
-        Err(fault) => tell_status(fault),
+        Err(fault) => report_status(fault),
     }
 }
 
 /// Lends what `ep_prepare` made, once. All that it reports is on the disk. EP_NO_REPLICA; EP_NONE: it made nothing; EP_UNSYNCED: what was lent then isn't on the disk yet.
 #[unsafe(no_mangle)]
 pub extern "C" fn ep_told(alloc: Global, handle: &mut Handle, answers: &mut Lent) -> u8
-    ensures told { Unless result handle.old.value handle.new.value (λ h k. Releases result h k answers.new) }
-    ensures untold { result ≢ 0 → answers.new ≡ answers.old }
+    ensures reported { Unless result handle.old.value handle.new.value (λ h k. Releases result h k answers.new) }
+    ensures unreported { result ≢ 0 → answers.new ≡ answers.old }
 {
     let held = mem::replace(handle, Handle::empty());
     match held.into_box(alloc) {

@@ -16,7 +16,7 @@ use Rattle.ep_rules.specs.Worlds.{World, opening, Act, moved, IsRun, ends, Commi
 use Rattle.ep_rules.proofs.Attributes.{within}
 use Rattle.ep_rules.proofs.Choices.{not_both}
 use Rattle.ep_rules.proofs.Counting.{count_all, count_le, count_more, count_without}
-use Rattle.ep_rules.proofs.Facts.{History, can_see, CanSee, IsValid, IsCast, ballot_at, Told, HistoryOk, Seen, sees, Decided, slowly, quickly}
+use Rattle.ep_rules.proofs.Facts.{History, can_see, CanSee, IsValid, IsCast, ballot_at, Reported, HistoryOk, Seen, sees, Decided, slowly, quickly}
 use Rattle.ep_rules.proofs.Runs.{decided_agree, decided_proposed, Invariant, IsProposal, Step, step_here, step_elsewhere, step_of, opening_ok, committed_decided, committed_in_range}
 use Rattle.ep_rules.proofs.Stable.{holds_some, some_of, decided_kept}
 
@@ -91,18 +91,18 @@ module _ (f l : ℕ) (h : History) (ok : HistoryOk f l h) (x : Decree) (real : i
   cast_command Committed b v high p = ap (λ (y : Decree). y.command) (decided_agree f l h ok v x p decided)
 
   -- the last vote isn't below m
-  not_below : (v : Option Vote) → ((b : ℕ) → Told f l h k b v) → ballot_at f l v < m → ⊥
-  not_below v told lt = not_both seen ((told (suc m)).blank m lt (omega arith))
+  not_below : (v : Option Vote) → ((b : ℕ) → Reported f l h k b v) → ballot_at f l v < m → ⊥
+  not_below v reported lt = not_both seen ((reported (suc m)).blank m lt (omega arith))
 
-  pub vote_stays : (v : Option Vote) → ((b : ℕ) → Told f l h k b v) → (w : Vote) × (v ≡ Some w) × (w.decree.command ≡ x.command)
-  vote_stays None told = absurd (
+  pub vote_stays : (v : Option Vote) → ((b : ℕ) → Reported f l h k b v) → (w : Vote) × (v ≡ Some w) × (w.decree.command ≡ x.command)
+  vote_stays None reported = absurd (
       let low_m = low in
       elim (cases_order l m) [
-        | inl i ↦ not_both (ap (h.seen k) i ∙ seen) (told 0).cast.unseen
-        | inr (inl under) ↦ not_below None told under
+        | inl i ↦ not_both (ap (h.seen k) i ∙ seen) (reported 0).cast.unseen
+        | inr (inl under) ↦ not_below None reported under
         | inr (inr over) ↦ omega arith
       ])
-  vote_stays (Some w) told = (w, refl, cast_command w.status w.ballot w.decree (not_below (Some w) told) (told 0).cast)
+  vote_stays (Some w) reported = (w, refl, cast_command w.status w.ballot w.decree (not_below (Some w) reported) (reported 0).cast)
 
 -- A later world of a run: what was decided stays so, and what was seen.
 pub record Grown (f i : ℕ) (w w' : World) (v : Invariant f i w) : Type 0 where

@@ -63,16 +63,16 @@ module _ (base : Store) (f : ℕ) (some : 0 < f) (few : size f ≤ 256) (acts : 
       let e : length (history_at base f acts b) ≡ length (history_at base f acts a) + length t.0 = ap length (ap (history_of base f) (sym m.1) ∙ t.1) ∙ length-append (history_at base f acts a) t.0 in
       omega arith
 
-  -- what the history has was told a reply
-  was_told : (i : ℕ) (x : Answer) → Has all i → IsLegal base (history_of base f acts) i x → (y : _) × (x ≡ Replied y)
-  was_told i x k (inl n) = absurd (n.0 k)
-  was_told i x k (inr t) = (_, t.1)
+  -- what the history has was answered a reply
+  was_reported : (i : ℕ) (x : Answer) → Has all i → IsLegal base (history_of base f acts) i x → (y : _) × (x ≡ Replied y)
+  was_reported i x k (inl n) = absurd (n.0 k)
+  was_reported i x k (inr t) = (_, t.1)
 
   -- what was executed up to a point, and is in the history, is in the history up to there
   by_then : (n i : ℕ) (a : Act) → Has all i → In a (take n acts) → Has (order_of a.done) i → Has (upto n) i
   by_then n i a k m e =
       let x = has_in a.done i e in
-      let t = was_told i x.0 k (linear.legal a i x.0 (in_take n acts a m) x.1) in
+      let t = was_reported i x.0 k (linear.legal a i x.0 (in_take n acts a m) x.1) in
       ((linear_at n).complete i).1 (a, t.0, m, subst (λ y. In (i, y) a.done) t.1 x.1)
 
   -- the history up to a point is no longer than the whole

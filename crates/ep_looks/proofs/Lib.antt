@@ -6,7 +6,7 @@ pub mod Backers
 pub mod Fronts
 pub mod Inserted
 pub mod Splits
-pub mod Told
+pub mod Reported
 pub mod Looking
 pub mod Owned
 pub mod Moments

@@ -18,7 +18,7 @@ use Rattle.ep_rules.proofs.JournalsCallers.{in_has}
 use Rattle.ep_rules.proofs.JournalsCommitted.{run_parts, ends_both}
 use Rattle.ep_rules.proofs.JournalsExecutions.{step_known}
 use Rattle.ep_rules.proofs.Permanence.{permanence_holds}
-use Rattle.ep_rules.proofs.RunCommits.{told_in, all_known}
+use Rattle.ep_rules.proofs.RunCommits.{reported_in, all_known}
 use Rattle.ep_rules.proofs.Runs.{validity_holds}
 use Rattle.ep_rules.proofs.RunsLinear.{linearizability_holds}
 use Rattle.ep_rules.proofs.Stable.{some_of}
@@ -92,7 +92,7 @@ module _ (base : Store) (f : ℕ) (some : 0 < f) (few : size f ≤ 256) where
         let real = interferes_real x.command q clash in
         kept_found i x.command (committed_kept base f some few early run_early p i x e real) (not_zero early run_early i p x e real) clash
 
-    pub history_found : (whole ms : List Act) → IsRun f (opening base) whole → early ++ ms ≡ whole → (i : ℕ) → Has (instances_of (history_of base f early)) i → interfere (told_in base f whole i) q ≡ true → Has done i
+    pub history_found : (whole ms : List Act) → IsRun f (opening base) whole → early ++ ms ≡ whole → (i : ℕ) → Has (instances_of (history_of base f early)) i → interfere (reported_in base f whole i) q ≡ true → Has done i
     history_found whole ms run_whole is i k meets =
         let x = history_committed early run_early i k in
         let known = all_known base f some few whole run_whole early ms is x.replica i x.decree x.committed in

@@ -17,7 +17,7 @@ use Rattle.ep_rules.proofs.JournalsExecutions.{executions, done_is}
 use Rattle.ep_rules.proofs.OnceDone.{from_once}
 use Rattle.ep_rules.proofs.Places.{Once, has_filter, filter_has, filter_forth, once_filter}
 use Rattle.ep_rules.proofs.Answered.{is_real, noop_left}
-use Rattle.ep_rules.proofs.RunCommits.{told_in, wells}
+use Rattle.ep_rules.proofs.RunCommits.{reported_in, wells}
 use Rattle.ep_rules.proofs.RunHistories.{command_is}
 use Rattle.ep_rules.proofs.RunsLinear.{linearizability_holds}
 use Rattle.ep_rules.proofs.Sealing.{by_commands, noop_is}
@@ -27,26 +27,26 @@ use Rattle.ep_rules.proofs.Replies.{noops_out}
 use Rattle.ep_rules.proofs.RunMachines.{handed_then}
 use Rattle.ep_rules.proofs.Turns.{run as turns}
 use Rattle.ep_looks.proofs.Looking.{run_to}
-use Rattle.ep_looks.proofs.Told.{step, handed_runs, front_runs}
+use Rattle.ep_looks.proofs.Reported.{step, handed_runs, front_runs}
 use Rattle.ep_looks.proofs.Fronts.{commands_front, operation_of}
 use Rattle.ep_looks.proofs.Inserted.{Known}
 use Rattle.ep_looks.proofs.OneKey.{interferes_real}
 
 module _ (base : Store) (f : ℕ) (some : 0 < f) (few : size f ≤ 256) where
   -- what is executed at a replica, and no no-op, is in the history
-  own_in : (acts : List Act) → IsRun f (opening base) acts → (r i : ℕ) → Has ((ends f (opening base) acts).states r).executed i → is_noop (told_in base f acts i) ≡ false → Has (instances_of (history_of base f acts)) i
+  own_in : (acts : List Act) → IsRun f (opening base) acts → (r i : ℕ) → Has ((ends f (opening base) acts).states r).executed i → is_noop (reported_in base f acts i) ≡ false → Has (instances_of (history_of base f acts)) i
   own_in acts run r i k real =
       let w = wells base f some few acts run in
       let d = done_is f acts (opening base) nothing run (λ q. refl) r in
       subst (λ is. Has is i) (sym (is_history base f some few acts run).instances)
-      (filter_has (is_real (told_in base f acts)) _ i (ap (λ b. cond b false true) real) (w.within r i (subst (λ is. Has is i) (sym d) k)))
+      (filter_has (is_real (reported_in base f acts)) _ i (ap (λ b. cond b false true) real) (w.within r i (subst (λ is. Has is i) (sym d) k)))
 
   module _ (acts : List Act) (run : IsRun f (opening base) acts) (n r : ℕ) where
     abbrev pub whole : List Act
     whole = take n acts
 
     abbrev pub c : ℕ → Command
-    c = told_in base f whole
+    c = reported_in base f whole
 
     abbrev pub h : List ℕ
     h = instances_of (history_of base f whole)

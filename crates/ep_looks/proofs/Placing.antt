@@ -191,11 +191,11 @@ place_is_spot (Asked k ∷ s) i h = ap suc (place_is_spot s i h)
 -- Replies, where the commands of the reads only read.
 
 module _ (q : ℕ → Command) where
-  pub read_told : (b : Store) (s : List Item) → ((j : ℕ) → Has (reads_in s) j → only_reads (q j) ≡ true) → (k : ℕ) → Has (reads_in s) k →
+  pub read_reported : (b : Store) (s : List Item) → ((j : ℕ) → Has (reads_in s) j → only_reads (q j) ≡ true) → (k : ℕ) → Has (reads_in s) k →
       get_or (replies b (commands_in q s)) (place_asked s k) Absent ≡ reply (after_commands b (commands_of (take (done_before s k) (operations_in s)))) (q k)
-  read_told b [] only k h = absurd (Has-empty k h)
-  read_told b (Done o ∷ s) only k h = read_told (after b o.command) s only k h
-  read_told b (Asked j ∷ s) only k h = go (eqb j k) refl (read_told b s (λ i m. only i (Has-tail j (reads_in s) i m)) k)
+  read_reported b [] only k h = absurd (Has-empty k h)
+  read_reported b (Done o ∷ s) only k h = read_reported (after b o.command) s only k h
+  read_reported b (Asked j ∷ s) only k h = go (eqb j k) refl (read_reported b s (λ i m. only i (Has-tail j (reads_in s) i m)) k)
     where
       go : (t : Bool) → eqb j k ≡ t →
           (Has (reads_in s) k → get_or (replies b (commands_in q s)) (place_asked s k) Absent ≡ reply (after_commands b (commands_of (take (done_before s k) (operations_in s)))) (q k)) →
@@ -206,10 +206,10 @@ module _ (q : ℕ → Command) where
           ap (λ z. get_or (replies z (commands_in q s)) (place_asked s k) Absent) (read_stays b (q j) (only j (Has-first j (reads_in s))))
           ∙ rec (later j k (reads_in s) h e)
 
-  pub done_told : (b : Store) (s : List Item) → ((j : ℕ) → Has (reads_in s) j → only_reads (q j) ≡ true) → (i : ℕ) → Has (instances_of (operations_in s)) i →
+  pub done_reported : (b : Store) (s : List Item) → ((j : ℕ) → Has (reads_in s) j → only_reads (q j) ≡ true) → (i : ℕ) → Has (instances_of (operations_in s)) i →
       get_or (replies b (commands_in q s)) (place_done s i) Absent ≡ get_or (replies b (commands_of (operations_in s))) (place (instances_of (operations_in s)) i) Absent
-  done_told b [] only i h = absurd (Has-empty i h)
-  done_told b (Done o ∷ s) only i h = go (eqb o.instance i) refl (done_told (after b o.command) s only i)
+  done_reported b [] only i h = absurd (Has-empty i h)
+  done_reported b (Done o ∷ s) only i h = go (eqb o.instance i) refl (done_reported (after b o.command) s only i)
     where
       go : (t : Bool) → eqb o.instance i ≡ t →
           (Has (instances_of (operations_in s)) i → get_or (replies (after b o.command) (commands_in q s)) (place_done s i) Absent
@@ -218,6 +218,6 @@ module _ (q : ℕ → Command) where
           ≡ get_or (reply b o.command ∷ replies (after b o.command) (commands_of (operations_in s))) (cond t 0 (suc (place (instances_of (operations_in s)) i))) Absent
       go true e rec = refl
       go false e rec = rec (later o.instance i (instances_of (operations_in s)) h e)
-  done_told b (Asked j ∷ s) only i h =
+  done_reported b (Asked j ∷ s) only i h =
       ap (λ z. get_or (replies z (commands_in q s)) (place_done s i) Absent) (read_stays b (q j) (only j (Has-first j (reads_in s))))
-      ∙ done_told b s (λ k m. only k (Has-tail j (reads_in s) k m)) i h
+      ∙ done_reported b s (λ k m. only k (Has-tail j (reads_in s) k m)) i h

@@ -1,4 +1,5 @@
--- Every read of one key is told what one map, or one machine, tells at one moment between its question and its answer.
+-- Every read of one key is answered what one map, or one machine, reports at one moment between its question and its
+-- answer.
 use Rattle.std.proofs.Common.{◌≡◌, ℕ, ◌<◌, ◌≤◌, true, false, Option, is_some, List, ◌++◌, take, drop, refl, sym, ap, subst, ◌∙◌, arith}
 use Rattle.std.proofs.lemmas.Bool.{false≢true}
 use Rattle.std.proofs.lemmas.List.{take-append-drop}
@@ -22,7 +23,7 @@ use Rattle.ep_looks.proofs.Looking.{seen_at, many_seen, leads_on, seen_within}
 use Rattle.ep_looks.specs.MachineReads.{MachineReadsAreLinearizable}
 use Rattle.ep_looks.proofs.Moments.{at, fits, is_between, history_front}
 use Rattle.ep_looks.proofs.Owned.{c, h, own, known, map_is, history_leaves, machine_is, machine_leaves}
-use Rattle.ep_looks.proofs.Told.{map_told, machine_told}
+use Rattle.ep_looks.proofs.Reported.{map_reported, machine_reported}
 
 pub reader_real : (d : Command) → only_reads d ≡ true → is_noop d ≡ false
 reader_real Noop e = absurd (false≢true e)
@@ -58,7 +59,7 @@ module _ (base : Store) (f : ℕ) (some : 0 < f) (few : size f ≤ 256) (acts : 
   legal : reply_of base f acts r ≡ reply (after_commands base (commands_of (take spot (history_of base f acts)))) r.command
   legal =
       ap (λ s. reply s r.command) (map_is base f some few acts run r.answered r.reader)
-      ∙ map_told cs r.command done history spot (known base f some few acts run r.answered r.reader) (fits base f some few acts run r seen is) base
+      ∙ map_reported cs r.command done history spot (known base f some few acts run r.answered r.reader) (fits base f some few acts run r seen is) base
       ∙ ap (λ s. reply s r.command) (history_leaves base f some few acts run r.answered r.reader spot)
       ∙ ap (λ os. reply (after_commands base (commands_of os)) r.command) (sym (history_front base f some few acts run r seen is))
 
@@ -69,7 +70,7 @@ module _ (base : Store) (f : ℕ) (some : 0 < f) (few : size f ≤ 256) (acts : 
     machine_legal : M.reply (after_operations M start (executed_at (world_at base f acts r.answered) r.reader)) o ≡ M.reply (after_operations M start (take spot (history_of base f acts))) o
     machine_legal =
         ap (λ s. M.reply s o) (machine_is base f some few acts run r.answered r.reader M start)
-        ∙ machine_told cs r.command done history spot (known base f some few acts run r.answered r.reader) (fits base f some few acts run r seen is) i (out_of_part base f r.answered acts i out) M
+        ∙ machine_reported cs r.command done history spot (known base f some few acts run r.answered r.reader) (fits base f some few acts run r seen is) i (out_of_part base f r.answered acts i out) M
         (reader_real r.command is.reads.only) start
         ∙ ap (λ s. M.reply s o) (machine_leaves base f some few acts run r.answered r.reader M start spot)
         ∙ ap (λ os. M.reply (after_operations M start os) o) (sym (history_front base f some few acts run r seen is))

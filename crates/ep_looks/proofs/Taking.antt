@@ -16,7 +16,7 @@ use Rattle.ep_looks.specs.Reads.{Read, reply_of, IsBetween}
 use Rattle.ep_looks.specs.RealTime.{KeepsRealTime}
 use Rattle.ep_looks.specs.WithReads.{Item, operations_in, reads_in, place_asked, place_done, IsHistoryWith, HistoriesTakeReads}
 use Rattle.ep_looks.proofs.InTurn.{reads_keep_real_time_lem, short_of_all}
-use Rattle.ep_looks.proofs.Placing.{insert, all_done, done_operations, done_reads, done_before, spot, insert_operations, insert_back, insert_new, insert_old, insert_once, insert_at, insert_keeps, insert_behind, insert_orders, spot_before, spot_after, place_is_spot, read_told, done_told}
+use Rattle.ep_looks.proofs.Placing.{insert, all_done, done_operations, done_reads, done_before, spot, insert_operations, insert_back, insert_new, insert_old, insert_once, insert_at, insert_keeps, insert_behind, insert_orders, spot_before, spot_after, place_is_spot, read_reported, done_reported}
 use Rattle.ep_looks.proofs.Looking.{seen_at}
 use Rattle.ep_looks.proofs.Reading.{is_ahead, ahead_reads_are_linearizable_lem}
 
@@ -27,7 +27,7 @@ module _ (base : Store) (f : ℕ) (some : 0 < f) (few : size f ≤ 256) (acts : 
   -- the read k may stand behind p operations
   record May (k p : ℕ) : Type 0 where
     between : IsBetween base f acts (reads k) p
-    told : reply_of base f acts (reads k) ≡ reply (after_commands base (commands_of (take p h))) (reads k).command
+    reported : reply_of base f acts (reads k) ≡ reply (after_commands base (commands_of (take p h))) (reads k).command
 
   -- the history with the first n reads
   record Built (n : ℕ) (s : List Item) : Type 0 where
@@ -120,8 +120,8 @@ module _ (base : Store) (f : ℕ) (some : 0 < f) (few : size f ≤ 256) (acts : 
       once = as_once (reads_in s) b.once;
       complete = λ k. (b.back k, b.forth k);
       legal = λ k lt.
-          (b.may k lt).told ∙ ap (λ os. reply (after_commands base (commands_of (take (done_before s k) os))) (q k)) (sym b.operations) ∙ sym (read_told q base s only k (b.forth k lt));
-      same = λ i k. done_told q base s only i (has_done i k) ∙ ap (λ os. get_or (Rattle.ep_rules.specs.OneMap.replies base (commands_of os)) (place (instances_of os) i) Rattle.ep_base.specs.declared.reply.Reply.TheVariants.Absent) b.operations;
+          (b.may k lt).reported ∙ ap (λ os. reply (after_commands base (commands_of (take (done_before s k) os))) (q k)) (sym b.operations) ∙ sym (read_reported q base s only k (b.forth k lt));
+      same = λ i k. done_reported q base s only i (has_done i k) ∙ ap (λ os. get_or (Rattle.ep_rules.specs.OneMap.replies base (commands_of os)) (place (instances_of os) i) Rattle.ep_base.specs.declared.reply.Reply.TheVariants.Absent) b.operations;
       behind = λ k i a lt there m e.
           subst (λ z. z < place_asked s k) (sym (stands i there)) (spot_before s k (place (instances_of h) i) (b.forth k lt) ((keeps k (done_before s k) (b.may k lt)).behind i a there m e));
       before = λ k i c t lt there le.
@@ -132,7 +132,7 @@ module _ (base : Store) (f : ℕ) (some : 0 < f) (few : size f ≤ 256) (acts : 
 pub histories_take_ahead_reads_lem : HistoriesTakeAheadReads
 histories_take_ahead_reads_lem base f some few acts run reads seen n are =
     let t = build base f some few acts run reads n
-    (λ k lt. let r = ahead_reads_are_linearizable_lem base f some few acts run (reads k) (seen k) (are k lt) in (r.0, record { between = r.1; told = r.2 })) in
+    (λ k lt. let r = ahead_reads_are_linearizable_lem base f some few acts run (reads k) (seen k) (are k lt) in (r.0, record { between = r.1; reported = r.2 })) in
     (t.0, is_history_with base f some few acts run reads n (λ k lt. (are k lt).reads.only) t.0 t.1)
 
 pub histories_take_reads_lem : HistoriesTakeReads

@@ -1,4 +1,4 @@
--- A read of any keys is told what one map, or one machine, says where its reply is taken, if all that is found after that was executed already.
+-- A read of any keys is answered what one map, or one machine, says where its reply is taken, if all that is found after that was executed already.
 use Rattle.std.proofs.Common.{◌≡◌, ℕ, ◌<◌, ◌≤◌, Option, List, [], length, take, ap, ◌∙◌, arith, append-nil}
 use Rattle.std.proofs.lemmas.List.{take_all}
 use Rattle.ep_base.specs.Commands.{Command}
@@ -19,7 +19,7 @@ use Rattle.ep_looks.proofs.Looking.{history_found, seen_at, many_seen, leads_on,
 use Rattle.ep_looks.proofs.Owned.{c, h, executed, own, run_whole, known, own_has, map_is, history_leaves, machine_is, machine_leaves}
 use Rattle.ep_looks.proofs.Reading.{reader_real}
 use Rattle.ep_looks.proofs.Splits.{fits_all}
-use Rattle.ep_looks.proofs.Told.{map_told, machine_told}
+use Rattle.ep_looks.proofs.Reported.{map_reported, machine_reported}
 
 module _ (base : Store) (f : ℕ) (some : 0 < f) (few : size f ≤ 256) (acts : List Act) (run : IsRun f (opening base) acts) (r : Read) (seen : ℕ → Option State) (is : IsAheadWholeRead base f acts r seen) where
   abbrev cs : ℕ → Command
@@ -43,7 +43,7 @@ module _ (base : Store) (f : ℕ) (some : 0 < f) (few : size f ≤ 256) (acts : 
   legal : reply (store_of (world_at base f acts r.asked) r.reader) r.command ≡ reply (after_commands base (commands_of (history_at base f acts r.asked))) r.command
   legal =
       ap (λ s. reply s r.command) (map_is base f some few acts run r.asked r.reader)
-      ∙ map_told cs r.command done history (length history) (known base f some few acts run r.asked r.reader) fits base
+      ∙ map_reported cs r.command done history (length history) (known base f some few acts run r.asked r.reader) fits base
       ∙ ap (λ s. reply s r.command) (history_leaves base f some few acts run r.asked r.reader (length history))
       ∙ ap (λ os. reply (after_commands base (commands_of os)) r.command) whole_history
 
@@ -54,7 +54,7 @@ module _ (base : Store) (f : ℕ) (some : 0 < f) (few : size f ≤ 256) (acts : 
     machine_legal : M.reply (after_operations M start (executed_at (world_at base f acts r.asked) r.reader)) o ≡ M.reply (after_operations M start (history_at base f acts r.asked)) o
     machine_legal =
         ap (λ s. M.reply s o) (machine_is base f some few acts run r.asked r.reader M start)
-        ∙ machine_told cs r.command done history (length history) (known base f some few acts run r.asked r.reader) fits i out M (reader_real r.command is.only) start
+        ∙ machine_reported cs r.command done history (length history) (known base f some few acts run r.asked r.reader) fits i out M (reader_real r.command is.only) start
         ∙ ap (λ s. M.reply s o) (machine_leaves base f some few acts run r.asked r.reader M start (length history))
         ∙ ap (λ os. M.reply (after_operations M start os) o) whole_history
 

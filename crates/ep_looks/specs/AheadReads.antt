@@ -17,7 +17,7 @@ use Rattle.ep_looks.specs.WithReads.{Item, IsHistoryWith}
 abbrev pub LeadsTo : (base : Store) → ℕ → List Act → ℕ → ℕ → State → Type 0
 LeadsTo base f acts n q s = (late : List Act) × IsRun f (world_at base f acts n) late × ((ends f (world_at base f acts n) late).states q ≡ s)
 
--- what a read of one key has to keep to, where `seen` tells the state in which each replica is looked at, if it is
+-- what a read of one key has to keep to, where `seen` gives the state in which each replica is looked at, if it is
 pub record IsAheadRead (base : Store) (f : ℕ) (acts : List Act) (r : Read) (seen : ℕ → Option State) : Type 0 where
   pub reads : ReadsOneKey r.command
   pub in_order : r.asked ≤ r.answered

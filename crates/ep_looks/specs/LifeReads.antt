@@ -40,7 +40,7 @@ abbrev pub history_to : Contents → (ℕ → ℕ) → List Turn → ℕ → ℕ
 history_to start f turns g n = history_of (opened (opening_map start f turns g)) (f g) (acts_in g (take n turns))
 
 -- A reply to the command behind the first p operations of the generation: that the map is closed, as there is a seal among them; or, as there is none, what one map
--- replies, which no seal closes, after all generations before, each up to its first seal, and these p. Then nobody had opened the next generation, as far as `next` tells.
+-- replies, which no seal closes, after all generations before, each up to its first seal, and these p. Then nobody had opened the next generation, as far as `next` reports.
 abbrev pub IsRightOrClosed : Contents → (ℕ → ℕ) → List Turn → ℕ → Command → Reply → (ℕ → Bool) → ℕ → Type 0
 IsRightOrClosed start f turns g c y next p =
     let first = take p (history_in start f turns g) in

@@ -8,7 +8,7 @@ use Rattle.ep_rules.specs.Operations.{Operation, instances_of, history_of}
 use Rattle.ep_rules.specs.Worlds.{opening, Act, IsRun}
 use Rattle.ep_looks.specs.Reads.{world_at, Read, IsRead, IsBetween}
 
--- Every read of one key is told by its reader's machine what one machine tells at one moment between its question and its answer.
+-- Every read of one key is answered by its reader's machine what one machine reports at one moment between its question and its answer.
 -- Its instance is any that isn't in the history.
 abbrev pub MachineReadsAreLinearizable : (S R : Type 0) → Type 0
 MachineReadsAreLinearizable S R =

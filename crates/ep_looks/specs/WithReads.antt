@@ -27,7 +27,7 @@ reads_in [] = []
 reads_in (Done o ∷ s) = reads_in s
 reads_in (Asked k ∷ s) = k ∷ reads_in s
 
--- what one map is asked in turn, where q tells the commands of the reads
+-- what one map is asked in turn, where q gives the commands of the reads
 abbrev pub commands_in : (ℕ → Command) → List Item → List Command
 commands_in q [] = []
 commands_in q (Done o ∷ s) = o.command ∷ commands_in q s

@@ -3,10 +3,10 @@ use Rattle.std.proofs.Common.{◌≡◌, ◌≤◌, ◌<◌, inl, inr, ℕ, Bool
 use Rattle.std.proofs.lemmas.Bool.{cases_lt}
 use Rattle.ep_base.specs.Versions.{version_number}
 use Rattle.std.specs.Prelude.{IfOk, IsErrAnd}
-use Rattle.ep_base.specs.Devices.{FailsAsTold}
+use Rattle.ep_base.specs.Devices.{FailsAsReported}
 use Rattle.ep_main.specs.Faults.{of_bundle, is_read, is_write}
 use Rattle.ep_cli.proofs.Printed.{not_made, put_to}
-use Rattle.ep_cli.specs.Endings.{IsOutOfMemory, TellsWhy}
+use Rattle.ep_cli.specs.Endings.{IsOutOfMemory, ReportsWhy}
 use Rattle.ep_cli.specs.Outputs.{Input, Output, WroteNothing, became}
 use Rattle.ep_cli.specs.Printed.{IsPut, IsTextPut, Makes}
 use Rattle.ep_cli.specs.declared.made.Made.{Made}
@@ -38,33 +38,33 @@ use Rattle.ep_main.specs.declared.engine_fault.EngineFault.TheVariants.{Script, 
 use Rattle.ep_cli.specs.declared.status.Status.{Status}
 use Rattle.ep_cli.specs.declared.status.Status.TheVariants.{Done, AuditRefused, Refused, OutOfMemory, Failed}
 
--- the reader and the output fail as the outcome tells
-pub record IsTold (outcome : Result Status EngineFault) (reader : Input) (out : Output) : Type 0 where
-  pub read : FailsAsTold is_read outcome reader.had_failed reader.failed
-  pub written : FailsAsTold is_write outcome out.had_failed out.failed
+-- the reader and the output fail as the outcome says
+pub record IsReported (outcome : Result Status EngineFault) (reader : Input) (out : Output) : Type 0 where
+  pub read : FailsAsReported is_read outcome reader.had_failed reader.failed
+  pub written : FailsAsReported is_write outcome out.had_failed out.failed
 
-replays : (form : Form) (outcome : Result Status EngineFault) (status : Status) (zs : List ℕ) (reader : Input) (out fault : Output) → Plays form outcome zs out → IsTold outcome reader out → Concludes outcome status fault → Replays form status zs reader out fault
+replays : (form : Form) (outcome : Result Status EngineFault) (status : Status) (zs : List ℕ) (reader : Input) (out fault : Output) → Plays form outcome zs out → IsReported outcome reader out → Concludes outcome status fault → Replays form status zs reader out fault
 replays form (Ok said) status zs reader out fault p t c = subst (λ s. Replays form s zs reader out fault) (sym (c.0 ∙ p.0)) (p.1, c.1)
 replays form (Err (Script line)) status zs reader out fault p t c =
-    subst (λ s. Replays form s zs reader out fault) (sym c.0) (record { line = line; script = p.0; silent = p.1; told = c.1 })
+    subst (λ s. Replays form s zs reader out fault) (sym c.0) (record { line = line; script = p.0; silent = p.1; reported = c.1 })
 replays form (Err (BadBundle field)) status zs reader out fault p t c = absurd p
 replays form (Err (NotARun replica entry)) status zs reader out fault p t c = absurd p
-replays form (Err Memory) status zs reader out fault p t c = subst (λ s. Replays form s zs reader out fault) (sym c.0) (record { silent = p; told = c.1 })
+replays form (Err Memory) status zs reader out fault p t c = subst (λ s. Replays form s zs reader out fault) (sym c.0) (record { silent = p; reported = c.1 })
 replays form (Err Read) status zs reader out fault p t c = subst (λ s. Replays form s zs reader out fault) (sym c.0) (inl ((t.read, t.written), p, c.1))
 replays form (Err Write) status zs reader out fault p t c = subst (λ s. Replays form s zs reader out fault) (sym c.0) (inr ((t.read, t.written), c.1))
 
-emits : (outcome : Result Status EngineFault) (status : Status) (zs : List ℕ) (reader : Input) (out fault : Output) → Leaves outcome zs out → IsTold outcome reader out → Concludes outcome status fault → Emits status zs reader out fault
+emits : (outcome : Result Status EngineFault) (status : Status) (zs : List ℕ) (reader : Input) (out fault : Output) → Leaves outcome zs out → IsReported outcome reader out → Concludes outcome status fault → Emits status zs reader out fault
 emits (Ok said) status zs reader out fault p t c = subst (λ s. Emits s zs reader out fault) (sym (c.0 ∙ p.0)) (p.1, c.1)
 emits (Err (Script line)) status zs reader out fault p t c =
-    subst (λ s. Emits s zs reader out fault) (sym c.0) (record { line = line; script = p.0; silent = p.1; told = c.1 })
+    subst (λ s. Emits s zs reader out fault) (sym c.0) (record { line = line; script = p.0; silent = p.1; reported = c.1 })
 emits (Err (BadBundle field)) status zs reader out fault p t c = absurd p
 emits (Err (NotARun replica entry)) status zs reader out fault p t c = absurd p
-emits (Err Memory) status zs reader out fault p t c = subst (λ s. Emits s zs reader out fault) (sym c.0) (record { silent = p; told = c.1 })
+emits (Err Memory) status zs reader out fault p t c = subst (λ s. Emits s zs reader out fault) (sym c.0) (record { silent = p; reported = c.1 })
 emits (Err Read) status zs reader out fault p t c = subst (λ s. Emits s zs reader out fault) (sym c.0) (inl ((t.read, t.written), p, c.1))
 emits (Err Write) status zs reader out fault p t c = subst (λ s. Emits s zs reader out fault) (sym c.0) (inr ((t.read, t.written), c.1))
 
 runs :
-    (options : Options) (outcome : Result Status EngineFault) (status : Status) (zs : List ℕ) (reader : Input) (out fault : Output) → Runs options outcome zs out → IsTold outcome reader out →
+    (options : Options) (outcome : Result Status EngineFault) (status : Status) (zs : List ℕ) (reader : Input) (out fault : Output) → Runs options outcome zs out → IsReported outcome reader out →
     Concludes outcome status fault → RunsInThreads options status zs reader out fault
 runs options (Ok Done) status zs reader out fault p t c = subst (λ s. RunsInThreads options s zs reader out fault) (sym c.0) (p, c.1)
 runs options (Ok AuditRefused) status zs reader out fault p t c = subst (λ s. RunsInThreads options s zs reader out fault) (sym c.0) (p, c.1)
@@ -72,14 +72,14 @@ runs options (Ok Refused) status zs reader out fault p t c = absurd p
 runs options (Ok OutOfMemory) status zs reader out fault p t c = absurd p
 runs options (Ok Failed) status zs reader out fault p t c = absurd p
 runs options (Err (Script line)) status zs reader out fault p t c =
-    subst (λ s. RunsInThreads options s zs reader out fault) (sym c.0) (record { line = line; script = p.0; silent = p.1; told = c.1 })
+    subst (λ s. RunsInThreads options s zs reader out fault) (sym c.0) (record { line = line; script = p.0; silent = p.1; reported = c.1 })
 runs options (Err (BadBundle field)) status zs reader out fault p t c = absurd p
 runs options (Err (NotARun replica entry)) status zs reader out fault p t c = absurd p
-runs options (Err Memory) status zs reader out fault p t c = subst (λ s. RunsInThreads options s zs reader out fault) (sym c.0) (record { silent = p; told = c.1 })
+runs options (Err Memory) status zs reader out fault p t c = subst (λ s. RunsInThreads options s zs reader out fault) (sym c.0) (record { silent = p; reported = c.1 })
 runs options (Err Read) status zs reader out fault p t c = subst (λ s. RunsInThreads options s zs reader out fault) (sym c.0) (inl ((t.read, t.written), p, c.1))
 runs options (Err Write) status zs reader out fault p t c = subst (λ s. RunsInThreads options s zs reader out fault) (sym c.0) (inr ((t.read, t.written), c.1))
 
-audits : (form : Form) (outcome : Result Status EngineFault) (status : Status) (zs : List ℕ) (reader : Input) (out fault : Output) → Finishes form outcome zs out → IsTold outcome reader out → Concludes outcome status fault → Audits form status zs reader out fault
+audits : (form : Form) (outcome : Result Status EngineFault) (status : Status) (zs : List ℕ) (reader : Input) (out fault : Output) → Finishes form outcome zs out → IsReported outcome reader out → Concludes outcome status fault → Audits form status zs reader out fault
 audits form (Ok Done) status zs reader out fault p t c = subst (λ s. Audits form s zs reader out fault) (sym c.0) (p, c.1)
 audits form (Ok AuditRefused) status zs reader out fault p t c = subst (λ s. Audits form s zs reader out fault) (sym c.0) (p, c.1)
 audits form (Ok Refused) status zs reader out fault p t c = absurd p.says
@@ -87,26 +87,26 @@ audits form (Ok OutOfMemory) status zs reader out fault p t c = absurd p.says
 audits form (Ok Failed) status zs reader out fault p t c = absurd p.says
 audits form (Err (Script line)) status zs reader out fault p t c = absurd p
 audits form (Err (BadBundle field)) status zs reader out fault p t c =
-    subst (λ s. Audits form s zs reader out fault) (sym c.0) (inl (record { field = field; read = p.0; silent = p.1; told = c.1 }))
+    subst (λ s. Audits form s zs reader out fault) (sym c.0) (inl (record { field = field; read = p.0; silent = p.1; reported = c.1 }))
 audits form (Err (NotARun replica entry)) status zs reader out fault p t c =
-    subst (λ s. Audits form s zs reader out fault) (sym c.0) (inr (record { replica = replica; entry = entry; read = p.0; silent = p.1; told = c.1 }))
-audits form (Err Memory) status zs reader out fault p t c = subst (λ s. Audits form s zs reader out fault) (sym c.0) (record { silent = p; told = c.1 })
+    subst (λ s. Audits form s zs reader out fault) (sym c.0) (inr (record { replica = replica; entry = entry; read = p.0; silent = p.1; reported = c.1 }))
+audits form (Err Memory) status zs reader out fault p t c = subst (λ s. Audits form s zs reader out fault) (sym c.0) (record { silent = p; reported = c.1 })
 audits form (Err Read) status zs reader out fault p t c = subst (λ s. Audits form s zs reader out fault) (sym c.0) (inl ((t.read, t.written), p, c.1))
 audits form (Err Write) status zs reader out fault p t c = subst (λ s. Audits form s zs reader out fault) (sym c.0) (inr ((t.read, t.written), c.1))
 
 upgrades :
-    (target : Target) (outcome : Result Status EngineFault) (status : Status) (zs : List ℕ) (reader : Input) (out fault : Output) → Rewrites target outcome zs out → IsTold outcome reader out → Concludes outcome status fault → Upgrades target status zs reader out fault
+    (target : Target) (outcome : Result Status EngineFault) (status : Status) (zs : List ℕ) (reader : Input) (out fault : Output) → Rewrites target outcome zs out → IsReported outcome reader out → Concludes outcome status fault → Upgrades target status zs reader out fault
 upgrades target (Ok said) status zs reader out fault p t c = subst (λ s. Upgrades target s zs reader out fault) (sym (c.0 ∙ p.0)) (p.1, c.1)
 upgrades target (Err (Script line)) status zs reader out fault p t c = absurd p
 upgrades target (Err (BadBundle field)) status zs reader out fault p t c =
-    subst (λ s. Upgrades target s zs reader out fault) (sym c.0) (inl (record { field = field; read = p.0; silent = p.1; told = c.1 }))
+    subst (λ s. Upgrades target s zs reader out fault) (sym c.0) (inl (record { field = field; read = p.0; silent = p.1; reported = c.1 }))
 upgrades target (Err (NotARun replica entry)) status zs reader out fault p t c =
-    subst (λ s. Upgrades target s zs reader out fault) (sym c.0) (inr (record { replica = replica; entry = entry; read = p.0; silent = p.1; told = c.1 }))
-upgrades target (Err Memory) status zs reader out fault p t c = subst (λ s. Upgrades target s zs reader out fault) (sym c.0) (record { silent = p; told = c.1 })
+    subst (λ s. Upgrades target s zs reader out fault) (sym c.0) (inr (record { replica = replica; entry = entry; read = p.0; silent = p.1; reported = c.1 }))
+upgrades target (Err Memory) status zs reader out fault p t c = subst (λ s. Upgrades target s zs reader out fault) (sym c.0) (record { silent = p; reported = c.1 })
 upgrades target (Err Read) status zs reader out fault p t c = subst (λ s. Upgrades target s zs reader out fault) (sym c.0) (inl ((t.read, t.written), p, c.1))
 upgrades target (Err Write) status zs reader out fault p t c = subst (λ s. Upgrades target s zs reader out fault) (sym c.0) (inr ((t.read, t.written), c.1))
 
-helps : (outcome : Result Status EngineFault) (status : Status) (text : List ℕ) (out fault : Output) → Prints outcome text out → FailsAsTold is_write outcome out.had_failed out.failed → Concludes outcome status fault → Helps status text out fault
+helps : (outcome : Result Status EngineFault) (status : Status) (text : List ℕ) (out fault : Output) → Prints outcome text out → FailsAsReported is_write outcome out.had_failed out.failed → Concludes outcome status fault → Helps status text out fault
 helps (Ok said) status text out fault p t c = subst (λ s. Helps s text out fault) (sym (c.0 ∙ p.0)) (p.1, c.1)
 helps (Err (Script line)) status text out fault p t c = absurd p
 helps (Err (BadBundle field)) status text out fault p t c = absurd p
@@ -115,7 +115,7 @@ helps (Err Memory) status text out fault p t c = absurd p
 helps (Err Read) status text out fault p t c = absurd p
 helps (Err Write) status text out fault p t c = subst (λ s. Helps s text out fault) (sym c.0) (t, c.1)
 
-versions : (outcome : Result Status EngineFault) (status : Status) (out fault : Output) → Prints outcome version_line out → FailsAsTold is_write outcome out.had_failed out.failed → Concludes outcome status fault → Versions status out fault
+versions : (outcome : Result Status EngineFault) (status : Status) (out fault : Output) → Prints outcome version_line out → FailsAsReported is_write outcome out.had_failed out.failed → Concludes outcome status fault → Versions status out fault
 versions (Ok said) status out fault p t c = subst (λ s. Versions s out fault) (sym (c.0 ∙ p.0)) (p.1, c.1)
 versions (Err (Script line)) status out fault p t c = absurd p
 versions (Err (BadBundle field)) status out fault p t c = absurd p
@@ -126,7 +126,7 @@ versions (Err Write) status out fault p t c = subst (λ s. Versions s out fault)
 
 pub performs :
     (asked : Asked) (outcome : Result Status EngineFault) (status : Status) (zs : List ℕ) (reader : Input) (out fault : Output) → Does asked outcome zs out →
-    IsTold outcome reader out → Concludes outcome status fault → Performs asked status zs reader out fault
+    IsReported outcome reader out → Concludes outcome status fault → Performs asked status zs reader out fault
 performs (Replay (Report form)) outcome status zs reader out fault d t c = replays form outcome status zs reader out fault d t c
 performs (Replay Bundle) outcome status zs reader out fault d t c = emits outcome status zs reader out fault d t c
 performs (Run options) outcome status zs reader out fault d t c = runs options outcome status zs reader out fault d t c
@@ -252,7 +252,7 @@ help_put asked other bytes r zs out is text put = subst (λ (a : Asked). Does a 
 -- The devices, whatever was read.
 
 pub ends :
-    (outcome : Result Status EngineFault) (status : Status) (reader : Input) (out fault : Output) → IfOk outcome IsVerdict → IsTold outcome reader out → Concludes outcome status fault → Ends status reader out fault
+    (outcome : Result Status EngineFault) (status : Status) (reader : Input) (out fault : Output) → IfOk outcome IsVerdict → IsReported outcome reader out → Concludes outcome status fault → Ends status reader out fault
 ends (Ok Done) status reader out fault d t c = subst (λ s. Ends s reader out fault) (sym c.0) ((t.read, t.written), c.2)
 ends (Ok AuditRefused) status reader out fault d t c = subst (λ s. Ends s reader out fault) (sym c.0) ((t.read, t.written), c.2)
 ends (Ok Refused) status reader out fault d t c = absurd d
@@ -267,9 +267,9 @@ ends (Err Write) status reader out fault d t c = subst (λ s. Ends s reader out 
 
 -- Nothing is done, and so neither the reader nor the output failed.
 
-pub declines : (why : WordsFault) (status : Status) (out fault : Output) → TellsWhy why status fault → WroteNothing out → Declines status out fault
-declines (declined.Words text) status out fault told silent = subst (λ s. Declines s out fault) (sym told.0) (silent, (string_bytes text, told.1))
-declines declined.Memory status out fault told silent = subst (λ s. Declines s out fault) (sym told.0) (record { silent = silent; told = told.1 })
+pub declines : (why : WordsFault) (status : Status) (out fault : Output) → ReportsWhy why status fault → WroteNothing out → Declines status out fault
+declines (declined.Words text) status out fault reported silent = subst (λ s. Declines s out fault) (sym reported.0) (silent, (string_bytes text, reported.1))
+declines declined.Memory status out fault reported silent = subst (λ s. Declines s out fault) (sym reported.0) (record { silent = silent; reported = reported.1 })
 
 -- nothing is done of what is asked for, since memory was refused
 out_of_memory : (want : Asked) (zs : List ℕ) (reader : Input) (out fault : Output) (words : List (List ℕ)) → AskFor want words → IsOutOfMemory out fault → Performs want OutOfMemory zs reader out fault
@@ -283,21 +283,21 @@ out_of_memory (Help text) zs reader out fault words ask memory = absurd ask
 
 pub performs_none :
     (want : Asked) (why : WordsFault) (status : Status) (zs : List ℕ) (reader : Input) (out fault : Output) (words : List (List ℕ)) → AskFor want words → why ≡ declined.Memory →
-    TellsWhy why status fault → WroteNothing out → Performs want status zs reader out fault
-performs_none want why status zs reader out fault words ask is told silent =
-    let why_told : TellsWhy declined.Memory status fault = subst (λ d. TellsWhy d status fault) is told in
-    subst (λ s. Performs want s zs reader out fault) (sym why_told.0) (out_of_memory want zs reader out fault words ask (record { silent = silent; told = why_told.1 }))
+    ReportsWhy why status fault → WroteNothing out → Performs want status zs reader out fault
+performs_none want why status zs reader out fault words ask is reported silent =
+    let why_reported : ReportsWhy declined.Memory status fault = subst (λ d. ReportsWhy d status fault) is reported in
+    subst (λ s. Performs want s zs reader out fault) (sym why_reported.0) (out_of_memory want zs reader out fault words ask (record { silent = silent; reported = why_reported.1 }))
 
-pub helps_none : (why : WordsFault) (status : Status) (out fault : Output) → why ≡ declined.Memory → TellsWhy why status fault → WroteNothing out → IsHelped status out fault
-helps_none why status out fault is told silent =
-    let why_told : TellsWhy declined.Memory status fault = subst (λ d. TellsWhy d status fault) is told in
-    subst (λ s. IsHelped s out fault) (sym why_told.0) (record { silent = silent; told = why_told.1 })
+pub helps_none : (why : WordsFault) (status : Status) (out fault : Output) → why ≡ declined.Memory → ReportsWhy why status fault → WroteNothing out → IsHelped status out fault
+helps_none why status out fault is reported silent =
+    let why_reported : ReportsWhy declined.Memory status fault = subst (λ d. ReportsWhy d status fault) is reported in
+    subst (λ s. IsHelped s out fault) (sym why_reported.0) (record { silent = silent; reported = why_reported.1 })
 
 pub ends_declined :
-    (why : WordsFault) (status : Status) (reader : Input) (out fault : Output) → TellsWhy why status fault → reader.failed ≡ reader.had_failed → out.failed ≡ out.had_failed →
+    (why : WordsFault) (status : Status) (reader : Input) (out fault : Output) → ReportsWhy why status fault → reader.failed ≡ reader.had_failed → out.failed ≡ out.had_failed →
     Ends status reader out fault
-ends_declined (declined.Words text) status reader out fault told r o = subst (λ s. Ends s reader out fault) (sym told.0) (r, o)
-ends_declined declined.Memory status reader out fault told r o = subst (λ s. Ends s reader out fault) (sym told.0) (r, o)
+ends_declined (declined.Words text) status reader out fault reported r o = subst (λ s. Ends s reader out fault) (sym reported.0) (r, o)
+ends_declined declined.Memory status reader out fault reported r o = subst (λ s. Ends s reader out fault) (sym reported.0) (r, o)
 
 -- Tasks.
 

@@ -1,7 +1,7 @@
--- Whether a device failed, as a fault tells it that was made of another.
+-- Whether a device failed, as a fault reports it that was made of another.
 use Rattle.std.proofs.Common.{◌≡◌, ℕ, Bool, false, List, Result, Ok, Err, refl, sym, ◌∙◌, ap}
 use Rattle.std.specs.Prelude.{◌||◌, IfErr, IsErrAnd}
-use Rattle.ep_base.specs.Devices.{FailsAsTold}
+use Rattle.ep_base.specs.Devices.{FailsAsReported}
 use Rattle.ep_bundle.specs.Reading.{is_read_failed as is_bundle_read}
 use Rattle.ep_bundle.specs.declared.bundle_fault.BundleFault.{BundleFault}
 use Rattle.ep_bundle.specs.declared.bundle_fault.BundleFault.TheVariants as bundle
@@ -43,15 +43,15 @@ write_of_bundle bundle.ReadFailed = refl
 write_of_bundle (bundle.BadBundle field) = refl
 write_of_bundle (bundle.NotARun replica entry) = refl
 
--- an answer tells the fault e, of which `is_its` says this
-pub as_told : {A : Type 0} (is_its : EngineFault → Bool) (e : EngineFault) (told had has : Bool) (r : Result A EngineFault) → IsErrAnd r (λ x. x ≡ e) → is_its e ≡ told → has ≡ (told || had) → FailsAsTold is_its r had has
-as_told is_its e told had has (Ok a) is same flag = absurd is
-as_told is_its e told had has (Err x) is same flag = flag ∙ ap (λ (b : Bool). b || had) (sym (ap is_its is ∙ same))
+-- an answer reports the fault e, of which `is_its` says this
+pub as_reported : {A : Type 0} (is_its : EngineFault → Bool) (e : EngineFault) (reported had has : Bool) (r : Result A EngineFault) → IsErrAnd r (λ x. x ≡ e) → is_its e ≡ reported → has ≡ (reported || had) → FailsAsReported is_its r had has
+as_reported is_its e reported had has (Ok a) is same flag = absurd is
+as_reported is_its e reported had has (Err x) is same flag = flag ∙ ap (λ (b : Bool). b || had) (sym (ap is_its is ∙ same))
 
-pub script_read : {A : Type 0} (s : ScriptFault) (r : Result A EngineFault) (had has : Bool) → IsErrAnd r (λ x. x ≡ of_script s) → has ≡ (is_script_read s || had) → FailsAsTold is_read r had has
-script_read s r had has is flag = as_told is_read (of_script s) (is_script_read s) had has r is (read_of_script s) flag
+pub script_read : {A : Type 0} (s : ScriptFault) (r : Result A EngineFault) (had has : Bool) → IsErrAnd r (λ x. x ≡ of_script s) → has ≡ (is_script_read s || had) → FailsAsReported is_read r had has
+script_read s r had has is flag = as_reported is_read (of_script s) (is_script_read s) had has r is (read_of_script s) flag
 
--- what a reader tells is not that the output has failed
+-- what a reader reports is not that the output has failed
 as_err : {A : Type 0} (f : EngineFault) (r : Result A EngineFault) → IsErrAnd r (λ e. e ≡ f) → is_write f ≡ false → IfErr r (λ e. is_write e ≡ false)
 as_err f (Ok a) is same = absurd is
 as_err f (Err e) is same = ap is_write is ∙ same
@@ -59,8 +59,8 @@ as_err f (Err e) is same = ap is_write is ∙ same
 pub script_unwritten : {A : Type 0} (s : ScriptFault) (r : Result A EngineFault) → IsErrAnd r (λ e. e ≡ of_script s) → IfErr r (λ e. is_write e ≡ false)
 script_unwritten s r is = as_err (of_script s) r is (write_of_script s)
 
-pub bundle_read : {A : Type 0} (b : BundleFault) (r : Result A EngineFault) (had has : Bool) → IsErrAnd r (λ x. x ≡ of_bundle b) → has ≡ (is_bundle_read b || had) → FailsAsTold is_read r had has
-bundle_read b r had has is flag = as_told is_read (of_bundle b) (is_bundle_read b) had has r is (read_of_bundle b) flag
+pub bundle_read : {A : Type 0} (b : BundleFault) (r : Result A EngineFault) (had has : Bool) → IsErrAnd r (λ x. x ≡ of_bundle b) → has ≡ (is_bundle_read b || had) → FailsAsReported is_read r had has
+bundle_read b r had has is flag = as_reported is_read (of_bundle b) (is_bundle_read b) had has r is (read_of_bundle b) flag
 
 pub bundle_unwritten : {A : Type 0} (b : BundleFault) (r : Result A EngineFault) → IsErrAnd r (λ e. e ≡ of_bundle b) → IfErr r (λ e. is_write e ≡ false)
 bundle_unwritten b r is = as_err (of_bundle b) r is (write_of_bundle b)

@@ -20,7 +20,7 @@ use Rattle.ep_main.specs.ChainLines.{IsRefusal, IsUnreadLate}
 use Rattle.ep_main.specs.Chains.{AreRead, Chains, EndsOfFiles, IsBadFile, IsOfBytes, IsLinkOf, IsNoFile, IsNoLink, IsStopped, IsWritten, ReadsLate, SaysOfChain, chain_text, file_line, life_text, link_text, links_text}
 use Rattle.ep_report.specs.Lives.{life_in}
 use Rattle.ep_cli.specs.Endings.{TurnsAway}
-use Rattle.ep_cli.specs.Outputs.{Output, Told, WroteNothing}
+use Rattle.ep_cli.specs.Outputs.{Output, Reported, WroteNothing}
 use Rattle.ep_main.specs.Runs.{Concludes}
 use Rattle.ep_main.specs.declared.form.Form.{Form}
 use Rattle.ep_main.specs.declared.engine_fault.EngineFault.{EngineFault}
@@ -31,12 +31,12 @@ use Rattle.ep_cli.specs.declared.status.Status.TheVariants.{Done, AuditRefused, 
 -- A file that is no bundle.
 
 pub bad_file : (name zs line : List ℕ) (fault : BundleFault) → IsOfBytes fault → ReadsLate zs (Err fault) → line ≡ file_line name fault → IsBadFile name zs line
-bad_file name zs line fault of found told = record { fault = fault; of = of; read = found; told = told }
+bad_file name zs line fault of found reported = record { fault = fault; of = of; read = found; reported = reported }
 
 pub refusal : (name zs : List ℕ) (fault : BundleFault) (f : FilesFault) → IsOfBytes fault → ReadsLate zs (Err fault) → IsRefusal name fault f → IsNoLink name zs f
-refusal name zs fault files.Memory of found told = tt
-refusal name zs fault (files.ReadFailed line) of found told = absurd told
-refusal name zs fault (files.Refused line) of found told = bad_file name zs line.items fault of found told
+refusal name zs fault files.Memory of found reported = tt
+refusal name zs fault (files.ReadFailed line) of found reported = absurd reported
+refusal name zs fault (files.Refused line) of found reported = bad_file name zs line.items fault of found reported
 
 -- what the reader found
 pub unread : (zs : List ℕ) (fault : BundleFault) (place : ℕ) (left : Option (List ℕ)) → Finds {A = Contents} (ReadsLate zs) (Err fault) place left → IsUnreadLate zs fault
@@ -95,7 +95,7 @@ chains_written form links AuditRefused result text out fault says (inl (is, wrot
 chains_written form links Refused result text out fault says (inl h) = absurd says
 chains_written form links OutOfMemory result text out fault says (inl h) = absurd says
 chains_written form links Failed result text out fault says (inl h) = absurd says
-chains_written form links status result text out fault says (inr (is, failed, told)) = subst (λ s. Chains form links s out fault) (sym is) (failed, told)
+chains_written form links status result text out fault says (inr (is, failed, reported)) = subst (λ s. Chains form links s out fault) (sym is) (failed, reported)
 
 -- a fault's generation is one of them
 
@@ -111,14 +111,14 @@ ends_written form links AuditRefused result text out fault says (inl (is, wrote,
 ends_written form links Refused result text out fault says (inl h) = absurd says
 ends_written form links OutOfMemory result text out fault says (inl h) = absurd says
 ends_written form links Failed result text out fault says (inl h) = absurd says
-ends_written form links status result text out fault says (inr (is, failed, told)) = subst (λ s. EndsOfFiles s out fault) (sym is) (inl (failed, told))
+ends_written form links status result text out fault says (inr (is, failed, reported)) = subst (λ s. EndsOfFiles s out fault) (sym is) (inl (failed, reported))
 
 -- Memory was refused.
 
 pub chains_none : (form : Form) (links : List ChainLink) (e : EngineFault) (result : Status) (out fault : Output) → e ≡ Memory → Concludes (Err e) result fault → WroteNothing out → Chains form links result out fault
 chains_none form links e result out fault is concludes silent =
     let why : Concludes (Err Memory) result fault = subst (λ (x : EngineFault). Concludes (Err x) result fault) is concludes in
-    subst (λ s. Chains form links s out fault) (sym why.0) (record { silent = silent; told = why.1 })
+    subst (λ s. Chains form links s out fault) (sym why.0) (record { silent = silent; reported = why.1 })
 
 pub ends_none : (e : EngineFault) (result : Status) (out fault : Output) → e ≡ Memory → Concludes (Err e) result fault → out.failed ≡ out.had_failed → EndsOfFiles result out fault
 ends_none e result out fault is concludes kept =
@@ -132,7 +132,7 @@ pub ends_stopped :
     EndsOfFiles result out fault
 ends_stopped names files.Memory result out fault is turns kept = subst (λ s. EndsOfFiles s out fault) (sym turns.0) kept
 ends_stopped names (files.ReadFailed line) result out fault (name, named, own) turns kept =
-    subst (λ s. EndsOfFiles s out fault) (sym turns.0) (inr (kept, (name, own.0, subst (Told fault) own.1 turns.1)))
+    subst (λ s. EndsOfFiles s out fault) (sym turns.0) (inr (kept, (name, own.0, subst (Reported fault) own.1 turns.1)))
 ends_stopped names (files.Refused line) result out fault is turns kept = subst (λ s. EndsOfFiles s out fault) (sym turns.0) kept
 
 -- one more was read
@@ -146,18 +146,18 @@ read_more ls l read one = All-append (λ (x : ChainLink). (zs : List ℕ) × IsL
 
 -- The lines of generations.
 
-pub link_told :
+pub link_reported :
     (l : ChainLink) (v : Verdict) (life : Life) (old new : List ℕ) → Some life ≡ life_in l.journals (summary_of v) →
     new ≡ old ++ link_line life (length v.committed.items) (length v.history.items) ++ codes "\n" → new ≡ old ++ link_text l v
-link_told l v life old new some is =
+link_reported l v life old new some is =
     is ∙ append_assoc old (link_line life (length v.committed.items) (length v.history.items)) (codes "\n") ∙ ap (λ (o : Option Life). old ++ life_text o v) some
 
-pub line_told :
+pub line_reported :
     {A E : Type 0} (r : Result A E) (l : ChainLink) (v : Verdict) (life : Life) (n m : ℕ) (old new : List ℕ) → Some life ≡ life_in l.journals (summary_of v) → n ≡ length v.committed.items → m ≡ length v.history.items →
     OnOk r (new ≡ old ++ link_line life n m ++ codes "\n") → OnOk r (new ≡ old ++ link_text l v)
-line_told {A} {E} (Ok a) l v life n m old new some is is' h =
-    link_told l v life old new some (h ∙ ap₂ (λ (x y : ℕ). old ++ link_line life x y ++ codes "\n") is is')
-line_told {A} {E} (Err e) l v life n m old new some is is' h = tt
+line_reported {A} {E} (Ok a) l v life n m old new some is is' h =
+    link_reported l v life old new some (h ∙ ap₂ (λ (x y : ℕ). old ++ link_line life x y ++ codes "\n") is is')
+line_reported {A} {E} (Err e) l v life n m old new some is is' h = tt
 
 pub link_silent : (l : ChainLink) (v : Verdict) (old : List ℕ) → None ≡ life_in l.journals (summary_of v) → old ≡ old ++ link_text l v
 link_silent l v old none = sym (append-nil old) ∙ ap (λ (o : Option Life). old ++ life_text o v) none

@@ -593,7 +593,7 @@ pub audit_named : (m : ArgMatches) (form : Form) → MetAudit form (subcommand_r
 audit_named m form (words, found, is, names) = said_named audit_words m (codes "audit") words found
 
 pub chain_named : (m : ArgMatches) (form : Form) (names : List Text) → MetChain form names (subcommand_rows_of m) → subcommand_name_of m ≡ Some (codes "audit")
-chain_named m form names (words, found, is, told) = said_named audit_words m (codes "audit") words found
+chain_named m form names (words, found, is, reported) = said_named audit_words m (codes "audit") words found
 
 pub upgrade_named : (m : ArgMatches) (target : Target) → MetUpgrade target (subcommand_rows_of m) → subcommand_name_of m ≡ Some (codes "upgrade")
 upgrade_named m target (what, found, names) = said_named to_word m (codes "upgrade") what found
@@ -611,8 +611,8 @@ bundle_met m form rows named has (words, found, is, names) =
 pub chain_met :
     (m : ArgMatches) (form : Form) (rows : List Row) (names : List Text) → subcommand_name_of m ≡ Some (codes "audit") → option_map (λ p. p.1) (subcommand_rows_of m) ≡ Some rows →
     MetChain form names (subcommand_rows_of m) → IsChainAudit names (audit_words rows) × NamesForm (first_of (codes "emit") rows) form
-chain_met m form rows names named has (words, found, is, told) =
-    subst (λ (w : AuditWords). IsChainAudit names w × NamesForm w.emit form) (sym (said_is audit_words m (codes "audit") (codes "audit") rows words named has found)) (is, told)
+chain_met m form rows names named has (words, found, is, reported) =
+    subst (λ (w : AuditWords). IsChainAudit names w × NamesForm w.emit form) (sym (said_is audit_words m (codes "audit") (codes "audit") rows words named has found)) (is, reported)
 
 pub met_audit_by :
     (m : ArgMatches) (rows : List Row) → subcommand_name_of m ≡ Some (codes "audit") → option_map (λ p. p.1) (subcommand_rows_of m) ≡ Some rows →
@@ -774,14 +774,14 @@ met_audit_tasks m rows (Err e) named has is = tt
 pub some_isnt : {A : Type 0} (given : A) (o : Option A) → Some given ≡ o → o ≡ None → ⊥
 some_isnt {A} given o is none = let bad : Some given ≡ None = is ∙ none in cc
 
--- The form in which an audit is told.
+-- The form in which an audit is reported.
 
 pub same_form : (form f : Form) (r : Result Form WordsFault) → r ≡ Ok f → r ≡ Ok form → form ≡ f
 same_form form f r is wants =
     let same : Ok form ≡ Ok f = sym wants ∙ is in
     cc
 
--- of what it is told in
+-- of what it is answered in
 pub audit_tasks :
     (form : Form) (words : AuditWords) (r : Result Job WordsFault) → NamesForm words.emit form → IfOk r (λ t. IsAuditIn form t words) → IfOk r (λ t. IsAuditTask t words)
 audit_tasks form words (Ok t) names is = (form, is, names)

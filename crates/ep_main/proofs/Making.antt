@@ -1,7 +1,7 @@
 -- What is made of what was read, before it is printed.
 use Rattle.std.proofs.Common.{◌≡◌, ℕ, Bool, false, List, Result, Ok, Err, IfOk, IfErr, IsOk, refl, sym, ◌∙◌, ap, subst}
 use Rattle.std.specs.Prelude.{◌||◌, IsErrAnd}
-use Rattle.ep_base.specs.Devices.{FailsAsTold}
+use Rattle.ep_base.specs.Devices.{FailsAsReported}
 use Rattle.ep_bundle.specs.Reading.{Left}
 use Rattle.ep_cli.proofs.Printed.{not_made}
 use Rattle.ep_cli.specs.Outputs.{Output, Wrote, WroteNothing}
@@ -17,7 +17,7 @@ use Rattle.ep_main.specs.Audits.{Says, SaysOfRun}
 use Rattle.ep_main.specs.Faults.{of_script, is_read, is_write}
 use Rattle.ep_main.specs.Hosts.{Promises}
 use Rattle.ep_main.specs.Options.{Options}
-use Rattle.ep_main.specs.Reported.{IsEmitted}
+use Rattle.ep_main.specs.ScriptReports.{IsEmitted}
 use Rattle.ep_main.specs.Runs.{Does, IsVerdict}
 use Rattle.ep_main.specs.Upgrades.{Reads}
 use Rattle.ep_main.specs.declared.asked.Asked.TheVariants.{Replay, Run, Audit}
@@ -39,7 +39,7 @@ use Rattle.ep_script.specs.declared.script_fault.ScriptFault.{ScriptFault}
 use Rattle.ep_script.specs.declared.script_fault.ScriptFault.TheVariants as script
 
 -- out of memory is no device's fault
-pub memory_read : (r : Result Made EngineFault) (had has : Bool) → IfErr r (λ e. e ≡ Memory) → has ≡ (false || had) → FailsAsTold is_read r had has
+pub memory_read : (r : Result Made EngineFault) (had has : Bool) → IfErr r (λ e. e ≡ Memory) → has ≡ (false || had) → FailsAsReported is_read r had has
 memory_read (Ok made) had has is flag = flag
 memory_read (Err e) had has is flag = flag ∙ ap (λ (b : Bool). b || had) (sym (ap is_read is))
 

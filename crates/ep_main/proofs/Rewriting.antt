@@ -2,7 +2,7 @@
 use Rattle.std.proofs.Common.{◌≡◌, ◌≤◌, ◌<◌, ◌⊎◌, inl, inr, ℕ, Bool, false, List, [], ◌++◌, append-nil, Ok, Err, refl, ap, sym, subst, ◌∙◌, arith, ⊎_elim}
 use Rattle.std.proofs.lemmas.Bool.{cases_lt}
 use Rattle.std.specs.Prelude.{◌||◌}
-use Rattle.ep_base.specs.Devices.{FailsAsTold}
+use Rattle.ep_base.specs.Devices.{FailsAsReported}
 use Rattle.ep_base.specs.Versions.{version_number}
 use Rattle.ep_base.specs.declared.version.Version.{Version}
 use Rattle.ep_base.specs.declared.version_kind.VersionKind.TheVariants.{V2}
@@ -91,10 +91,10 @@ third_device c rs e early late = ⊎_elim
     (λ (high : 3 ≤ version_number c.version). no_device c rs e (subst (IsThirdFault c rs) (sym (late high)) tt))
     (cases_lt (version_number c.version) 3)
 
-pub third_told :
+pub third_reported :
     (c : Collected) (rs : List Receipt) (e : EngineFault) (had has : Bool) → (version_number c.version ≤ 2 → IsThirdFault c rs e) → (3 ≤ version_number c.version → e ≡ Memory) → has ≡ (false || had) →
-    FailsAsTold {T = Made} is_read (Err e) had has
-third_told c rs e had has early late flag = flag ∙ ap (λ (b : Bool). b || had) (sym (third_device c rs e early late).0)
+    FailsAsReported {T = Made} is_read (Err e) had has
+third_reported c rs e had has early late flag = flag ∙ ap (λ (b : Bool). b || had) (sym (third_device c rs e early late).0)
 
 pub third_unwritten : (c : Collected) (rs : List Receipt) (e : EngineFault) → (version_number c.version ≤ 2 → IsThirdFault c rs e) → (3 ≤ version_number c.version → e ≡ Memory) → is_write e ≡ false
 third_unwritten c rs e early late = (third_device c rs e early late).1

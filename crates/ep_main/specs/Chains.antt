@@ -22,7 +22,7 @@ use Rattle.ep_main.specs.Forms.{chain_refusal_in}
 use Rattle.ep_main.specs.declared.form.Form.{Form}
 use Rattle.ep_main.specs.declared.form.Form.TheVariants.{Lines, Json}
 use Rattle.ep_cli.specs.Endings.{IsOutOfMemory, TurnsAway}
-use Rattle.ep_cli.specs.Outputs.{Output, Told, Wrote, WroteNothing}
+use Rattle.ep_cli.specs.Outputs.{Output, Reported, Wrote, WroteNothing}
 use Rattle.ep_cli.specs.declared.status.Status.{Status}
 use Rattle.ep_cli.specs.declared.status.Status.TheVariants.{Done, AuditRefused, Refused, OutOfMemory, Failed}
 
@@ -56,7 +56,7 @@ pub record IsBadFile (name zs line : List ℕ) : Type 0 where
   pub fault : BundleFault
   pub of : IsOfBytes fault
   pub read : ReadsLate zs (Err fault)
-  pub told : line ≡ file_line name fault
+  pub reported : line ≡ file_line name fault
 
 -- why there is none in these bytes of a file of this name
 abbrev pub IsNoLink : List ℕ → List ℕ → FilesFault → Type 0
@@ -106,7 +106,7 @@ pub record IsFaultText (form : Form) (links : List ChainLink) (text : List ℕ) 
   pub refused : IsChainFault links place fault
   pub link : ChainLink
   pub there : slice_get links place ≡ Some link
-  pub told : text ≡ chain_refusal_in form (number_of link) fault
+  pub reported : text ≡ chain_refusal_in form (number_of link) fault
 
 -- the audit accepts, and the text has a line for each; or it refuses, and the text is that of the first fault
 abbrev pub SaysOfChain : Form → List ChainLink → Status → List ℕ → Type 0
@@ -117,7 +117,7 @@ SaysOfChain form links OutOfMemory text = ⊥
 SaysOfChain form links Failed text = ⊥
 
 -- What was written is what the audit says of them.
-pub record IsToldChain (form : Form) (links : List ChainLink) (status : Status) (out fault : Output) : Type 0 where
+pub record IsReportedChain (form : Form) (links : List ChainLink) (status : Status) (out fault : Output) : Type 0 where
   pub text : List ℕ
   pub says : SaysOfChain form links status text
   pub wrote : Wrote out text
@@ -125,17 +125,17 @@ pub record IsToldChain (form : Form) (links : List ChainLink) (status : Status) 
 
 -- of these bundles, by the status
 abbrev pub Chains : Form → List ChainLink → Status → Output → Output → Type 0
-Chains form links Done out fault = IsToldChain form links Done out fault
-Chains form links AuditRefused out fault = IsToldChain form links AuditRefused out fault
+Chains form links Done out fault = IsReportedChain form links Done out fault
+Chains form links AuditRefused out fault = IsReportedChain form links AuditRefused out fault
 Chains form links Refused out fault = ⊥
 Chains form links OutOfMemory out fault = IsOutOfMemory out fault
-Chains form links Failed out fault = (out.failed ≡ true) × Told fault writing_failed
+Chains form links Failed out fault = (out.failed ≡ true) × Reported fault writing_failed
 
 -- the text was written, and that is the status; or the output has failed, which is reported
 abbrev pub IsWritten : Status → List ℕ → Status → Output → Output → Type 0
 IsWritten status text result out fault =
     ((result ≡ status) × Wrote out text × (out.failed ≡ out.had_failed) × WroteNothing fault × (fault.failed ≡ fault.had_failed))
-    ⊎ ((result ≡ Failed) × (out.failed ≡ true) × Told fault writing_failed)
+    ⊎ ((result ≡ Failed) × (out.failed ≡ true) × Reported fault writing_failed)
 
 -- Each file is a bundle, and this became of them.
 pub record AreChained (form : Form) (names : List (List ℕ)) (status : Status) (out fault : Output) : Type 0 where
@@ -149,7 +149,7 @@ pub record AreStopped (names : List (List ℕ)) (status : Status) (out fault : O
   pub why : FilesFault
   pub of : IsStopped names why
   pub silent : WroteNothing out
-  pub told : TurnsAway why status fault
+  pub reported : TurnsAway why status fault
 
 -- of files with these names
 abbrev pub ChainsFiles : Form → List (List ℕ) → Status → Output → Output → Type 0
@@ -161,4 +161,4 @@ EndsOfFiles Done out fault = (out.failed ≡ out.had_failed) × (fault.failed �
 EndsOfFiles AuditRefused out fault = (out.failed ≡ out.had_failed) × (fault.failed ≡ fault.had_failed)
 EndsOfFiles Refused out fault = out.failed ≡ out.had_failed
 EndsOfFiles OutOfMemory out fault = out.failed ≡ out.had_failed
-EndsOfFiles Failed out fault = ((out.failed ≡ true) × Told fault writing_failed) ⊎ ((out.failed ≡ out.had_failed) × ((name : List ℕ) × (cause : SystemFault) × Told fault (unread_line name cause)))
+EndsOfFiles Failed out fault = ((out.failed ≡ true) × Reported fault writing_failed) ⊎ ((out.failed ≡ out.had_failed) × ((name : List ℕ) × (cause : SystemFault) × Reported fault (unread_line name cause)))

@@ -1,4 +1,4 @@
--- How the program ends at a fault, and the line that it then tells.
+-- How the program ends at a fault, and the line that it then reports.
 use Rattle.std.specs.Prelude.{ℕ, Bool, true, false, List}
 use Rattle.ep_cli.specs.Lines.{script_refused, bad_bundle, not_a_run, out_of_memory, reading_failed, writing_failed}
 use Rattle.ep_bundle.specs.declared.bundle_fault.BundleFault.{BundleFault}

@@ -6,7 +6,7 @@ pub mod Faults
 pub mod Forms
 pub mod Hosts
 pub mod Options
-pub mod Reported
+pub mod ScriptReports
 pub mod Runs
 pub mod Tasks
 pub mod Upgrades

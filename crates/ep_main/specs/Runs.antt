@@ -11,8 +11,8 @@ use Rattle.ep_main.specs.Faults.{line_of, status_of}
 use Rattle.ep_main.specs.Hosts.{Promises}
 use Rattle.ep_main.specs.Options.{Options}
 use Rattle.ep_cli.specs.Endings.{IsOutOfMemory}
-use Rattle.ep_cli.specs.Outputs.{Input, Output, Wrote, WroteNothing, Told, NoneFailed, InputFailed, OutputFailed}
-use Rattle.ep_main.specs.Reported.{IsReport}
+use Rattle.ep_cli.specs.Outputs.{Input, Output, Wrote, WroteNothing, Reported, NoneFailed, InputFailed, OutputFailed}
+use Rattle.ep_main.specs.ScriptReports.{IsReport}
 use Rattle.ep_main.specs.Upgrades.{IsUnread, IsRewritten, IsUnupgraded}
 use Rattle.ep_main.specs.declared.asked.Asked.{Asked}
 use Rattle.ep_main.specs.declared.asked.Asked.TheVariants.{Replay, Run, Audit, Upgrade, Version, Help}
@@ -59,26 +59,26 @@ pub record IsScriptRefused {P : Type 0} (read : Result P ℕ) (out fault : Outpu
   pub line : ℕ
   pub script : read ≡ Err line
   pub silent : WroteNothing out
-  pub told : Told fault (script_refused line)
+  pub reported : Reported fault (script_refused line)
 
--- There is no bundle, for a first field at fault: it is told, and nothing was written on the output.
+-- There is no bundle, for a first field at fault: it is reported, and nothing was written on the output.
 pub record IsBadBundle (Q : BundleFault → Type 0) (out fault : Output) : Type 0 where
   pub field : BadField
   pub read : Q (bundle.BadBundle field)
   pub silent : WroteNothing out
-  pub told : Told fault (bad_bundle field.at)
+  pub reported : Reported fault (bad_bundle field.at)
 
--- There is no bundle, for a first entry that isn't its replica's next step: it is told, and nothing was written on the output.
+-- There is no bundle, for a first entry that isn't its replica's next step: it is reported, and nothing was written on the output.
 pub record IsNotARun (Q : BundleFault → Type 0) (out fault : Output) : Type 0 where
   pub replica : ℕ
   pub entry : ℕ
   pub read : Q (bundle.NotARun replica entry)
   pub silent : WroteNothing out
-  pub told : Told fault (not_a_run replica entry)
+  pub reported : Reported fault (not_a_run replica entry)
 
 -- The reader has failed, and nothing was written on the output; or the output has failed.
 abbrev pub HasFailed : Input → Output → Output → Type 0
-HasFailed reader out fault = (InputFailed reader out × WroteNothing out × Told fault reading_failed) ⊎ (OutputFailed reader out × Told fault writing_failed)
+HasFailed reader out fault = (InputFailed reader out × WroteNothing out × Reported fault reading_failed) ⊎ (OutputFailed reader out × Reported fault writing_failed)
 
 -- a replay, of which a report is asked for: the audit refuses none
 abbrev pub Replays : Form → Status → List ℕ → Input → Output → Output → Type 0
@@ -130,7 +130,7 @@ Versions Done out fault = Wrote out version_line × WroteNothing fault
 Versions AuditRefused out fault = ⊥
 Versions Refused out fault = ⊥
 Versions OutOfMemory out fault = IsOutOfMemory out fault
-Versions Failed out fault = (out.failed ≡ true) × Told fault writing_failed
+Versions Failed out fault = (out.failed ≡ true) × Reported fault writing_failed
 
 -- help, with this text
 abbrev pub Helps : Status → List ℕ → Output → Output → Type 0
@@ -138,7 +138,7 @@ Helps Done text out fault = Wrote out text × WroteNothing fault
 Helps AuditRefused text out fault = ⊥
 Helps Refused text out fault = ⊥
 Helps OutOfMemory text out fault = ⊥
-Helps Failed text out fault = (out.failed ≡ true) × Told fault writing_failed
+Helps Failed text out fault = (out.failed ≡ true) × Reported fault writing_failed
 
 -- help, with some text
 abbrev pub IsHelped : Status → Output → Output → Type 0
@@ -146,7 +146,7 @@ IsHelped Done out fault = ((text : List ℕ) × Wrote out text) × WroteNothing 
 IsHelped AuditRefused out fault = ⊥
 IsHelped Refused out fault = ⊥
 IsHelped OutOfMemory out fault = IsOutOfMemory out fault
-IsHelped Failed out fault = (out.failed ≡ true) × Told fault writing_failed
+IsHelped Failed out fault = (out.failed ≡ true) × Reported fault writing_failed
 
 abbrev pub Performs : Asked → Status → List ℕ → Input → Output → Output → Type 0
 Performs (Replay (Report form)) status zs reader out fault = Replays form status zs reader out fault
@@ -159,7 +159,7 @@ Performs (Help text) status zs reader out fault = Helps status (string_bytes tex
 
 -- the words ask for nothing that there is, which is reported with what is wrong with them, or memory was refused before they were read
 abbrev pub Declines : Status → Output → Output → Type 0
-Declines Refused out fault = WroteNothing out × ((why : List ℕ) × Told fault (command_line_refused ++ why))
+Declines Refused out fault = WroteNothing out × ((why : List ℕ) × Reported fault (command_line_refused ++ why))
 Declines OutOfMemory out fault = IsOutOfMemory out fault
 Declines Done out fault = ⊥
 Declines AuditRefused out fault = ⊥
@@ -172,7 +172,7 @@ Ends Done reader out fault = NoneFailed reader out × (fault.failed ≡ fault.ha
 Ends AuditRefused reader out fault = NoneFailed reader out × (fault.failed ≡ fault.had_failed)
 Ends Refused reader out fault = NoneFailed reader out
 Ends OutOfMemory reader out fault = NoneFailed reader out
-Ends Failed reader out fault = (InputFailed reader out × Told fault reading_failed) ⊎ (OutputFailed reader out × Told fault writing_failed)
+Ends Failed reader out fault = (InputFailed reader out × Reported fault reading_failed) ⊎ (OutputFailed reader out × Reported fault writing_failed)
 
 -- a status that says no fault
 abbrev pub IsVerdict : Status → Type 0
@@ -253,4 +253,4 @@ Does (Help text) outcome zs out = Prints outcome (string_bytes text) out
 -- a fault is reported, and decides on the status
 abbrev pub Concludes : Result Status EngineFault → Status → Output → Type 0
 Concludes (Ok said) status fault = (status ≡ said) × WroteNothing fault × (fault.failed ≡ fault.had_failed)
-Concludes (Err e) status fault = (status ≡ status_of e) × Told fault (line_of e)
+Concludes (Err e) status fault = (status ≡ status_of e) × Reported fault (line_of e)

@@ -1,7 +1,7 @@
 //! Audits of bundles.
 
 ghost use Rattle.std.specs.Prelude.{◌≡◌, ℕ, List, Some, IfOk, IfErr, false};
-ghost use Rattle.ep_base.specs.Devices.{FailsAsTold};
+ghost use Rattle.ep_base.specs.Devices.{FailsAsReported};
 ghost use Rattle.ep_main.specs.Audits.{Says};
 ghost use Rattle.ep_main.specs.Faults.{is_read, is_write};
 ghost use Rattle.ep_cli.specs.Printed.{Makes};
@@ -27,7 +27,7 @@ pub(crate) fn audit_of<S: Source>(
 ) -> Result<Made, EngineFault>
     ensures finishes { (zs : List ℕ) → S.left reader.old ≡ Some zs → Makes (Does (Audit form)) result zs }
     ensures verdict { IfOk result (λ m. IsVerdict m.status) }
-    ensures read { FailsAsTold is_read result (S.has_failed reader.old) (S.has_failed reader.new) }
+    ensures read { FailsAsReported is_read result (S.has_failed reader.old) (S.has_failed reader.new) }
     ensures unwritten { IfErr result (λ e. is_write e ≡ false) }
 {
     let bundle = read_bundle(alloc, reader)?;

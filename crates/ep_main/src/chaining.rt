@@ -14,14 +14,14 @@ use crate::program::concluded;
 use ep_audit::{ChainFault, ChainLink, ChainVerdictFault, Verdict, audit_chain};
 use ep_base::Sink;
 use ep_cli::{Made, Status, Streams, turned_away};
-use ep_report::{life_of, push_link_line, told_contents};
+use ep_report::{life_of, push_link_line, reported_contents};
 use ep_report_json::chain_json;
 use std::alloc::{AllocError, Global};
 use std::mem::forget;
 use std::rt::Files;
 
 /// Reads the files with these names, each a bundle of version 3, audits their chain, and prints what the audit says in one go. What stops it is
-/// told by one line on the fault output; where that fails, the status stays.
+/// reported by one line on the fault output; where that fails, the status stays.
 pub(crate) fn print_chain<R: Files + AllocGlobal, S, W: Sink, F: Sink>(
     rt: &R,
     form: Form,
@@ -76,7 +76,7 @@ fn judge_chain(alloc: Global, form: Form, links: &[ChainLink]) -> Result<Made, E
 {
     match audit_chain(alloc, links) {
         Ok(verdicts) => {
-            let text = told_chain(alloc, form, links, &verdicts)?;
+            let text = reported_chain(alloc, form, links, &verdicts)?;
             forget(verdicts);
             Ok(Made {
                 status: Status::Done,
@@ -92,7 +92,7 @@ fn judge_chain(alloc: Global, form: Form, links: &[ChainLink]) -> Result<Made, E
 }
 
 /// What is said of a chain that is accepted.
-fn told_chain(
+fn reported_chain(
     alloc: Global,
     form: Form,
     links: &[ChainLink],
@@ -124,7 +124,7 @@ fn accepted_chain(
 }
 
 /// Appends the line of a generation.
-#[tactic(auto, using(crate::proofs::Linked::link_told, crate::proofs::Linked::link_silent))]
+#[tactic(auto, using(crate::proofs::Linked::link_reported, crate::proofs::Linked::link_silent))]
 fn push_link(
     alloc: Global,
     text: &mut Vec<u8>,
@@ -133,7 +133,7 @@ fn push_link(
 ) -> Result<(), AllocError>
     ensures { OnOk result (text.new.items ≡ text.old.items ++ link_text link.now verdict.now) }
 {
-    let contents = told_contents(alloc, &link.journals, &verdict.history)?;
+    let contents = reported_contents(alloc, &link.journals, &verdict.history)?;
     let Some(life) = life_of(&link.journals, verdict.closing.as_ref(), &contents) else {
         return Ok(());
     };

@@ -6,7 +6,7 @@
 //! Start with `program.rt`, `command_line.rt` (the words, by `clap`) and specs/Runs.antt (what is done, by status).
 //!
 //! It does no more than call `ep_replay`, `ep_run`, `ep_audit` and `ep_bundle`, and `Journals::into_upgraded`. A fault has one
-//! line on the fault output and one status (`engine_fault.rt`, `telling.rt`, and `ep_cli`, which `ep_viewer` shares), as docs/CLI.md,
+//! line on the fault output and one status (`engine_fault.rt`, `reporting.rt`, and `ep_cli`, which `ep_viewer` shares), as docs/CLI.md,
 //! section 6, lists them.
 #![tactic(auto)]
 
@@ -23,10 +23,10 @@ mod host;
 mod job;
 mod program;
 mod replaying;
+mod reporting;
 mod run_options;
 mod running;
 mod target;
-mod telling;
 mod upgrading;
 
 use crate::program::engine;

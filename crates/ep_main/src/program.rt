@@ -1,7 +1,7 @@
 //! The program, over any source and sinks.
 
 ghost use Rattle.std.specs.Prelude.{◌≡◌, ◌⊎◌, ℕ, List, Some, IfOk, map};
-ghost use Rattle.ep_base.specs.Devices.{FailsAsTold};
+ghost use Rattle.ep_base.specs.Devices.{FailsAsReported};
 ghost use Rattle.ep_main.specs.Faults.{is_read, is_write};
 ghost use Rattle.ep_cli.specs.Outputs.{became, turned};
 ghost use Rattle.ep_main.specs.Runs.{Performs, IsHelped, Declines, Ends, Does as Attempts, Concludes, IsVerdict};
@@ -16,8 +16,8 @@ use crate::command_line::read_words;
 use crate::engine_fault::EngineFault;
 use crate::job::Job;
 use crate::replaying::replay_of;
+use crate::reporting::write_fault;
 use crate::running::run_of;
-use crate::telling::tell;
 use crate::upgrading::upgraded_of;
 use ep_base::{Sink, Source};
 use ep_cli::{Status, Streams, decline, put_made, put_text};
@@ -36,8 +36,8 @@ use std::thread::Threads;
 /// what the audit says in one go; with `--chain` it reads bundles of version 3 from files, each to its end, audits them one after the
 /// other, and writes what the audit of the chain says in one go. `upgrade` reads a bundle to its end and writes it in version 2, or 3,
 /// in one go.
-/// What stops it (a refused script or bundle, out of memory, a reader or a writer that fails) is told by one line on the
-/// fault output; a refused command line by one, and what is wrong with it after that. Where telling fails, the status stays.
+/// What stops it (a refused script or bundle, out of memory, a reader or a writer that fails) is reported by one line on the
+/// fault output; a refused command line by one, and what is wrong with it after that. Where reporting fails, the status stays.
 pub fn engine<
     R: Files + AllocGlobal + Threads + Wait + Sync,
     T: AsStr,
@@ -121,9 +121,9 @@ fn attempt<R: Threads + Wait + Sync, S: Source, W: Sink, F>(
 ) -> Result<Status, EngineFault>
     ensures done { (zs : List ℕ) → S.left streams.old.reader ≡ Some zs → Attempts asked result zs (became W.held W.has_failed streams.old.writer streams.new.writer) }
     ensures verdict { IfOk result IsVerdict }
-    ensures read { FailsAsTold is_read result (S.has_failed streams.old.reader) (S.has_failed streams.new.reader) }
-    ensures written { FailsAsTold is_write result (W.has_failed streams.old.writer) (W.has_failed streams.new.writer) }
-    ensures untold { streams.new.fault_writer ≡ streams.old.fault_writer }
+    ensures read { FailsAsReported is_read result (S.has_failed streams.old.reader) (S.has_failed streams.new.reader) }
+    ensures written { FailsAsReported is_write result (W.has_failed streams.old.writer) (W.has_failed streams.new.writer) }
+    ensures unreported { streams.new.fault_writer ≡ streams.old.fault_writer }
 {
     match asked {
         Asked::Replay(emit) => {
@@ -168,7 +168,7 @@ pub(crate) fn concluded<F: Sink>(
         Ok(status) => status,
         Err(fault) => {
             let status = fault.status();
-            let _ = tell(fault, fault_writer);
+            let _ = write_fault(fault, fault_writer);
             status
         }
     }

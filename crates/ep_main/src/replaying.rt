@@ -1,11 +1,11 @@
 //! Replays.
 
 ghost use Rattle.std.specs.Prelude.{◌≡◌, ◌<◌, ◌^◌, ℕ, List, Some, length, IfOk, IfErr, false};
-ghost use Rattle.ep_base.specs.Devices.{FailsAsTold};
+ghost use Rattle.ep_base.specs.Devices.{FailsAsReported};
 ghost use Rattle.ep_bundle.specs.Bytes.{bundle_bytes};
 ghost use Rattle.ep_main.specs.Faults.{is_read, is_write};
 ghost use Rattle.ep_cli.specs.Printed.{Makes};
-ghost use Rattle.ep_main.specs.Reported.{IsEmitted, IsReportOf};
+ghost use Rattle.ep_main.specs.ScriptReports.{IsEmitted, IsReportOf};
 ghost use Rattle.ep_journal.specs.Entries.{journals_of};
 ghost use Rattle.ep_journal.specs.Openings.{opens};
 ghost use Rattle.ep_rules.specs.Audits.{IsAccepted};
@@ -22,7 +22,7 @@ use ep_audit::Summary;
 use ep_base::Source;
 use ep_cli::{Made, Status};
 use ep_replay::{Replayed, replay};
-use ep_report::{Findings, life_of, told_contents};
+use ep_report::{Findings, life_of, reported_contents};
 use ep_script::read_script;
 use std::alloc::Global;
 use std::mem::forget;
@@ -35,7 +35,7 @@ pub(crate) fn replay_of<S: Source>(
 ) -> Result<Made, EngineFault>
     ensures plays { (zs : List ℕ) → S.left reader.old ≡ Some zs → Makes (Does (Replay emit)) result zs }
     ensures verdict { IfOk result (λ m. IsVerdict m.status) }
-    ensures read { FailsAsTold is_read result (S.has_failed reader.old) (S.has_failed reader.new) }
+    ensures read { FailsAsReported is_read result (S.has_failed reader.old) (S.has_failed reader.new) }
     ensures unwritten { IfErr result (λ e. is_write e ≡ false) }
 {
     let script = read_script(alloc, reader)?;
@@ -81,7 +81,7 @@ fn report_of(alloc: Global, form: Form, played: &Replayed) -> Result<Vec<u8>, En
     ensures memory { IfErr result (λ e. e ≡ Memory) }
 {
     let summary = Summary::of(alloc, &played.journals)?;
-    let contents = told_contents(alloc, &played.journals, &summary.history)?;
+    let contents = reported_contents(alloc, &played.journals, &summary.history)?;
     let life = life_of(&played.journals, summary.closing.as_ref(), &contents);
     let found = Findings {
         life: life.as_ref(),

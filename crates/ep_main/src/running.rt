@@ -1,9 +1,9 @@
 //! Runs in threads.
 
 ghost use Rattle.std.specs.Prelude.{◌≡◌, ◌<◌, ◌^◌, ℕ, List, Some, length, IfOk, IfErr, IsOk, false};
-ghost use Rattle.ep_base.specs.Devices.{FailsAsTold};
+ghost use Rattle.ep_base.specs.Devices.{FailsAsReported};
 ghost use Rattle.ep_bundle.specs.Bytes.{bundle_bytes};
-ghost use Rattle.ep_host.specs.Finishing.{IsFinished};
+ghost use Rattle.ep_threads.specs.Finishing.{IsFinished};
 ghost use Rattle.ep_main.specs.Audits.{SaysOfRun};
 ghost use Rattle.ep_main.specs.Faults.{is_read, is_write};
 ghost use Rattle.ep_main.specs.Hosts.{Promises};
@@ -24,7 +24,7 @@ use crate::host::Host;
 use crate::run_options::RunOptions;
 use ep_base::Source;
 use ep_cli::{Made, Status};
-use ep_report::{Findings, Losses, life_of, told_contents};
+use ep_report::{Findings, Losses, life_of, reported_contents};
 use ep_run::{Ran, RunFault, run, run_rings};
 use ep_script::{RunScript, read_run};
 use std::alloc::Global;
@@ -42,7 +42,7 @@ pub(crate) fn run_of<R: Threads + Wait + Sync, S: Source>(
 ) -> Result<Made, EngineFault>
     ensures runs { (zs : List ℕ) → S.left reader.old ≡ Some zs → Makes (Does (Run options.now)) result zs }
     ensures verdict { IfOk result (λ m. IsVerdict m.status) }
-    ensures read { FailsAsTold is_read result (S.has_failed reader.old) (S.has_failed reader.new) }
+    ensures read { FailsAsReported is_read result (S.has_failed reader.old) (S.has_failed reader.new) }
     ensures unwritten { IfErr result (λ e. is_write e ≡ false) }
 {
     let script = read_run(alloc, reader)?;
@@ -97,7 +97,7 @@ fn judge_reported(alloc: Global, form: Form, ran: &Ran) -> Result<Made, EngineFa
                 refused: ran.refused.as_slice(),
                 lost: ran.lost,
             };
-            let contents = told_contents(alloc, &ran.finished.journals, &verdict.history)?;
+            let contents = reported_contents(alloc, &ran.finished.journals, &verdict.history)?;
             let life = life_of(&ran.finished.journals, verdict.closing.as_ref(), &contents);
             let found = Findings {
                 life: life.as_ref(),

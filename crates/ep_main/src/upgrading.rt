@@ -1,7 +1,7 @@
 //! Bundles, upgraded to version 2 or 3.
 
 ghost use Rattle.std.specs.Prelude.{◌≡◌, ◌≤◌, ℕ, List, Some, IfOk, IfErr, false};
-ghost use Rattle.ep_base.specs.Devices.{FailsAsTold};
+ghost use Rattle.ep_base.specs.Devices.{FailsAsReported};
 ghost use Rattle.ep_base.specs.Versions.{version_number};
 ghost use Rattle.ep_base.specs.declared.version_kind.VersionKind.TheVariants.{V2};
 ghost use Rattle.ep_bundle.specs.Bytes.{bundle_bytes};
@@ -33,7 +33,7 @@ pub(crate) fn upgraded_of<S: Source>(
 ) -> Result<Made, EngineFault>
     ensures rewrites { (zs : List ℕ) → S.left reader.old ≡ Some zs → Makes (Does (Upgrade target)) result zs }
     ensures verdict { IfOk result (λ m. IsVerdict m.status) }
-    ensures read { FailsAsTold is_read result (S.has_failed reader.old) (S.has_failed reader.new) }
+    ensures read { FailsAsReported is_read result (S.has_failed reader.old) (S.has_failed reader.new) }
     ensures unwritten { IfErr result (λ e. is_write e ≡ false) }
 {
     match target {
@@ -46,7 +46,7 @@ pub(crate) fn upgraded_of<S: Source>(
 fn second_of<S: Source>(alloc: Global, reader: &mut S) -> Result<Made, EngineFault>
     ensures rewrites { (zs : List ℕ) → S.left reader.old ≡ Some zs → Makes (Does (Upgrade Second)) result zs }
     ensures verdict { IfOk result (λ m. IsVerdict m.status) }
-    ensures read { FailsAsTold is_read result (S.has_failed reader.old) (S.has_failed reader.new) }
+    ensures read { FailsAsReported is_read result (S.has_failed reader.old) (S.has_failed reader.new) }
     ensures unwritten { IfErr result (λ e. is_write e ≡ false) }
 {
     bundles_are_canonical();
@@ -68,7 +68,7 @@ fn second_of<S: Source>(alloc: Global, reader: &mut S) -> Result<Made, EngineFau
 fn third_from<S: Source>(alloc: Global, reader: &mut S) -> Result<Made, EngineFault>
     ensures rewrites { (zs : List ℕ) → S.left reader.old ≡ Some zs → Makes (Does (Upgrade Third)) result zs }
     ensures verdict { IfOk result (λ m. IsVerdict m.status) }
-    ensures read { FailsAsTold is_read result (S.has_failed reader.old) (S.has_failed reader.new) }
+    ensures read { FailsAsReported is_read result (S.has_failed reader.old) (S.has_failed reader.new) }
     ensures unwritten { IfErr result (λ e. is_write e ≡ false) }
 {
     let bundle = read_bundle(alloc, reader)?;

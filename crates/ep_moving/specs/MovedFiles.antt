@@ -32,7 +32,7 @@ move_line names (Unexecuted i) = refused (instance_text i ++ codes " is committe
 pub record IsUpgraded (names logs : List (List ℕ)) (text lines : List ℕ) : Type 0 where
   pub ends : List End
   pub moved : IsMoved logs text ends
-  pub told : lines ≡ torn_lines 0 names ends
+  pub reported : lines ≡ torn_lines 0 names ends
 
 -- other than out of memory
 abbrev pub IsOfLogs : MoveFault → Type 0
@@ -47,4 +47,4 @@ pub record IsNotUpgraded (names logs : List (List ℕ)) (line : List ℕ) : Type
   pub fault : MoveFault
   pub of : IsOfLogs fault
   pub refused : IsUnmoved logs fault
-  pub told : line ≡ move_line names fault
+  pub reported : line ≡ move_line names fault

@@ -1,4 +1,4 @@
-//! The lines that are told of logs, by the names of their files.
+//! The lines that are reported of logs, by the names of their files.
 
 ghost use Rattle.std.specs.Prelude.{◌≡◌, ◌++◌, codes, decimal, map, string_bytes, OnOk};
 ghost use Rattle.ep_moving.specs.MovedFiles.{move_line, place_text, refused, waits_text};

@@ -51,12 +51,12 @@ after_entry x None = is_committed x.vote
 after_entry x (Some y) = is_committed y.vote
 
 -- it is committed after a change exactly where it was, or Commits are sent
-abbrev pub Told : Record → Change → Type 0
-Told x ch = after_entry x ch.entry ≡ (is_committed x.vote || says_commit ch.out)
+abbrev pub Reported : Record → Change → Type 0
+Reported x ch = after_entry x ch.entry ≡ (is_committed x.vote || says_commit ch.out)
 
-abbrev pub ToldOk : Record → Outcome → Type 0
-ToldOk x (Ok ch) = Told x ch
-ToldOk x (Err e) = Unit {0}
+abbrev pub ReportedOk : Record → Outcome → Type 0
+ReportedOk x (Ok ch) = Reported x ch
+ReportedOk x (Err e) = Unit {0}
 
 -- What is sent.
 
@@ -100,135 +100,135 @@ module _ (f i me : ℕ) (x : Record) (more : 0 < f) where
   abbrev Live : Type 0
   Live = is_committed x.vote ≡ false
 
-  told_nothing : Told x nothing
-  told_nothing = sym (or_false (is_committed x.vote))
+  reported_nothing : Reported x nothing
+  reported_nothing = sym (or_false (is_committed x.vote))
 
-  told_answered : (from : ℕ) (m : Message) → is_commit_message m ≡ false → Told x (answered from m)
-  told_answered from m quiet = sym (ap (λ b. is_committed x.vote || b) quiet ∙ or_false (is_committed x.vote))
+  reported_answered : (from : ℕ) (m : Message) → is_commit_message m ≡ false → Reported x (answered from m)
+  reported_answered from m quiet = sym (ap (λ b. is_committed x.vote || b) quiet ∙ or_false (is_committed x.vote))
 
-  told_kept : (led : LedInstance) → Told x (kept led)
-  told_kept led = sym (or_false (is_committed x.vote))
+  reported_kept : (led : LedInstance) → Reported x (kept led)
+  reported_kept led = sym (or_false (is_committed x.vote))
 
   -- what is voted isn't a commit, and none stood there
-  told_voted : Live → (y : Record) (from : ℕ) (m : Message) → is_commit_message m ≡ false → is_committed y.vote ≡ false → Told x (recorded y from m)
-  told_voted live y from m quiet none = none ∙ sym (ap (λ b. b || is_commit_message m) live ∙ quiet)
+  reported_voted : Live → (y : Record) (from : ℕ) (m : Message) → is_commit_message m ≡ false → is_committed y.vote ≡ false → Reported x (recorded y from m)
+  reported_voted live y from m quiet none = none ∙ sym (ap (λ b. b || is_commit_message m) live ∙ quiet)
 
-  told_same : (y : Record) (from : ℕ) (m : Message) → is_commit_message m ≡ false → y.vote ≡ x.vote → Told x (recorded y from m)
-  told_same y from m quiet same = ap is_committed same ∙ sym (ap (λ b. is_committed x.vote || b) quiet ∙ or_false (is_committed x.vote))
+  reported_same : (y : Record) (from : ℕ) (m : Message) → is_commit_message m ≡ false → y.vote ≡ x.vote → Reported x (recorded y from m)
+  reported_same y from m quiet same = ap is_committed same ∙ sym (ap (λ b. is_committed x.vote || b) quiet ∙ or_false (is_committed x.vote))
 
   -- the phase asks those that pass, and votes for no commit
-  told_asked : Live → (p : ℕ → Bool) (m : Message) → is_commit_message m ≡ false → false ≡ (is_committed x.vote || says_commit (to_those p (size f) m))
-  told_asked live p m quiet = sym (ap (λ b. b || says_commit (to_those p (size f) m)) live ∙ none_says p (size f) m quiet)
+  reported_asked : Live → (p : ℕ → Bool) (m : Message) → is_commit_message m ≡ false → false ≡ (is_committed x.vote || says_commit (to_those p (size f) m))
+  reported_asked live p m quiet = sym (ap (λ b. b || says_commit (to_those p (size f) m)) live ∙ none_says p (size f) m quiet)
 
-  told_first_phase : Live → (asked : ℕ → Bool) (b s : ℕ) (d : Decree) → Told x (first_phase asked f i b s d)
-  told_first_phase live asked b s d = told_asked live asked (PreAccept i b d) refl
+  reported_first_phase : Live → (asked : ℕ → Bool) (b s : ℕ) (d : Decree) → Reported x (first_phase asked f i b s d)
+  reported_first_phase live asked b s d = reported_asked live asked (PreAccept i b d) refl
 
-  told_accept_phase : Live → (b : ℕ) (d : Decree) → Told x (accept_phase f i me b d)
-  told_accept_phase live b d = told_asked live (is_other me) (Accept i b d) refl
+  reported_accept_phase : Live → (b : ℕ) (d : Decree) → Reported x (accept_phase f i me b d)
+  reported_accept_phase live b d = reported_asked live (is_other me) (Accept i b d) refl
 
-  told_commit_phase : Live → (d : Decree) → Told x (commit_phase f i me d x)
-  told_commit_phase live d = sym (ap (λ b. b || says_commit (to_those (is_other me) (size f) (Commit i d))) live ∙ commits_say f i me d more)
+  reported_commit_phase : Live → (d : Decree) → Reported x (commit_phase f i me d x)
+  reported_commit_phase live d = sym (ap (λ b. b || says_commit (to_those (is_other me) (size f) (Commit i d))) live ∙ commits_say f i me d more)
 
-  told_limited : (a : Attrs) (ch : Change) → Told x ch → ToldOk x (limited a ch)
-  told_limited a ch p = split (ToldOk x) (leb a.seq 1000000) _ _ (λ e. p) (λ e. tt)
+  reported_limited : (a : Attrs) (ch : Change) → Reported x ch → ReportedOk x (limited a ch)
+  reported_limited a ch p = split (ReportedOk x) (leb a.seq 1000000) _ _ (λ e. p) (λ e. tt)
 
   -- The events.
 
-  pub told_propose : Live → (s : ℕ) (c : Command) (own : Attrs) → ToldOk x (propose f i s c own)
-  told_propose live s c own = told_limited own (first_phase (is_fast (leader_of i) s) f i (leader_of i) s (record { command = c; attrs = own })) (told_first_phase live (is_fast (leader_of i) s) (leader_of i) s (record { command = c; attrs = own }))
+  pub reported_propose : Live → (s : ℕ) (c : Command) (own : Attrs) → ReportedOk x (propose f i s c own)
+  reported_propose live s c own = reported_limited own (first_phase (is_fast (leader_of i) s) f i (leader_of i) s (record { command = c; attrs = own })) (reported_first_phase live (is_fast (leader_of i) s) (leader_of i) s (record { command = c; attrs = own }))
 
-  told_pre_accept : (from b : ℕ) (d : Decree) (own : Attrs) → ToldOk x (on_pre_accept i from b d own x)
-  told_pre_accept from b d own =
-      split (ToldOk x) (ltb b x.promised) _ _ (λ e. told_answered from (Nack i b x.promised) refl) (λ e.
-      split (ToldOk x) (is_done_at b x.vote) _ _ (λ u. told_nothing) (λ u.
-      told_limited own _ (told_voted (not_committed b x.vote u) (voted b PreAccepted (with_attrs d (join d.attrs own))) from (PreAcceptOk i b (join d.attrs own)) refl refl)))
+  reported_pre_accept : (from b : ℕ) (d : Decree) (own : Attrs) → ReportedOk x (on_pre_accept i from b d own x)
+  reported_pre_accept from b d own =
+      split (ReportedOk x) (ltb b x.promised) _ _ (λ e. reported_answered from (Nack i b x.promised) refl) (λ e.
+      split (ReportedOk x) (is_done_at b x.vote) _ _ (λ u. reported_nothing) (λ u.
+      reported_limited own _ (reported_voted (not_committed b x.vote u) (voted b PreAccepted (with_attrs d (join d.attrs own))) from (PreAcceptOk i b (join d.attrs own)) refl refl)))
 
-  told_accept : (from b : ℕ) (d : Decree) → Told x (on_accept i from b d x)
-  told_accept from b d =
-      split (Told x) (ltb b x.promised) _ _ (λ e. told_answered from (Nack i b x.promised) refl) (λ e.
-      split (Told x) (is_settled_at b x.vote) _ _ (λ u. told_nothing) (λ u.
-      told_voted (not_settled b x.vote u) (voted b Accepted d) from (AcceptOk i b) refl refl))
+  reported_accept : (from b : ℕ) (d : Decree) → Reported x (on_accept i from b d x)
+  reported_accept from b d =
+      split (Reported x) (ltb b x.promised) _ _ (λ e. reported_answered from (Nack i b x.promised) refl) (λ e.
+      split (Reported x) (is_settled_at b x.vote) _ _ (λ u. reported_nothing) (λ u.
+      reported_voted (not_settled b x.vote u) (voted b Accepted d) from (AcceptOk i b) refl refl))
 
-  told_slow : Live → (b : ℕ) (answers : Answers Attrs) (v : Option Vote) → Told x (slow_path f i me b answers v)
-  told_slow live b answers None = told_nothing
-  told_slow live b answers (Some v) = told_accept_phase live b _
+  reported_slow : Live → (b : ℕ) (answers : Answers Attrs) (v : Option Vote) → Reported x (slow_path f i me b answers v)
+  reported_slow live b answers None = reported_nothing
+  reported_slow live b answers (Some v) = reported_accept_phase live b _
 
-  told_fast : Live → (a : Attrs) (v : Option Vote) → Told x (fast_path f i me a x v)
-  told_fast live a None = told_nothing
-  told_fast live a (Some v) = told_commit_phase live _
+  reported_fast : Live → (a : Attrs) (v : Option Vote) → Reported x (fast_path f i me a x v)
+  reported_fast live a None = reported_nothing
+  reported_fast live a (Some v) = reported_commit_phase live _
 
-  told_count_pre_accept_ok : Live → (b s : ℕ) (a : Attrs) (answers : Answers Attrs) → Told x (count_pre_accept_ok f i me b s a answers x)
-  told_count_pre_accept_ok live b s a answers =
-      split (Told x) (eqb b (leader_of i)) _ _
-      (λ e. split (Told x) (fast_answered f (leader_of i) s answers) _ _
-      (λ e. split (Told x) (all_equal f a answers) _ _ (λ e. told_fast live a x.vote) (λ e. told_slow live b answers x.vote))
-      (λ e. told_kept (Proposing b s answers)))
-      (λ e. split (Told x) (leb f (others f me answers)) _ _ (λ e. told_slow live b answers x.vote) (λ e. told_kept (Proposing b s answers)))
+  reported_count_pre_accept_ok : Live → (b s : ℕ) (a : Attrs) (answers : Answers Attrs) → Reported x (count_pre_accept_ok f i me b s a answers x)
+  reported_count_pre_accept_ok live b s a answers =
+      split (Reported x) (eqb b (leader_of i)) _ _
+      (λ e. split (Reported x) (fast_answered f (leader_of i) s answers) _ _
+      (λ e. split (Reported x) (all_equal f a answers) _ _ (λ e. reported_fast live a x.vote) (λ e. reported_slow live b answers x.vote))
+      (λ e. reported_kept (Proposing b s answers)))
+      (λ e. split (Reported x) (leb f (others f me answers)) _ _ (λ e. reported_slow live b answers x.vote) (λ e. reported_kept (Proposing b s answers)))
 
-  told_pre_accept_ok : (from b : ℕ) (a : Attrs) (led : Option LedInstance) → Told x (on_pre_accept_ok f i me from b a x led)
-  told_pre_accept_ok from b a None = told_nothing
-  told_pre_accept_ok from b a (Some (Accepting lb answers)) = told_nothing
-  told_pre_accept_ok from b a (Some (Preparing lb answers)) = told_nothing
-  told_pre_accept_ok from b a (Some (Proposing lb s answers)) =
-      split (λ more. Told x (use_pre_accept_ok f i me b a x more)) (is_some (answer answers from)) _ _ (λ e. told_nothing) (λ e.
-      split (Told x) (is_usable b x lb) _ _ (λ u. told_count_pre_accept_ok (usable b x lb u).2 b s a (with_answer answers from a)) (λ u. told_nothing))
+  reported_pre_accept_ok : (from b : ℕ) (a : Attrs) (led : Option LedInstance) → Reported x (on_pre_accept_ok f i me from b a x led)
+  reported_pre_accept_ok from b a None = reported_nothing
+  reported_pre_accept_ok from b a (Some (Accepting lb answers)) = reported_nothing
+  reported_pre_accept_ok from b a (Some (Preparing lb answers)) = reported_nothing
+  reported_pre_accept_ok from b a (Some (Proposing lb s answers)) =
+      split (λ more. Reported x (use_pre_accept_ok f i me b a x more)) (is_some (answer answers from)) _ _ (λ e. reported_nothing) (λ e.
+      split (Reported x) (is_usable b x lb) _ _ (λ u. reported_count_pre_accept_ok (usable b x lb u).2 b s a (with_answer answers from a)) (λ u. reported_nothing))
 
-  pub told_give_up : (led : Option LedInstance) → ToldOk x (give_up f i me x led)
-  told_give_up None = tt
-  told_give_up (Some (Accepting b answers)) = tt
-  told_give_up (Some (Preparing b answers)) = tt
-  told_give_up (Some (Proposing b s answers)) =
-      split (ToldOk x) (is_usable (leader_of i) x b) _ _
-      (λ u. split (ToldOk x) (leb f (others f me answers)) _ _ (λ m. told_slow (usable (leader_of i) x b u).2 b answers x.vote) (λ m. tt))
+  pub reported_give_up : (led : Option LedInstance) → ReportedOk x (give_up f i me x led)
+  reported_give_up None = tt
+  reported_give_up (Some (Accepting b answers)) = tt
+  reported_give_up (Some (Preparing b answers)) = tt
+  reported_give_up (Some (Proposing b s answers)) =
+      split (ReportedOk x) (is_usable (leader_of i) x b) _ _
+      (λ u. split (ReportedOk x) (leb f (others f me answers)) _ _ (λ m. reported_slow (usable (leader_of i) x b u).2 b answers x.vote) (λ m. tt))
       (λ u. tt)
 
-  told_commit_own : Live → (v : Option Vote) → Told x (commit_own f i me x v)
-  told_commit_own live None = told_nothing
-  told_commit_own live (Some v) = told_commit_phase live v.decree
+  reported_commit_own : Live → (v : Option Vote) → Reported x (commit_own f i me x v)
+  reported_commit_own live None = reported_nothing
+  reported_commit_own live (Some v) = reported_commit_phase live v.decree
 
-  told_accept_ok : (from b : ℕ) (led : Option LedInstance) → Told x (on_accept_ok f i me from b x led)
-  told_accept_ok from b None = told_nothing
-  told_accept_ok from b (Some (Proposing lb s answers)) = told_nothing
-  told_accept_ok from b (Some (Preparing lb answers)) = told_nothing
-  told_accept_ok from b (Some (Accepting lb answers)) =
-      split (λ more. Told x (use_accept_ok f i me b x more)) (is_some (answer answers from)) _ _ (λ e. told_nothing) (λ e.
-      split (Told x) (is_usable b x lb) _ _
-      (λ u. split (Told x) (leb f (others f me (with_answer answers from tt))) _ _ (λ m. told_commit_own (usable b x lb u).2 x.vote) (λ m. told_kept (Accepting b (with_answer answers from tt))))
-      (λ u. told_nothing))
+  reported_accept_ok : (from b : ℕ) (led : Option LedInstance) → Reported x (on_accept_ok f i me from b x led)
+  reported_accept_ok from b None = reported_nothing
+  reported_accept_ok from b (Some (Proposing lb s answers)) = reported_nothing
+  reported_accept_ok from b (Some (Preparing lb answers)) = reported_nothing
+  reported_accept_ok from b (Some (Accepting lb answers)) =
+      split (λ more. Reported x (use_accept_ok f i me b x more)) (is_some (answer answers from)) _ _ (λ e. reported_nothing) (λ e.
+      split (Reported x) (is_usable b x lb) _ _
+      (λ u. split (Reported x) (leb f (others f me (with_answer answers from tt))) _ _ (λ m. reported_commit_own (usable b x lb u).2 x.vote) (λ m. reported_kept (Accepting b (with_answer answers from tt))))
+      (λ u. reported_nothing))
 
-  pub told_recover : (told : ℕ) → ToldOk x (recover f i me x told)
-  told_recover told =
-      split (ToldOk x) (is_committed x.vote) _ _ (λ e. tt) (λ e.
-      split (ToldOk x) (leb (next_counter x told) highest_counter) _ _
-      (λ u. e ∙ told_asked e (is_other me) (Prepare i (ballot_of (next_counter x told) me)) refl)
+  pub reported_recover : (reported : ℕ) → ReportedOk x (recover f i me x reported)
+  reported_recover reported =
+      split (ReportedOk x) (is_committed x.vote) _ _ (λ e. tt) (λ e.
+      split (ReportedOk x) (leb (next_counter x reported) highest_counter) _ _
+      (λ u. e ∙ reported_asked e (is_other me) (Prepare i (ballot_of (next_counter x reported) me)) refl)
       (λ u. tt))
 
-  told_prepare : (from b : ℕ) → Told x (on_prepare i from b x)
-  told_prepare from b =
-      split (Told x) (ltb b x.promised) _ _ (λ e. told_answered from (Nack i b x.promised) refl) (λ e.
-      split (Told x) (eqb b x.promised) _ _ (λ u. told_nothing) (λ u. told_same (record { promised = b; vote = x.vote }) from (PrepareOk i b x.vote) refl refl))
+  reported_prepare : (from b : ℕ) → Reported x (on_prepare i from b x)
+  reported_prepare from b =
+      split (Reported x) (ltb b x.promised) _ _ (λ e. reported_answered from (Nack i b x.promised) refl) (λ e.
+      split (Reported x) (eqb b x.promised) _ _ (λ u. reported_nothing) (λ u. reported_same (record { promised = b; vote = x.vote }) from (PrepareOk i b x.vote) refl refl))
 
-  told_recover_with : Live → (b : ℕ) (c : Command) (own : Attrs) → ToldOk x (recover_with f i me b c own)
-  told_recover_with live b c own = told_limited own _ (told_first_phase live (is_other me) b me (record { command = c; attrs = own }))
+  reported_recover_with : Live → (b : ℕ) (c : Command) (own : Attrs) → ReportedOk x (recover_with f i me b c own)
+  reported_recover_with live b c own = reported_limited own _ (reported_first_phase live (is_other me) b me (record { command = c; attrs = own }))
 
-  told_choice : Live → (b : ℕ) (own : Command → Attrs) (ch : Choice) → ToldOk x (act_on f i me b own x ch)
-  told_choice live b own (CommitIt d) = told_commit_phase live d
-  told_choice live b own (AcceptIt d) = told_accept_phase live b d
-  told_choice live b own (AcceptFast d) = told_accept_phase live b d
-  told_choice live b own (ProposeIt c) = told_recover_with live b c (own c)
-  told_choice live b own ProposeNoop = told_recover_with live b Noop (own Noop)
+  reported_choice : Live → (b : ℕ) (own : Command → Attrs) (ch : Choice) → ReportedOk x (act_on f i me b own x ch)
+  reported_choice live b own (CommitIt d) = reported_commit_phase live d
+  reported_choice live b own (AcceptIt d) = reported_accept_phase live b d
+  reported_choice live b own (AcceptFast d) = reported_accept_phase live b d
+  reported_choice live b own (ProposeIt c) = reported_recover_with live b c (own c)
+  reported_choice live b own ProposeNoop = reported_recover_with live b Noop (own Noop)
 
-  told_count_prepare_ok : Live → (b : ℕ) (answers : Answers (Option Vote)) (own : Command → Attrs) → ToldOk x (count_prepare_ok f i me b answers own x)
-  told_count_prepare_ok live b answers own =
-      split (ToldOk x) (leb (f + 1) (answered_all f answers)) _ _ (λ m. told_choice live b own (choose f (leader_of i) (λ q. answer answers q))) (λ m. told_kept (Preparing b answers))
+  reported_count_prepare_ok : Live → (b : ℕ) (answers : Answers (Option Vote)) (own : Command → Attrs) → ReportedOk x (count_prepare_ok f i me b answers own x)
+  reported_count_prepare_ok live b answers own =
+      split (ReportedOk x) (leb (f + 1) (answered_all f answers)) _ _ (λ m. reported_choice live b own (choose f (leader_of i) (λ q. answer answers q))) (λ m. reported_kept (Preparing b answers))
 
-  told_prepare_ok : (from b : ℕ) (v : Option Vote) (own : Command → Attrs) (led : Option LedInstance) → ToldOk x (on_prepare_ok f i me from b v own x led)
-  told_prepare_ok from b v own None = told_nothing
-  told_prepare_ok from b v own (Some (Proposing lb s answers)) = told_nothing
-  told_prepare_ok from b v own (Some (Accepting lb answers)) = told_nothing
-  told_prepare_ok from b v own (Some (Preparing lb answers)) =
-      split (λ more. ToldOk x (use_prepare_ok f i me b own x more)) (is_some (answer answers from)) _ _ (λ e. told_nothing) (λ e.
-      split (ToldOk x) (is_usable b x lb) _ _ (λ u. told_count_prepare_ok (usable b x lb u).2 b (with_answer answers from v) own) (λ u. told_nothing))
+  reported_prepare_ok : (from b : ℕ) (v : Option Vote) (own : Command → Attrs) (led : Option LedInstance) → ReportedOk x (on_prepare_ok f i me from b v own x led)
+  reported_prepare_ok from b v own None = reported_nothing
+  reported_prepare_ok from b v own (Some (Proposing lb s answers)) = reported_nothing
+  reported_prepare_ok from b v own (Some (Accepting lb answers)) = reported_nothing
+  reported_prepare_ok from b v own (Some (Preparing lb answers)) =
+      split (λ more. ReportedOk x (use_prepare_ok f i me b own x more)) (is_some (answer answers from)) _ _ (λ e. reported_nothing) (λ e.
+      split (ReportedOk x) (is_usable b x lb) _ _ (λ u. reported_count_prepare_ok (usable b x lb u).2 b (with_answer answers from v) own) (λ u. reported_nothing))
 
 -- Events.
 
@@ -241,26 +241,26 @@ abbrev pub CommitOk : Record → Bool → Outcome → Type 0
 CommitOk x commit (Ok ch) = after_entry x ch.entry ≡ (is_committed x.vote || (commit || says_commit ch.out))
 CommitOk x commit (Err e) = Unit {0}
 
-pub of_told : (x : Record) (o : Outcome) → ToldOk x o → CommitOk x false o
-of_told x (Ok ch) told = told
-of_told x (Err e) told = tt
+pub of_reported : (x : Record) (o : Outcome) → ReportedOk x o → CommitOk x false o
+of_reported x (Ok ch) reported = reported
+of_reported x (Err e) reported = tt
 
 or_true : (b c : Bool) → (b || (true || c)) ≡ true
 or_true true c = refl
 or_true false c = refl
 
-pub handled_told : (f me from : ℕ) (s : State) (m : Message) → 0 < f → CommitOk (record_in s (instance_of_message m)) (is_commit_message m) (handled f me from s m)
-handled_told f me from s (PreAccept i b x) more =
+pub handled_reported : (f me from : ℕ) (s : State) (m : Message) → 0 < f → CommitOk (record_in s (instance_of_message m)) (is_commit_message m) (handled f me from s m)
+handled_reported f me from s (PreAccept i b x) more =
     let own = interference s.records i x.command in
-    of_told (record_in s i) (on_pre_accept i from b x own (record_in s i)) (told_pre_accept f i me (record_in s i) more from b x own)
-handled_told f me from s (PreAcceptOk i b a) more =
-    of_told (record_in s i) (Ok (on_pre_accept_ok f i me from b a (record_in s i) (get s.leads i))) (told_pre_accept_ok f i me (record_in s i) more from b a (get s.leads i))
-handled_told f me from s (Accept i b x) more = of_told (record_in s i) (Ok (on_accept i from b x (record_in s i))) (told_accept f i me (record_in s i) more from b x)
-handled_told f me from s (AcceptOk i b) more =
-    of_told (record_in s i) (Ok (on_accept_ok f i me from b (record_in s i) (get s.leads i))) (told_accept_ok f i me (record_in s i) more from b (get s.leads i))
-handled_told f me from s (Commit i x) more = committed_on i x (record_in s i) ∙ sym (or_true (is_committed (record_in s i).vote) (says_commit (on_commit i x (record_in s i)).out))
-handled_told f me from s (Prepare i b) more = of_told (record_in s i) (Ok (on_prepare i from b (record_in s i))) (told_prepare f i me (record_in s i) more from b)
-handled_told f me from s (PrepareOk i b v) more =
+    of_reported (record_in s i) (on_pre_accept i from b x own (record_in s i)) (reported_pre_accept f i me (record_in s i) more from b x own)
+handled_reported f me from s (PreAcceptOk i b a) more =
+    of_reported (record_in s i) (Ok (on_pre_accept_ok f i me from b a (record_in s i) (get s.leads i))) (reported_pre_accept_ok f i me (record_in s i) more from b a (get s.leads i))
+handled_reported f me from s (Accept i b x) more = of_reported (record_in s i) (Ok (on_accept i from b x (record_in s i))) (reported_accept f i me (record_in s i) more from b x)
+handled_reported f me from s (AcceptOk i b) more =
+    of_reported (record_in s i) (Ok (on_accept_ok f i me from b (record_in s i) (get s.leads i))) (reported_accept_ok f i me (record_in s i) more from b (get s.leads i))
+handled_reported f me from s (Commit i x) more = committed_on i x (record_in s i) ∙ sym (or_true (is_committed (record_in s i).vote) (says_commit (on_commit i x (record_in s i)).out))
+handled_reported f me from s (Prepare i b) more = of_reported (record_in s i) (Ok (on_prepare i from b (record_in s i))) (reported_prepare f i me (record_in s i) more from b)
+handled_reported f me from s (PrepareOk i b v) more =
     let own = interference s.records i in
-    of_told (record_in s i) (on_prepare_ok f i me from b v own (record_in s i) (get s.leads i)) (told_prepare_ok f i me (record_in s i) more from b v own (get s.leads i))
-handled_told f me from s (Nack i b p) more = of_told (record_in s i) (Ok (on_nack p (cell_in s i).told)) (sym (or_false (is_committed (record_in s i).vote)))
+    of_reported (record_in s i) (on_prepare_ok f i me from b v own (record_in s i) (get s.leads i)) (reported_prepare_ok f i me (record_in s i) more from b v own (get s.leads i))
+handled_reported f me from s (Nack i b p) more = of_reported (record_in s i) (Ok (on_nack p (cell_in s i).reported)) (sym (or_false (is_committed (record_in s i).vote)))

@@ -33,8 +33,8 @@ use Rattle.ep_rules.specs.declared.record.Record.{Record}
 use Rattle.ep_rules.proofs.Keeping.{AllSent}
 use Rattle.ep_rules.proofs.Local.{free_found, local_acts, LocalAct}
 use Rattle.ep_rules.proofs.Lookups.{insert_other, insert_same, none_there}
-use Rattle.ep_node.specs.Telling.{committed_as, first_number, first_said, learnt_by, learnt_in, number_for, or_other, said_by, CommitsAreTold}
-use Rattle.ep_node.proofs.Decided.{after_entry, handled_told, is_commit_message, of_told, says_commit, told_give_up, told_propose, told_recover, CommitOk}
+use Rattle.ep_node.specs.Reporting.{committed_as, first_number, first_said, learnt_by, learnt_in, number_for, or_other, said_by, CommitsAreReported}
+use Rattle.ep_node.proofs.Decided.{after_entry, handled_reported, is_commit_message, of_reported, says_commit, reported_give_up, reported_propose, reported_recover, CommitOk}
 
 -- What a frame says.
 
@@ -122,13 +122,13 @@ unnumbered i number j false other = refl
 one_step : (me i : ℕ) (s : State) (ch : Change) (bs : List (List ℕ)) (commit : Bool) (heard : Option ℕ) (number j : ℕ) → CommitOk (record_in s i) commit (Ok ch) → AllSent (λ to m. instance_of_message m ≡ i) ch.out
     → messages_of (frames_at bs) ≡ sent_from me ch.out → heard ≡ cond commit (Some i) None
     → is_some (committed_in (with_entry s.records i ch.entry) j) ≡ (is_some (committed_in s.records j) || is_some (number_for (or_other heard (first_said bs)) number j))
-one_step me i s ch bs commit heard number j told about sent is =
+one_step me i s ch bs commit heard number j reported about sent is =
     let t : Bool = commit || says_commit ch.out in
     let learnt : or_other heard (first_said bs) ≡ cond t (Some i) None =
     ap (λ (o : Option ℕ). or_other o (first_said bs)) is ∙ ap (λ (o : Option ℕ). or_other (cond commit (Some i) None) o) (first_is me i bs ch.out sent about) ∙ or_same i commit (says_commit ch.out) in
     elim (cases_eq j i) [
       | inl same ↦ subst (λ (k : ℕ). is_some (committed_in (with_entry s.records i ch.entry) k) ≡ (is_some (committed_in s.records k) || is_some (number_for (or_other heard (first_said bs)) number k))) (sym same)
-          (here_after s i ch.entry ∙ told ∙ ap (λ b. b || t) (sym (some_committed (record_in s i).vote))
+          (here_after s i ch.entry ∙ reported ∙ ap (λ b. b || t) (sym (some_committed (record_in s i).vote))
           ∙ ap (λ b. is_some (committed_in s.records i) || b) (sym (ap (λ (o : Option ℕ). is_some (number_for o number i)) learnt ∙ numbered i number i t (eq-eqb i i refl))))
       | inr ne ↦ ap (λ o. is_some o) (other_after s i j ch.entry ne) ∙ sym (or_false (is_some (committed_in s.records j)))
           ∙ ap (λ b. is_some (committed_in s.records j) || b) (sym (ap (λ (o : Option ℕ). is_some (number_for o number j)) learnt ∙ unnumbered i number j t (ne_eqb i j (λ e. ne (sym e)))))
@@ -136,8 +136,8 @@ one_step me i s ch bs commit heard number j told about sent is =
 
 at_step : (me i : ℕ) (s : State) (o : Outcome) (bs : List (List ℕ)) (commit : Bool) (heard : Option ℕ) (number j : ℕ) → CommitOk (record_in s i) commit o → LocalAct s (at i o) → IsTaken (at i o) → messages_of (frames_at bs) ≡ sent_by me (at i o)
     → heard ≡ cond commit (Some i) None → is_some (committed_in (changed_by s (at i o)).records j) ≡ (is_some (committed_in s.records j) || is_some (number_for (or_other heard (first_said bs)) number j))
-at_step me i s (Ok ch) bs commit heard number j told local taken sent is = one_step me i s ch bs commit heard number j told local.about sent is
-at_step me i s (Err e) bs commit heard number j told local taken sent is = absurd taken
+at_step me i s (Ok ch) bs commit heard number j reported local taken sent is = one_step me i s ch bs commit heard number j reported local.about sent is
+at_step me i s (Err e) bs commit heard number j reported local taken sent is = absurd taken
 
 -- An entry.
 
@@ -148,18 +148,18 @@ propose_step f me spare s c (Some n) bs number j more is local taken sent =
     let i = instance_of me (n + 1) in
     let own = interference s.records i c in
     let live : is_committed (record_in s i).vote ≡ false = ap (λ o. is_committed (record_or_fresh i o).vote) (free_found s.records me n is).1 in
-    at_step me i s (propose f i spare c own) bs false None number j (of_told (record_in s i) (propose f i spare c own) (told_propose f i me (record_in s i) more live spare c own)) local taken sent refl
+    at_step me i s (propose f i spare c own) bs false None number j (of_reported (record_in s i) (propose f i spare c own) (reported_propose f i me (record_in s i) more live spare c own)) local taken sent refl
 
 entry_step : (f me : ℕ) (s : State) (event : Happening) (bs : List (List ℕ)) (number j : ℕ) → 0 < f → IsTaken (acts f me s (event_of event)) → messages_of (frames_at bs) ≡ sends f me s (event_of event)
     → is_some (committed_in (changed_by s (acts f me s (event_of event))).records j) ≡ (is_some (committed_in s.records j) || is_some (number_for (learnt_in event bs) number j))
 entry_step f me s (Propose client request c seen named) bs number j more taken sent =
     propose_step f me (spared f me named) s c (free_number s.records me) bs number j more refl (local_acts f me s (event_of (Propose client request c seen named))) taken sent
 entry_step f me s (Handle b) bs number j more taken sent =
-    at_step me (instance_of_message (message_at b)) s _ bs (is_commit_message (message_at b)) (said_by b) number j (handled_told f me _ s (message_at b) more) (local_acts f me s (event_of (Handle b))) taken sent (said_is b)
+    at_step me (instance_of_message (message_at b)) s _ bs (is_commit_message (message_at b)) (said_by b) number j (handled_reported f me _ s (message_at b) more) (local_acts f me s (event_of (Handle b))) taken sent (said_is b)
 entry_step f me s (GiveUp i) bs number j more taken sent =
-    at_step me i s _ bs false None number j (of_told (record_in s i) (give_up f i me (record_in s i) (get s.leads i)) (told_give_up f i me (record_in s i) more (get s.leads i))) (local_acts f me s (event_of (GiveUp i))) taken sent refl
+    at_step me i s _ bs false None number j (of_reported (record_in s i) (give_up f i me (record_in s i) (get s.leads i)) (reported_give_up f i me (record_in s i) more (get s.leads i))) (local_acts f me s (event_of (GiveUp i))) taken sent refl
 entry_step f me s (Recover i) bs number j more taken sent =
-    at_step me i s _ bs false None number j (of_told (record_in s i) (recover f i me (record_in s i) (cell_in s i).told) (told_recover f i me (record_in s i) more (cell_in s i).told)) (local_acts f me s (event_of (Recover i))) taken sent refl
+    at_step me i s _ bs false None number j (of_reported (record_in s i) (recover f i me (record_in s i) (cell_in s i).reported) (reported_recover f i me (record_in s i) more (cell_in s i).reported)) (local_acts f me s (event_of (Recover i))) taken sent refl
 entry_step f me s (Execute i) bs number j more taken sent =
     at_step me i s (Ok nothing) bs false None number j (sym (or_false (is_committed (record_in s i).vote))) (local_acts f me s (event_of (Execute i))) taken sent refl
 
@@ -185,7 +185,7 @@ all_steps f me s (e ∷ es) j more steps =
     ∙ or_more was one rest
     ∙ ap (λ b. was || b) (sym (some_or (number_for (learnt_by e) e.number j) (first_number learnt_by es j)))
 
-pub commits_are_told_lem : CommitsAreTold
-commits_are_told_lem v o f me es more journal i =
+pub commits_are_reported_lem : CommitsAreReported
+commits_are_reported_lem v o f me es more journal i =
     all_steps f me (fresh_state (opens o)) es i more journal.run.1
     ∙ ap (λ b. b || is_some (first_number learnt_by es i)) (ap (λ o. is_some (committed_decree (record_or_fresh i o).vote)) (none_there i))

@@ -18,7 +18,7 @@ mod Syncing
 mod Opened
 mod EachTaken
 mod Noting
-mod OpenTold
+mod OpenReported
 mod Decided
 mod Learnt
 pub mod Unclosed

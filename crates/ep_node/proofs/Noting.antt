@@ -5,7 +5,7 @@ use Rattle.std.proofs.lemmas.List.{drop_more, take_more, take-append-le}
 use Rattle.std.proofs.lemmas.Bool.{cases_eq, eq-eqb, ne_eqb}
 use Rattle.ep_base.specs.Instances.{IsInstance}
 use Rattle.ep_journal.specs.declared.entry.Entry.{Entry}
-use Rattle.ep_node.specs.Telling.{about_by, commits_by, first_number, learnt_by, new_commit, noted, number_for, or_other, AreFirst, Knows}
+use Rattle.ep_node.specs.Reporting.{about_by, commits_by, first_number, learnt_by, new_commit, noted, number_for, or_other, AreFirst, Knows}
 use Rattle.ep_space.specs.Entries.{slot}
 
 or_none : (o : Option ℕ) → or_other o None ≡ o

@@ -1,4 +1,4 @@
--- Why a generation isn't closed, as a node tells it.
+-- Why a generation isn't closed, as a node reports it.
 use Rattle.std.proofs.Common.{◌≡◌, ◌≢◌, refl}
 use Rattle.ep_opening.specs.declared.closing_fault.ClosingFault.{ClosingFault}
 use Rattle.ep_opening.specs.declared.closing_fault.ClosingFault.TheVariants as closing

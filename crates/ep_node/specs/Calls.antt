@@ -43,7 +43,7 @@ pub record CallsAreMoves : Type 0 where
       Makes start f c (Take k.me (entry_of e)) k' n
   -- after a sync, which is no move, more of its entries are on the disk, or all
   pub syncs : (start : Start) (f n m : ℕ) (c : Cluster) (k : Kept) → IsNode start f c k n → n ≤ m → m ≤ length k.entries → IsNode start f c k m
-  -- to lend a replica of just the entries that are on the disk, or to tell of it, is a `HandOut` of these, whatever was taken since
+  -- to lend a replica of just the entries that are on the disk, or to report on it, is a `HandOut` of these, whatever was taken since
   pub lends : (start : Start) (f n : ℕ) (c : Cluster) (k : Kept) → IsNode start f c k n → Makes start f c (HandOut k.me n) k n
   -- a crash is a `ComeBack` with the entries that the node is opened with: the first ones, with all that were on the disk
   pub comes_back :

@@ -4,7 +4,7 @@ pub mod Crashes
 pub mod CrashLives
 pub mod LifeCalls
 pub mod Nodes
-pub mod Telling
+pub mod Reporting
 pub mod Executing
 pub mod OpenFaults
 pub mod Opening

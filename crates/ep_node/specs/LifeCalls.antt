@@ -95,7 +95,7 @@ pub record LifeCallsAreMoves : Type 0 where
       Applied k event e k' → MakesIn first f l (Within g (Take k.me (entry_of e))) g k' n
   -- after a sync, which is no move, more of its entries are on the disk, or all
   pub syncs : (first : ℕ) (f : ℕ → ℕ) (l : Generations) (g n m : ℕ) (k : Kept) → IsNodeIn first f l g k n → n ≤ m → m ≤ length k.entries → IsNodeIn first f l g k m
-  -- to lend a replica of just the entries that are on the disk, or to tell of it, is a `HandOut` of these, whatever was taken since
+  -- to lend a replica of just the entries that are on the disk, or to report on it, is a `HandOut` of these, whatever was taken since
   pub lends : (first : ℕ) (f : ℕ → ℕ) (l : Generations) (g n : ℕ) (k : Kept) → IsNodeIn first f l g k n → MakesIn first f l (Within g (HandOut k.me n)) g k n
   -- each frame of each of these was handed out, and stays so, whatever comes
   pub sends :

@@ -3,7 +3,7 @@
 ghost use Rattle.std.specs.Prelude.{◌≡◌, ◌≢◌, ◌≤◌, ◌<◌, ℕ, Some, None, length, slice_index_or, OnOk};
 ghost use Rattle.ep_base.specs.Instances.{IsInstance};
 ghost use Rattle.ep_space.specs.Entries.{slot};
-ghost use Rattle.ep_node.specs.Telling.{or_other};
+ghost use Rattle.ep_node.specs.Reporting.{or_other};
 
 use ep_base::InstanceId;
 use std::alloc::{AllocError, Global};
@@ -58,7 +58,7 @@ impl FirstEntries {
     ghost use Rattle.std.specs.Prelude.{◌≡◌, ◌<◌, ℕ, [], Some, length, IfSome, OnOk};
     ghost use Rattle.ep_space.specs.Entries.{slot};
     ghost use Rattle.ep_base.specs.Instances.{IsInstance};
-    ghost use Rattle.ep_node.specs.Telling.{noted, number_for, or_other};
+    ghost use Rattle.ep_node.specs.Reporting.{noted, number_for, or_other};
 
     /// No entries.
     pub(crate) fn new(alloc: Global) -> FirstEntries

@@ -1,7 +1,7 @@
 //! What an entry is about, and what it commits.
 
 ghost use Rattle.std.specs.Prelude.{◌≡◌};
-ghost use Rattle.ep_node.specs.Telling.{about_by, committed_as, learnt_by, first_said, or_other, said_by};
+ghost use Rattle.ep_node.specs.Reporting.{about_by, committed_as, learnt_by, first_said, or_other, said_by};
 ghost use Rattle.ep_journal.specs.Events.{first_named};
 
 use ep_base::InstanceId;

@@ -26,10 +26,10 @@ mod ready;
 mod ready_fault;
 mod ready_laws;
 mod records;
+mod reporting;
 mod resumed;
 mod started;
 mod taking;
-mod telling;
 mod whose;
 
 pub use begin::Begin;
@@ -48,5 +48,5 @@ pub use open_instance::OpenInstance;
 pub use open_laws::cuts_are_opened;
 pub use ready::Ready;
 pub use ready_fault::ReadyFault;
-pub use ready_laws::commits_are_told;
+pub use ready_laws::commits_are_reported;
 pub use whose::Whose;

@@ -18,7 +18,7 @@ pub(crate) struct Notes {
 
 impl Notes {
     ghost use Rattle.std.specs.Prelude.{◌≡◌, ◌<◌, ◌+◌, [], length, OnOk};
-    ghost use Rattle.ep_node.specs.Telling.{Knows};
+    ghost use Rattle.ep_node.specs.Reporting.{Knows};
 
     /// Of no entries.
     pub(crate) fn new(alloc: Global) -> Notes

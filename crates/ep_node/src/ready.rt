@@ -1,11 +1,11 @@
-//! What a node has to tell.
+//! What a node has to report.
 
 use crate::open_instance::OpenInstance;
 use ep_base::InstanceId;
 use ep_frame::Frame;
 use ep_rules::Receipt;
 
-/// What a node has to tell of its entries from one on, all of which are on the disk.
+/// What a node has to report of its entries from one on, all of which are on the disk.
 #[derive(Drop)]
 pub struct Ready {
     /// How many entries there are, all of which were reported with this: what to hand in with the next call.

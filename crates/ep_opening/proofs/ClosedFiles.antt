@@ -25,16 +25,16 @@ use Rattle.ep_rules.specs.Steps.{order_of, leaves}
 use Rattle.ep_rules.specs.Verdicts.{command_at, history_of, merged_of, IsReply}
 use Rattle.ep_rules.specs.Worlds.{World, opening, In, Act, IsRun, ends}
 use Rattle.ep_rules.proofs.AllExecuted.{runs_execute_all_lem}
-use Rattle.ep_rules.proofs.ChainsExplained.{closes_left, in_acts_of, told_same}
+use Rattle.ep_rules.proofs.ChainsExplained.{closes_left, in_acts_of, reported_same}
 use Rattle.ep_rules.proofs.Closings.{is_history}
 use Rattle.ep_rules.proofs.CutHistories.{cut_of}
 use Rattle.ep_rules.proofs.JournalsCommitted.{is_run, is_run_nil, state_is}
 use Rattle.ep_rules.proofs.JournalsReplies.{each_reply_lem}
 use Rattle.ep_rules.proofs.Merged.{in_left, of_in}
 use Rattle.ep_rules.proofs.Places.{has_filter, has_split}
-use Rattle.ep_rules.proofs.RunCommits.{told_in}
+use Rattle.ep_rules.proofs.RunCommits.{reported_in}
 use Rattle.ep_rules.proofs.RunHistories.{command_is}
-use Rattle.ep_rules.proofs.RunsLinear.{has_in, told_lost}
+use Rattle.ep_rules.proofs.RunsLinear.{has_in, reported_lost}
 use Rattle.ep_rules.proofs.Settling.{one_settling_lem}
 use Rattle.ep_rules.proofs.Sorted.{stamp_reached}
 use Rattle.ep_rules.proofs.Answered.{is_real}
@@ -98,7 +98,7 @@ module _ (m : Contents) (f : ℕ) (journal : Journals) (schedule : List Schedule
 
     seal_is : is_seal (c sealed.0.instance) ≡ true
     seal_is =
-        ap is_seal (sym (command_is (told_in (opened m) f acts) (history_from m f schedule) sealed.0 (is_history (opened m) f given.some given.few acts run).commands (cut_of (history_from m f schedule) sealed.0 sealed.1) ∙ told_same m f journal schedule given sealed.0.instance))
+        ap is_seal (sym (command_is (reported_in (opened m) f acts) (history_from m f schedule) sealed.0 (is_history (opened m) f given.some given.few acts run).commands (cut_of (history_from m f schedule) sealed.0 sealed.1) ∙ reported_same m f journal schedule given sealed.0.instance))
         ∙ sealed.2
 
     pub goes_on : (x : ℕ) → GoesOn m f journal r (stamp_after x (journal r))
@@ -135,10 +135,10 @@ module _ (m : Contents) (f : ℕ) (journal : Journals) (schedule : List Schedule
         let same : x.0 ≡ Replied a.1 = one_answer i a.1 x.0 (each_reply_lem (opened m) f journal schedule given b.0 i (Replied a.1) b.1 there) (each_reply_lem (opened m) f journal schedule given d.0 i x.0 d.1 here) in
         (own.0, a.1, own.1, subst (λ (y : Answer). In (i, y) own.0.done) same x.1, a.4)
       where
-        one_answer : (i : ℕ) (told : Reply) (x : Answer) → IsReply (opened m) c (history_of c schedule) i (Replied told) → IsReply (opened m) c (history_of c schedule) i x → x ≡ Replied told
-        one_answer i told x (inl lost) other = told_lost told lost.1
-        one_answer i told x (inr p) (inl lost) = not_real c i lost.0 (has_filter (is_real c) (merged_of [] schedule) i p.0).1
-        one_answer i told x (inr p) (inr k) = k.1 ∙ sym p.1
+        one_answer : (i : ℕ) (reported : Reply) (x : Answer) → IsReply (opened m) c (history_of c schedule) i (Replied reported) → IsReply (opened m) c (history_of c schedule) i x → x ≡ Replied reported
+        one_answer i reported x (inl lost) other = reported_lost reported lost.1
+        one_answer i reported x (inr p) (inl lost) = not_real c i lost.0 (has_filter (is_real c) (merged_of [] schedule) i p.0).1
+        one_answer i reported x (inr p) (inr k) = k.1 ∙ sym p.1
 
 -- The journal among the others.
 

@@ -25,11 +25,11 @@ use Rattle.ep_bundle.proofs.ReadNumbers.{Gives, Comes, Ranges, done, step, last,
 use Rattle.ep_bundle.proofs.ReadParts.{instance_gives}
 use Rattle.ep_opening.specs.Bytes.{body_bytes, executed_bytes, front_bytes, lead_bytes, magic, opening_bytes, seal_bytes}
 use Rattle.ep_opening.specs.Files.{File}
-use Rattle.ep_opening.specs.Reading.{FileReading, above, and_told, body_in, executed, executed_field, file, file_of, front, front_field, last_of, lead, lead_field, most_of, parts, rising, seal, seal_value, file_reading}
+use Rattle.ep_opening.specs.Reading.{FileReading, above, and_reported, body_in, executed, executed_field, file, file_of, front, front_field, last_of, lead, lead_field, most_of, parts, rising, seal, seal_value, file_reading}
 use Rattle.ep_opening.specs.declared.front.Front.{Front}
 use Rattle.ep_opening.specs.declared.opening_fault.OpeningFault.TheVariants.{CutShort, Damaged}
 use Rattle.ep_opening.specs.declared.opening_field.OpeningField.TheVariants.{Map, Rest}
-use Rattle.ep_opening.proofs.FileReadings.{told_then, telling_read}
+use Rattle.ep_opening.proofs.FileReadings.{reported_then, reporting_read}
 
 pub the_same : (n x : ℕ) → Ranges n n x → x ≡ n
 the_same n x p = let a : n ≤ x = p.least in let b : x ≤ n = p.most in omega arith
@@ -121,36 +121,36 @@ executed_gives g l h =
 -- all that stands behind the lead
 
 abbrev pub after_executed : Front → Contents → List ℕ → Left → FileReading File
-after_executed h m is l = and_told (file_reading (λ at. Rest) (ended l)) (λ x l. Ok (file_of h m is, l))
+after_executed h m is l = and_reported (file_reading (λ at. Rest) (ended l)) (λ x l. Ok (file_of h m is, l))
 
 abbrev pub after_map : Front → Contents → Left → FileReading File
-after_map h m l = and_told (file_reading (executed_field l.at) (executed h.generation l)) (after_executed h m)
+after_map h m l = and_reported (file_reading (executed_field l.at) (executed h.generation l)) (after_executed h m)
 
 abbrev pub after_front : Front → Left → FileReading File
-after_front h l = and_told (file_reading (λ at. Map) (map_in (V3 h.generation) l)) (after_map h)
+after_front h l = and_reported (file_reading (λ at. Map) (map_in (V3 h.generation) l)) (after_map h)
 
 pub nothing_after : (bs : List ℕ) (l m : Left) (x : Unit {0}) → none_in bs l ≡ Ok (x, m) → bs ≡ []
 nothing_after [] l m x h = refl
 nothing_after (b ∷ bs) l m x h = absurd (cc)
 
-abbrev told_file : File → Left → FileReading File
-told_file f l = Ok (f, l)
+abbrev reported_file : File → Left → FileReading File
+reported_file f l = Ok (f, l)
 
-same_file : (f f' : File) (l l' : Left) → told_file f l ≡ told_file f' l' → f ≡ f'
+same_file : (f f' : File) (l l' : Left) → reported_file f l ≡ reported_file f' l' → f ≡ f'
 same_file f f' l l' h = let t : (f, l) ≡ (f', l') = (cc) in ap (λ (p : File × Left). p.0) t
 
 parts_are : (l l' : Left) (f : File) → AreBytes l.bytes → parts l ≡ Ok (f, l') → l.bytes ≡ front_bytes f ++ contents_bytes f.opening.contents ++ executed_bytes f.executed
 parts_are l l' f h e =
-    let a = told_then (file_reading front_field (front l)) after_front f l' e in
-    let ta = (front_gives l h).took a.0 a.1 (telling_read front_field (front l) a.0 a.1 a.2) in
+    let a = reported_then (file_reading front_field (front l)) after_front f l' e in
+    let ta = (front_gives l h).took a.0 a.1 (reporting_read front_field (front l) a.0 a.1 a.2) in
     let ha = rest_bytes (front_spelled a.0) l a.1 h ta.1 in
-    let b = told_then (file_reading (λ at. Map) (map_in (V3 a.0.generation) a.1)) (after_map a.0) f l' a.3 in
-    let tb = (map_gives (V3 a.0.generation) a.1 ha).took b.0 b.1 (telling_read (λ at. Map) (map_in (V3 a.0.generation) a.1) b.0 b.1 b.2) in
+    let b = reported_then (file_reading (λ at. Map) (map_in (V3 a.0.generation) a.1)) (after_map a.0) f l' a.3 in
+    let tb = (map_gives (V3 a.0.generation) a.1 ha).took b.0 b.1 (reporting_read (λ at. Map) (map_in (V3 a.0.generation) a.1) b.0 b.1 b.2) in
     let hb = rest_bytes (contents_bytes b.0) a.1 b.1 ha tb.1 in
-    let c = told_then (file_reading (executed_field b.1.at) (executed a.0.generation b.1)) (after_executed a.0 b.0) f l' b.3 in
-    let tc = (executed_gives a.0.generation b.1 hb).took c.0 c.1 (telling_read (executed_field b.1.at) (executed a.0.generation b.1) c.0 c.1 c.2) in
-    let d = told_then (file_reading (λ at. Rest) (ended c.1)) (λ x l. Ok (file_of a.0 b.0 c.0, l)) f l' c.3 in
-    let none = nothing_after c.1.bytes c.1 d.1 d.0 (telling_read (λ at. Rest) (ended c.1) d.0 d.1 d.2) in
+    let c = reported_then (file_reading (executed_field b.1.at) (executed a.0.generation b.1)) (after_executed a.0 b.0) f l' b.3 in
+    let tc = (executed_gives a.0.generation b.1 hb).took c.0 c.1 (reporting_read (executed_field b.1.at) (executed a.0.generation b.1) c.0 c.1 c.2) in
+    let d = reported_then (file_reading (λ at. Rest) (ended c.1)) (λ x l. Ok (file_of a.0 b.0 c.0, l)) f l' c.3 in
+    let none = nothing_after c.1.bytes c.1 d.1 d.0 (reporting_read (λ at. Rest) (ended c.1) d.0 d.1 d.2) in
     joined l.bytes a.1.bytes b.1.bytes c.1.bytes (front_spelled a.0) (contents_bytes b.0) (executed_bytes c.0) ta.1.bytes tb.1.bytes tc.1.bytes none
     ∙ ap (λ (x : File). front_bytes x ++ contents_bytes x.opening.contents ++ executed_bytes x.executed) (same_file (file_of a.0 b.0 c.0) f d.1 l' d.3)
   where
@@ -163,8 +163,8 @@ parts_are l l' f h e =
 body_is : (bs digest : List ℕ) (f : File) (l : Left) → AreBytes bs → body_in bs digest ≡ Ok (f, l) → bs ++ digest ≡ opening_bytes f
 body_is bs digest f l h e =
     let start : Left = record { at = 0; bytes = bs } in
-    let a = told_then (file_reading lead_field (lead start)) (λ x m. cond (same_list (sha256 bs) digest) (parts m) (Err (Damaged (length bs)))) f l e in
-    let t = (lead_gives start h).took a.0 a.1 (telling_read lead_field (lead start) a.0 a.1 a.2) in
+    let a = reported_then (file_reading lead_field (lead start)) (λ x m. cond (same_list (sha256 bs) digest) (parts m) (Err (Damaged (length bs)))) f l e in
+    let t = (lead_gives start h).took a.0 a.1 (reporting_read lead_field (lead start) a.0 a.1 a.2) in
     go (same_list (sha256 bs) digest) a.1 refl t.1.bytes (rest_bytes lead_bytes start a.1 h t.1) a.3
   where
     group : (a b c d : List ℕ) → a ++ (b ++ c ++ d) ≡ a ++ b ++ c ++ d

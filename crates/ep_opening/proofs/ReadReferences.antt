@@ -16,14 +16,14 @@ use Rattle.ep_bundle.specs.Reading.{Left, and_then, run, field}
 use Rattle.ep_bundle.specs.declared.bundle_field.BundleField.TheVariants.{Other}
 use Rattle.ep_bundle.proofs.ReadHeaders.{cluster_gives}
 use Rattle.ep_bundle.proofs.ReadNumbers.{Gives, done, step, last, whole, rest_bytes, run_gives, field_gives}
-use Rattle.ep_opening.specs.Reading.{IsReadAs, FileReading, ReadsAs, and_told, lead_field, file_reading}
+use Rattle.ep_opening.specs.Reading.{IsReadAs, FileReading, ReadsAs, and_reported, lead_field, file_reading}
 use Rattle.ep_opening.specs.ReferenceReading.{body_in, lead, name, name_field, parts, reference}
 use Rattle.ep_opening.specs.References.{Reference, body_bytes, lead_bytes, least_log, magic, name_bytes, reference_bytes}
 use Rattle.ep_opening.specs.declared.opening_fault.OpeningFault.{OpeningFault}
 use Rattle.ep_opening.specs.declared.opening_fault.OpeningFault.TheVariants.{CutShort, Damaged}
 use Rattle.ep_opening.specs.declared.opening_field.OpeningField.TheVariants.{Rest}
 use Rattle.ep_opening.proofs.ReadFiles.{nothing_after, the_same}
-use Rattle.ep_opening.proofs.FileReadings.{fails_told, goes_on_told, is_told, told_then, telling_read}
+use Rattle.ep_opening.proofs.FileReadings.{fails_reported, goes_on_reported, is_reported, reported_then, reporting_read}
 
 lead_gives : (l : Left) → AreBytes l.bytes → Gives (λ (x : ℕ). lead_bytes) (λ x. Unit {0}) l (lead l)
 lead_gives l h =
@@ -53,20 +53,20 @@ name_gives l h =
 -- all that stands behind the lead
 
 abbrev pub after_name : Reference → Left → FileReading Reference
-after_name r l = and_told (file_reading (λ at. Rest) (ended l)) (λ x l. Ok (r, l))
+after_name r l = and_reported (file_reading (λ at. Rest) (ended l)) (λ x l. Ok (r, l))
 
-abbrev told_reference : Reference → Left → FileReading Reference
-told_reference r l = Ok (r, l)
+abbrev reported_reference : Reference → Left → FileReading Reference
+reported_reference r l = Ok (r, l)
 
-same_reference : (r s : Reference) (l m : Left) → told_reference r l ≡ told_reference s m → r ≡ s
+same_reference : (r s : Reference) (l m : Left) → reported_reference r l ≡ reported_reference s m → r ≡ s
 same_reference r s l m h = let t : (r, l) ≡ (s, m) = (cc) in ap (λ (p : Reference × Left). p.0) t
 
 parts_are : (l l' : Left) (r : Reference) → AreBytes l.bytes → parts l ≡ Ok (r, l') → l.bytes ≡ name_bytes r
 parts_are l l' r h e =
-    let a = told_then (file_reading name_field (name l)) after_name r l' e in
-    let ta = (name_gives l h).took a.0 a.1 (telling_read name_field (name l) a.0 a.1 a.2) in
-    let d = told_then (file_reading (λ at. Rest) (ended a.1)) (λ x l. Ok (a.0, l)) r l' a.3 in
-    let none = nothing_after a.1.bytes a.1 d.1 d.0 (telling_read (λ at. Rest) (ended a.1) d.0 d.1 d.2) in
+    let a = reported_then (file_reading name_field (name l)) after_name r l' e in
+    let ta = (name_gives l h).took a.0 a.1 (reporting_read name_field (name l) a.0 a.1 a.2) in
+    let d = reported_then (file_reading (λ at. Rest) (ended a.1)) (λ x l. Ok (a.0, l)) r l' a.3 in
+    let none = nothing_after a.1.bytes a.1 d.1 d.0 (reporting_read (λ at. Rest) (ended a.1) d.0 d.1 d.2) in
     ta.1.bytes ∙ ap (λ (x : List ℕ). name_bytes a.0 ++ x) none ∙ append-nil (name_bytes a.0) ∙ ap name_bytes (same_reference a.0 r d.1 l' d.3)
 
 -- the whole
@@ -74,8 +74,8 @@ parts_are l l' r h e =
 body_is : (bs digest : List ℕ) (r : Reference) (l : Left) → AreBytes bs → body_in bs digest ≡ Ok (r, l) → bs ++ digest ≡ reference_bytes r
 body_is bs digest r l h e =
     let start : Left = record { at = 0; bytes = bs } in
-    let a = told_then (file_reading lead_field (lead start)) (λ x m. cond (same_list (sha256 bs) digest) (parts m) (Err (Damaged (length bs)))) r l e in
-    let t = (lead_gives start h).took a.0 a.1 (telling_read lead_field (lead start) a.0 a.1 a.2) in
+    let a = reported_then (file_reading lead_field (lead start)) (λ x m. cond (same_list (sha256 bs) digest) (parts m) (Err (Damaged (length bs)))) r l e in
+    let t = (lead_gives start h).took a.0 a.1 (reporting_read lead_field (lead start) a.0 a.1 a.2) in
     go (same_list (sha256 bs) digest) a.1 refl t.1.bytes (rest_bytes lead_bytes start a.1 h t.1) a.3
   where
     go : (b : Bool) (m : Left) → same_list (sha256 bs) digest ≡ b → bs ≡ lead_bytes ++ m.bytes → AreBytes m.bytes → cond b (parts m) (Err (Damaged (length bs))) ≡ Ok (r, l) → bs ++ digest ≡ reference_bytes r
@@ -101,18 +101,18 @@ start bs = record { at = 0; bytes = bs }
 
 -- the lead is at fault
 pub lead_fails : (bs digest : List ℕ) (e : OpeningFault) (r : Result Reference OpeningFault) (p : ℕ) (left : Option (List ℕ)) → ReadsAs {A = ℕ} (file_reading lead_field (lead (start bs))) (Err e) p left → IsErrAnd r (λ x. x ≡ e) → IsReadAs (body_in bs digest) r
-lead_fails bs digest e r p left h is = is_told (body_in bs digest) r p left (fails_told (file_reading lead_field (lead (start bs))) (after_lead bs digest) e r p p left left h is)
+lead_fails bs digest e r p left h is = is_reported (body_in bs digest) r p left (fails_reported (file_reading lead_field (lead (start bs))) (after_lead bs digest) e r p p left left h is)
 
 -- the digest is another
 pub unsealed : (bs digest : List ℕ) (x p : ℕ) (left : Option (List ℕ)) → ReadsAs (file_reading lead_field (lead (start bs))) (Ok x) p left → same_list (sha256 bs) digest ≡ false → body_in bs digest ≡ Err (Damaged (length bs))
 unsealed bs digest x p left h e =
-    ap (λ (o : FileReading ℕ). and_told o (after_lead bs digest)) h.2 ∙ ap (λ (b : Bool). cond {A = FileReading Reference} b (parts (record { at = p; bytes = h.0 })) (Err (Damaged (length bs)))) e
+    ap (λ (o : FileReading ℕ). and_reported o (after_lead bs digest)) h.2 ∙ ap (λ (b : Bool). cond {A = FileReading Reference} b (parts (record { at = p; bytes = h.0 })) (Err (Damaged (length bs)))) e
 
 -- the other fields say what the whole is
 pub sealed : (bs digest : List ℕ) (x p : ℕ) (left : Option (List ℕ)) (r : Result Reference OpeningFault) (q : ℕ) (left' : Option (List ℕ)) → ReadsAs (file_reading lead_field (lead (start bs))) (Ok x) p left → same_list (sha256 bs) digest ≡ true
     → ((ys : List ℕ) → left ≡ Some ys → ReadsAs (parts (record { at = p; bytes = ys })) r q left') → IsReadAs (body_in bs digest) r
-sealed bs digest x p left r q left' h e next = is_told (body_in bs digest) r q left'
-    (goes_on_told (file_reading lead_field (lead (start bs))) (after_lead bs digest) x p left r q left' h
+sealed bs digest x p left r q left' h e next = is_reported (body_in bs digest) r q left'
+    (goes_on_reported (file_reading lead_field (lead (start bs))) (after_lead bs digest) x p left r q left' h
     (λ ys k. subst (λ (b : Bool). ReadsAs {A = Reference} (cond b (parts (record { at = p; bytes = ys })) (Err (Damaged (length bs)))) r q left') (sym e) (next ys k)))
 
 -- the length of the whole

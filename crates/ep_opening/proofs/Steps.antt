@@ -14,10 +14,10 @@ use Rattle.ep_bundle.specs.Stages.{instance}
 use Rattle.ep_bundle.specs.declared.bundle_fault.BundleFault.{BundleFault}
 use Rattle.ep_bundle.proofs.Readings.{same_reading}
 use Rattle.ep_opening.specs.Files.{File}
-use Rattle.ep_opening.specs.Reading.{IsReadAs, FileReading, ReadsAs, and_told, body_in, file, lead, lead_field, marked, parts, some_value, file_reading}
+use Rattle.ep_opening.specs.Reading.{IsReadAs, FileReading, ReadsAs, and_reported, body_in, file, lead, lead_field, marked, parts, some_value, file_reading}
 use Rattle.ep_opening.specs.declared.opening_fault.OpeningFault.{OpeningFault}
 use Rattle.ep_opening.specs.declared.opening_fault.OpeningFault.TheVariants.{CutShort, Damaged}
-use Rattle.ep_opening.proofs.FileReadings.{fails_told, goes_on_told, is_told}
+use Rattle.ep_opening.proofs.FileReadings.{fails_reported, goes_on_reported, is_reported}
 
 -- the seal
 
@@ -53,18 +53,18 @@ start bs = record { at = 0; bytes = bs }
 
 -- the lead is at fault
 pub lead_fails : (bs digest : List ℕ) (e : OpeningFault) (r : Result File OpeningFault) (p : ℕ) (left : Option (List ℕ)) → ReadsAs {A = ℕ} (file_reading lead_field (lead (start bs))) (Err e) p left → IsErrAnd r (λ x. x ≡ e) → IsReadAs (body_in bs digest) r
-lead_fails bs digest e r p left h is = is_told (body_in bs digest) r p left (fails_told (file_reading lead_field (lead (start bs))) (after_lead bs digest) e r p p left left h is)
+lead_fails bs digest e r p left h is = is_reported (body_in bs digest) r p left (fails_reported (file_reading lead_field (lead (start bs))) (after_lead bs digest) e r p p left left h is)
 
 -- the digest is another
 pub unsealed : (bs digest : List ℕ) (x p : ℕ) (left : Option (List ℕ)) → ReadsAs (file_reading lead_field (lead (start bs))) (Ok x) p left → same_list (sha256 bs) digest ≡ false → body_in bs digest ≡ Err (Damaged (length bs))
 unsealed bs digest x p left h e =
-    ap (λ (o : FileReading ℕ). and_told o (after_lead bs digest)) h.2 ∙ ap (λ (b : Bool). cond {A = FileReading File} b (parts (record { at = p; bytes = h.0 })) (Err (Damaged (length bs)))) e
+    ap (λ (o : FileReading ℕ). and_reported o (after_lead bs digest)) h.2 ∙ ap (λ (b : Bool). cond {A = FileReading File} b (parts (record { at = p; bytes = h.0 })) (Err (Damaged (length bs)))) e
 
 -- the other fields say what the whole is
 pub sealed : (bs digest : List ℕ) (x p : ℕ) (left : Option (List ℕ)) (r : Result File OpeningFault) (q : ℕ) (left' : Option (List ℕ)) → ReadsAs (file_reading lead_field (lead (start bs))) (Ok x) p left → same_list (sha256 bs) digest ≡ true
     → ((ys : List ℕ) → left ≡ Some ys → ReadsAs (parts (record { at = p; bytes = ys })) r q left') → IsReadAs (body_in bs digest) r
-sealed bs digest x p left r q left' h e next = is_told (body_in bs digest) r q left'
-    (goes_on_told (file_reading lead_field (lead (start bs))) (after_lead bs digest) x p left r q left' h
+sealed bs digest x p left r q left' h e next = is_reported (body_in bs digest) r q left'
+    (goes_on_reported (file_reading lead_field (lead (start bs))) (after_lead bs digest) x p left r q left' h
     (λ ys k. subst (λ (b : Bool). ReadsAs {A = File} (cond b (parts (record { at = p; bytes = ys })) (Err (Damaged (length bs)))) r q left') (sym e) (next ys k)))
 
 -- the length of the whole

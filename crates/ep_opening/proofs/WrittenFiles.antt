@@ -29,7 +29,7 @@ use Rattle.ep_bundle.proofs.WrittenStages.{Gives, respelled, then_gives, made_of
 use Rattle.ep_rules.specs.OneMap.{Contents}
 use Rattle.ep_opening.specs.Bytes.{body_bytes, executed_bytes, front_bytes, lead_bytes, magic, seal_bytes}
 use Rattle.ep_opening.specs.Files.{File, HasItsPast, HasItsSeal, IsFile, SealFits}
-use Rattle.ep_opening.specs.Reading.{FilesAreReadBack, FileReading, above, and_told, body_in, executed, executed_field, file, front, front_field, last_of, lead, lead_field, most_of, parts, rising, seal, seal_value, file_reading}
+use Rattle.ep_opening.specs.Reading.{FilesAreReadBack, FileReading, above, and_reported, body_in, executed, executed_field, file, front, front_field, last_of, lead, lead_field, most_of, parts, rising, seal, seal_value, file_reading}
 use Rattle.ep_opening.specs.declared.front.Front.{Front}
 use Rattle.ep_opening.specs.declared.opening_fault.OpeningFault.TheVariants.{CutShort, Damaged}
 use Rattle.ep_opening.specs.declared.opening_field.OpeningField.TheVariants.{Map}
@@ -130,10 +130,10 @@ parts_given f h at =
     let r = executed_given f.generation f.executed h.deps h.past q.0 [] in (
       r.0,
       ap (λ (zs : List ℕ). parts (record { at = at; bytes = zs })) (append_assoc a b c)
-          ∙ ap (λ (o : Reading Front). and_told (file_reading front_field o) after_front) p.1
-          ∙ ap (λ (o : Reading Contents). and_told (file_reading (λ at. Map) o) (after_map x)) q.1
+          ∙ ap (λ (o : Reading Front). and_reported (file_reading front_field o) after_front) p.1
+          ∙ ap (λ (o : Reading Contents). and_reported (file_reading (λ at. Map) o) (after_map x)) q.1
           ∙ ap (λ (zs : List ℕ). after_map x f.opening.contents (record { at = q.0; bytes = zs })) (sym (append-nil c))
-          ∙ ap (λ (o : Reading (List ℕ)). and_told (file_reading (executed_field q.0) o) (after_executed x f.opening.contents)) r.1,
+          ∙ ap (λ (o : Reading (List ℕ)). and_reported (file_reading (executed_field q.0) o) (after_executed x f.opening.contents)) r.1,
     )
 
 -- the whole
@@ -148,8 +148,8 @@ body_given f h =
     let p = lead_given 0 tail in
     let q = parts_given f h p.0 in (
       q.0,
-      ap (λ (zs : List ℕ). and_told (file_reading lead_field (lead (record { at = 0; bytes = zs }))) (sealed bs)) (group lead_bytes (front_bytes f) (contents_bytes f.opening.contents) (executed_bytes f.executed))
-          ∙ ap (λ (o : Reading ℕ). and_told (file_reading lead_field o) (sealed bs)) p.1
+      ap (λ (zs : List ℕ). and_reported (file_reading lead_field (lead (record { at = 0; bytes = zs }))) (sealed bs)) (group lead_bytes (front_bytes f) (contents_bytes f.opening.contents) (executed_bytes f.executed))
+          ∙ ap (λ (o : Reading ℕ). and_reported (file_reading lead_field o) (sealed bs)) p.1
           ∙ ap (λ (b : Bool). cond b (parts (record { at = p.0; bytes = tail })) (Err (Damaged (length bs)))) ((Decides-same_list (sha256 bs) (sha256 bs)).1 refl)
           ∙ q.1,
     )

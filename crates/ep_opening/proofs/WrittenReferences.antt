@@ -15,7 +15,7 @@ use Rattle.ep_bundle.specs.Reading.{Left, Reading, and_then, run, field}
 use Rattle.ep_bundle.specs.declared.bundle_field.BundleField.TheVariants.{Other}
 use Rattle.ep_bundle.proofs.WrittenHeaders.{clustered}
 use Rattle.ep_bundle.proofs.WrittenStages.{Gives, respelled, then_gives, made_of, ran, fielded}
-use Rattle.ep_opening.specs.Reading.{IsReadAs, FileReading, and_told, lead_field, file_reading}
+use Rattle.ep_opening.specs.Reading.{IsReadAs, FileReading, and_reported, lead_field, file_reading}
 use Rattle.ep_opening.specs.ReferenceReading.{IsNone, IsRefused, ReferencesAreReadBack, body_in, lead, name, name_field, parts, reference}
 use Rattle.ep_opening.specs.References.{IsReference, Reference, body_bytes, lead_bytes, least_log, magic, name_bytes, reference_bytes}
 use Rattle.ep_opening.specs.declared.opening_fault.OpeningFault.{OpeningFault}
@@ -44,7 +44,7 @@ parts_given : (r : Reference) → IsReference r → (at : ℕ) → (next : ℕ) 
 parts_given r h at =
     let p = name_given r h at [] in (
       p.0,
-      ap (λ (zs : List ℕ). parts (record { at = at; bytes = zs })) (sym (append-nil (name_bytes r))) ∙ ap (λ (o : Reading Reference). and_told (file_reading name_field o) after_name) p.1,
+      ap (λ (zs : List ℕ). parts (record { at = at; bytes = zs })) (sym (append-nil (name_bytes r))) ∙ ap (λ (o : Reading Reference). and_reported (file_reading name_field o) after_name) p.1,
     )
 
 body_given : (r : Reference) → IsReference r → (next : ℕ) × (body_in (body_bytes r) (sha256 (body_bytes r)) ≡ Ok (r, record { at = next; bytes = [] }))
@@ -53,7 +53,7 @@ body_given r h =
     let p = lead_given 0 (name_bytes r) in
     let q = parts_given r h p.0 in (
       q.0,
-      ap (λ (o : Reading ℕ). and_told (file_reading lead_field o) (after_lead bs (sha256 bs))) p.1
+      ap (λ (o : Reading ℕ). and_reported (file_reading lead_field o) (after_lead bs (sha256 bs))) p.1
           ∙ ap (λ (b : Bool). cond b (parts (record { at = p.0; bytes = name_bytes r })) (Err (Damaged (length bs)))) ((Decides-same_list (sha256 bs) (sha256 bs)).1 refl)
           ∙ q.1,
     )
@@ -98,13 +98,13 @@ apart (Err x) e r l h k = absurd (cc)
 none_has : (bs : List ℕ) (e : OpeningFault) → reference bs ≡ Err e → IsNone bs
 none_has bs e h r k is = let b = references_back r k in apart (reference bs) e r (record { at = b.0; bytes = [] }) h (ap (λ (x : List ℕ). reference x) is ∙ b.1)
 
-pub told_bytes : (bs : List ℕ) (r : Result Reference OpeningFault) → AreBytes bs → IsReadAs (reference bs) r → IfOk r (λ f. bs ≡ reference_bytes f)
-told_bytes bs (Ok f) h is = reference_is bs f is.0 h is.1
-told_bytes bs (Err e) h is = tt
+pub reported_bytes : (bs : List ℕ) (r : Result Reference OpeningFault) → AreBytes bs → IsReadAs (reference bs) r → IfOk r (λ f. bs ≡ reference_bytes f)
+reported_bytes bs (Ok f) h is = reference_is bs f is.0 h is.1
+reported_bytes bs (Err e) h is = tt
 
-pub told_refusal : (bs : List ℕ) (r : Result Reference OpeningFault) → IsReadAs (reference bs) r → IfErr r (λ e. IsRefused e bs)
-told_refusal bs (Ok f) is = tt
-told_refusal bs (Err Memory) is = tt
-told_refusal bs (Err (CutShort at)) is = (is, none_has bs (CutShort at) is)
-told_refusal bs (Err (Damaged at)) is = (is, none_has bs (Damaged at) is)
-told_refusal bs (Err (Wrong at name)) is = (is, none_has bs (Wrong at name) is)
+pub reported_refusal : (bs : List ℕ) (r : Result Reference OpeningFault) → IsReadAs (reference bs) r → IfErr r (λ e. IsRefused e bs)
+reported_refusal bs (Ok f) is = tt
+reported_refusal bs (Err Memory) is = tt
+reported_refusal bs (Err (CutShort at)) is = (is, none_has bs (CutShort at) is)
+reported_refusal bs (Err (Damaged at)) is = (is, none_has bs (Damaged at) is)
+reported_refusal bs (Err (Wrong at name)) is = (is, none_has bs (Wrong at name) is)

@@ -18,7 +18,7 @@ use Rattle.ep_rules.specs.Worlds.{In}
 
 -- some entry answers the instance with a reply, and not that the map is closed: its command was done
 abbrev pub WasAnswered : List Entry → ℕ → Type 0
-WasAnswered es i = (e : Entry) × (told : Reply) × In e es × In (i, Replied told) e.done × (told ≢ Closed)
+WasAnswered es i = (e : Entry) × (reported : Reply) × In e es × In (i, Replied reported) e.done × (reported ≢ Closed)
 
 -- the map that the journal leaves
 abbrev pub store_of : Log → Store

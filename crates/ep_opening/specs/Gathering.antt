@@ -11,11 +11,11 @@ use Rattle.ep_rules.specs.Worlds.{In}
 
 -- it is a reply, and not that the map is closed
 abbrev pub WasDone : Answer → Type 0
-WasDone x = (told : Reply) × (x ≡ Replied told) × (told ≢ Closed)
+WasDone x = (reported : Reply) × (x ≡ Replied reported) × (reported ≢ Closed)
 
 -- one of the executions answers the instance so
 abbrev pub WasAnsweredIn : List (ℕ × Answer) → ℕ → Type 0
-WasAnsweredIn done i = (told : Reply) × In (i, Replied told) done × (told ≢ Closed)
+WasAnsweredIn done i = (reported : Reply) × In (i, Replied reported) done × (reported ≢ Closed)
 
 -- the set has what it had, and those of which P holds, each an instance
 pub record Gains (P : ℕ → Type 0) (old new : List ℕ) : Type 0 where

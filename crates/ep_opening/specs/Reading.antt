@@ -96,14 +96,14 @@ place_of bundle.Memory = 0
 place_of bundle.ReadFailed = 0
 place_of (NotARun replica entry) = 0
 
--- a fault told by the name of its field
+-- a fault reported by the name of its field
 abbrev pub file_reading : {A : Type 0} → (ℕ → OpeningField) → Reading A → FileReading A
 file_reading name (Ok p) = Ok p
 file_reading name (Err e) = Err (Wrong (place_of e) (name (place_of e)))
 
-abbrev pub and_told : {A B : Type 0} → FileReading A → (A → Left → FileReading B) → FileReading B
-and_told (Ok p) k = k p.0 p.1
-and_told (Err e) k = Err e
+abbrev pub and_reported : {A B : Type 0} → FileReading A → (A → Left → FileReading B) → FileReading B
+and_reported (Ok p) k = k p.0 p.1
+and_reported (Err e) k = Err e
 
 abbrev pub file_of : Front → Contents → List ℕ → File
 file_of h m is = record { faults = h.size; generation = h.generation; opening = record { contents = m; base_stamp = h.base_stamp }; seal = h.seal; executed = is }
@@ -111,12 +111,12 @@ file_of h m is = record { faults = h.size; generation = h.generation; opening = 
 -- all that stands behind the lead
 abbrev pub parts : Left → FileReading File
 parts l =
-    and_told (file_reading front_field (front l)) (λ h l. and_told (file_reading (λ at. Map) (map_in (V3 h.generation) l)) (λ m l. and_told (file_reading (executed_field l.at) (executed h.generation l))
-    (λ is l. and_told (file_reading (λ at. Rest) (ended l)) (λ x l. Ok (file_of h m is, l)))))
+    and_reported (file_reading front_field (front l)) (λ h l. and_reported (file_reading (λ at. Map) (map_in (V3 h.generation) l)) (λ m l. and_reported (file_reading (executed_field l.at) (executed h.generation l))
+    (λ is l. and_reported (file_reading (λ at. Rest) (ended l)) (λ x l. Ok (file_of h m is, l)))))
 
 -- the file whose bytes before the digest are these: what it is, then the digest, then all other fields
 abbrev pub body_in : List ℕ → List ℕ → FileReading File
-body_in bs digest = and_told (file_reading lead_field (lead (record { at = 0; bytes = bs }))) (λ x l. cond (same_list (sha256 bs) digest) (parts l) (Err (Damaged (length bs))))
+body_in bs digest = and_reported (file_reading lead_field (lead (record { at = 0; bytes = bs }))) (λ x l. cond (same_list (sha256 bs) digest) (parts l) (Err (Damaged (length bs))))
 
 -- the shortest file has 59 bytes, of which the last 32 are the digest
 abbrev pub file : List ℕ → FileReading File

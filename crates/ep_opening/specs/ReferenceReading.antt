@@ -6,7 +6,7 @@ use Rattle.ep_bundle.specs.Journals.{ended}
 use Rattle.ep_bundle.specs.Reading.{Left, Reading, and_then, run, field}
 use Rattle.ep_bundle.specs.declared.bundle_field.BundleField.TheVariants.{Other}
 use Rattle.sha2.specs.Sha256.{sha256}
-use Rattle.ep_opening.specs.Reading.{FileReading, and_told, lead_field, file_reading}
+use Rattle.ep_opening.specs.Reading.{FileReading, and_reported, lead_field, file_reading}
 use Rattle.ep_opening.specs.References.{IsReference, Reference, least_log, magic, reference_bytes}
 use Rattle.ep_opening.specs.declared.opening_fault.OpeningFault.{OpeningFault}
 use Rattle.ep_opening.specs.declared.opening_fault.OpeningFault.TheVariants.{Memory, CutShort, Damaged, Wrong}
@@ -27,11 +27,11 @@ name_field at = cond (ltb at 6) Replicas (cond (ltb at 10) Generation Log)
 
 -- all that stands behind the lead
 abbrev pub parts : Left → FileReading Reference
-parts l = and_told (file_reading name_field (name l)) (λ r l. and_told (file_reading (λ at. Rest) (ended l)) (λ x l. Ok (r, l)))
+parts l = and_reported (file_reading name_field (name l)) (λ r l. and_reported (file_reading (λ at. Rest) (ended l)) (λ x l. Ok (r, l)))
 
 -- the reference whose bytes before the digest are these
 abbrev pub body_in : List ℕ → List ℕ → FileReading Reference
-body_in bs digest = and_told (file_reading lead_field (lead (record { at = 0; bytes = bs }))) (λ x l. cond (same_list (sha256 bs) digest) (parts l) (Err (Damaged (length bs))))
+body_in bs digest = and_reported (file_reading lead_field (lead (record { at = 0; bytes = bs }))) (λ x l. cond (same_list (sha256 bs) digest) (parts l) (Err (Damaged (length bs))))
 
 -- each has 82 bytes, of which the last 32 are the digest
 abbrev pub reference : List ℕ → FileReading Reference

@@ -1,4 +1,4 @@
-//! The parts of a file, each fault told by the name of its field.
+//! The parts of a file, each fault reported by the name of its field.
 
 ghost use Rattle.std.specs.Prelude.{◌≡◌, ◌≢◌, ℕ, List, Some, IfOk};
 ghost use Rattle.ep_bundle.specs.Headers.{map_in};
@@ -71,7 +71,7 @@ fn executed_field(from: u64, at: u64) -> OpeningField
 }
 
 /// What says that this is an opening file, of version 3.
-pub(crate) fn tell_lead<S: Source>(source: &mut S, place: &mut u64) -> Result<u8, OpeningFault>
+pub(crate) fn report_lead<S: Source>(source: &mut S, place: &mut u64) -> Result<u8, OpeningFault>
     ensures { (zs : List ℕ) → S.left source.old ≡ Some zs → ReadsAs (file_reading lead_field (lead (record { at = place.old; bytes = zs }))) result place.new (S.left source.new) }
 {
     match read_lead(source, place) {
@@ -84,7 +84,7 @@ pub(crate) fn tell_lead<S: Source>(source: &mut S, place: &mut u64) -> Result<u8
 }
 
 /// What stands between the version and the map.
-pub(crate) fn tell_front<S: Source>(
+pub(crate) fn report_front<S: Source>(
     alloc: Global,
     source: &mut S,
     place: &mut u64,
@@ -114,7 +114,7 @@ fn read_contents<S: Source>(
 }
 
 /// The map.
-pub(crate) fn tell_map<S: Source>(
+pub(crate) fn report_map<S: Source>(
     alloc: Global,
     source: &mut S,
     place: &mut u64,
@@ -132,7 +132,7 @@ pub(crate) fn tell_map<S: Source>(
 }
 
 /// The instances that the generation before executed.
-pub(crate) fn tell_executed<S: Source>(
+pub(crate) fn report_executed<S: Source>(
     alloc: Global,
     source: &mut S,
     place: &mut u64,
@@ -151,7 +151,7 @@ pub(crate) fn tell_executed<S: Source>(
 }
 
 /// That nothing is left.
-pub(crate) fn tell_end<S: Source>(source: &mut S, place: &mut u64) -> Result<(), OpeningFault>
+pub(crate) fn report_end<S: Source>(source: &mut S, place: &mut u64) -> Result<(), OpeningFault>
     ensures { (zs : List ℕ) → S.left source.old ≡ Some zs → ReadsAs (file_reading (λ at. Rest) (ended (record { at = place.old; bytes = zs }))) result place.new (S.left source.new) }
 {
     match read_end(source, place) {

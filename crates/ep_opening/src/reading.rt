@@ -12,7 +12,7 @@ use crate::digest::{DIGEST_LEN, digest_of};
 use crate::front::Front;
 use crate::opening_fault::OpeningFault;
 use crate::opening_file::OpeningFile;
-use crate::parts::{tell_end, tell_executed, tell_front, tell_lead, tell_map};
+use crate::parts::{report_end, report_executed, report_front, report_lead, report_map};
 use ep_base::{Deps, Noted, Source};
 use ep_exec::Contents;
 use ep_journal::Opening;
@@ -54,10 +54,10 @@ fn read_parts<S: Source>(
 ) -> Result<OpeningFile, OpeningFault>
     ensures { (zs : List ℕ) → S.left source.old ≡ Some zs → ReadsAs (parts (record { at = place.old; bytes = zs })) result place.new (S.left source.new) }
 {
-    let front = tell_front(alloc, source, place)?;
-    let contents = tell_map(alloc, source, place, front.generation)?;
-    let executed = tell_executed(alloc, source, place, front.generation)?;
-    tell_end(source, place)?;
+    let front = report_front(alloc, source, place)?;
+    let contents = report_map(alloc, source, place, front.generation)?;
+    let executed = report_executed(alloc, source, place, front.generation)?;
+    report_end(source, place)?;
     made(front, contents, executed)
 }
 
@@ -74,7 +74,7 @@ fn read_body(alloc: Global, body: &[u8], digest: &[u8]) -> Result<OpeningFile, O
 {
     let mut source = Noted::new(body);
     let mut place = 0;
-    tell_lead(&mut source, &mut place)?;
+    report_lead(&mut source, &mut place)?;
     if !is_sealed(body, digest) {
         return Err(OpeningFault::Damaged(body.len() as u64));
     }
@@ -88,11 +88,11 @@ pub fn read_opening(alloc: Global, bytes: &[u8]) -> Result<OpeningFile, OpeningF
     ensures err { IfErr result (λ fault. IsRefused fault bytes.now) }
 {
     are_bytes(bytes);
-    read_told(alloc, bytes)
+    read_reported(alloc, bytes)
 }
 
 /// Reads a file.
-fn read_told(alloc: Global, bytes: &[u8]) -> Result<OpeningFile, OpeningFault>
+fn read_reported(alloc: Global, bytes: &[u8]) -> Result<OpeningFile, OpeningFault>
     ensures { IsReadAs (file bytes.now) result }
 {
     if bytes.len() < LEAST_LEN {

@@ -10,7 +10,7 @@ use crate::digest::DIGEST_LEN;
 use crate::opening_fault::OpeningFault;
 use crate::opening_field::OpeningField;
 use crate::opening_reference::OpeningReference;
-use crate::parts::{lead_field, place_of, tell_end};
+use crate::parts::{lead_field, place_of, report_end};
 use crate::reading::{are_bytes, is_sealed};
 use ep_base::{Generation, Noted, Source};
 use ep_bundle::{BundleFault, BundleField, field_u8, field_u32, field_u64, read_cluster, read_run};
@@ -79,7 +79,7 @@ fn name_field(at: u64) -> OpeningField
 }
 
 /// What says that this is a reference, of version 3.
-fn tell_lead<S: Source>(source: &mut S, place: &mut u64) -> Result<u8, OpeningFault>
+fn report_lead<S: Source>(source: &mut S, place: &mut u64) -> Result<u8, OpeningFault>
     ensures { (zs : List ℕ) → S.left source.old ≡ Some zs → ReadsAs (file_reading lead_field (lead (record { at = place.old; bytes = zs }))) result place.new (S.left source.new) }
 {
     match read_lead(source, place) {
@@ -92,7 +92,7 @@ fn tell_lead<S: Source>(source: &mut S, place: &mut u64) -> Result<u8, OpeningFa
 }
 
 /// What it names.
-fn tell_name<S: Source>(
+fn report_name<S: Source>(
     alloc: Global,
     source: &mut S,
     place: &mut u64,
@@ -116,8 +116,8 @@ fn read_parts<S: Source>(
 ) -> Result<OpeningReference, OpeningFault>
     ensures { (zs : List ℕ) → S.left source.old ≡ Some zs → ReadsAs (parts (record { at = place.old; bytes = zs })) result place.new (S.left source.new) }
 {
-    let reference = tell_name(alloc, source, place)?;
-    tell_end(source, place)?;
+    let reference = report_name(alloc, source, place)?;
+    report_end(source, place)?;
     Ok(reference)
 }
 
@@ -127,7 +127,7 @@ fn read_body(alloc: Global, body: &[u8], digest: &[u8]) -> Result<OpeningReferen
 {
     let mut source = Noted::new(body);
     let mut place = 0;
-    tell_lead(&mut source, &mut place)?;
+    report_lead(&mut source, &mut place)?;
     if !is_sealed(body, digest) {
         return Err(OpeningFault::Damaged(body.len() as u64));
     }
@@ -135,7 +135,7 @@ fn read_body(alloc: Global, body: &[u8], digest: &[u8]) -> Result<OpeningReferen
 }
 
 /// Reads a reference.
-fn read_told(alloc: Global, bytes: &[u8]) -> Result<OpeningReference, OpeningFault>
+fn read_reported(alloc: Global, bytes: &[u8]) -> Result<OpeningReference, OpeningFault>
     ensures { IsReadAs (reference bytes.now) result }
 {
     if bytes.len() < REFERENCE_LEN {
@@ -152,5 +152,5 @@ pub fn read_reference(alloc: Global, bytes: &[u8]) -> Result<OpeningReference, O
     ensures err { IfErr result (λ fault. IsRefused fault bytes.now) }
 {
     are_bytes(bytes);
-    read_told(alloc, bytes)
+    read_reported(alloc, bytes)
 }

@@ -54,7 +54,7 @@ pub record IsEarly (i until : ℕ) (t : Turned) : Type 0 where
 -- when the wait ends that begins in the turn
 abbrev pub begins_due : Patience → ℕ → Seen → ℕ
 begins_due p now x =
-    begun_due (outlook_of p (time_at p now) x) p.waits.told (distance p.waits (peer_of p.peers (leader_of x.instance))) x (chance p.seed (time_at p now) x.instance)
+    begun_due (outlook_of p (time_at p now) x) p.waits.reported (distance p.waits (peer_of p.peers (leader_of x.instance))) x (chance p.seed (time_at p now) x.instance)
 
 abbrev pub BeginsPatient : Type 0
 BeginsPatient = (t : Turned) (n : ℕ) (x : Seen) → IsTurn t → slice_get t.seen n ≡ Some x → waiting_for t.before.all.entries x.instance ≡ None → IsHopeful (outlook_of t.before (time_at t.before t.now) x) x

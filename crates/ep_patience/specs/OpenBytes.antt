@@ -18,7 +18,7 @@ instance_if leader number = cond (leb leader 6 && (leb 1 number && leb number hi
 abbrev pub seen_if : ℕ → ℕ → ℕ → Option ℕ → Option Seen
 seen_if phase answers spared None = None
 seen_if phase answers spared (Some i) =
-    cond (leb phase 4 && leb spared 6) (Some (record { instance = i; leads = leads_of phase answers; is_told = eqb phase 4; spared = spared })) None
+    cond (leb phase 4 && leb spared 6) (Some (record { instance = i; leads = leads_of phase answers; is_reported = eqb phase 4; spared = spared })) None
 
 -- the one that ten bytes name
 abbrev pub seen_of : ℕ → ℕ → ℕ → ℕ → ℕ → ℕ → Option Seen

@@ -57,7 +57,7 @@ outlook_of p time x = outlook p.waits p.place p.peers x.spared time
 
 -- how it is waited for as the turn comes, by how it was waited for, if it was
 abbrev pub found : Patience → Outlook → Seen → Option Waiting → Waiting
-found p o x None = begun o p.waits.told (distance p.waits (peer_of p.peers (leader_of x.instance))) x (chance p.seed o.time x.instance)
+found p o x None = begun o p.waits.reported (distance p.waits (peer_of p.peers (leader_of x.instance))) x (chance p.seed o.time x.instance)
 found p o x (Some w) = cond p.is_hurried (hurried o w (chance p.seed o.time x.instance)) w
 
 abbrev pub found_at : Patience → Outlook → Seen → Waiting

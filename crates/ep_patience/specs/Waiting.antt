@@ -47,14 +47,14 @@ is_own o x = eqb (leader_of x.instance) o.place.me
 
 -- The wait.
 
--- that begins where an instance is first seen: until a Commit should have come of which a peer tells; for the time-out of those to which an own proposal goes; or once to twice the peers'
+-- that begins where an instance is first seen: until a Commit should have come that a peer reports; for the time-out of those to which an own proposal goes; or once to twice the peers'
 -- time-out and the way to the leader
 abbrev pub begun_due : Outlook → ℕ → ℕ → Seen → ℕ → ℕ
-begun_due o told distance x random =
-    cond x.is_told (later o.time told random) (cond (is_own o x) (plus o.time o.own) (later o.time (min (o.again + distance) 4294967295) random))
+begun_due o reported distance x random =
+    cond x.is_reported (later o.time reported random) (cond (is_own o x) (plus o.time o.own) (later o.time (min (o.again + distance) 4294967295) random))
 
 abbrev pub begun : Outlook → ℕ → ℕ → Seen → ℕ → Waiting
-begun o told distance x random = record { due = begun_due o told distance x random; wait = 0; is_asked = false; silent = 0 }
+begun o reported distance x random = record { due = begun_due o reported distance x random; wait = 0; is_asked = false; silent = 0 }
 
 -- that of an instance which is hurried
 abbrev pub hurried : Outlook → Waiting → ℕ → Waiting

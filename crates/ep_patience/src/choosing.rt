@@ -47,15 +47,15 @@ fn is_own(outlook: &Outlook, seen: &Seen) -> bool
 /// How an instance is waited for that is seen open for the first time, where a message to its leader and back takes so long.
 pub(crate) fn begun(
     outlook: &Outlook,
-    told: u32,
+    reported: u32,
     distance: u32,
     seen: &Seen,
     random: u64,
 ) -> Waiting
-    ensures { result ≡ begun outlook.now told distance seen.now random }
+    ensures { result ≡ begun outlook.now reported distance seen.now random }
 {
-    let due = if seen.is_told {
-        later(outlook.time, told, random)
+    let due = if seen.is_reported {
+        later(outlook.time, reported, random)
     } else if is_own(outlook, seen) {
         outlook.time.saturating_add(u64::from(outlook.own))
     } else {

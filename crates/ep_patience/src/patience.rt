@@ -233,7 +233,7 @@ impl Patience {
         match waiting_for(&self.all, seen.instance) {
             None => {
                 let distance = distance(&self.waits, &self.peers, seen.instance.replica());
-                begun(outlook, self.waits.told, distance, seen, random)
+                begun(outlook, self.waits.reported, distance, seen, random)
             }
             Some(waiting) => {
                 if self.is_hurried {

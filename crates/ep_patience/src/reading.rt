@@ -51,7 +51,7 @@ fn seen_at(bytes: &[u8]) -> Option<Seen>
     Some(Seen {
         instance,
         leads: leads_of(phase, bytes[8]),
-        is_told: phase == 4,
+        is_reported: phase == 4,
         spared: ReplicaId::from_valid(spared),
     })
 }

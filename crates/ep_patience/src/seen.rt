@@ -10,7 +10,7 @@ pub struct Seen {
     /// The phase in which the replica leads it, and how many other replicas have answered, 0 to 6; none where it doesn't lead it.
     pub leads: Option<(LeadPhase, u8)>,
     /// Whether it is handed in because a peer says that it is committed there.
-    pub is_told: bool,
+    pub is_reported: bool,
     /// The replica that its proposal spares, where that is the replica's own: it goes to all others. Of another's it says nothing.
     pub spared: ReplicaId,
 }

@@ -9,7 +9,7 @@ pub struct Waits {
     /// The time-out of a peer that was never measured: 1 s in RFC 6298.
     pub initial: u32,
     /// For an instance of which a peer says that it is committed. Mostly its Commit is under way.
-    pub told: u32,
+    pub reported: u32,
     /// Each further wait is twice the one before, up to this one. An instance has some 60,000 ballots, and each try takes one: 20 s make them last for weeks.
     pub longest: u32,
 }

@@ -134,7 +134,7 @@ new_record i r ch = cond (adds_answer ch.led) None (entry_of i r ch.entry)
 
 -- the rule's change
 abbrev pub change_of : InstanceView → Change → rules.Change
-change_of k ch = record { entry = new_record k.instance (record_of k) ch; led = led_of k.led ch.led; told = ch.told; out = sends k ch }
+change_of k ch = record { entry = new_record k.instance (record_of k) ch; led = led_of k.led ch.led; reported = ch.reported; out = sends k ch }
 
 -- The places that a change needs: i has one for what is written, and a vote has room in the index.
 
@@ -153,9 +153,9 @@ HasLeadPlace (leading.PreAccepted q a) p i = HasPlace p i
 HasLeadPlace (leading.Accepted q) p i = HasPlace p i
 HasLeadPlace leading.Ends p i = Unit {0}
 
-abbrev pub HasToldPlace : Option ℕ → Places → ℕ → Type 0
-HasToldPlace None p i = Unit {0}
-HasToldPlace (Some n) p i = HasPlace p i
+abbrev pub HasReportedPlace : Option ℕ → Places → ℕ → Type 0
+HasReportedPlace None p i = Unit {0}
+HasReportedPlace (Some n) p i = HasPlace p i
 
 -- A PreAccept past its tests: the command is pre-accepted with both attributes joined, and answered.
 abbrev pub pre_accepted : ℕ → ℕ → ℕ → Decree → Attrs → Outcome

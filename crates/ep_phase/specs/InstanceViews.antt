@@ -20,15 +20,15 @@ pub record InstanceView : Type 0 where
   -- all that it recorded, which is what the interference set is taken from
   pub records : Map Record
   pub led : Option LedInstance
-  -- the greatest counter told, 0 where none was
-  pub told : ℕ
+  -- the greatest counter reported, 0 where none was
+  pub reported : ℕ
 
 abbrev pub known_code : Coded InstanceView
 known_code =
     code_by (ℕ × (ℕ × (ℕ × (Map Record × (Option LedInstance × ℕ)))))
     (coded× coded_ℕ (coded× coded_ℕ (coded× coded_ℕ (coded× (map.code coded_ℕ record_facts.the_row.coded) (coded× (coded_option led_facts.the_row.coded) coded_ℕ)))))
-    (λ k. (k.faults, (k.me, (k.instance, (k.records, (k.led, k.told))))))
-    (λ p. record { faults = p.0; me = p.1.0; instance = p.1.1.0; records = p.1.1.1.0; led = p.1.1.1.1.0; told = p.1.1.1.1.1 }) (λ _. refl)
+    (λ k. (k.faults, (k.me, (k.instance, (k.records, (k.led, k.reported))))))
+    (λ p. record { faults = p.0; me = p.1.0; instance = p.1.1.0; records = p.1.1.1.0; led = p.1.1.1.1.0; reported = p.1.1.1.1.1 }) (λ _. refl)
 
 -- the instance's record
 abbrev pub record_of : InstanceView → Record
@@ -36,4 +36,4 @@ record_of k = record_or_fresh k.instance (get k.records k.instance)
 
 -- what replica me knows of i, by its records and what it leads
 abbrev pub view_of : ℕ → Records → Lead → ℕ → InstanceView
-view_of me s l i = record { faults = s.faults; me = me; instance = i; records = s.records; led = get l.leads i; told = or_zero (get l.told i) }
+view_of me s l i = record { faults = s.faults; me = me; instance = i; records = s.records; led = get l.leads i; reported = or_zero (get l.reported i) }

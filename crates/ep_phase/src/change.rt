@@ -8,7 +8,7 @@ ghost use Rattle.ep_rules.specs.Maps.{get};
 ghost use Rattle.ep_rules.specs.States.{with_entry, with_led};
 ghost use Rattle.ep_space.specs.Held.{HasPlace};
 ghost use Rattle.ep_space.specs.Records.{record_at};
-ghost use Rattle.ep_phase.specs.Changes.{adds_answer, change_of, decree_in, entry_of, led_of, message_in, new_record, sends, to_receivers, voted_decree, HasRecordPlace, HasLeadPlace, HasToldPlace};
+ghost use Rattle.ep_phase.specs.Changes.{adds_answer, change_of, decree_in, entry_of, led_of, message_in, new_record, sends, to_receivers, voted_decree, HasRecordPlace, HasLeadPlace, HasReportedPlace};
 ghost use Rattle.ep_phase.specs.InstanceViews.{InstanceView, record_of};
 ghost use Rattle.ep_base.specs.Messages.{says};
 
@@ -30,8 +30,8 @@ use std::alloc::AllocError;
 pub struct Change {
     pub entry: Recorded,
     pub led: LeadChange,
-    /// The counter that is told from now on; none where that stays.
-    pub told: Option<u16>,
+    /// The counter that is reported from now on; none where that stays.
+    pub reported: Option<u16>,
     pub out: Option<Sending>,
 }
 
@@ -43,7 +43,7 @@ impl Change {
         Change::of(Recorded::Stays, LeadChange::Stays, None)
     }
 
-    /// Nothing changes, and this replica is told that the first ballot is refused, since the second one is promised.
+    /// Nothing changes, and this replica learns that the first ballot is refused, since the second one is promised.
     pub fn refused(from: ReplicaId, ballot: Ballot, promised: Ballot) -> Change
         ensures { (k : InstanceView) → change_of k result ≡ rules.answered from (Nack k.instance ballot promised) }
     {
@@ -61,15 +61,15 @@ impl Change {
         Change::of(Recorded::Stays, LeadChange::Leads(led), None)
     }
 
-    /// This is recorded, led and sent; the counter told stays.
+    /// This is recorded, led and sent; the counter reported stays.
     #[inline(always)]
     pub fn of(entry: Recorded, led: LeadChange, out: Option<Sending>) -> Change
-        ensures { result ≡ record { entry = entry; led = led; told = None; out = out } }
+        ensures { result ≡ record { entry = entry; led = led; reported = None; out = out } }
     {
         Change {
             entry,
             led,
-            told: None,
+            reported: None,
             out,
         }
     }
@@ -100,13 +100,13 @@ impl Change {
     ) -> Result<(), AllocError>
         ensures record { OnOk result (HasRecordPlace self.now.entry space.new id) }
         ensures led { OnOk result (HasLeadPlace self.now.led lead.new.places id) }
-        ensures told { OnOk result (HasToldPlace self.now.told lead.new.told_places id) }
+        ensures reported { OnOk result (HasReportedPlace self.now.reported lead.new.reported_places id) }
         ensures same_space { space.new ≡ record space.old { places = space.new.places; room = space.new.room } }
-        ensures same_lead { lead.new ≡ record lead.old { places = lead.new.places; told_places = lead.new.told_places } }
+        ensures same_lead { lead.new ≡ record lead.old { places = lead.new.places; reported_places = lead.new.reported_places } }
     {
         reserve_record(&self.entry, space, id)?;
         reserve_led(&self.led, lead, id)?;
-        reserve_told(&self.told, lead, id)
+        reserve_reported(&self.reported, lead, id)
     }
 
     /// Puts the change in place. It takes no memory, but for an answer more, which is all that changes then: when out of memory, nothing has
@@ -120,9 +120,9 @@ impl Change {
     ) -> Result<(), AllocError>
         requires record { HasRecordPlace self.entry space.old id }
         requires led { HasLeadPlace self.led lead.old.places id }
-        requires told { HasToldPlace self.told lead.old.told_places id }
+        requires reported { HasReportedPlace self.reported lead.old.reported_places id }
         ensures records { OnOk result (space.new ≡ record space.old { records = with_entry space.old.records id (new_record id (record_at space.old id) self); room = space.new.room }) }
-        ensures leads { OnOk result (lead.new ≡ record lead.old { leads = with_led lead.old.leads id (led_of (get lead.old.leads id) self.led); told = with_entry lead.old.told id self.told }) }
+        ensures leads { OnOk result (lead.new ≡ record lead.old { leads = with_led lead.old.leads id (led_of (get lead.old.leads id) self.led); reported = with_entry lead.old.reported id self.reported }) }
         ensures records_stay { OnErr result (space.new ≡ space.old) }
         ensures leads_stay { OnErr result (lead.new ≡ lead.old) }
         ensures succeeds { adds_answer self.led ≡ false → IsOk result }
@@ -130,12 +130,12 @@ impl Change {
         let Change {
             entry,
             led,
-            told,
+            reported,
             out: _,
         } = self;
         write(space, lead, id, entry, led)?;
-        if let Some(counter) = told {
-            lead.tell(id, counter);
+        if let Some(counter) = reported {
+            lead.set_reported(id, counter);
         }
         Ok(())
     }
@@ -209,13 +209,17 @@ fn reserve_led(led: &LeadChange, lead: &mut Lead, id: InstanceId) -> Result<(), 
     }
 }
 
-fn reserve_told(told: &Option<u16>, lead: &mut Lead, id: InstanceId) -> Result<(), AllocError>
-    ensures place { OnOk result (HasToldPlace told.now lead.new.told_places id) }
-    ensures same { lead.new ≡ record lead.old { told_places = lead.new.told_places } }
+fn reserve_reported(
+    reported: &Option<u16>,
+    lead: &mut Lead,
+    id: InstanceId,
+) -> Result<(), AllocError>
+    ensures place { OnOk result (HasReportedPlace reported.now lead.new.reported_places id) }
+    ensures same { lead.new ≡ record lead.old { reported_places = lead.new.reported_places } }
 {
-    match told {
+    match reported {
         None => Ok(()),
-        Some(_) => lead.reserve_told(id),
+        Some(_) => lead.reserve_reported(id),
     }
 }
 

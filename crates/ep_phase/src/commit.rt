@@ -21,7 +21,7 @@ use ep_base::Decree;
 use ep_frame::FrameView;
 use std::alloc::Global;
 
-/// Commits the decree as the leader: both ballots stay, the instance is led no longer, and all others are told
+/// Commits the decree as the leader: both ballots stay, the instance is led no longer, and all others are informed
 /// (EPaxos, figure 2, commit phase).
 pub fn begin_commit(decree: Decree) -> Change
     ensures { (k : InstanceView) → change_of k result ≡ rules.commit_phase k.faults k.instance k.me decree (record_of k) }

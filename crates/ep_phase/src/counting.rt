@@ -6,7 +6,7 @@ ghost use Rattle.ep_base.specs.Quorums.{size as size_of};
 ghost use Rattle.ep_rules.specs.Answers.{answer, with_answer};
 ghost use Rattle.ep_rules.specs.Counting.{is_other};
 ghost use Rattle.ep_rules.specs.Phases as rules;
-ghost use Rattle.ep_frame.specs.Meaning.{attrs_at, kind_at, sender_at, tells_attrs};
+ghost use Rattle.ep_frame.specs.Meaning.{attrs_at, kind_at, sender_at, carries_attrs};
 
 use crate::receivers::is_fast;
 use ep_base::{Attrs, Decree, ReplicaId, Size};
@@ -155,7 +155,7 @@ pub(crate) fn joined_with(
     frame: &FrameView<'_>,
     decree: &Decree,
 ) -> Result<Decree, AllocError>
-    requires attrs { tells_attrs (kind_at frame.now) ≡ true }
+    requires attrs { carries_attrs (kind_at frame.now) ≡ true }
     ensures { IfOk result (λ x. x ≡ rules.joined size (with_answer answers.now (sender_at frame.now) (attrs_at frame.now)) decree.now) }
 {
     let command = decree.command.copy(alloc)?;
@@ -171,7 +171,7 @@ fn join_all_with(
     frame: &FrameView<'_>,
     attrs: Attrs,
 ) -> Result<Attrs, AllocError>
-    requires attrs { tells_attrs (kind_at frame.now) ≡ true }
+    requires attrs { carries_attrs (kind_at frame.now) ≡ true }
     ensures { IfOk result (λ a. a ≡ rules.join_all (size_of size) (with_answer answers.now (sender_at frame.now) (attrs_at frame.now)) attrs) }
 {
     let mut all = attrs;
@@ -188,7 +188,7 @@ fn join_one(
     frame: &FrameView<'_>,
     r: u8,
 ) -> Result<(), AllocError>
-    requires attrs { tells_attrs (kind_at frame.now) ≡ true }
+    requires attrs { carries_attrs (kind_at frame.now) ≡ true }
     ensures { OnOk result (attrs.new ≡ rules.join_some (answer (with_answer answers.now (sender_at frame.now) (attrs_at frame.now)) r) attrs.old) }
 {
     if frame.from().index() == r {

@@ -11,7 +11,7 @@ use ep_rules::{LedInstance, Record};
 use ep_space::Space;
 use std::marker::Model;
 
-/// What a replica knows of one instance: its record, and what is led there, each looked up once, and lent; the greatest counter told;
+/// What a replica knows of one instance: its record, and what is led there, each looked up once, and lent; the greatest counter reported;
 /// and all of the replica's records, for the interference set of a command.
 #[derive(Drop)]
 pub struct InstanceView<'a> {
@@ -34,7 +34,7 @@ impl<'a> Model for InstanceView<'a> {
 
     ghost coded = { known_code };
 
-    ghost view = { λ c. record { faults = c.space.now.faults; me = c.me; instance = c.id; records = c.space.now.records; led = option_copied c.led; told = or_zero (get c.lead.now.told c.id) } };
+    ghost view = { λ c. record { faults = c.space.now.faults; me = c.me; instance = c.id; records = c.space.now.records; led = option_copied c.led; reported = or_zero (get c.lead.now.reported c.id) } };
 
     ghost invariant = { λ c. option_copied c.entry ≡ get c.space.now.records c.id };
 }
@@ -144,10 +144,10 @@ impl<'a> InstanceView<'a> {
         self.led
     }
 
-    /// The greatest counter that a Nack told of the instance, 0 where none did.
-    pub fn told(&self) -> u16
-        ensures { result ≡ self.now.told }
+    /// The greatest counter that a Nack reported of the instance, 0 where none did.
+    pub fn reported(&self) -> u16
+        ensures { result ≡ self.now.reported }
     {
-        self.lead.told(self.id)
+        self.lead.reported(self.id)
     }
 }

@@ -8,7 +8,7 @@ ghost use Rattle.ep_rules.specs.States.{or_zero};
 ghost use Rattle.ep_space.specs.Held.{HasPlace};
 ghost use Rattle.ep_rules.specs.States.{with_led};
 ghost use Rattle.ep_phase.specs.Changes.{or_as_before, with_pre_accepted, with_accepted};
-ghost use Rattle.ep_phase.specs.Leads.{with_lead, with_told};
+ghost use Rattle.ep_phase.specs.Leads.{with_lead, with_reported};
 
 use ep_base::{Attrs, InstanceId, ReplicaId};
 use ep_rules::LedInstance;
@@ -16,20 +16,20 @@ use ep_space::Table;
 use std::alloc::{AllocError, Global};
 use std::marker::Model;
 
-/// What a replica leads, instance by instance, and the greatest counters that Nacks told it.
+/// What a replica leads, instance by instance, and the greatest counters that Nacks reported it.
 /// An instance first gets a place for the one, or for the other, which takes memory; both are then written without. An answer more may
 /// take memory.
 pub struct Lead {
     leads: Table<LedInstance>,
-    told: Table<u16>,
+    reported: Table<u16>,
 }
 
 // (by hand, so that no crate above proves again how the parts are dropped)
 impl Drop for Lead {
     fn drop(self) {
-        let Lead { leads, told } = self;
+        let Lead { leads, reported } = self;
         drop(leads);
-        drop(told);
+        drop(reported);
     }
 }
 
@@ -40,27 +40,27 @@ impl Model for Lead {
 
     ghost coded = { leads_code };
 
-    ghost view = { λ l. record { leads = l.leads.held; told = l.told.held; places = l.leads.places; told_places = l.told.places } };
+    ghost view = { λ l. record { leads = l.leads.held; reported = l.reported.held; places = l.leads.places; reported_places = l.reported.places } };
 }
 
 impl Lead {
     /// Nothing is led, and no counter was reported.
     pub fn new(alloc: Global) -> Lead
-        ensures { result ≡ record { leads = none; told = none; places = set.empty; told_places = set.empty } }
+        ensures { result ≡ record { leads = none; reported = none; places = set.empty; reported_places = set.empty } }
     {
         Lead {
             leads: Table::new(alloc),
-            told: Table::new(alloc),
+            reported: Table::new(alloc),
         }
     }
 
-    /// All that is led and told again.
+    /// All that is led and reported again.
     pub fn duplicate(&self, alloc: Global) -> Result<Lead, AllocError>
         ensures { IfOk result (λ l. l ≡ self.now) }
     {
         let leads = self.leads.duplicate(alloc)?;
-        let told = self.told.duplicate(alloc)?;
-        Ok(Lead { leads, told })
+        let reported = self.reported.duplicate(alloc)?;
+        Ok(Lead { leads, reported })
     }
 
     /// Makes a place for what is led in the instance, if it has none.
@@ -72,13 +72,13 @@ impl Lead {
         self.leads.reserve(id)
     }
 
-    /// Makes a place for the counter told of the instance, if it has none.
-    pub fn reserve_told(&mut self, id: InstanceId) -> Result<(), AllocError>
-        ensures ok { OnOk result (self.new ≡ record self.old { told_places = set.insert self.old.told_places id }) }
-        ensures place { OnOk result (HasPlace self.new.told_places id) }
+    /// Makes a place for the counter reported of the instance, if it has none.
+    pub fn reserve_reported(&mut self, id: InstanceId) -> Result<(), AllocError>
+        ensures ok { OnOk result (self.new ≡ record self.old { reported_places = set.insert self.old.reported_places id }) }
+        ensures place { OnOk result (HasPlace self.new.reported_places id) }
         ensures err { OnErr result (self.new ≡ self.old) }
     {
-        self.told.reserve(id)
+        self.reported.reserve(id)
     }
 
     // What is led.
@@ -149,39 +149,39 @@ impl Lead {
         self.leads.clear(id);
     }
 
-    // The counters told.
+    // The counters reported.
 
-    /// The greatest counter that a Nack told of the instance, 0 where none did.
-    pub fn told(&self, id: InstanceId) -> u16
-        ensures { result ≡ or_zero (get self.now.told id) }
+    /// The greatest counter that a Nack reported of the instance, 0 where none did.
+    pub fn reported(&self, id: InstanceId) -> u16
+        ensures { result ≡ or_zero (get self.now.reported id) }
     {
-        match self.earlier_told(id) {
+        match self.earlier_reported(id) {
             None => 0,
             Some(counter) => counter,
         }
     }
 
-    /// That counter, or none where no Nack told one: what a later `put_back_told` may put back.
-    pub fn earlier_told(&self, id: InstanceId) -> Option<u16>
-        ensures { result ≡ get self.now.told id }
+    /// That counter, or none where no Nack reported one: what a later `put_back_reported` may put back.
+    pub fn earlier_reported(&self, id: InstanceId) -> Option<u16>
+        ensures { result ≡ get self.now.reported id }
     {
-        self.told.get(id).copied()
+        self.reported.get(id).copied()
     }
 
-    /// Keeps this counter as the one told. It takes no memory.
-    pub fn tell(&mut self, id: InstanceId, counter: u16)
-        requires { HasPlace self.old.told_places id }
-        ensures { self.new ≡ with_told self.old id (Some counter) }
+    /// Keeps this counter as the one reported. It takes no memory.
+    pub fn set_reported(&mut self, id: InstanceId, counter: u16)
+        requires { HasPlace self.old.reported_places id }
+        ensures { self.new ≡ with_reported self.old id (Some counter) }
     {
-        self.told.write(id, Some(counter));
+        self.reported.write(id, Some(counter));
     }
 
-    /// Puts back the counter told earlier, or that none was. It takes no memory.
-    pub fn put_back_told(&mut self, id: InstanceId, earlier: Option<u16>)
-        requires { HasPlace self.old.told_places id }
-        ensures { self.new ≡ with_told self.old id earlier }
+    /// Puts back the counter reported earlier, or that none was. It takes no memory.
+    pub fn put_back_reported(&mut self, id: InstanceId, earlier: Option<u16>)
+        requires { HasPlace self.old.reported_places id }
+        ensures { self.new ≡ with_reported self.old id earlier }
     {
-        self.told.write(id, earlier);
+        self.reported.write(id, earlier);
     }
 }
 

@@ -9,7 +9,7 @@
 //! recovery goes on to. Each call decides what its rule in `ep_rules`, specs/Phases.antt, says, test by test.
 //!
 //! Start with `instance_view.rt` and `change.rt`, then specs/Changes.antt, which says what a `Change` stands for; then `propose.rt`,
-//! `accept.rt`, `commit.rt`. `progress.rt` tells a builder how far a lead is.
+//! `accept.rt`, `commit.rt`. `progress.rt` shows a builder how far a lead is.
 #![tactic(auto)]
 
 mod accept;

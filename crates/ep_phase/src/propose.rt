@@ -89,7 +89,7 @@ fn first_phase(
     spared: ReplicaId,
     decree: Decree,
 ) -> Change
-    ensures { (k : InstanceView) → change_of k result ≡ record { entry = Some (voted ballot PreAccepted decree); led = Some (Some (Proposing ballot spared [])); told = None; out = to_receivers k.faults k.me k.instance to (PreAccept k.instance ballot decree) } }
+    ensures { (k : InstanceView) → change_of k result ≡ record { entry = Some (voted ballot PreAccepted decree); led = Some (Some (Proposing ballot spared [])); reported = None; out = to_receivers k.faults k.me k.instance to (PreAccept k.instance ballot decree) } }
 {
     let out = Sending {
         to,

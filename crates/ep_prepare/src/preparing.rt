@@ -27,14 +27,14 @@ pub fn on_prepare(cell: &InstanceView<'_>, from: ReplicaId, ballot: Ballot) -> C
     Change::of(Recorded::Joins(ballot), LeadChange::Stays, Some(out))
 }
 
-/// Handles a Nack: the greatest counter told of the instance is kept. It takes no memory.
+/// Handles a Nack: the greatest counter reported of the instance is kept. It takes no memory.
 pub fn on_nack(cell: &InstanceView<'_>, promised: Ballot) -> Change
-    ensures { change_of cell.now result ≡ rules.on_nack promised cell.now.told }
+    ensures { change_of cell.now result ≡ rules.on_nack promised cell.now.reported }
 {
     Change {
         entry: Recorded::Stays,
         led: LeadChange::Stays,
-        told: Some(cell.told().max(promised.counter())),
+        reported: Some(cell.reported().max(promised.counter())),
         out: None,
     }
 }

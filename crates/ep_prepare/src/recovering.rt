@@ -15,18 +15,18 @@ use ep_phase::{
 use ep_rules::{Answers, LedInstance};
 use std::alloc::Global;
 
-/// Begins to recover the instance: the replica joins a ballot of its own above what it promised and all that it was told of,
+/// Begins to recover the instance: the replica joins a ballot of its own above what it promised and all that it has heard of,
 /// takes its own last vote as the first answer, and asks all others for theirs. `AlreadyCommitted` where it has committed,
 /// `BallotsExhausted` where the ballot's counter would pass 60,000.
 pub fn recover(alloc: Global, cell: &InstanceView<'_>) -> Result<Change, DecisionFault>
-    ensures ok { IfOk result (λ ch. rules.recover cell.now.faults cell.now.instance cell.now.me (record_of cell.now) cell.now.told ≡ Ok (change_of cell.now ch)) }
-    ensures refused { IfErr result (λ e. IsRefused (rules.recover cell.now.faults cell.now.instance cell.now.me (record_of cell.now) cell.now.told) e) }
+    ensures ok { IfOk result (λ ch. rules.recover cell.now.faults cell.now.instance cell.now.me (record_of cell.now) cell.now.reported ≡ Ok (change_of cell.now ch)) }
+    ensures refused { IfErr result (λ e. IsRefused (rules.recover cell.now.faults cell.now.instance cell.now.me (record_of cell.now) cell.now.reported) e) }
 {
     if cell.is_committed() {
         return Err(DecisionFault::AlreadyCommitted);
     }
     let me = cell.me();
-    let Some(ballot) = next_ballot(cell.promised(), cell.told(), me) else {
+    let Some(ballot) = next_ballot(cell.promised(), cell.reported(), me) else {
         return Err(DecisionFault::BallotsExhausted);
     };
     let own = own_vote(alloc, cell)?;
@@ -42,12 +42,12 @@ pub fn recover(alloc: Global, cell: &InstanceView<'_>) -> Result<Change, Decisio
     ))
 }
 
-/// This replica's ballot above the promised one and the counter told, if there is one.
-fn next_ballot(promised: Ballot, told: u16, me: ReplicaId) -> Option<Ballot>
-    ensures next { IfSome result (λ b. (b ≡ ballot_of (1 + max (counter_of promised) told) me) × (1 + max (counter_of promised) told ≤ highest_counter)) }
-    ensures none { IfNone result (highest_counter < 1 + max (counter_of promised) told) }
+/// This replica's ballot above the promised one and the counter reported, if there is one.
+fn next_ballot(promised: Ballot, reported: u16, me: ReplicaId) -> Option<Ballot>
+    ensures next { IfSome result (λ b. (b ≡ ballot_of (1 + max (counter_of promised) reported) me) × (1 + max (counter_of promised) reported ≤ highest_counter)) }
+    ensures none { IfNone result (highest_counter < 1 + max (counter_of promised) reported) }
 {
-    let greater = promised.counter().max(told);
+    let greater = promised.counter().max(reported);
     if greater >= 60_000 {
         return None;
     }

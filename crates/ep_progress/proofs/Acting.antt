@@ -123,7 +123,7 @@ module _ (f : ℕ) (few : size f ≤ 256) (w : World) (ok : WorldSound f w) wher
       } in
       done_by f few i w ok (handling s) ch p did
 
-  pub recover_done : (i q : ℕ) → q < size f → leader_of i < size f → (ch : Change) → recover f i q (record_in (w.states q) i) (cell_in (w.states q) i).told ≡ Ok ch → Done f i w (recovering q i) ch
+  pub recover_done : (i q : ℕ) → q < size f → leader_of i < size f → (ch : Change) → recover f i q (record_in (w.states q) i) (cell_in (w.states q) i).reported ≡ Ok ch → Done f i w (recovering q i) ch
   recover_done i q low lead ch e =
       let did : acts f q (w.states q) (Recover i) ≡ Ok (i, ch) = ap (at i) e in
       let p : Happens f w (recovering q i) = record {

@@ -137,7 +137,7 @@ module _ (f : ℕ) (two : 0 < f) (few : size f ≤ 256) (live : ℕ → Bool) (e
     pub executed : Has ((ends f w1 acts).states q).executed instance
 
   module _ (w1 : World) (m : ℕ) (sound : WorldSound f w1) (known : AllKnown f live is m w1) (room : m + 2 ≤ 999998) (ended : (j : ℕ) → Has is j → HasEnded w1 q j)
-      (k : ℕ) (free : free_number (w1.states q).records q ≡ Some k) (told : (r : ℕ) → r < size f → live r ≡ true → (cell_in (w1.states r) (instance_of q (k + 1))).told < 59998) where
+      (k : ℕ) (free : free_number (w1.states q).records q ≡ Some k) (reported : (r : ℕ) → r < size f → live r ≡ true → (cell_in (w1.states r) (instance_of q (k + 1))).reported < 59998) where
     abbrev i : ℕ
     i = instance_of q (k + 1)
 
@@ -181,7 +181,7 @@ module _ (f : ℕ) (two : 0 < f) (few : size f ≤ 256) (live : ℕ → Bool) (e
     sound2 : WorldSound f w2
     sound2 = act_sound f few w1 proposal happens sound
 
-    here : cell_in (w2.states q) i ≡ record { entry = Some (voted (leader_of i) PreAccepted decree); led = Some (Proposing (leader_of i) (spared f q None) []); told = (cell_in now i).told }
+    here : cell_in (w2.states q) i ≡ record { entry = Some (voted (leader_of i) PreAccepted decree); led = Some (Proposing (leader_of i) (spared f q None) []); reported = (cell_in now i).reported }
     here = (moves f w1 proposal (i, change) did).here
 
     abbrev more : List ℕ
@@ -230,9 +230,9 @@ module _ (f : ℕ) (two : 0 < f) (few : size f ≤ 256) (live : ℕ → Bool) (e
         | inl at_q ↦ subst (λ n. counter_of (record_in (w2.states n) i).promised < 59998) (sym at_q) (subst (λ u. counter_of (record_of i u).promised < 59998) (sym here) low_counter)
         | inr ne ↦ subst (λ (s : State). counter_of (record_in s i).promised < 59998) (sym (state_apart f w1 proposal r ne)) (subst (λ o. counter_of (record_or_fresh i o).promised < 59998) (sym (blank r low lives)) low_counter)
       ];
-      told = λ r low lives. elim (cases_eq r q) [
-        | inl at_q ↦ subst (λ n. (cell_in (w2.states n) i).told < 59998) (sym at_q) (subst (λ (u : Cell). u.told < 59998) (sym here) (told q q_low q_live))
-        | inr ne ↦ subst (λ (s : State). (cell_in s i).told < 59998) (sym (state_apart f w1 proposal r ne)) (told r low lives)
+      reported = λ r low lives. elim (cases_eq r q) [
+        | inl at_q ↦ subst (λ n. (cell_in (w2.states n) i).reported < 59998) (sym at_q) (subst (λ (u : Cell). u.reported < 59998) (sym here) (reported q q_low q_live))
+        | inr ne ↦ subst (λ (s : State). (cell_in s i).reported < 59998) (sym (state_apart f w1 proposal r ne)) (reported r low lives)
       ];
       seqs = λ r low lives. (let g = greatest_within more (m + 1) (entries (w2.states r).records) (known_entries more (m + 1) (w2.states r) (known2 r low lives)) in omega arith);
     }
@@ -348,10 +348,10 @@ can_serve_lem base f two few early run live enough q q_low q_live room client re
     let w1 : World = ends f (silenced w) t.acts in
     let free = free_there (w1.states q).records q room.number room.low (unnamed room.is t.most (instance_of q (room.number + 1)) (w1.states q) (t.known q q_low q_live) room.unknown) in
     let not : ¬ Has room.is (instance_of q (free.0 + 1)) = not_named f two few live enough q q_low q_live room.is room.led client request c seen may w1 t.committed free.0 free.1 in
-    let told : (r : ℕ) → r < size f → live r ≡ true → (cell_in (w1.states r) (instance_of q (free.0 + 1))).told < 59998 =
-    λ r low lives. subst (λ (u : Cell). u.told < 59998) (sym (these_apart f live q room.is t.acts (silenced w) t.run t.serve r (instance_of q (free.0 + 1)) not)) ((room.counters (instance_of q (free.0 + 1)) (subst (λ n. n < size f) (sym (own_leader q free.0 (free_found (w1.states q).records q free.0 free.1).0)) q_low)).told r low lives) in
+    let reported : (r : ℕ) → r < size f → live r ≡ true → (cell_in (w1.states r) (instance_of q (free.0 + 1))).reported < 59998 =
+    λ r low lives. subst (λ (u : Cell). u.reported < 59998) (sym (these_apart f live q room.is t.acts (silenced w) t.run t.serve r (instance_of q (free.0 + 1)) not)) ((room.counters (instance_of q (free.0 + 1)) (subst (λ n. n < size f) (sym (own_leader q free.0 (free_found (w1.states q).records q free.0 free.1).0)) q_low)).reported r low lives) in
     let last : Tail f two few live enough q q_low q_live room.is room.led client request c seen may w1 =
-    tail f two few live enough q q_low q_live room.is room.led client request c seen may w1 t.most (run_sound f few t.acts (silenced w) t.run (silenced_sound f w sound)) t.known (let b = t.bound in omega arith) t.committed free.0 free.1 told in
+    tail f two few live enough q q_low q_live room.is room.led client request c seen may w1 t.most (run_sound f few t.acts (silenced w) t.run (silenced_sound f w sound)) t.known (let b = t.bound in omega arith) t.committed free.0 free.1 reported in
     let all : IsRun f (silenced w) (t.acts ++ last.acts) = join f live q 0 t.acts last.acts (silenced w) t.run last.run in
     let at_end : (ends f w (t.acts ++ last.acts)).states q ≡ (ends f w1 last.acts).states q =
     (same_run f w (t.acts ++ last.acts) all).same q ∙ ap (λ (v : World). v.states q) (ends_join f live q 0 t.acts last.acts (silenced w)) in
@@ -382,7 +382,7 @@ nothing_known base = record {
 first_counters : (base : Store) (f : ℕ) → size f ≤ 256 → (live : ℕ → Bool) (i : ℕ) → leader_of i < size f → HasCounters f live (opening base) i
 first_counters base f few live i lead = record {
   promised = λ r low lives. subst (λ o. counter_of (record_or_fresh i o).promised < 59998) (sym (none_there i)) (first_counter (leader_of i) (omega arith));
-  told = λ r low lives. subst (λ o. or_zero o < 59998) (sym (none_there i)) (omega arith);
+  reported = λ r low lives. subst (λ o. or_zero o < 59998) (sym (none_there i)) (omega arith);
 }
   where
     first_counter : (n : ℕ) → n < 256 → counter_of n < 59998

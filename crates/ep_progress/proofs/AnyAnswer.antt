@@ -28,7 +28,7 @@ use Rattle.ep_rules.proofs.Counting.{count_without, count_le}
 use Rattle.ep_rules.proofs.Keeping.{applied, record_of}
 use Rattle.ep_rules.proofs.Lookups.{answer_back}
 use Rattle.ep_progress.proofs.Acting.{those_only, others_there}
-use Rattle.ep_progress.proofs.AnyOrder.{from_q, to_q, Said, prepare, prepare_ok, pre_accept, pre_accept_ok, accept, accept_ok, said_later, rec, Base, Reported, Preparing0, Proposing1, Accepting2, Ended, Open, prepares, proposes, accepts, ended, Changed, same_by, preparing_same, proposing_same, accepting_same, told_by, proposing_told, accepting_told, preparing_told}
+use Rattle.ep_progress.proofs.AnyOrder.{from_q, to_q, Said, prepare, prepare_ok, pre_accept, pre_accept_ok, accept, accept_ok, said_later, rec, Base, PromisedReport, Preparing0, Proposing1, Accepting2, Ended, Open, prepares, proposes, accepts, ended, Changed, same_by, preparing_same, proposing_same, accepting_same, reported_by, proposing_reported, accepting_reported, preparing_reported}
 use Rattle.ep_progress.proofs.Rules.{not_done, done_settled, prepare_answered, prepare_idle, prepare_waits, prepare_chooses, prepare_known, Chose, chose_commit, chose_accept, chose_propose, chose, chooses, vote_open, pre_accept_cases, pre_accept_waits, pre_accept_accepts, pre_accept_known, accept_cases, accept_waits, accept_commits, accept_known}
 use Rattle.ep_progress.proofs.Sound.{WorldSound, record_sound}
 use Rattle.ep_progress.proofs.Tally.{answer_here, answer_there, no_others}
@@ -125,7 +125,7 @@ module _ (f : ℕ) (two : 0 < f) (few : size f ≤ 256) (live : ℕ → Bool) (q
     sound : WorldSound f w'
 
   abbrev begins : Record → LedInstance → Message → Change
-  begins y l m = record { entry = Some y; led = Some (Some l); told = None; out = to_those (is_other q) (size f) m }
+  begins y l m = record { entry = Some y; led = Some (Some l); reported = None; out = to_those (is_other q) (size f) m }
 
   begun_by : (w w' : World) (y : Record) (l : LedInstance) (m : Message) (ch : Change) → Change0 w w' q ch → ch ≡ begins y l m → Begun w w' y l m
   begun_by w w' y l m ch c is = record {
@@ -190,7 +190,7 @@ module _ (f : ℕ) (two : 0 < f) (few : size f ≤ 256) (live : ℕ → Bool) (q
       own = ap is_some (answer_there g.answers x v q ne) ∙ g.own;
       asked = λ k lt other. c.before _ (g.asked k lt other);
       answered = λ k lt l other at. (let t = g.answered k lt l other (ap (λ (r : Record). r.promised) (sym (c.apart k other)) ∙ at) in (t.0, c.before _ t.1));
-      told = λ k u h. (let old = c.only _ h in subst (λ r. Reported f live q i b u k r) (sym (c.apart k (said_apart f live q i b 0 (up k (PrepareOk i b u)) ((g.base).sent _ old)))) (g.told k u old));
+      reported = λ k u h. (let old = c.only _ h in subst (λ r. PromisedReport f live q i b u k r) (sym (c.apart k (said_apart f live q i b 0 (up k (PrepareOk i b u)) ((g.base).sent _ old)))) (g.reported k u old));
       kept = λ k u e other. c.before _ (kept_more k u e other);
       promised = λ k h. elim h [ inl e ↦ absurd (let t : PrepareOk i b v ≡ Prepare i b = ap (λ (z : Sent). z.message) e in cc) | inr old ↦ ap (λ (r : Record). r.promised) (c.apart k (λ z. said_apart f live q i b 0 (down k (Prepare i b)) ((g.base).sent _ ((g.base).heard _ old)) (sym z))) ∙ g.promised k old ];
       counted = counted_more;
@@ -222,10 +222,10 @@ module _ (f : ℕ) (two : 0 < f) (few : size f ≤ 256) (live : ℕ → Bool) (q
         let t = and_parts (is_other q k) (is_some (answer more k)) e in
         let other : k ≢ q = λ is. absurd (false≢true (sym (not-true (eqb k q) t.0) ∙ eq-eqb k q is)) in
         let u = some_is (answer more k) t.1 in
-        let told = g.told k u.0 (kept_more k u.0 u.1 other) in
-        let known : answer more k ≡ Some (recd w k).vote = u.1 ∙ ap (λ z. Some z) (sym told.vote) in
-        let below : voted_ballot i (recd w k).vote < b = subst (λ z. voted_ballot i z < b) (sym told.vote) told.below in
-        record { is_live = told.is_live; other = other; at = told.at; undone = not_done i b (recd w k).vote (vote_open (answer more k) (recd w k).vote (nobody k lt) known) below }
+        let reported = g.reported k u.0 (kept_more k u.0 u.1 other) in
+        let known : answer more k ≡ Some (recd w k).vote = u.1 ∙ ap (λ z. Some z) (sym reported.vote) in
+        let below : voted_ballot i (recd w k).vote < b = subst (λ z. voted_ballot i z < b) (sym reported.vote) reported.below in
+        record { is_live = reported.is_live; other = other; at = reported.at; undone = not_done i b (recd w k).vote (vote_open (answer more k) (recd w k).vote (nobody k lt) known) below }
 
     preparing_proposes : NobodyEnded → f + 1 ≤ answered_all f more → (d : Decree) → Begun w w' (voted b PreAccepted d) (Proposing b q []) (PreAccept i b d) → Proposing1 f live q i b (s0 ∷ done) w'
     preparing_proposes nobody enough d c = record {
@@ -302,7 +302,7 @@ module _ (f : ℕ) (two : 0 < f) (few : size f ≤ 256) (live : ℕ → Bool) (q
             (λ k e. subst (λ j. (recd w j).promised ≡ b) (ap (λ (z : Sent). z.to) e) at) (λ k u e. absurd (let t : Prepare i b ≡ PrepareOk i b u = ap (λ (z : Sent). z.message) e in cc)))
         | inr less ↦ (
             let o = (record_sound (size f) few (w.states x) (((g.base).sound).states x) i lead).order in
-            prepares (preparing_told f live q i b done w w' x ne l less (omega arith) (told_by f live q i b w w' x _ (PrepareOk i b (recd w x).vote) ch c (is ∙ prepare_answered i q b (recd w x) less)) there g))
+            prepares (preparing_reported f live q i b done w w' x ne l less (omega arith) (reported_by f live q i b w w' x _ (PrepareOk i b (recd w x).vote) ch c (is ∙ prepare_answered i q b (recd w x) less)) there g))
       ]
 
   module _ (done : List Sent) (w w' : World) (x : ℕ) (v : Option Vote) (ne : x ≢ q) (g : Preparing0 f live q i b done w) (there : In (up x (PrepareOk i b v)) w.sent) (ch : Change) (h : handled f q x (w.states q) (PrepareOk i b v) ≡ Ok ch) (c : Change0 w w' q ch) where
@@ -454,7 +454,7 @@ module _ (f : ℕ) (two : 0 < f) (few : size f ≤ 256) (live : ℕ → Bool) (q
       elim (le_cases (recd w x).promised b ((g.base).low x lt l ne)) [
         | inl at ↦ proposes (proposing_same f live q i b done w w' (down x (Prepare i b)) (same_by f live q i b w w' x ch c (is ∙ prepare_idle i q b (recd w x) at)) there g
             (λ k d lt' e z. absurd (let t : Prepare i b ≡ PreAccept i b d = ap (λ (y : Sent). y.message) z in cc)) (λ k u z. absurd (let t : Prepare i b ≡ PreAcceptOk i b u = ap (λ (y : Sent). y.message) z in cc)))
-        | inr less ↦ proposes (proposing_told f live q i b done w w' x (record { promised = b; vote = (recd w x).vote }) (PrepareOk i b (recd w x).vote) (down x (Prepare i b)) (told_by f live q i b w w' x _ (PrepareOk i b (recd w x).vote) ch c (is ∙ prepare_answered i q b (recd w x) less)) ne (omega arith)
+        | inr less ↦ proposes (proposing_reported f live q i b done w w' x (record { promised = b; vote = (recd w x).vote }) (PrepareOk i b (recd w x).vote) (down x (Prepare i b)) (reported_by f live q i b w w' x _ (PrepareOk i b (recd w x).vote) ch c (is ∙ prepare_answered i q b (recd w x) less)) ne (omega arith)
             (prepare_ok x (recd w x).vote ne l refl) there g (λ lt' e. absurd (let at = (g.can x lt' e).at in omega arith))
             (λ k d lt' e z. absurd (let t : Prepare i b ≡ PreAccept i b d = ap (λ (y : Sent). y.message) z in cc)) (λ k u z. let t : Prepare i b ≡ PreAcceptOk i b u = ap (λ (y : Sent). y.message) z in cc))
       ]
@@ -474,10 +474,10 @@ module _ (f : ℕ) (two : 0 < f) (few : size f ≤ 256) (live : ℕ → Bool) (q
             (λ k u z. absurd (let t : PreAccept i b d ≡ PreAcceptOk i b u = ap (λ (y : Sent). y.message) z in cc)))
         | inr t ↦ (
             let m = PreAcceptOk i b (join d.attrs (interference (w.states x).records i d.command)) in
-            let told = told_by f live q i b w w' x (voted b PreAccepted (with_attrs d (join d.attrs (interference (w.states x).records i d.command)))) m ch c t.1 in
-            proposes (proposing_told f live q i b done w w' x _ m (down x (PreAccept i b d)) told ne (omega arith) (pre_accept_ok x _ ne (omega arith) refl) there g
-            (λ lt' e. record { is_live = l; other = ne; at = ap (λ (r : Record). r.promised) told.now; vote = inr (ap (λ (r : Record). is_settled_at b r.vote) told.now, (join d.attrs (interference (w.states x).records i d.command), told.new)) })
-            (λ k u lt' e z. subst (λ j. (a : Attrs) × In (up j (PreAcceptOk i b a)) w'.sent) (ap (λ (y : Sent). y.to) z) (join d.attrs (interference (w.states x).records i d.command), told.new))
+            let reported = reported_by f live q i b w w' x (voted b PreAccepted (with_attrs d (join d.attrs (interference (w.states x).records i d.command)))) m ch c t.1 in
+            proposes (proposing_reported f live q i b done w w' x _ m (down x (PreAccept i b d)) reported ne (omega arith) (pre_accept_ok x _ ne (omega arith) refl) there g
+            (λ lt' e. record { is_live = l; other = ne; at = ap (λ (r : Record). r.promised) reported.now; vote = inr (ap (λ (r : Record). is_settled_at b r.vote) reported.now, (join d.attrs (interference (w.states x).records i d.command), reported.new)) })
+            (λ k u lt' e z. subst (λ j. (a : Attrs) × In (up j (PreAcceptOk i b a)) w'.sent) (ap (λ (y : Sent). y.to) z) (join d.attrs (interference (w.states x).records i d.command), reported.new))
             (λ k u z. let t : PreAccept i b d ≡ PreAcceptOk i b u = ap (λ (y : Sent). y.message) z in cc)))
       ]
 
@@ -559,7 +559,7 @@ module _ (f : ℕ) (two : 0 < f) (few : size f ≤ 256) (live : ℕ → Bool) (q
       elim (le_cases (recd w x).promised b ((g.base).low x lt l ne)) [
         | inl at ↦ accepts (accepting_same f live q i b done w w' (down x (Prepare i b)) (same_by f live q i b w w' x ch c (is ∙ prepare_idle i q b (recd w x) at)) there g
             (λ k d lt' e z. absurd (let t : Prepare i b ≡ Accept i b d = ap (λ (y : Sent). y.message) z in cc)) (λ k z. absurd (let t : Prepare i b ≡ AcceptOk i b = ap (λ (y : Sent). y.message) z in cc)))
-        | inr less ↦ accepts (accepting_told f live q i b done w w' x (record { promised = b; vote = (recd w x).vote }) (PrepareOk i b (recd w x).vote) (down x (Prepare i b)) (told_by f live q i b w w' x _ (PrepareOk i b (recd w x).vote) ch c (is ∙ prepare_answered i q b (recd w x) less)) ne (omega arith)
+        | inr less ↦ accepts (accepting_reported f live q i b done w w' x (record { promised = b; vote = (recd w x).vote }) (PrepareOk i b (recd w x).vote) (down x (Prepare i b)) (reported_by f live q i b w w' x _ (PrepareOk i b (recd w x).vote) ch c (is ∙ prepare_answered i q b (recd w x) less)) ne (omega arith)
             (prepare_ok x (recd w x).vote ne l refl) there g (λ lt' e. absurd (let at = (g.can x lt' e).at in omega arith))
             (λ k d lt' e z. absurd (let t : Prepare i b ≡ Accept i b d = ap (λ (y : Sent). y.message) z in cc)) (λ k z. let t : Prepare i b ≡ AcceptOk i b = ap (λ (y : Sent). y.message) z in cc))
       ]
@@ -577,9 +577,9 @@ module _ (f : ℕ) (two : 0 < f) (few : size f ≤ 256) (live : ℕ → Bool) (q
             (λ k u lt' e z. absurd (let t : PreAccept i b d ≡ Accept i b u = ap (λ (y : Sent). y.message) z in cc)) (λ k z. absurd (let t : PreAccept i b d ≡ AcceptOk i b = ap (λ (y : Sent). y.message) z in cc)))
         | inr t ↦ (
             let m = PreAcceptOk i b (join d.attrs (interference (w.states x).records i d.command)) in
-            let told = told_by f live q i b w w' x (voted b PreAccepted (with_attrs d (join d.attrs (interference (w.states x).records i d.command)))) m ch c t.1 in
-            accepts (accepting_told f live q i b done w w' x _ m (down x (PreAccept i b d)) told ne (omega arith) (pre_accept_ok x _ ne (omega arith) refl) there g
-            (λ lt' e. record { is_live = l; other = ne; at = ap (λ (r : Record). r.promised) told.now; vote = inl (ap (λ (r : Record). is_settled_at b r.vote) told.now) })
+            let reported = reported_by f live q i b w w' x (voted b PreAccepted (with_attrs d (join d.attrs (interference (w.states x).records i d.command)))) m ch c t.1 in
+            accepts (accepting_reported f live q i b done w w' x _ m (down x (PreAccept i b d)) reported ne (omega arith) (pre_accept_ok x _ ne (omega arith) refl) there g
+            (λ lt' e. record { is_live = l; other = ne; at = ap (λ (r : Record). r.promised) reported.now; vote = inl (ap (λ (r : Record). is_settled_at b r.vote) reported.now) })
             (λ k u lt' e z. absurd (let t : PreAccept i b d ≡ Accept i b u = ap (λ (y : Sent). y.message) z in cc)) (λ k z. let t : PreAccept i b d ≡ AcceptOk i b = ap (λ (y : Sent). y.message) z in cc)))
       ]
 
@@ -597,10 +597,10 @@ module _ (f : ℕ) (two : 0 < f) (few : size f ≤ 256) (live : ℕ → Bool) (q
             elim (g.can k lt' e).vote [ inl undone ↦ absurd (false≢true (sym undone ∙ did)) | inr v ↦ v ]))
             (λ k z. absurd (let t : Accept i b d ≡ AcceptOk i b = ap (λ (y : Sent). y.message) z in cc)))
         | inr t ↦ (
-            let told = told_by f live q i b w w' x (voted b Accepted d) (AcceptOk i b) ch c (ok_is _ (recorded (voted b Accepted d) q (AcceptOk i b)) ch (ap (λ (y : Change). Ok y) t.1) h) in
-            accepts (accepting_told f live q i b done w w' x (voted b Accepted d) (AcceptOk i b) (down x (Accept i b d)) told ne (omega arith) (accept_ok x ne (omega arith) refl) there g
-            (λ lt' e. record { is_live = l; other = ne; at = ap (λ (r : Record). r.promised) told.now; vote = inr told.new })
-            (λ k u lt' e z. subst (λ j. In (up j (AcceptOk i b)) w'.sent) (ap (λ (y : Sent). y.to) z) told.new)
+            let reported = reported_by f live q i b w w' x (voted b Accepted d) (AcceptOk i b) ch c (ok_is _ (recorded (voted b Accepted d) q (AcceptOk i b)) ch (ap (λ (y : Change). Ok y) t.1) h) in
+            accepts (accepting_reported f live q i b done w w' x (voted b Accepted d) (AcceptOk i b) (down x (Accept i b d)) reported ne (omega arith) (accept_ok x ne (omega arith) refl) there g
+            (λ lt' e. record { is_live = l; other = ne; at = ap (λ (r : Record). r.promised) reported.now; vote = inr reported.new })
+            (λ k u lt' e z. subst (λ j. In (up j (AcceptOk i b)) w'.sent) (ap (λ (y : Sent). y.to) z) reported.new)
             (λ k z. let t : Accept i b d ≡ AcceptOk i b = ap (λ (y : Sent). y.message) z in cc)))
       ]
 

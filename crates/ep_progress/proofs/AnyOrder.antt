@@ -58,7 +58,7 @@ module _ (f : ℕ) (live : ℕ → Bool) (q i b : ℕ) where
     pub heard : (s : Sent) → In s done → In s w.sent
 
   -- x has promised b, and its vote, which is below b, is v
-  pub record Reported (v : Option Vote) (x : ℕ) (r : Record) : Type 0 where
+  pub record PromisedReport (v : Option Vote) (x : ℕ) (r : Record) : Type 0 where
     pub is_live : live x ≡ true
     pub at : r.promised ≡ b
     pub vote : r.vote ≡ v
@@ -75,12 +75,12 @@ module _ (f : ℕ) (live : ℕ → Bool) (q i b : ℕ) where
     pub own : is_some (answer answers q) ≡ true
     pub asked : (x : ℕ) → x < size f → x ≢ q → In (from_q x (Prepare i b)) w.sent
     pub answered : (x : ℕ) → x < size f → live x ≡ true → x ≢ q → (rec w x).promised ≡ b → (v : Option Vote) × In (to_q x (PrepareOk i b v)) w.sent
-    pub told : (x : ℕ) (v : Option Vote) → In (to_q x (PrepareOk i b v)) w.sent → Reported v x (rec w x)
+    pub reported : (x : ℕ) (v : Option Vote) → In (to_q x (PrepareOk i b v)) w.sent → PromisedReport v x (rec w x)
     pub kept : (x : ℕ) (v : Option Vote) → answer answers x ≡ Some v → x ≢ q → In (to_q x (PrepareOk i b v)) w.sent
     pub promised : (x : ℕ) → In (from_q x (Prepare i b)) done → (rec w x).promised ≡ b
     pub counted : (x : ℕ) (v : Option Vote) → In (to_q x (PrepareOk i b v)) done → is_some (answer answers x) ≡ true
 
-  -- one that was chosen by: it has promised b, and can still vote there, or has done so and told
+  -- one that was chosen by: it has promised b, and can still vote there, or has done so and reported it
   pub record CanVote (w : World) (x : ℕ) : Type 0 where
     pub is_live : live x ≡ true
     pub other : x ≢ q
@@ -184,7 +184,7 @@ module _ (f : ℕ) (live : ℕ → Bool) (q i b : ℕ) where
     own = g.own;
     asked = λ x lt ne. c.before _ (g.asked x lt ne);
     answered = λ x lt l ne at. (let t = g.answered x lt l ne (ap (λ (r : Record). r.promised) (sym (same_record w w' c x)) ∙ at) in (t.0, c.before _ t.1));
-    told = λ x v h. subst (λ (r : Record). Reported v x r) (sym (same_record w w' c x)) (g.told x v (c.only _ h));
+    reported = λ x v h. subst (λ (r : Record). PromisedReport v x r) (sym (same_record w w' c x)) (g.reported x v (c.only _ h));
     kept = λ x v e ne. c.before _ (g.kept x v e ne);
     promised = λ x h. subst (λ (r : Record). r.promised ≡ b) (sym (same_record w w' c x)) (elim h [ inl e ↦ p x e | inr old ↦ g.promised x old ]);
     counted = λ x v h. elim h [ inl e ↦ n x v e | inr old ↦ g.counted x v old ];
@@ -242,7 +242,7 @@ module _ (f : ℕ) (live : ℕ → Bool) (q i b : ℕ) where
   -- Another replica's step.
 
   -- x records y, and answers q by this
-  pub record Told (w w' : World) (x : ℕ) (y : Record) (m : Message) : Type 0 where
+  pub record Reported (w w' : World) (x : ℕ) (y : Record) (m : Message) : Type 0 where
     pub now : rec w' x ≡ y
     pub apart : (k : ℕ) → k ≢ x → w'.states k ≡ w.states k
     pub before : (s : Sent) → In s w.sent → In s w'.sent
@@ -250,8 +250,8 @@ module _ (f : ℕ) (live : ℕ → Bool) (q i b : ℕ) where
     pub only : (s : Sent) → In s w'.sent → In s w.sent ⊎ (to_q x m ≡ s)
     pub sound : WorldSound f w'
 
-  pub told_by : (w w' : World) (x : ℕ) (y : Record) (m : Message) (ch : Change) → Changed w w' x ch → ch ≡ recorded y q m → Told w w' x y m
-  told_by w w' x y m ch c is = record {
+  pub reported_by : (w w' : World) (x : ℕ) (y : Record) (m : Message) (ch : Change) → Changed w w' x ch → ch ≡ recorded y q m → Reported w w' x y m
+  reported_by w w' x y m ch c is = record {
     now = ap (record_of i) c.here ∙ ap (λ e. record_of i (applied (cell_in (w.states x) i) e)) is;
     apart = c.apart;
     before = c.before;
@@ -263,27 +263,27 @@ module _ (f : ℕ) (live : ℕ → Bool) (q i b : ℕ) where
     sound = c.sound;
   }
 
-  told_record : (w w' : World) (x : ℕ) (y : Record) (m : Message) → Told w w' x y m → (k : ℕ) → k ≢ x → rec w' k ≡ rec w k
-  told_record w w' x y m c k ne = ap (λ (s : State). record_in s i) (c.apart k ne)
+  reported_record : (w w' : World) (x : ℕ) (y : Record) (m : Message) → Reported w w' x y m → (k : ℕ) → k ≢ x → rec w' k ≡ rec w k
+  reported_record w w' x y m c k ne = ap (λ (s : State). record_in s i) (c.apart k ne)
 
-  base_told : (k : ℕ) (done : List Sent) (w w' : World) (x : ℕ) (y : Record) (m : Message) (s : Sent) → Told w w' x y m → y.promised ≤ b → Said k (to_q x m) → In s w.sent → Base k done w → Base k (s ∷ done) w'
-  base_told k done w w' x y m s c low said there g = record {
+  base_reported : (k : ℕ) (done : List Sent) (w w' : World) (x : ℕ) (y : Record) (m : Message) (s : Sent) → Reported w w' x y m → y.promised ≤ b → Said k (to_q x m) → In s w.sent → Base k done w → Base k (s ∷ done) w'
+  base_reported k done w w' x y m s c low said there g = record {
     sound = c.sound;
     low = λ j lt l ne. elim (cases_eq j x) [
       | inl is ↦ subst (λ (r : Record). r.promised ≤ b) (sym (ap (rec w') is ∙ c.now)) low
-      | inr other ↦ subst (λ (r : Record). r.promised ≤ b) (sym (told_record w w' x y m c j other)) (g.low j lt l ne)
+      | inr other ↦ subst (λ (r : Record). r.promised ≤ b) (sym (reported_record w w' x y m c j other)) (g.low j lt l ne)
     ];
     sent = λ t h. elim (c.only t h) [ inl old ↦ g.sent t old | inr e ↦ subst (λ u. Said k u) e said ];
     heard = λ t h. elim h [ inl e ↦ c.before t (subst (λ u. In u w.sent) e there) | inr old ↦ c.before t (g.heard t old) ];
   }
 
-  pub proposing_told : (done : List Sent) (w w' : World) (x : ℕ) (y : Record) (m : Message) (s : Sent) → Told w w' x y m → x ≢ q → y.promised ≤ b → Said 1 (to_q x m) → In s w.sent → (g : Proposing1 done w) → (x < size f → g.chosen x ≡ true → CanVote w' x) →
+  pub proposing_reported : (done : List Sent) (w w' : World) (x : ℕ) (y : Record) (m : Message) (s : Sent) → Reported w w' x y m → x ≢ q → y.promised ≤ b → Said 1 (to_q x m) → In s w.sent → (g : Proposing1 done w) → (x < size f → g.chosen x ≡ true → CanVote w' x) →
       ((k : ℕ) (d : Decree) → k < size f → g.chosen k ≡ true → s ≡ from_q k (PreAccept i b d) → (a : Attrs) × In (to_q k (PreAcceptOk i b a)) w'.sent) → ((k : ℕ) (a : Attrs) → s ≡ to_q k (PreAcceptOk i b a) → ⊥) → Proposing1 (s ∷ done) w'
-  proposing_told done w w' x y m s c ne low said there g here p n = record {
-    base = base_told 1 done w w' x y m s c low said there g.base;
+  proposing_reported done w w' x y m s c ne low said there g here p n = record {
+    base = base_reported 1 done w w' x y m s c low said there g.base;
     decree = g.decree;
     answers = g.answers;
-    mine = told_record w w' x y m c q (λ e. ne (sym e)) ∙ g.mine;
+    mine = reported_record w w' x y m c q (λ e. ne (sym e)) ∙ g.mine;
     led = ap (λ (u : State). get u.leads i) (c.apart q (λ e. ne (sym e))) ∙ g.led;
     few = g.few;
     asked = λ k lt other. c.before _ (g.asked k lt other);
@@ -296,8 +296,8 @@ module _ (f : ℕ) (live : ℕ → Bool) (q i b : ℕ) where
           record {
             is_live = old.is_live;
             other = old.other;
-            at = ap (λ (r : Record). r.promised) (told_record w w' x y m c k other) ∙ old.at;
-            vote = subst (λ (r : Record). (is_done_at b r.vote ≡ false) ⊎ ((is_settled_at b r.vote ≡ false) × ((a : Attrs) × In (to_q k (PreAcceptOk i b a)) w'.sent))) (sym (told_record w w' x y m c k other))
+            at = ap (λ (r : Record). r.promised) (reported_record w w' x y m c k other) ∙ old.at;
+            vote = subst (λ (r : Record). (is_done_at b r.vote ≡ false) ⊎ ((is_settled_at b r.vote ≡ false) × ((a : Attrs) × In (to_q k (PreAcceptOk i b a)) w'.sent))) (sym (reported_record w w' x y m c k other))
                 (elim old.vote [ inl u ↦ inl u | inr t ↦ inr (t.0, ((t.1).0, c.before _ (t.1).1)) ]);
           })
     ];
@@ -305,13 +305,13 @@ module _ (f : ℕ) (live : ℕ → Bool) (q i b : ℕ) where
     counted = λ k a h. elim h [ inl e ↦ absurd (n k a e) | inr old ↦ g.counted k a old ];
   }
 
-  pub accepting_told : (done : List Sent) (w w' : World) (x : ℕ) (y : Record) (m : Message) (s : Sent) → Told w w' x y m → x ≢ q → y.promised ≤ b → Said 2 (to_q x m) → In s w.sent → (g : Accepting2 done w) → (x < size f → g.chosen x ≡ true → CanAccept w' x) →
+  pub accepting_reported : (done : List Sent) (w w' : World) (x : ℕ) (y : Record) (m : Message) (s : Sent) → Reported w w' x y m → x ≢ q → y.promised ≤ b → Said 2 (to_q x m) → In s w.sent → (g : Accepting2 done w) → (x < size f → g.chosen x ≡ true → CanAccept w' x) →
       ((k : ℕ) (d : Decree) → k < size f → g.chosen k ≡ true → s ≡ from_q k (Accept i b d) → In (to_q k (AcceptOk i b)) w'.sent) → ((k : ℕ) → s ≡ to_q k (AcceptOk i b) → ⊥) → Accepting2 (s ∷ done) w'
-  accepting_told done w w' x y m s c ne low said there g here p n = record {
-    base = base_told 2 done w w' x y m s c low said there g.base;
+  accepting_reported done w w' x y m s c ne low said there g here p n = record {
+    base = base_reported 2 done w w' x y m s c low said there g.base;
     decree = g.decree;
     answers = g.answers;
-    mine = told_record w w' x y m c q (λ e. ne (sym e)) ∙ g.mine;
+    mine = reported_record w w' x y m c q (λ e. ne (sym e)) ∙ g.mine;
     led = ap (λ (u : State). get u.leads i) (c.apart q (λ e. ne (sym e))) ∙ g.led;
     few = g.few;
     asked = λ k lt other. c.before _ (g.asked k lt other);
@@ -324,8 +324,8 @@ module _ (f : ℕ) (live : ℕ → Bool) (q i b : ℕ) where
           record {
             is_live = old.is_live;
             other = old.other;
-            at = ap (λ (r : Record). r.promised) (told_record w w' x y m c k other) ∙ old.at;
-            vote = subst (λ (r : Record). (is_settled_at b r.vote ≡ false) ⊎ In (to_q k (AcceptOk i b)) w'.sent) (sym (told_record w w' x y m c k other)) (elim old.vote [ inl u ↦ inl u | inr t ↦ inr (c.before _ t) ]);
+            at = ap (λ (r : Record). r.promised) (reported_record w w' x y m c k other) ∙ old.at;
+            vote = subst (λ (r : Record). (is_settled_at b r.vote ≡ false) ⊎ In (to_q k (AcceptOk i b)) w'.sent) (sym (reported_record w w' x y m c k other)) (elim old.vote [ inl u ↦ inl u | inr t ↦ inr (c.before _ t) ]);
           })
     ];
     answered = λ k d lt e h. elim h [ inl is ↦ p k d lt e is | inr old ↦ c.before _ (g.answered k d lt e old) ];
@@ -333,16 +333,16 @@ module _ (f : ℕ) (live : ℕ → Bool) (q i b : ℕ) where
   }
 
   -- In phase 0 a replica that has promised less answers with its vote.
-  pub preparing_told : (done : List Sent) (w w' : World) (x : ℕ) → x ≢ q → live x ≡ true → (rec w x).promised < b → voted_ballot i (rec w x).vote < b → Told w w' x (record { promised = b; vote = (rec w x).vote }) (PrepareOk i b (rec w x).vote) → In (from_q x (Prepare i b)) w.sent → Preparing0 done w → Preparing0 (from_q x (Prepare i b) ∷ done) w'
-  preparing_told done w w' x ne l less below c there g =
+  pub preparing_reported : (done : List Sent) (w w' : World) (x : ℕ) → x ≢ q → live x ≡ true → (rec w x).promised < b → voted_ballot i (rec w x).vote < b → Reported w w' x (record { promised = b; vote = (rec w x).vote }) (PrepareOk i b (rec w x).vote) → In (from_q x (Prepare i b)) w.sent → Preparing0 done w → Preparing0 (from_q x (Prepare i b) ∷ done) w'
+  preparing_reported done w w' x ne l less below c there g =
       let v : Option Vote = (rec w x).vote in
       let y : Record = record { promised = b; vote = v } in
       let m : Message = PrepareOk i b v in
       let s : Sent = from_q x (Prepare i b) in
-      let keeps : (k : ℕ) → k ≢ x → rec w' k ≡ rec w k = told_record w w' x y m c in
-      let reported : Reported v x (rec w' x) = subst (λ r. Reported v x r) (sym c.now) (record { is_live = l; at = refl; vote = refl; below = below }) in
+      let keeps : (k : ℕ) → k ≢ x → rec w' k ≡ rec w k = reported_record w w' x y m c in
+      let promised_report : PromisedReport v x (rec w' x) = subst (λ r. PromisedReport v x r) (sym c.now) (record { is_live = l; at = refl; vote = refl; below = below }) in
       record {
-        base = base_told 0 done w w' x y m s c (omega arith) (prepare_ok x v ne l refl) there g.base;
+        base = base_reported 0 done w w' x y m s c (omega arith) (prepare_ok x v ne l refl) there g.base;
         vote = g.vote;
         answers = g.answers;
         mine = keeps q (λ e. ne (sym e)) ∙ g.mine;
@@ -355,20 +355,20 @@ module _ (f : ℕ) (live : ℕ → Bool) (q i b : ℕ) where
           | inl is ↦ (v, subst (λ j. In (to_q j m) w'.sent) (sym is) c.new)
           | inr other ↦ (let t = g.answered k lt lk nk (ap (λ (r : Record). r.promised) (sym (keeps k other)) ∙ at) in (t.0, c.before _ t.1))
         ];
-        told = λ k u h. elim (c.only _ h) [
-          | inl old ↦ (let t = g.told k u old in elim (cases_eq k x) [
+        reported = λ k u h. elim (c.only _ h) [
+          | inl old ↦ (let t = g.reported k u old in elim (cases_eq k x) [
             | inl is ↦ absurd (let at = t.at in let low : (rec w k).promised < b = subst (λ j. (rec w j).promised < b) (sym is) less in omega arith)
-            | inr other ↦ subst (λ r. Reported u k r) (sym (keeps k other)) t
+            | inr other ↦ subst (λ r. PromisedReport u k r) (sym (keeps k other)) t
           ])
           | inr e ↦ (
               let is : x ≡ k = ap (λ (z : Sent). z.from) e in
               let said : PrepareOk i b v ≡ PrepareOk i b u = ap (λ (z : Sent). z.message) e in
               let same : v ≡ u = cc in
-              subst (λ j. Reported u j (rec w' j)) is (subst (λ z. Reported z x (rec w' x)) same reported))
+              subst (λ j. PromisedReport u j (rec w' j)) is (subst (λ z. PromisedReport z x (rec w' x)) same promised_report))
         ];
         kept = λ k u e other. c.before _ (g.kept k u e other);
         promised = λ k h. elim h [
-          | inl e ↦ (let is : x ≡ k = ap (λ (z : Sent). z.to) e in subst (λ j. (rec w' j).promised ≡ b) is reported.at)
+          | inl e ↦ (let is : x ≡ k = ap (λ (z : Sent). z.to) e in subst (λ j. (rec w' j).promised ≡ b) is promised_report.at)
           | inr old ↦ (let at = g.promised k old in elim (cases_eq k x) [
             | inl is ↦ absurd (let low : (rec w k).promised < b = subst (λ j. (rec w j).promised < b) (sym is) less in omega arith)
             | inr other ↦ ap (λ (r : Record). r.promised) (keeps k other) ∙ at

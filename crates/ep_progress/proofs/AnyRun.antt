@@ -37,10 +37,10 @@ pub at_is : (j : ℕ) (o : Outcome) (p : ℕ × Change) → at j o ≡ Ok p → 
 at_is j (Ok ch) p e = let same : (j, ch) ≡ p = cc in (ap (λ (z : ℕ × Change). Ok z.1) same, sym (ap (λ (z : ℕ × Change). z.0) same))
 at_is j (Err why) p e = absurd (cc)
 
-pub recover_is : (f i q : ℕ) (r : Record) (told : ℕ) (ch : Change) → recover f i q r told ≡ Ok ch → (is_committed r.vote ≡ false) × (ch ≡ prepare_phase f i q (ballot_of (next_counter r told) q) r)
-recover_is f i q r told ch e = go (is_committed r.vote) refl (leb (next_counter r told) highest_counter) e
+pub recover_is : (f i q : ℕ) (r : Record) (reported : ℕ) (ch : Change) → recover f i q r reported ≡ Ok ch → (is_committed r.vote ≡ false) × (ch ≡ prepare_phase f i q (ballot_of (next_counter r reported) q) r)
+recover_is f i q r reported ch e = go (is_committed r.vote) refl (leb (next_counter r reported) highest_counter) e
   where
-    go : (c : Bool) → is_committed r.vote ≡ c → (t : Bool) → cond c (Err AlreadyCommitted) (cond t (Ok (prepare_phase f i q (ballot_of (next_counter r told) q) r)) (Err BallotsExhausted)) ≡ Ok ch → (is_committed r.vote ≡ false) × (ch ≡ prepare_phase f i q (ballot_of (next_counter r told) q) r)
+    go : (c : Bool) → is_committed r.vote ≡ c → (t : Bool) → cond c (Err AlreadyCommitted) (cond t (Ok (prepare_phase f i q (ballot_of (next_counter r reported) q) r)) (Err BallotsExhausted)) ≡ Ok ch → (is_committed r.vote ≡ false) × (ch ≡ prepare_phase f i q (ballot_of (next_counter r reported) q) r)
     go true is t e = absurd (cc)
     go false is true e = (is, (cc))
     go false is false e = absurd (cc)
@@ -189,7 +189,7 @@ module _ (f : ℕ) (two : 0 < f) (few : size f ≤ 256) (live : ℕ → Bool) (e
         own = ap is_some (answer_here {X = Option Vote} [] q v);
         asked = λ x lt ne. c.new _ (subst (λ l. In (from_q f live q i b x (Prepare i b)) (sent_from q l)) (sym out) (others_there q x f (Prepare i b) lt ne));
         answered = λ x lt l ne at. absurd (let less = low x lt l ne in let same = ap (λ (r : Record). r.promised) (apart x ne) in omega arith);
-        told = λ x u there. absurd (let t = only _ there in let e : Prepare i b ≡ PrepareOk i b u = ap (λ (z : Sent). z.message) t.2 in cc);
+        reported = λ x u there. absurd (let t = only _ there in let e : Prepare i b ≡ PrepareOk i b u = ap (λ (z : Sent). z.message) t.2 in cc);
         kept = λ x u e ne. absurd (elim (answer_back {X = Option Vote} [] q v x u e) [ inl none ↦ (let z : None ≡ Some u = none in cc) | inr t ↦ ne t.0 ]);
         promised = λ x none. absurd none;
         counted = λ x u none. absurd none;
@@ -206,8 +206,8 @@ round_ends_any f two few live enough q q_low q_live i lead w ok low late round =
     let above : leader_of i < b = omega arith in
     let first : Happens f v (recovering q i) = (round.run).0 in
     let t = taken_of (acts f q (v.states q) (Recover i)) (first.step).taken in
-    let u = at_is i (recover f i q r (cell_in (w.states q) i).told) t.0 t.1 in
-    let is = recover_is f i q r (cell_in (w.states q) i).told (t.0).1 u.0 in
+    let u = at_is i (recover f i q r (cell_in (w.states q) i).reported) t.0 t.1 in
+    let is = recover_is f i q r (cell_in (w.states q) i).reported (t.0).1 u.0 in
     let did : acts f q (v.states q) (Recover i) ≡ Ok (i, (t.0).1) = t.1 ∙ ap (λ j. Ok (j, (t.0).1)) u.1 in
     let d : Done f i v (recovering q i) (t.0).1 = done_by f few i v (silenced_sound f w ok) (recovering q i) (t.0).1 first did in
     let w1 : World = moved f v (recovering q i) in

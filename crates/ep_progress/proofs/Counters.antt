@@ -1,4 +1,4 @@
--- Whatever a round does, q knows in the end the counters that the live replicas have promised, by its own ballot or by what it was told.
+-- Whatever a round does, q knows in the end the counters that the live replicas have promised, by its own ballot or by what it has heard.
 use Rattle.std.proofs.Common.{◌≡◌, ◌≢◌, ℕ, ◌+◌, ◌<◌, ◌≤◌, Bool, true, eqb, ltb, leb, Option, Some, None, is_some, Ok, Err, refl, sym, ◌∙◌, arith}
 use Rattle.std.proofs.lemmas.Bool.{eq-eqb, ltb-false, not-true, false≢true}
 use Rattle.ep_base.specs.Instances.{leader_of}
@@ -28,42 +28,42 @@ module _ (f : ℕ) (live : ℕ → Bool) (q i b : ℕ) where
     ask_prepare : Prepare i b ≡ m → Asking m
     ask_pre_accept : (d : Decree) → PreAccept i b d ≡ m → Asking m
     ask_accept : (d : Decree) → Accept i b d ≡ m → Asking m
-    tell_commit : (d : Decree) → Commit i d ≡ m → Asking m
+    report_commit : (d : Decree) → Commit i d ≡ m → Asking m
 
-  pub data Telling (m : Message) : Type 0 where
-    tell_prepare : (v : Option Vote) → PrepareOk i b v ≡ m → Telling m
-    tell_pre_accept : (a : Attrs) → PreAcceptOk i b a ≡ m → Telling m
-    tell_accept : AcceptOk i b ≡ m → Telling m
-    tell_nack : (p : ℕ) → Nack i b p ≡ m → Telling m
+  pub data Reporting (m : Message) : Type 0 where
+    report_prepare : (v : Option Vote) → PrepareOk i b v ≡ m → Reporting m
+    report_pre_accept : (a : Attrs) → PreAcceptOk i b a ≡ m → Reporting m
+    report_accept : AcceptOk i b ≡ m → Reporting m
+    report_nack : (p : ℕ) → Nack i b p ≡ m → Reporting m
 
   pub data Spoke (s : Sent) : Type 0 where
     asks : (x : ℕ) (m : Message) → x ≢ q → Asking m → from_q f live q i b x m ≡ s → Spoke s
-    tells : (x : ℕ) (m : Message) → x ≢ q → Telling m → to_q f live q i b x m ≡ s → Spoke s
+    reports : (x : ℕ) (m : Message) → x ≢ q → Reporting m → to_q f live q i b x m ≡ s → Spoke s
 
   -- A replica that q asks promises b at most, or what it has promised already.
   pub record PeerFine (r : Record) (ch : Change) : Type 0 where
     pub low : r.promised ≤ b → (newer ch.entry r).promised ≤ b
     pub high : b < r.promised → (newer ch.entry r).promised ≡ r.promised
-    pub out : AllSent (λ to m. (to ≡ q) × Telling m) ch.out
+    pub out : AllSent (λ to m. (to ≡ q) × Reporting m) ch.out
 
   peer_nothing : (r : Record) → PeerFine r nothing
   peer_nothing r = record { low = λ h. h; high = λ h. refl; out = tt }
 
   peer_nack : (r : Record) → PeerFine r (answered q (Nack i b r.promised))
-  peer_nack r = record { low = λ h. h; high = λ h. refl; out = ((refl, tell_nack r.promised refl), tt) }
+  peer_nack r = record { low = λ h. h; high = λ h. refl; out = ((refl, report_nack r.promised refl), tt) }
 
-  peer_recorded : (r y : Record) (m : Message) → r.promised ≤ b → y.promised ≡ b → Telling m → PeerFine r (recorded y q m)
+  peer_recorded : (r y : Record) (m : Message) → r.promised ≤ b → y.promised ≡ b → Reporting m → PeerFine r (recorded y q m)
   peer_recorded r y m low at t = record { low = λ h. omega arith; high = λ h. absurd (omega arith); out = ((refl, t), tt) }
 
   pub peer_prepare : (r : Record) → PeerFine r (on_prepare i q b r)
   peer_prepare r =
       split (PeerFine r) (ltb b r.promised) _ _ (λ e. peer_nack r) (λ e.
-      split (PeerFine r) (eqb b r.promised) _ _ (λ u. peer_nothing r) (λ u. peer_recorded r _ _ (ltb-false b r.promised e) refl (tell_prepare r.vote refl)))
+      split (PeerFine r) (eqb b r.promised) _ _ (λ u. peer_nothing r) (λ u. peer_recorded r _ _ (ltb-false b r.promised e) refl (report_prepare r.vote refl)))
 
   pub peer_accept : (d : Decree) (r : Record) → PeerFine r (on_accept i q b d r)
   peer_accept d r =
       split (PeerFine r) (ltb b r.promised) _ _ (λ e. peer_nack r) (λ e.
-      split (PeerFine r) (is_settled_at b r.vote) _ _ (λ u. peer_nothing r) (λ u. peer_recorded r _ _ (ltb-false b r.promised e) refl (tell_accept refl)))
+      split (PeerFine r) (is_settled_at b r.vote) _ _ (λ u. peer_nothing r) (λ u. peer_recorded r _ _ (ltb-false b r.promised e) refl (report_accept refl)))
 
   abbrev pub PeerOk : Record → Outcome → Type 0
   PeerOk r (Ok ch) = PeerFine r ch
@@ -73,7 +73,7 @@ module _ (f : ℕ) (live : ℕ → Bool) (q i b : ℕ) where
   peer_pre_accept d own r =
       split (PeerOk r) (ltb b r.promised) _ _ (λ e. peer_nack r) (λ e.
       split (PeerOk r) (is_done_at b r.vote) _ _ (λ u. peer_nothing r) (λ u.
-      split (PeerOk r) (leb own.seq 1000000) _ _ (λ v. peer_recorded r _ _ (ltb-false b r.promised e) refl (tell_pre_accept (join d.attrs own) refl)) (λ v. tt)))
+      split (PeerOk r) (leb own.seq 1000000) _ _ (λ v. peer_recorded r _ _ (ltb-false b r.promised e) refl (report_pre_accept (join d.attrs own) refl)) (λ v. tt)))
 
   pub peer_commit : (d : Decree) (r : Record) → PeerFine r (on_commit i d r)
   peer_commit d r = split (PeerFine r) (is_committed r.vote) _ _ (λ e. peer_nothing r) (λ e. record { low = λ h. h; high = λ h. refl; out = tt })
@@ -81,7 +81,7 @@ module _ (f : ℕ) (live : ℕ → Bool) (q i b : ℕ) where
   -- q keeps its ballot, and sends what is of it.
   pub record LeaderFine (r : Record) (ch : Change) : Type 0 where
     pub at : r.promised ≡ b → (newer ch.entry r).promised ≡ b
-    pub told : ch.told ≡ None
+    pub reported : ch.reported ≡ None
     pub out : AllSent (λ to m. (to ≢ q) × Asking m) ch.out
 
   abbrev pub LeaderOk : Record → Outcome → Type 0
@@ -93,19 +93,19 @@ module _ (f : ℕ) (live : ℕ → Bool) (q i b : ℕ) where
 
   module _ (r : Record) where
     leader_nothing : LeaderFine r nothing
-    leader_nothing = record { at = λ h. h; told = refl; out = tt }
+    leader_nothing = record { at = λ h. h; reported = refl; out = tt }
 
     leader_kept : (l : LedInstance) → LeaderFine r (kept l)
-    leader_kept l = record { at = λ h. h; told = refl; out = tt }
+    leader_kept l = record { at = λ h. h; reported = refl; out = tt }
 
     leader_accept : (d : Decree) → LeaderFine r (accept_phase f i q b d)
-    leader_accept d = record { at = λ h. refl; told = refl; out = sent_to_those _ (is_other q) (size f) (Accept i b d) (λ k lt e. (other_is k e, ask_accept d refl)) }
+    leader_accept d = record { at = λ h. refl; reported = refl; out = sent_to_those _ (is_other q) (size f) (Accept i b d) (λ k lt e. (other_is k e, ask_accept d refl)) }
 
     leader_first : (s : ℕ) (d : Decree) → LeaderFine r (first_phase (is_other q) f i b s d)
-    leader_first s d = record { at = λ h. refl; told = refl; out = sent_to_those _ (is_other q) (size f) (PreAccept i b d) (λ k lt e. (other_is k e, ask_pre_accept d refl)) }
+    leader_first s d = record { at = λ h. refl; reported = refl; out = sent_to_those _ (is_other q) (size f) (PreAccept i b d) (λ k lt e. (other_is k e, ask_pre_accept d refl)) }
 
     leader_commit : (d : Decree) → LeaderFine r (commit_phase f i q d r)
-    leader_commit d = record { at = λ h. h; told = refl; out = sent_to_those _ (is_other q) (size f) (Commit i d) (λ k lt e. (other_is k e, tell_commit d refl)) }
+    leader_commit d = record { at = λ h. h; reported = refl; out = sent_to_those _ (is_other q) (size f) (Commit i d) (λ k lt e. (other_is k e, report_commit d refl)) }
 
     leader_slow : (answers : Answers Attrs) (v : Option Vote) → LeaderFine r (slow_path f i q b answers v)
     leader_slow answers None = leader_nothing

@@ -1,4 +1,4 @@
--- Any f+1 replicas can end any instance alone: q recovers it, is told the counters that the others have promised, and recovers it once more.
+-- Any f+1 replicas can end any instance alone: q recovers it, hears the counters that the others have promised, and recovers it once more.
 use Rattle.std.proofs.Common.{◌≡◌, ◌≢◌, ℕ, zero, suc, ◌+◌, ◌<◌, ◌≤◌, max, Bool, true, false, cond, ◌&&◌, not, eqb, Option, Some, None, Ok, [], refl, sym, ap, subst, ◌∙◌, inl, inr, ◌⊎◌, arith}
 use Rattle.std.proofs.lemmas.Bool.{and_parts, eq-eqb, not-true, ne_eqb, false≢true}
 use Rattle.ep_base.specs.Ballots.{ballot_of, counter_of}
@@ -54,18 +54,18 @@ module _ (f : ℕ) (two : 0 < f) (few : size f ≤ 256) (live : ℕ → Bool) (q
   abbrev mine : World → Record
   mine w = record_in (w.states q) i
 
-  abbrev told : World → ℕ
-  told w = (cell_in (w.states q) i).told
+  abbrev reported : World → ℕ
+  reported w = (cell_in (w.states q) i).reported
 
   -- the counters of these are known to q
   pub record Known (w : World) (x : ℕ) : Type 0 where
-    pub low : counter_of (record_in (w.states x) i).promised ≤ max (counter_of (mine w).promised) (told w)
+    pub low : counter_of (record_in (w.states x) i).promised ≤ max (counter_of (mine w).promised) (reported w)
 
-  second : (w : World) → OnGround w → is_committed (mine w).vote ≡ false → counter_of (mine w).promised < 59999 → told w < 59998 → ((x : ℕ) → x < t → p x ≡ true → Known w x) → LeadsTo f live q i 1 w Goal
+  second : (w : World) → OnGround w → is_committed (mine w).vote ≡ false → counter_of (mine w).promised < 59999 → reported w < 59998 → ((x : ℕ) → x < t → p x ≡ true → Known w x) → LeadsTo f live q i 1 w Goal
   second w g unended low low' known =
-      let n : ℕ = next_counter (mine w) (told w) in
+      let n : ℕ = next_counter (mine w) (reported w) in
       let b : ℕ = ballot_of n q in
-      let a : Done f i w (recovering q i) (prepare_phase f i q b (mine w)) = recover_done f few w g.sound i q q_low lead (prepare_phase f i q b (mine w)) (recovers_at f i q (mine w) (told w) unended (omega arith)) in
+      let a : Done f i w (recovering q i) (prepare_phase f i q b (mine w)) = recover_done f few w g.sound i q q_low lead (prepare_phase f i q b (mine w)) (recovers_at f i q (mine w) (reported w) unended (omega arith)) in
       let w1 : World = moved f w (recovering q i) in
       then_act f live q i 1 0 w (recovering q i) Goal a.happens q_live (refl, refl) (omega arith)
       (prepare_all f two few live q i q_low lead p t t_low all q_live p_live p_other b (omega arith) t w1 (omega arith) (omega arith) (record {
@@ -79,16 +79,16 @@ module _ (f : ℕ) (two : 0 < f) (few : size f ≤ 256) (live : ℕ → Bool) (q
         many = (let o = own_answer f q (Option Vote) (mine w).vote q_low in omega arith);
         asked = λ x lt px. a.new _ (others_there q x f (Prepare i b) (omega arith) (p_other x px));
         waiting = λ x lt px. subst (λ (s : State). (record_in s i).promised < b) (sym (a.apart x (p_other x px))) (let k = (known x lt px).low in omega arith);
-        reports = λ x le lt px. absurd (omega arith);
+        have_reported = λ x le lt px. absurd (omega arith);
       }))
 
-  -- The first one, of which the others tell what they have promised.
+  -- The first one, of which the others say what they have promised.
 
   pub record Asks (b m : ℕ) (w : World) : Type 0 where
     pub ground : OnGround w
     pub unended : is_committed (mine w).vote ≡ false
     pub at : (mine w).promised ≡ b
-    pub few_told : told w < 59998
+    pub few_reported : reported w < 59998
     pub asked : (x : ℕ) → x < m → p x ≡ true → In (record { from = q; to = x; message = Prepare i b }) w.sent
     pub room : (x : ℕ) → x < m → p x ≡ true → counter_of (record_in (w.states x) i).promised < 59998
     pub known : (x : ℕ) → m ≤ x → x < t → p x ≡ true → Known w x
@@ -104,30 +104,30 @@ module _ (f : ℕ) (two : 0 < f) (few : size f ≤ 256) (live : ℕ → Bool) (q
     ground = a.ground;
     unended = a.unended;
     at = a.at;
-    few_told = a.few_told;
+    few_reported = a.few_reported;
     asked = λ x lt. a.asked x (omega arith);
     room = λ x lt. a.room x (omega arith);
     known = λ x le lt px. elim (below x m le) [ inl is ↦ subst (λ k. Known w k) (sym is) (here (subst (λ k. p k ≡ true) is px)) | inr more ↦ a.known x more lt px ];
   }
 
-  ask_told : (b m : ℕ) (w : World) → counter_of b < 59999 → m < t → p m ≡ true → (a : Asks b (suc m) w) → b < (record_in (w.states m) i).promised → ((w' : World) → Asks b m w' → LeadsTo f live q i 1 w' Goal) → LeadsTo f live q i 1 w Goal
-  ask_told b m w low lt e a higher rec =
+  ask_reported : (b m : ℕ) (w : World) → counter_of b < 59999 → m < t → p m ≡ true → (a : Asks b (suc m) w) → b < (record_in (w.states m) i).promised → ((w' : World) → Asks b m w' → LeadsTo f live q i 1 w' Goal) → LeadsTo f live q i 1 w Goal
+  ask_reported b m w low lt e a higher rec =
       let r : Record = record_in (w.states m) i in
       exchange f two few live q i q_low lead p t t_low all q_live p_live p_other 1 w Goal a.ground m (omega arith) (p_live m e) (p_other m e) (Prepare i b) (Nack i b r.promised) refl refl (a.asked m (omega arith) e)
       (answered q (Nack i b r.promised)) (ap (λ (ch : Change). Ok ch) (prepare_refused i q b r higher)) refl
-      (on_nack r.promised (told w)) refl
+      (on_nack r.promised (reported w)) refl
       (λ w' x. rec w' (
-      let same : mine w' ≡ mine w = ap (record_of i) x.told in
-      let now : told w' ≡ max (told w) (counter_of r.promised) = ap (λ (c : Cell). c.told) x.told in
+      let same : mine w' ≡ mine w = ap (record_of i) x.reported in
+      let now : reported w' ≡ max (reported w) (counter_of r.promised) = ap (λ (c : Cell). c.reported) x.reported in
       let there : record_in (w'.states m) i ≡ r = ap (record_of i) x.asked in
       let kept : counter_of (mine w').promised ≡ counter_of (mine w).promised = ap (λ (y : Record). counter_of y.promised) same in
       let room = a.room m (omega arith) e in
-      let old = a.few_told in
+      let old = a.few_reported in
       record {
         ground = x.ground;
         unended = ap (λ (y : Record). is_committed y.vote) same ∙ a.unended;
         at = ap (λ (y : Record). y.promised) same ∙ a.at;
-        few_told = (omega arith);
+        few_reported = (omega arith);
         asked = λ k less pk. x.before _ (a.asked k (omega arith) pk);
         room = λ k less pk. subst (λ (s : State). counter_of (record_in s i).promised < 59998) (sym (x.apart k (λ is. absurd (omega arith)) (p_other k pk))) (a.room k (omega arith) pk);
         known = λ k le less pk. elim (below k m le) [
@@ -139,29 +139,29 @@ module _ (f : ℕ) (two : 0 < f) (few : size f ≤ 256) (live : ℕ → Bool) (q
       }))
 
   ask_all : (b m : ℕ) (w : World) → counter_of b < 59999 → m ≤ t → Asks b m w → LeadsTo f live q i 1 w Goal
-  ask_all b zero w low le a = second w a.ground a.unended (let e = ap counter_of a.at in omega arith) a.few_told (λ x lt px. a.known x (omega arith) lt px)
+  ask_all b zero w low le a = second w a.ground a.unended (let e = ap counter_of a.at in omega arith) a.few_reported (λ x lt px. a.known x (omega arith) lt px)
   ask_all b (suc m) w low le a = go (p m) refl (ask_all b m)
     where
       go : (u : Bool) → p m ≡ u → ((w' : World) → counter_of b < 59999 → m ≤ t → Asks b m w' → LeadsTo f live q i 1 w' Goal) → LeadsTo f live q i 1 w Goal
       go false e rec = rec w low (omega arith) (ask_known b m w a (λ px. absurd (false≢true (sym e ∙ px))))
       go true e rec = elim (order b (record_in (w.states m) i).promised) [
-        | inl higher ↦ ask_told b m w low (omega arith) e a higher (λ w' n. rec w' low (omega arith) n)
+        | inl higher ↦ ask_reported b m w low (omega arith) e a higher (λ w' n. rec w' low (omega arith) n)
         | inr fine ↦ rec w low (omega arith) (ask_known b m w a (λ px. record { low = (let at : counter_of (mine w).promised ≡ counter_of b = ap counter_of a.at in omega arith) }))
       ]
 
-  first : (w : World) → OnGround w → is_committed (mine w).vote ≡ false → counter_of (mine w).promised < 59998 → told w < 59998 → ((x : ℕ) → x < t → p x ≡ true → counter_of (record_in (w.states x) i).promised < 59998) → LeadsTo f live q i 2 w Goal
+  first : (w : World) → OnGround w → is_committed (mine w).vote ≡ false → counter_of (mine w).promised < 59998 → reported w < 59998 → ((x : ℕ) → x < t → p x ≡ true → counter_of (record_in (w.states x) i).promised < 59998) → LeadsTo f live q i 2 w Goal
   first w g unended low low' room =
-      let n : ℕ = next_counter (mine w) (told w) in
+      let n : ℕ = next_counter (mine w) (reported w) in
       let b : ℕ = ballot_of n q in
-      let a : Done f i w (recovering q i) (prepare_phase f i q b (mine w)) = recover_done f few w g.sound i q q_low lead (prepare_phase f i q b (mine w)) (recovers_at f i q (mine w) (told w) unended (omega arith)) in
+      let a : Done f i w (recovering q i) (prepare_phase f i q b (mine w)) = recover_done f few w g.sound i q q_low lead (prepare_phase f i q b (mine w)) (recovers_at f i q (mine w) (reported w) unended (omega arith)) in
       let w1 : World = moved f w (recovering q i) in
-      let same : told w1 ≡ told w = ap (λ (c : Cell). c.told) a.here in
+      let same : reported w1 ≡ reported w = ap (λ (c : Cell). c.reported) a.here in
       then_act f live q i 2 1 w (recovering q i) Goal a.happens q_live (refl, refl) (omega arith)
       (ask_all b t w1 (omega arith) (omega arith) (record {
         ground = ground_kept f two few live q i q_low lead p t t_low all q_live p_live p_other w (recovering q i) _ a g;
         unended = ap (λ c. is_committed (record_of i c).vote) a.here ∙ unended;
         at = ap (λ c. (record_of i c).promised) a.here;
-        few_told = (omega arith);
+        few_reported = (omega arith);
         asked = λ x lt px. a.new _ (others_there q x f (Prepare i b) (omega arith) (p_other x px));
         room = λ x lt px. subst (λ (s : State). counter_of (record_in s i).promised < 59998) (sym (a.apart x (p_other x px))) (room x lt px);
         known = λ x le lt px. absurd (omega arith);
@@ -194,7 +194,7 @@ module _ (f : ℕ) (two : 0 < f) (few : size f ≤ 256) (live : ℕ → Bool) (e
   lead_there = elim (committed_or (record_in (w.states q) i).vote) [
     | inl done ↦ at_once f live q i 2 silent (λ v. (d : Decree) × IsCommitted v q i d) done
     | inr unended ↦ first f two few live q i q_low lead p here.bound here.low here.many q_live p_live p_other silent
-        (record { sound = silenced_sound f w sound; room = quiet_room }) unended (room.promised q q_low q_live) (room.told q q_low q_live)
+        (record { sound = silenced_sound f w sound; room = quiet_room }) unended (room.promised q q_low q_live) (room.reported q q_low q_live)
         (λ x lt px. room.promised x (let low = here.low in omega arith) (p_live x px))
   ]
 

@@ -131,7 +131,7 @@ module _ (f : ℕ) (two : 0 < f) (few : size f ≤ 256) (live : ℕ → Bool) (e
           let was : HasCounters f live w j = all j (has_tail i j todo h) (ap (λ c. committed_decree (record_of j c).vote) (sym (apart q j ne)) ∙ none) in
           record {
             promised = λ r low lives. subst (λ c. counter_of (record_of j c).promised < 59998) (sym (apart r j ne)) (was.promised r low lives);
-            told = λ r low lives. subst (λ (c : Cell). c.told < 59998) (sym (apart r j ne)) (was.told r low lives);
+            reported = λ r low lives. subst (λ (c : Cell). c.reported < 59998) (sym (apart r j ne)) (was.reported r low lives);
           })
     ]
 
@@ -161,7 +161,7 @@ module _ (f : ℕ) (two : 0 < f) (few : size f ≤ 256) (live : ℕ → Bool) (e
   room_for : (w : World) (i m : ℕ) → AllKnown f live is m w → m < 999998 → HasCounters f live w i → HasRoom f live w i
   room_for w i m known low c = record {
     promised = c.promised;
-    told = c.told;
+    reported = c.reported;
     seqs = λ r lt lives. (let g = greatest_within is m (entries (w.states r).records) (known_entries is m (w.states r) (known r lt lives)) in omega arith);
   }
 

@@ -27,7 +27,7 @@ use Rattle.ep_progress.specs.Quiet.{Handles, Quiet, recovering, IsRound, after_r
 use Rattle.ep_progress.proofs.Acting.{others_there, those_only, Done, done_by}
 use Rattle.ep_progress.proofs.AnyOrder.{from_q, to_q, rec, Changed}
 use Rattle.ep_progress.proofs.AnyRun.{at_is, recover_is, heard_by, heard, hears, changed_by, handled_by, round_ends_any}
-use Rattle.ep_progress.proofs.Counters.{Asking, ask_prepare, ask_pre_accept, ask_accept, tell_commit, Telling, tell_prepare, tell_pre_accept, tell_accept, tell_nack, Spoke, asks, tells, PeerFine, PeerOk, LeaderOk, peer_prepare, peer_accept, peer_pre_accept, peer_commit, LeaderFine, leader_pre_accept_ok, leader_accept_ok, leader_prepare_ok}
+use Rattle.ep_progress.proofs.Counters.{Asking, ask_prepare, ask_pre_accept, ask_accept, report_commit, Reporting, report_prepare, report_pre_accept, report_accept, report_nack, Spoke, asks, reports, PeerFine, PeerOk, LeaderOk, peer_prepare, peer_accept, peer_pre_accept, peer_commit, LeaderFine, leader_pre_accept_ok, leader_accept_ok, leader_prepare_ok}
 use Rattle.ep_progress.proofs.Rules.{prepare_refused}
 use Rattle.ep_progress.proofs.Sound.{WorldSound, run_sound, opening_sound, silenced_sound}
 
@@ -48,8 +48,8 @@ module _ (f : ℕ) (live : ℕ → Bool) (q i b : ℕ) where
   abbrev recd : World → ℕ → Record
   recd = rec f live q i b
 
-  abbrev told : World → ℕ
-  told w = (cell_in (w.states q) i).told
+  abbrev reported : World → ℕ
+  reported w = (cell_in (w.states q) i).reported
 
   -- x has promised b at most, or more, and says so where it is asked
   abbrev Each : List Sent → World → ℕ → Type 0
@@ -61,14 +61,14 @@ module _ (f : ℕ) (live : ℕ → Bool) (q i b : ℕ) where
     pub sent : (s : Sent) → In s w.sent → Spoke f live q i b s
     pub asked : (x : ℕ) → x < size f → x ≢ q → In (down x (Prepare i b)) w.sent
     pub each : (x : ℕ) → x < size f → live x ≡ true → x ≢ q → Each done w x
-    pub nacks : (x p : ℕ) → In (up x (Nack i b p)) done → counter_of p ≤ told w
+    pub nacks : (x p : ℕ) → In (up x (Nack i b p)) done → counter_of p ≤ reported w
 
   now_record : (w w' : World) (r : ℕ) (ch : Change) → Changed f live q i b w w' r ch → recd w' r ≡ newer ch.entry (recd w r)
   now_record w w' r ch c = ap (record_of i) c.here ∙ newer_record i ch.entry (cell_in (w.states r) i).entry
 
-  peer_spoke : (x : ℕ) → x ≢ q → (out : List (ℕ × Message)) → AllSent (λ to m. (to ≡ q) × Telling f live q i b m) out → (t : Sent) → In t (sent_from x out) → Spoke f live q i b t
+  peer_spoke : (x : ℕ) → x ≢ q → (out : List (ℕ × Message)) → AllSent (λ to m. (to ≡ q) × Reporting f live q i b m) out → (t : Sent) → In t (sent_from x out) → Spoke f live q i b t
   peer_spoke x ne [] all t there = absurd there
-  peer_spoke x ne (o ∷ os) all t (inl e) = tells x o.1 ne (all.0).1 (ap (λ k. record { from = x; to = k; message = o.1 }) (sym (all.0).0) ∙ e)
+  peer_spoke x ne (o ∷ os) all t (inl e) = reports x o.1 ne (all.0).1 (ap (λ k. record { from = x; to = k; message = o.1 }) (sym (all.0).0) ∙ e)
   peer_spoke x ne (o ∷ os) all t (inr there) = peer_spoke x ne os all.1 t there
 
   leader_spoke : (out : List (ℕ × Message)) → AllSent (λ to m. (to ≢ q) × Asking f live q i b m) out → (t : Sent) → In t (sent_from q out) → Spoke f live q i b t
@@ -92,7 +92,7 @@ module _ (f : ℕ) (live : ℕ → Bool) (q i b : ℕ) where
         ];
         nacks = λ k p h. elim h [
           | inl e ↦ absurd (ne (ap (λ (z : Sent). z.to) e))
-          | inr old ↦ subst (λ (s : State). counter_of p ≤ (cell_in s i).told) (sym (c.apart q (λ e. ne (sym e)))) (g.nacks k p old)
+          | inr old ↦ subst (λ (s : State). counter_of p ≤ (cell_in s i).reported) (sym (c.apart q (λ e. ne (sym e)))) (g.nacks k p old)
         ];
       }
     where
@@ -120,10 +120,10 @@ module _ (f : ℕ) (live : ℕ → Bool) (q i b : ℕ) where
             ]),
           )
 
-  knows_leader : (done : List Sent) (w w' : World) (x : ℕ) (m : Message) (ch : Change) → x ≢ q → (newer ch.entry (recd w q)).promised ≡ b → AllSent (λ to n. (to ≢ q) × Asking f live q i b n) ch.out → told w ≤ newer ch.told (told w) → ((p : ℕ) → m ≡ Nack i b p → counter_of p ≤ newer ch.told (told w)) →
+  knows_leader : (done : List Sent) (w w' : World) (x : ℕ) (m : Message) (ch : Change) → x ≢ q → (newer ch.entry (recd w q)).promised ≡ b → AllSent (λ to n. (to ≢ q) × Asking f live q i b n) ch.out → reported w ≤ newer ch.reported (reported w) → ((p : ℕ) → m ≡ Nack i b p → counter_of p ≤ newer ch.reported (reported w)) →
       Changed f live q i b w w' q ch → Knows done w → Knows (up x m ∷ done) w'
   knows_leader done w w' x m ch ne at out more hears c g =
-      let now : told w' ≡ newer ch.told (told w) = ap (λ (z : Cell). z.told) c.here in
+      let now : reported w' ≡ newer ch.reported (reported w) = ap (λ (z : Cell). z.reported) c.here in
       record {
         sound = c.sound;
         at = ap (λ (r : Record). r.promised) (now_record w w' q ch c) ∙ at;
@@ -166,54 +166,54 @@ module _ (f : ℕ) (live : ℕ → Bool) (q i b : ℕ) where
       knows_peer done w w' x (PreAccept i b d) ch ne (fine_of (recd w x) _ ch h (peer_pre_accept f live q i b d (interference (w.states x).records i d.command) (recd w x))) (λ u higher. absurd (cc)) c g)
   asked_step done w w' x m ne g (ask_accept d e) = subst (λ z. Handling w w' done (down x z)) e (λ ch h c.
       knows_peer done w w' x (Accept i b d) ch ne (fine_of (recd w x) _ ch h (peer_accept f live q i b d (recd w x))) (λ u higher. absurd (cc)) c g)
-  asked_step done w w' x m ne g (tell_commit d e) = subst (λ z. Handling w w' done (down x z)) e (λ ch h c.
+  asked_step done w w' x m ne g (report_commit d e) = subst (λ z. Handling w w' done (down x z)) e (λ ch h c.
       knows_peer done w w' x (Commit i d) ch ne (fine_of (recd w x) _ ch h (peer_commit f live q i b d (recd w x))) (λ u higher. absurd (cc)) c g)
 
-  same_told : (w : World) (ch : Change) → ch.told ≡ None → newer ch.told (told w) ≡ told w
-  same_told w ch e = ap (λ o. newer o (told w)) e
+  same_reported : (w : World) (ch : Change) → ch.reported ≡ None → newer ch.reported (reported w) ≡ reported w
+  same_reported w ch e = ap (λ o. newer o (reported w)) e
 
   led_step : (done : List Sent) (w w' : World) (x : ℕ) (m : Message) (ch : Change) → x ≢ q → Knows done w → ((p : ℕ) → m ≡ Nack i b p → ⊥) → LeaderFine f live q i b (recd w q) ch → Changed f live q i b w w' q ch → Knows (up x m ∷ done) w'
   led_step done w w' x m ch ne g other fine c =
-      let same : newer ch.told (told w) ≡ told w = same_told w ch fine.told in
+      let same : newer ch.reported (reported w) ≡ reported w = same_reported w ch fine.reported in
       knows_leader done w w' x m ch ne (fine.at g.at) fine.out (omega arith) (λ p e. absurd (other p e)) c g
 
-  told_step : (done : List Sent) (w w' : World) (x : ℕ) (m : Message) → x ≢ q → Knows done w → Telling f live q i b m → Handling w w' done (up x m)
-  told_step done w w' x m ne g (tell_prepare v e) = subst (λ z. Handling w w' done (up x z)) e (λ ch h c.
+  reported_step : (done : List Sent) (w w' : World) (x : ℕ) (m : Message) → x ≢ q → Knows done w → Reporting f live q i b m → Handling w w' done (up x m)
+  reported_step done w w' x m ne g (report_prepare v e) = subst (λ z. Handling w w' done (up x z)) e (λ ch h c.
       led_step done w w' x (PrepareOk i b v) ch ne g (λ p u. cc) (led_of (recd w q) _ ch h (leader_prepare_ok f live q i b (recd w q) x v (interference (w.states q).records i) (get (w.states q).leads i))) c)
-  told_step done w w' x m ne g (tell_pre_accept a e) = subst (λ z. Handling w w' done (up x z)) e (λ ch h c.
+  reported_step done w w' x m ne g (report_pre_accept a e) = subst (λ z. Handling w w' done (up x z)) e (λ ch h c.
       led_step done w w' x (PreAcceptOk i b a) ch ne g (λ p u. cc) (led_of (recd w q) _ ch h (leader_pre_accept_ok f live q i b (recd w q) x a (get (w.states q).leads i))) c)
-  told_step done w w' x m ne g (tell_accept e) = subst (λ z. Handling w w' done (up x z)) e (λ ch h c.
+  reported_step done w w' x m ne g (report_accept e) = subst (λ z. Handling w w' done (up x z)) e (λ ch h c.
       led_step done w w' x (AcceptOk i b) ch ne g (λ p u. cc) (led_of (recd w q) _ ch h (leader_accept_ok f live q i b (recd w q) x (get (w.states q).leads i))) c)
-  told_step done w w' x m ne g (tell_nack p e) = subst (λ z. Handling w w' done (up x z)) e (λ ch h c.
-      let n : Change = on_nack p (told w) in
+  reported_step done w w' x m ne g (report_nack p e) = subst (λ z. Handling w w' done (up x z)) e (λ ch h c.
+      let n : Change = on_nack p (reported w) in
       let is : ch ≡ n = ok_is _ n ch refl h in
       knows_leader done w w' x (Nack i b p) ch ne
       (ap (λ (y : Change). (newer y.entry (recd w q)).promised) is ∙ g.at)
       (subst (λ (y : Change). AllSent (λ to z. (to ≢ q) × Asking f live q i b z) y.out) (sym is) tt)
-      (subst (λ (y : Change). told w ≤ newer y.told (told w)) (sym is) (omega arith))
-      (λ r u. let same : p ≡ r = cc in subst (λ z. counter_of z ≤ newer ch.told (told w)) same (subst (λ (y : Change). counter_of p ≤ newer y.told (told w)) (sym is) (omega arith))) c g)
+      (subst (λ (y : Change). reported w ≤ newer y.reported (reported w)) (sym is) (omega arith))
+      (λ r u. let same : p ≡ r = cc in subst (λ z. counter_of z ≤ newer ch.reported (reported w)) same (subst (λ (y : Change). counter_of p ≤ newer y.reported (reported w)) (sym is) (omega arith))) c g)
 
   pub knows_step : (done : List Sent) (w w' : World) (s : Sent) → Knows done w → In s w.sent → Handling w w' done s
   knows_step done w w' s g there = elim (g.sent s there) [
     | asks x m ne a e ↦ subst (λ t. Handling w w' done t) e (asked_step done w w' x m ne g a)
-    | tells x m ne a e ↦ subst (λ t. Handling w w' done t) e (told_step done w w' x m ne g a)
+    | reports x m ne a e ↦ subst (λ t. Handling w w' done t) e (reported_step done w w' x m ne g a)
   ]
 
   asking_about : (m : Message) → Asking f live q i b m → instance_of_message m ≡ i
   asking_about m (ask_prepare e) = sym (ap instance_of_message e)
   asking_about m (ask_pre_accept d e) = sym (ap instance_of_message e)
   asking_about m (ask_accept d e) = sym (ap instance_of_message e)
-  asking_about m (tell_commit d e) = sym (ap instance_of_message e)
+  asking_about m (report_commit d e) = sym (ap instance_of_message e)
 
-  telling_about : (m : Message) → Telling f live q i b m → instance_of_message m ≡ i
-  telling_about m (tell_prepare v e) = sym (ap instance_of_message e)
-  telling_about m (tell_pre_accept a e) = sym (ap instance_of_message e)
-  telling_about m (tell_accept e) = sym (ap instance_of_message e)
-  telling_about m (tell_nack p e) = sym (ap instance_of_message e)
+  reporting_about : (m : Message) → Reporting f live q i b m → instance_of_message m ≡ i
+  reporting_about m (report_prepare v e) = sym (ap instance_of_message e)
+  reporting_about m (report_pre_accept a e) = sym (ap instance_of_message e)
+  reporting_about m (report_accept e) = sym (ap instance_of_message e)
+  reporting_about m (report_nack p e) = sym (ap instance_of_message e)
 
   pub spoke_about : (s : Sent) → Spoke f live q i b s → instance_of_message s.message ≡ i
   spoke_about s (asks x m ne a e) = sym (ap (λ (z : Sent). instance_of_message z.message) e) ∙ asking_about m a
-  spoke_about s (tells x m ne a e) = sym (ap (λ (z : Sent). instance_of_message z.message) e) ∙ telling_about m a
+  spoke_about s (reports x m ne a e) = sym (ap (λ (z : Sent). instance_of_message z.message) e) ∙ reporting_about m a
 
 module _ (f : ℕ) (two : 0 < f) (few : size f ≤ 256) (live : ℕ → Bool) (enough : f + 1 ≤ count (size f) live) (q i : ℕ) (q_low : q < size f) (q_live : live q ≡ true) (lead : leader_of i < size f) (b : ℕ) (above : leader_of i < b) where
   act_knows : (done : List Sent) (w : World) (r : ℕ) (e : Event) (did : List (ℕ × Answer)) → Happens f w (record { replica = r; event = e; done = did }) → live r ≡ true → ((s : Sent) × Handles s e) → Knows f live q i b done w → Knows f live q i b (heard_by e done) (moved f w (record { replica = r; event = e; done = did }))
@@ -230,7 +230,7 @@ module _ (f : ℕ) (two : 0 < f) (few : size f ≤ 256) (live : ℕ → Bool) (e
   run_knows (a ∷ late) done w run quiet g = run_knows late (heard_by a.event done) (moved f w a) run.1 quiet.2 (act_knows done w a.replica a.event a.done run.0 quiet.0 quiet.1 g)
 
   -- where all that was sent to live replicas is handled, q knows the counters
-  knows_all : (done : List Sent) (w : World) → ((s : Sent) → In s w.sent → live s.to ≡ true → In s done) → Knows f live q i b done w → (x : ℕ) → x < size f → live x ≡ true → x ≢ q → counter_of (record_in (w.states x) i).promised ≤ max (counter_of (record_in (w.states q) i).promised) (cell_in (w.states q) i).told
+  knows_all : (done : List Sent) (w : World) → ((s : Sent) → In s w.sent → live s.to ≡ true → In s done) → Knows f live q i b done w → (x : ℕ) → x < size f → live x ≡ true → x ≢ q → counter_of (record_in (w.states x) i).promised ≤ max (counter_of (record_in (w.states q) i).promised) (cell_in (w.states q) i).reported
   knows_all done w complete g x lt l ne =
       let at : counter_of (record_in (w.states q) i).promised ≡ counter_of b = ap counter_of g.at in
       elim (g.each x lt l ne) [
@@ -254,16 +254,16 @@ module _ (f : ℕ) (two : 0 < f) (few : size f ≤ 256) (live : ℕ → Bool) (e
       }
 
 module _ (f : ℕ) (two : 0 < f) (few : size f ≤ 256) (live : ℕ → Bool) (enough : f + 1 ≤ count (size f) live) (q i : ℕ) (q_low : q < size f) (q_live : live q ≡ true) (lead : leader_of i < size f) (w : World) (ok : WorldSound f w) (late : List Act) (round : IsRound f live q i w late) where
-  pub round_tells : (x : ℕ) → x < size f → live x ≡ true → x ≢ q → let v = after_round f w q i late in counter_of (record_in (v.states x) i).promised ≤ max (counter_of (record_in (v.states q) i).promised) (cell_in (v.states q) i).told
-  round_tells =
+  pub round_reports : (x : ℕ) → x < size f → live x ≡ true → x ≢ q → let v = after_round f w q i late in counter_of (record_in (v.states x) i).promised ≤ max (counter_of (record_in (v.states q) i).promised) (cell_in (v.states q) i).reported
+  round_reports =
       let v : World = silenced w in
       let b : ℕ = next_ballot w q i in
       let r : Record = record_in (w.states q) i in
       let above : leader_of i < b = omega arith in
       let first : Happens f v (recovering q i) = (round.run).0 in
       let t = taken_of (acts f q (v.states q) (Recover i)) (first.step).taken in
-      let u = at_is i (recover f i q r (cell_in (w.states q) i).told) t.0 t.1 in
-      let is = recover_is f i q r (cell_in (w.states q) i).told (t.0).1 u.0 in
+      let u = at_is i (recover f i q r (cell_in (w.states q) i).reported) t.0 t.1 in
+      let is = recover_is f i q r (cell_in (w.states q) i).reported (t.0).1 u.0 in
       let did : acts f q (v.states q) (Recover i) ≡ Ok (i, (t.0).1) = t.1 ∙ ap (λ j. Ok (j, (t.0).1)) u.1 in
       let d : Done f i v (recovering q i) (t.0).1 = done_by f few i v (silenced_sound f w ok) (recovering q i) (t.0).1 first did in
       let w1 : World = moved f v (recovering q i) in
@@ -280,7 +280,7 @@ pub unstuck_any : (f : ℕ) → 0 < f → size f ≤ 256 → (live : ℕ → Boo
     (first second : List Act) → IsRound f live q i w first → IsRound f live q i (after_round f w q i first) second → (d : Decree) × Committed (after_round f (after_round f w q i first) q i second) q i d
 unstuck_any f two few live enough q q_low q_live i lead w ok first second once twice =
     round_ends_any f two few live enough q q_low q_live i lead (after_round f w q i first) (run_sound f few (recovering q i ∷ first) (silenced w) once.run (silenced_sound f w ok))
-    (λ x lt l ne. let t = round_tells f two few live enough q i q_low q_live lead w ok first once x lt l ne in omega arith)
+    (λ x lt l ne. let t = round_reports f two few live enough q i q_low q_live lead w ok first once x lt l ne in omega arith)
     second twice
 
 pub unstuck_lem : Unstuck

@@ -182,11 +182,11 @@ module _ (P : Attrs → Type 0) (joins : (a b : Attrs) → P a → P b → P (jo
       (λ u. split (ChangeHas P) (leb f (others f me (with_answer answers from tt))) _ _ (λ m. has_commit_own x.vote ok) (λ m. has_kept (Accepting b (with_answer answers from tt)) tt))
       (λ u. has_nothing))
 
-  pub has_recover : (told : ℕ) → OutcomeHas P (recover f i me x told)
-  has_recover told =
-      let b : ℕ = ballot_of (next_counter x told) me in
+  pub has_recover : (reported : ℕ) → OutcomeHas P (recover f i me x reported)
+  has_recover reported =
+      let b : ℕ = ballot_of (next_counter x reported) me in
       split (OutcomeHas P) (is_committed x.vote) _ _ (λ e. tt) (λ e.
-      split (OutcomeHas P) (leb (next_counter x told) highest_counter) _ _
+      split (OutcomeHas P) (leb (next_counter x reported) highest_counter) _ _
       (λ u. record {
         entry = ok;
         led = λ k v e. elim (answer_back [] me x.vote k v e) [ inl o ↦ absurd (cc) | inr t ↦ subst (λ w. VoteHas P w) t.1 ok ];

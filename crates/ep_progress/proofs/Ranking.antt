@@ -18,16 +18,16 @@ ranks_is g i j e = elim (or_cases (ltb (seq_at (g i)) (seq_at (g j))) _ e) [
   | inr t ↦ (let p = and_parts (eqb (seq_at (g i)) (seq_at (g j))) (ltb i j) t in inr (eqb-true _ _ p.0, ltb-true _ _ p.1))
 ]
 
-ranks_told : (g : Graph) (i j : ℕ) → Ranks g i j → ranks g i j ≡ true
-ranks_told g i j (inl t) = or_left _ _ (lt-ltb _ _ t)
-ranks_told g i j (inr t) = or_right _ _ (and_from _ _ (eq-eqb _ _ t.0) (lt-ltb _ _ t.1))
+ranks_reported : (g : Graph) (i j : ℕ) → Ranks g i j → ranks g i j ≡ true
+ranks_reported g i j (inl t) = or_left _ _ (lt-ltb _ _ t)
+ranks_reported g i j (inr t) = or_right _ _ (and_from _ _ (eq-eqb _ _ t.0) (lt-ltb _ _ t.1))
 
 total : (a b i j : ℕ) → i ≢ j → ((a < b) ⊎ ((a ≡ b) × (i < j))) ⊎ ((b < a) ⊎ ((b ≡ a) × (j < i)))
 total a b i j ne = grind arith
 
 ranks_back : (g : Graph) (i j : ℕ) → i ≢ j → ranks g i j ≡ false → Ranks g j i
 ranks_back g i j ne e = elim (total (seq_at (g i)) (seq_at (g j)) i j ne) [
-  | inl r ↦ absurd (false≢true (sym e ∙ ranks_told g i j r))
+  | inl r ↦ absurd (false≢true (sym e ∙ ranks_reported g i j r))
   | inr r ↦ r
 ]
 

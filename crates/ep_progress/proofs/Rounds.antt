@@ -44,7 +44,7 @@ module _ (f : ℕ) (two : 0 < f) (few : size f ≤ 256) (live : ℕ → Bool) (q
   -- x handled a message, and q the answer
   pub record Exchange (w : World) (x : ℕ) (chx chq : Change) (w' : World) : Type 0 where
     pub asked : cell_in (w'.states x) i ≡ applied (cell_in (w.states x) i) chx
-    pub told : cell_in (w'.states q) i ≡ applied (cell_in (w.states q) i) chq
+    pub reported : cell_in (w'.states q) i ≡ applied (cell_in (w.states q) i) chq
     pub apart : (k : ℕ) → k ≢ x → k ≢ q → w'.states k ≡ w.states k
     pub before : (s : Sent) → In s w.sent → In s w'.sent
     pub new : (s : Sent) → In s (sent_from q chq.out) → In s w'.sent
@@ -65,7 +65,7 @@ module _ (f : ℕ) (two : 0 < f) (few : size f ≤ 256) (live : ℕ → Bool) (q
       let g2 : Ground w2 = ground_kept w1 (handling r) chq b (ground_kept w (handling s) chx a g) in
       let e : Exchange w x chx chq w2 = record {
         asked = ap (λ u. cell_in u i) (b.apart x ne) ∙ a.here;
-        told = b.here ∙ ap (λ u. applied (cell_in u i) chq) same;
+        reported = b.here ∙ ap (λ u. applied (cell_in u i) chq) same;
         apart = λ k nx nq. b.apart k nq ∙ a.apart k nx;
         before = λ m there. b.before m (a.before m there);
         new = b.new;
@@ -125,8 +125,8 @@ module _ (f : ℕ) (two : 0 < f) (few : size f ≤ 256) (live : ℕ → Bool) (q
           ground = x.ground;
           decree = a.decree;
           answers = with_answer a.answers m tt;
-          mine = ap (record_of i) x.told ∙ a.mine;
-          led = ap (λ (c : Cell). c.led) x.told;
+          mine = ap (record_of i) x.reported ∙ a.mine;
+          led = ap (λ (c : Cell). c.led) x.reported;
           fresh = λ r lt. answer_there a.answers m tt r (λ is. absurd (omega arith)) ∙ a.fresh r (omega arith);
           many = (let c = count_here m p e in let s = a.many in let o = others_more a.answers m tt f q (omega arith) (p_other m e) (a.fresh m (omega arith)) in omega arith);
           asked = λ k lt pk. x.before _ (a.asked k (omega arith) pk);
@@ -176,7 +176,7 @@ module _ (f : ℕ) (two : 0 < f) (few : size f ≤ 256) (live : ℕ → Bool) (q
           accept_step (commit_phase f i q a.decree acceptor)
           (ap (λ (ch : Change). Ok ch) (accept_commits f i q m b acceptor (get (w.states q).leads i) a.answers a.led accept_fresh accept_at accept_unended (le-leb f (others f q acceptances) (let c = accept_count in omega arith))
           (record { status = Accepted; ballot = b; decree = a.decree }) (ap (λ (r : Record). r.vote) a.mine)))
-          (λ w' x. at_once f live q i 0 w' Ended (a.decree, ap (λ c. committed_decree (record_of i c).vote) x.told))
+          (λ w' x. at_once f live q i 0 w' Ended (a.decree, ap (λ c. committed_decree (record_of i c).vote) x.reported))
 
     accept_all : (m : ℕ) (w : World) → m ≤ t → 1 ≤ count m p → Accepts m w → LeadsTo f live q i 0 w Ended
     accept_all zero w low some a = absurd (omega arith)
@@ -271,8 +271,8 @@ module _ (f : ℕ) (two : 0 < f) (few : size f ≤ 256) (live : ℕ → Bool) (q
             ground = x.ground;
             decree = a.decree;
             answers = pre_answers;
-            mine = ap (record_of i) x.told ∙ a.mine;
-            led = ap (λ (c : Cell). c.led) x.told;
+            mine = ap (record_of i) x.reported ∙ a.mine;
+            led = ap (λ (c : Cell). c.led) x.reported;
             fresh = λ r lt. answer_there a.answers m joint r (λ is. absurd (omega arith)) ∙ a.fresh r (omega arith);
             many = pre_count;
             asked = λ k lt pk. x.before _ (a.asked k (omega arith) pk);
@@ -291,8 +291,8 @@ module _ (f : ℕ) (two : 0 < f) (few : size f ≤ 256) (live : ℕ → Bool) (q
             ground = x.ground;
             decree = d;
             answers = [];
-            mine = ap (record_of i) x.told;
-            led = ap (λ (c : Cell). c.led) x.told;
+            mine = ap (record_of i) x.reported;
+            led = ap (λ (c : Cell). c.led) x.reported;
             fresh = λ r lt. refl;
             many = (let z = no_others (Unit {0}) f q in omega arith);
             asked = λ k lt pk. x.new _ (others_there q k f (Accept i b d) (omega arith) (p_other k pk));
@@ -332,7 +332,7 @@ module _ (f : ℕ) (two : 0 < f) (few : size f ≤ 256) (live : ℕ → Bool) (q
       pub many : answered_all f answers + count m p ≡ f + 1
       pub asked : (x : ℕ) → x < m → p x ≡ true → In (record { from = q; to = x; message = Prepare i b }) w.sent
       pub waiting : (x : ℕ) → x < m → p x ≡ true → (record_in (w.states x) i).promised < b
-      pub reports : (x : ℕ) → m ≤ x → x < t → p x ≡ true → Reports answers x (record_in (w.states x) i)
+      pub have_reported : (x : ℕ) → m ≤ x → x < t → p x ≡ true → Reports answers x (record_in (w.states x) i)
 
     prepares_skip : (m : ℕ) (w : World) → p m ≡ false → Prepares (suc m) w → Prepares m w
     prepares_skip m w e a = record {
@@ -346,7 +346,7 @@ module _ (f : ℕ) (two : 0 < f) (few : size f ≤ 256) (live : ℕ → Bool) (q
       many = (let c = count_skip m p e in let s = a.many in omega arith);
       asked = λ x lt. a.asked x (omega arith);
       waiting = λ x lt. a.waiting x (omega arith);
-      reports = λ x le lt px. elim (from x m le) [ inl is ↦ absurd (false≢true (sym e ∙ subst (λ k. p k ≡ true) is px)) | inr more ↦ a.reports x more lt px ];
+      have_reported = λ x le lt px. elim (from x m le) [ inl is ↦ absurd (false≢true (sym e ∙ subst (λ k. p k ≡ true) is px)) | inr more ↦ a.have_reported x more lt px ];
     }
 
     module _ (m : ℕ) (w : World) (low : m < t) (e : p m ≡ true) (a : Prepares (suc m) w) where
@@ -395,7 +395,7 @@ module _ (f : ℕ) (two : 0 < f) (few : size f ≤ 256) (live : ℕ → Bool) (q
               below = (let o = (record_sound (size f) few (w.states m) (((a.ground).sound).states m) i lead).order in let h = a.waiting m (omega arith) e in omega arith);
             }))
         | inr more ↦ (
-            let old = a.reports x more lt px in
+            let old = a.have_reported x more lt px in
             subst (λ (s : State). Reports reports_now x (record_in s i)) (sym (ex.apart x (λ is. absurd (omega arith)) (p_other x px)))
             (record { at = old.at; known = answer_there a.answers m report x (λ is. absurd (omega arith)) ∙ old.known; below = old.below }))
       ]
@@ -408,14 +408,14 @@ module _ (f : ℕ) (two : 0 < f) (few : size f ≤ 256) (live : ℕ → Bool) (q
             ground = x.ground;
             vote = a.vote;
             answers = reports_now;
-            mine = ap (record_of i) x.told ∙ a.mine;
-            led = ap (λ (c : Cell). c.led) x.told;
+            mine = ap (record_of i) x.reported ∙ a.mine;
+            led = ap (λ (c : Cell). c.led) x.reported;
             unended = a.unended;
             fresh = λ r lt ne. answer_there a.answers m report r (λ is. absurd (omega arith)) ∙ a.fresh r (omega arith) ne;
             many = prepare_count;
             asked = λ k lt pk. x.before _ (a.asked k (omega arith) pk);
             waiting = λ k lt pk. subst (λ (s : State). (record_in s i).promised < b) (sym (x.apart k (λ is. absurd (omega arith)) (p_other k pk))) (a.waiting k (omega arith) pk);
-            reports = reports_kept (kept (Preparing b reports_now)) w' x;
+            have_reported = reports_kept (kept (Preparing b reports_now)) w' x;
           }))
 
       -- nobody that answered has committed
@@ -434,7 +434,7 @@ module _ (f : ℕ) (two : 0 < f) (few : size f ≤ 256) (live : ℕ → Bool) (q
       prepare_commits : (d : Decree) → handled f q m (w.states q) (PrepareOk i b report) ≡ Ok (commit_phase f i q d preparer) → LeadsTo f live q i 0 w Ended
       prepare_commits d is =
           prepare_step (commit_phase f i q d preparer) is
-          (λ w' x. at_once f live q i 0 w' Ended (d, ap (λ c. committed_decree (record_of i c).vote) x.told))
+          (λ w' x. at_once f live q i 0 w' Ended (d, ap (λ c. committed_decree (record_of i c).vote) x.reported))
 
       prepare_did : count m p ≡ 0 → NobodyEnded → Acted f i q b preparer (handled f q m (w.states q) (PrepareOk i b report)) → LeadsTo f live q i 0 w Ended
       prepare_did none nobody (commits d is) = prepare_commits d is
@@ -444,8 +444,8 @@ module _ (f : ℕ) (two : 0 < f) (few : size f ≤ 256) (live : ℕ → Bool) (q
             ground = x.ground;
             decree = d;
             answers = [];
-            mine = ap (record_of i) x.told;
-            led = ap (λ (c : Cell). c.led) x.told;
+            mine = ap (record_of i) x.reported;
+            led = ap (λ (c : Cell). c.led) x.reported;
             fresh = λ r lt. refl;
             many = (let z = no_others (Unit {0}) f q in omega arith);
             asked = λ k lt pk. x.new _ (others_there q k f (Accept i b d) (omega arith) (p_other k pk));
@@ -457,8 +457,8 @@ module _ (f : ℕ) (two : 0 < f) (few : size f ≤ 256) (live : ℕ → Bool) (q
             ground = x.ground;
             decree = d;
             answers = [];
-            mine = ap (record_of i) x.told;
-            led = ap (λ (c : Cell). c.led) x.told;
+            mine = ap (record_of i) x.reported;
+            led = ap (λ (c : Cell). c.led) x.reported;
             fresh = λ r lt. refl;
             many = (let z = no_others Attrs f q in omega arith);
             asked = λ k lt pk. x.new _ (others_there q k f (PreAccept i b d) (omega arith) (p_other k pk));

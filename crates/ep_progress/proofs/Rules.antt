@@ -172,10 +172,10 @@ module _ (f i q x b : ℕ) (r : Record) (led : Option LedInstance) (answers : An
 
 -- Recover.
 
-pub recovers_at : (f i q : ℕ) (r : Record) (told : ℕ) → is_committed r.vote ≡ false → next_counter r told ≤ highest_counter → recover f i q r told ≡ Ok (prepare_phase f i q (ballot_of (next_counter r told) q) r)
-recovers_at f i q r told unended room =
-    let yes : Outcome = cond (leb (next_counter r told) highest_counter) (Ok (prepare_phase f i q (ballot_of (next_counter r told) q) r)) (Err BallotsExhausted) in
-    ap (λ t. cond t (Err AlreadyCommitted) yes) unended ∙ ap (λ t. cond t (Ok (prepare_phase f i q (ballot_of (next_counter r told) q) r)) (Err BallotsExhausted)) (le-leb (next_counter r told) highest_counter room)
+pub recovers_at : (f i q : ℕ) (r : Record) (reported : ℕ) → is_committed r.vote ≡ false → next_counter r reported ≤ highest_counter → recover f i q r reported ≡ Ok (prepare_phase f i q (ballot_of (next_counter r reported) q) r)
+recovers_at f i q r reported unended room =
+    let yes : Outcome = cond (leb (next_counter r reported) highest_counter) (Ok (prepare_phase f i q (ballot_of (next_counter r reported) q) r)) (Err BallotsExhausted) in
+    ap (λ t. cond t (Err AlreadyCommitted) yes) unended ∙ ap (λ t. cond t (Ok (prepare_phase f i q (ballot_of (next_counter r reported) q) r)) (Err BallotsExhausted)) (le-leb (next_counter r reported) highest_counter room)
 
 -- In any order: what else may come of a message.
 

@@ -198,12 +198,12 @@ module _ (c : Command) (i q : ℕ) where
         (λ u. split (ChangeFor me) (leb f (others f me (with_answer answers from tt))) _ _ (λ m. for_commit_own x.vote ok.vote) (λ m. for_kept (Accepting b (with_answer answers from tt)) tt))
         (λ u. for_nothing))
 
-    for_recover : (told : ℕ) → me ≡ q → me < 256 → OutcomeFor me (recover f i me x told)
-    for_recover told is few =
-        let b : ℕ = ballot_of (next_counter x told) me in
+    for_recover : (reported : ℕ) → me ≡ q → me < 256 → OutcomeFor me (recover f i me x reported)
+    for_recover reported is few =
+        let b : ℕ = ballot_of (next_counter x reported) me in
         let o = ok.own is in
         split (OutcomeFor me) (is_committed x.vote) _ _ (λ e. tt) (λ e.
-        split (OutcomeFor me) (leb (next_counter x told) highest_counter) _ _
+        split (OutcomeFor me) (leb (next_counter x reported) highest_counter) _ _
         (λ u. record {
           entry = for_promised b (omega arith);
           led = λ e. (
@@ -284,8 +284,8 @@ module _ (c : Command) (i q : ℕ) where
         (for_handled m.sent.from m.sent.message h (subst (λ k. MessageFor m.sent.from k m.sent.message) (eqb-true m.sent.to me mine) (each m.sent there)))
     acts_for sent (GiveUp j) each there mine h = absurd h
     acts_for sent (Recover j) each there mine h =
-        for_at j (recover f j me (record_in s j) (cell_in s j).told)
-        (subst (λ k. OutcomeFor me (recover f k me (record_in s k) (cell_in s k).told)) (sym h.1) (for_recover f me low (record_in s i) ok (cell_in s i).told h.0 (let is = h.0 in omega arith)))
+        for_at j (recover f j me (record_in s j) (cell_in s j).reported)
+        (subst (λ k. OutcomeFor me (recover f k me (record_in s k) (cell_in s k).reported)) (sym h.1) (for_recover f me low (record_in s i) ok (cell_in s i).reported h.0 (let is = h.0 in omega arith)))
     acts_for sent (Execute root) each there mine h = absurd h
 
   -- Worlds.

@@ -277,12 +277,12 @@ module _ (f i me : ℕ) (few : size f ≤ 256) (here : me < size f) (lead : lead
       (λ u. split (ChangeSound n i) (leb f (others f me (with_answer answers from tt))) _ _ (λ m. sound_commit_own x.vote ok.vote) (λ m. sound_kept (Accepting b (with_answer answers from tt)) tt))
       (λ u. sound_nothing))
 
-  pub sound_recover : (told : ℕ) → OutcomeSound n i (recover f i me x told)
-  sound_recover told =
-      let b : ℕ = ballot_of (next_counter x told) me in
+  pub sound_recover : (reported : ℕ) → OutcomeSound n i (recover f i me x reported)
+  sound_recover reported =
+      let b : ℕ = ballot_of (next_counter x reported) me in
       let owned : Owned b = lt-ltb (owner_of b) n (omega arith) in
       split (OutcomeSound n i) (is_committed x.vote) _ _ (λ e. tt) (λ e.
-      split (OutcomeSound n i) (leb (next_counter x told) highest_counter) _ _
+      split (OutcomeSound n i) (leb (next_counter x reported) highest_counter) _ _
       (λ u. record {
         entry = record { promised = ltb-true _ _ owned; vote = ok.vote; order = (let o = ok.order in omega arith) };
         led = λ k v e. elim (answer_back [] me x.vote k v e) [ inl o ↦ absurd (cc) | inr t ↦ subst (λ w. vote_within n w ≡ true) t.1 ok.vote ];
@@ -397,7 +397,7 @@ module _ (f me : ℕ) (few : size f ≤ 256) (here : me < size f) (s : State) (o
       act_at (size f) i _ lead (sound_give_up f i me few here lead (record_in s i) (record_sound (size f) few s ok i lead) (get s.leads i) (lead_sound (size f) few s ok i (get s.leads i) refl))
   acts_sound (Recover i) w =
       let lead : leader_of i < size f = ltb-true _ _ w in
-      act_at (size f) i _ lead (sound_recover f i me few here lead (record_in s i) (record_sound (size f) few s ok i lead) (cell_in s i).told)
+      act_at (size f) i _ lead (sound_recover f i me few here lead (record_in s i) (record_sound (size f) few s ok i lead) (cell_in s i).reported)
   acts_sound (Execute root) w = (ltb-true _ _ w, record { entry = tt; led = tt; out = tt })
 
 -- The state after it.

@@ -114,7 +114,7 @@ module _ (f : ℕ) (live : ℕ → Bool) (q i : ℕ) (is : List ℕ) (has : Has 
     acts_have sent (Propose client request c seen spared) each there h = absurd h
     acts_have sent (Handle m) each there h = has_at (instance_of_message m.sent.message) (handled f r m.sent.from s m.sent.message) (handled_has m.sent.from m.sent.message h (each m.sent there))
     acts_have sent (GiveUp j) each there h = absurd h
-    acts_have sent (Recover j) each there h = has_at j _ (has_recover P joins f j r (record_in s j) (vote_has j) (cell_in s j).told)
+    acts_have sent (Recover j) each there h = has_at j _ (has_recover P joins f j r (record_in s j) (vote_has j) (cell_in s j).reported)
     acts_have sent (Execute root) each there h = absurd h
 
     new_entry : (j : ℕ) (o : Option Record) → j ≡ i → EntryHas P o → (x : Record) → o ≡ Some x → Has is j × VoteHas P x.vote

@@ -58,7 +58,7 @@ AloneIsRun = (f : ℕ) (w : World) (acts : List Act) → IsRun f (silenced w) ac
 -- The limits of counters and sequence numbers are not near.
 pub record HasRoom (f : ℕ) (live : ℕ → Bool) (w : World) (i : ℕ) : Type 0 where
   pub promised : (r : ℕ) → r < size f → live r ≡ true → counter_of (record_in (w.states r) i).promised < 59998
-  pub told : (r : ℕ) → r < size f → live r ≡ true → (cell_in (w.states r) i).told < 59998
+  pub reported : (r : ℕ) → r < size f → live r ≡ true → (cell_in (w.states r) i).reported < 59998
   pub seqs : (r : ℕ) → r < size f → live r ≡ true → greatest_seq (entries (w.states r).records) < 999998
 
 -- replicas that are live, q among them, do this alone, with at most two recoveries, and then q has committed instance i

@@ -24,7 +24,7 @@ open_among records (i ∷ is) = cond (is_none (committed_in records i)) 1 0 + op
 -- the limit of counters isn't near in this instance
 pub record HasCounters (f : ℕ) (live : ℕ → Bool) (w : World) (i : ℕ) : Type 0 where
   pub promised : (r : ℕ) → r < size f → live r ≡ true → counter_of (record_in (w.states r) i).promised < 59998
-  pub told : (r : ℕ) → r < size f → live r ≡ true → (cell_in (w.states r) i).told < 59998
+  pub reported : (r : ℕ) → r < size f → live r ≡ true → (cell_in (w.states r) i).reported < 59998
 
 -- live replicas alone take these steps, each for one of the instances, at q
 abbrev pub AllServeThese : (ℕ → Bool) → (q : ℕ) → List ℕ → List Act → Type 0

@@ -44,7 +44,7 @@ after_round f w q i acts = ends f (silenced w) (recovering q i ∷ acts)
 
 -- the ballot at which q recovers i
 abbrev pub next_ballot : World → (q i : ℕ) → ℕ
-next_ballot w q i = ballot_of (next_counter (record_in (w.states q) i) (cell_in (w.states q) i).told) q
+next_ballot w q i = ballot_of (next_counter (record_in (w.states q) i) (cell_in (w.states q) i).reported) q
 
 -- A round ends the instance, whatever the order of its messages, if no other live replica has promised as much as the ballot at which it recovers.
 abbrev pub RoundEnds : Type 0

@@ -1,4 +1,4 @@
--- A script's head and the replicas that it tells of are of one version, with one opening.
+-- A script's head and the replicas that it names are of one version, with one opening.
 use Rattle.std.proofs.Common.{◌≡◌, ◌≤◌, Result, Ok, Err, IfOk, ap, arith, subst, sym, ◌∙◌}
 use Rattle.ep_base.specs.Versions.{version_number}
 use Rattle.ep_base.specs.declared.version.Version.{Version}

@@ -21,7 +21,7 @@ use Rattle.ep_world.specs.declared.world_event.WorldEvent.TheVariants as event
 use Rattle.ep_replay.specs.Clients.{times, greatest}
 use Rattle.ep_replay.specs.Outcome.{HasEnded, IsReplay}
 use Rattle.ep_replay.specs.Replays.{Replay, one_tried, refusal, refusals, IsOpening, Tries, Gives, Plays, PlayAll, AreUngiven, above, with_given, was_sent, with_proposer, proposal}
-use Rattle.ep_replay.specs.Tables.{AreCounted, AreFlagged, AreOwn, Behind, IsPlayerOf, nothing, told, LeadsTo, HasPlayed}
+use Rattle.ep_replay.specs.Tables.{AreCounted, AreFlagged, AreOwn, Behind, IsPlayerOf, nothing, reported, LeadsTo, HasPlayed}
 use Rattle.ep_replay.specs.declared.clients.Client.{Client}
 use Rattle.ep_replay.specs.declared.clients.Clients.{Clients}
 use Rattle.ep_replay.specs.declared.ended.Ended.{Ended}
@@ -53,7 +53,7 @@ took s s' line event h receipts refused given keeps kept counted own b t =
     record {
       behind = record { proposers = b.proposers; given = b.given; tried = b.tried ++ one ∷ [] };
       related = inl (record { next = s'.world; happens = h; becomes = (λ i. record { world = s'.world; proposers = b.proposers; given = b.given; receipts = receipts i; tried = b.tried ++ one ∷ [] }) });
-      tells = record {
+      reports = record {
         clients = counted b.proposers t.clients;
         flags = subst (λ (g : Given). AreFlagged g b.given) (sym given) t.flags;
         own = own (own_still s.world s'.world event s.receipts.items h t.own);
@@ -89,8 +89,8 @@ listed s s' line event cause why is refused world clients receipts given keeps k
     let one : Tried = one_tried line event (Refused cause) in
     record {
       behind = record { proposers = b.proposers; given = b.given; tried = b.tried ++ one ∷ [] };
-      related = inr (record { cause = cause; refused = why; told = is; becomes = (λ i. record { world = world i; proposers = b.proposers; given = b.given; receipts = receipts i; tried = b.tried ++ one ∷ [] }) });
-      tells = record {
+      related = inr (record { cause = cause; refused = why; reported = is; becomes = (λ i. record { world = world i; proposers = b.proposers; given = b.given; receipts = receipts i; tried = b.tried ++ one ∷ [] }) });
+      reports = record {
         clients = subst (λ (ts : List Receipt). AreCounted s'.clients b.proposers ts) (sym receipts) (subst (λ (cs : Clients). AreCounted cs b.proposers s.receipts.items) (sym clients) t.clients);
         flags = subst (λ (g : Given). AreFlagged g b.given) (sym given) t.flags;
         own = subst (λ (ts : List Receipt). AreOwn s'.world ts) (sym receipts) (subst (λ (w : Played). AreOwn w s.receipts.items) (sym world) t.own);
@@ -116,8 +116,8 @@ proposed s s' cs k line replica client command copied named requests seen counte
     λ i. event.Propose replica client (requests b.proposers s.receipts.items t.clients i) (same i) (seen b.proposers s.receipts.items t.clients i) named in
     record {
       behind = r.behind;
-      related = subst (λ (e : WorldEvent). Tries (with_proposer (told s b) client) line e (told s' r.behind)) is r.related;
-      tells = r.tells;
+      related = subst (λ (e : WorldEvent). Tries (with_proposer (reported s b) client) line e (reported s' r.behind)) is r.related;
+      reports = r.reports;
       keeps = r.keeps;
     }
 
@@ -128,7 +128,7 @@ pub sent_noted : (s : Player) (g : Given) (m : ℕ) → was_sent s.world m ≡ t
 sent_noted s g m sent flags b t = record {
   behind = record { proposers = b.proposers; given = b.given ++ m ∷ []; tried = b.tried };
   related = ap (λ (x : Bool). record { world = s.world; proposers = b.proposers; given = cond x (b.given ++ m ∷ []) b.given; receipts = s.receipts.items; tried = b.tried }) (sym sent);
-  tells = record { clients = t.clients; flags = flags b.given t.flags; own = t.own; refused = t.refused; log = t.log };
+  reports = record { clients = t.clients; flags = flags b.given t.flags; own = t.own; refused = t.refused; log = t.log };
   keeps = refl;
 }
 
@@ -137,7 +137,7 @@ pub unsent_noted : (s : Player) (m : ℕ) → was_sent s.world m ≡ false → L
 unsent_noted s m unsent b t = record {
   behind = b;
   related = ap (λ (x : Bool). record { world = s.world; proposers = b.proposers; given = cond x (b.given ++ m ∷ []) b.given; receipts = s.receipts.items; tried = b.tried }) (sym unsent);
-  tells = t;
+  reports = t;
   keeps = refl;
 }
 
@@ -145,11 +145,11 @@ unsent_noted s m unsent b t = record {
 pub gave : (s next s' : Player) (line m : ℕ) → LeadsTo (λ p q. q ≡ with_given p m) s next → LeadsTo (λ p q. Tries p line (event.Deliver m) q) next s' → LeadsTo (λ p q. Tries (with_given p m) line (event.Deliver m) q) s s'
 gave s next s' line m noted tried b t =
     let a = noted b t in
-    let c = tried a.behind a.tells in
+    let c = tried a.behind a.reports in
     record {
       behind = c.behind;
-      related = subst (λ (p : Replay). Tries p line (event.Deliver m) (told s' c.behind)) a.related c.related;
-      tells = c.tells;
+      related = subst (λ (p : Replay). Tries p line (event.Deliver m) (reported s' c.behind)) a.related c.related;
+      reports = c.reports;
       keeps = c.keeps ∙ a.keeps;
     }
 
@@ -161,7 +161,7 @@ flushed s s' g line sent ms all flags these leads b t =
     record {
       behind = r.behind;
       related = (ms, subst (λ n. AreUngiven b.given n ms) all (these b.given t.flags), r.related);
-      tells = r.tells;
+      reports = r.reports;
       keeps = r.keeps;
     }
 
@@ -176,14 +176,14 @@ readied R s s' g flags leads b t =
       refused = t.refused;
       log = t.log;
     }) in
-    record { behind = r.behind; related = r.related; tells = r.tells; keeps = r.keeps }
+    record { behind = r.behind; related = r.related; reports = r.reports; keeps = r.keeps }
 
 -- none was given yet
 pub above_begins : (line n k : ℕ) (s : Player) → k ≡ 0 → LeadsTo (λ p q. Gives p line (above n k) q) s s
 above_begins line n k s none b t = record {
   behind = b;
-  related = subst (λ j. Gives (told s b) line (above n j) (told s b)) (sym none) refl;
-  tells = t;
+  related = subst (λ j. Gives (reported s b) line (above n j) (reported s b)) (sym none) refl;
+  reports = t;
   keeps = refl;
 }
 
@@ -200,15 +200,15 @@ pub above_goes_on : (line n k j m : ℕ) (s next s' : Player) → j ≡ k + 1 �
     → LeadsTo (λ p q. Gives p line (above n j) q) s s'
 above_goes_on line n k j m s next s' one at done leads b t =
     let a = done b t in
-    let c = leads a.behind a.tells in
+    let c = leads a.behind a.reports in
     let this : suc k ≡ j = omega arith in
-    let p : Replay = told next a.behind in
-    let step = subst (λ i. Tries (with_given p i) line (event.Deliver i) (told s' c.behind)) at c.related in
+    let p : Replay = reported next a.behind in
+    let step = subst (λ i. Tries (with_given p i) line (event.Deliver i) (reported s' c.behind)) at c.related in
     record {
       behind = c.behind;
-      related = subst (λ i. Gives (told s b) line (above n i) (told s' c.behind)) this
-          (gives_one line (n + k + 1) (above n k) (told s b) p (told s' c.behind) a.related step);
-      tells = c.tells;
+      related = subst (λ i. Gives (reported s b) line (above n i) (reported s' c.behind)) this
+          (gives_one line (n + k + 1) (above n k) (reported s b) p (reported s' c.behind) a.related step);
+      reports = c.reports;
       keeps = c.keeps ∙ a.keeps;
     }
 
@@ -219,20 +219,20 @@ abbrev pub Completes : {X : Type 0} → (Replay → List X → Replay → Type 0
 Completes G xs i s s' = LeadsTo (λ p q. (end : Replay) → G q (drop i xs) end → G p xs end) s s'
 
 pub starts : {X : Type 0} (G : Replay → List X → Replay → Type 0) (xs : List X) (s : Player) → Completes G xs 0 s s
-starts G xs s b t = record { behind = b; related = (λ end h. h); tells = t; keeps = refl }
+starts G xs s b t = record { behind = b; related = (λ end h. h); reports = t; keeps = refl }
 
 goes_on : {X : Type 0} (G : Replay → List X → Replay → Type 0) (Each : Replay → X → Replay → Type 0) → ((p q end : Replay) (x : X) (xs : List X) → Each p x q → G q xs end → G p (x ∷ xs) end)
     → (xs : List X) (i : ℕ) (x d : X) (s next s' : Player) → i < length xs → x ≡ get_or xs i d → Completes G xs i s next → LeadsTo (λ p q. Each p x q) next s' → Completes G xs (i + 1) s s'
 goes_on {X} G Each more xs i x d s next s' lt is done leads b t =
     let a = done b t in
-    let c = leads a.behind a.tells in
+    let c = leads a.behind a.reports in
     let rest : drop i xs ≡ x ∷ drop (suc i) xs = drop-cons xs i d lt ∙ ap (λ (y : X). y ∷ drop (suc i) xs) (sym is) in
     let one : i + 1 ≡ suc i = omega arith in
     record {
       behind = c.behind;
-      related = (λ end h. a.related end (subst (λ (ys : List X). G (told next a.behind) ys end) (sym rest)
-          (more (told next a.behind) (told s' c.behind) end x (drop (suc i) xs) c.related (subst (λ n. G (told s' c.behind) (drop n xs) end) one h))));
-      tells = c.tells;
+      related = (λ end h. a.related end (subst (λ (ys : List X). G (reported next a.behind) ys end) (sym rest)
+          (more (reported next a.behind) (reported s' c.behind) end x (drop (suc i) xs) c.related (subst (λ n. G (reported s' c.behind) (drop n xs) end) one h))));
+      reports = c.reports;
       keeps = c.keeps ∙ a.keeps;
     }
 
@@ -241,8 +241,8 @@ ends {X} G none xs i s s' over done b t =
     let a = done b t in
     record {
       behind = a.behind;
-      related = a.related (told s' a.behind) (subst (λ (ys : List X). G (told s' a.behind) ys (told s' a.behind)) (sym (drop_all i xs over)) (none (told s' a.behind)));
-      tells = a.tells;
+      related = a.related (reported s' a.behind) (subst (λ (ys : List X). G (reported s' a.behind) ys (reported s' a.behind)) (sym (drop_all i xs over)) (none (reported s' a.behind)));
+      reports = a.reports;
       keeps = a.keeps;
     }
 
@@ -263,31 +263,31 @@ played_all ls i s s' over done = ends PlayAll (λ p. refl) ls i s s' over done
 
 -- All lines.
 
-pub have_played : (plan : Plan) (s s' : Player) (keeps : Bool) (head : Head) (lines : List (ℕ × Line)) → head ≡ plan.head → lines ≡ plan.lines → IsOpening head (told s nothing) → IsPlayerOf s nothing → s.keeps ≡ keeps → LeadsTo (λ p q. PlayAll p lines q) s s' → HasPlayed plan keeps s'
+pub have_played : (plan : Plan) (s s' : Player) (keeps : Bool) (head : Head) (lines : List (ℕ × Line)) → head ≡ plan.head → lines ≡ plan.lines → IsOpening head (reported s nothing) → IsPlayerOf s nothing → s.keeps ≡ keeps → LeadsTo (λ p q. PlayAll p lines q) s s' → HasPlayed plan keeps s'
 have_played plan s s' keeps head lines same_head same_lines opening t kept leads =
     let r = leads nothing t in
     record {
       behind = r.behind;
-      at_end = record { first = told s nothing; opening = subst (λ (h : Head). IsOpening h (told s nothing)) same_head opening; played = subst (λ (ls : List (ℕ × Line)). PlayAll (told s nothing) ls (told s' r.behind)) same_lines r.related };
-      tells = r.tells;
+      at_end = record { first = reported s nothing; opening = subst (λ (h : Head). IsOpening h (reported s nothing)) same_head opening; played = subst (λ (ls : List (ℕ × Line)). PlayAll (reported s nothing) ls (reported s' r.behind)) same_lines r.related };
+      reports = r.reports;
       keeps = r.keeps ∙ kept;
     }
 
 pub ended : (plan : Plan) (s : Player) (d : Ended) → HasPlayed plan true s → d.world ≡ s.world → d.receipts.items ≡ s.receipts.items → d.tried.items ≡ s.tried.items → ((gs : List ℕ) → AreFlagged s.given gs → AreUngiven gs (length s.world.messages) d.ungiven.items) → HasEnded plan d
 ended plan s d h world receipts tried ungiven = record {
-  last = told s h.behind;
+  last = reported s h.behind;
   at_end = h.at_end;
   world = world;
   receipts = receipts;
-  tried = tried ∙ h.tells.log h.keeps;
-  ungiven = ungiven h.behind.given h.tells.flags;
+  tried = tried ∙ h.reports.log h.keeps;
+  ungiven = ungiven h.behind.given h.reports.flags;
 }
 
 pub replayed : (plan : Plan) (keeps : Bool) (s : Player) (d : Replayed) → HasPlayed plan keeps s → d.journals ≡ collected s.world → d.receipts.items ≡ s.receipts.items → d.refused.items ≡ s.refused.items → IsReplay plan d
 replayed plan keeps s d h journals receipts refused = record {
-  last = told s h.behind;
+  last = reported s h.behind;
   at_end = h.at_end;
   journals = journals;
   receipts = receipts;
-  refused = refused ∙ h.tells.refused;
+  refused = refused ∙ h.reports.refused;
 }

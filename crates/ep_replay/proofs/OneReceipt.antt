@@ -24,14 +24,14 @@ use Rattle.ep_rules.proofs.Places.{Once, once-append, once_filter, has_cons, has
 use Rattle.ep_rules.proofs.Interleaved.{apart}
 use Rattle.ep_replica.specs.Receipts.{own_proposal, proposal_of, receipt_of, receipts_for, receipts_of}
 use Rattle.ep_replica.specs.declared.proposal.Proposal.{Proposal}
-use Rattle.ep_replay.specs.Told.{instances_of}
+use Rattle.ep_replay.specs.Reported.{instances_of}
 use Rattle.ep_rules.specs.OneMap.{Store}
 
 -- Lists.
 
-both_told : (ts us : List Receipt) → instances_of (ts ++ us) ≡ instances_of ts ++ instances_of us
-both_told [] us = refl
-both_told (t ∷ ts) us = ap (λ is. t.instance ∷ is) (both_told ts us)
+both_reported : (ts us : List Receipt) → instances_of (ts ++ us) ≡ instances_of ts ++ instances_of us
+both_reported [] us = refl
+both_reported (t ∷ ts) us = ap (λ is. t.instance ∷ is) (both_reported ts us)
 
 -- The receipts of one entry.
 
@@ -39,16 +39,16 @@ both_told (t ∷ ts) us = ap (λ is. t.instance ∷ is) (both_told ts us)
 abbrev gives : ℕ → List Entry → ℕ → Bool
 gives me es i = is_some (own_proposal me es i)
 
-one_told : (me : ℕ) (e : Entry) (d : ℕ × Answer) (o : Option Proposal) (is : List ℕ) → instances_of (receipt_of me e d o) ++ is ≡ cond (is_some o) (d.0 ∷ is) is
-one_told me e d None is = refl
-one_told me e d (Some p) is = refl
+one_reported : (me : ℕ) (e : Entry) (d : ℕ × Answer) (o : Option Proposal) (is : List ℕ) → instances_of (receipt_of me e d o) ++ is ≡ cond (is_some o) (d.0 ∷ is) is
+one_reported me e d None is = refl
+one_reported me e d (Some p) is = refl
 
-these_told : (me : ℕ) (es : List Entry) (e : Entry) (ds : List (ℕ × Answer)) → instances_of (receipts_for me es e ds) ≡ filter (gives me es) (order_of ds)
-these_told me es e [] = refl
-these_told me es e (d ∷ ds) =
-    both_told (receipt_of me e d (own_proposal me es d.0)) (receipts_for me es e ds)
-    ∙ ap (λ is. instances_of (receipt_of me e d (own_proposal me es d.0)) ++ is) (these_told me es e ds)
-    ∙ one_told me e d (own_proposal me es d.0) (filter (gives me es) (order_of ds))
+these_reported : (me : ℕ) (es : List Entry) (e : Entry) (ds : List (ℕ × Answer)) → instances_of (receipts_for me es e ds) ≡ filter (gives me es) (order_of ds)
+these_reported me es e [] = refl
+these_reported me es e (d ∷ ds) =
+    both_reported (receipt_of me e d (own_proposal me es d.0)) (receipts_for me es e ds)
+    ∙ ap (λ is. instances_of (receipt_of me e d (own_proposal me es d.0)) ++ is) (these_reported me es e ds)
+    ∙ one_reported me e d (own_proposal me es d.0) (filter (gives me es) (order_of ds))
 
 its_own : (me : ℕ) (es : List Entry) (i : ℕ) → gives me es i ≡ true → leader_of i ≡ me
 its_own me es i h = go (eqb (leader_of i) me) refl h
@@ -72,11 +72,11 @@ none_sole base f journal none = record { steps = λ r. subst (λ es. AreSteps f 
 
 -- one entry more, with its receipts
 module _ (base : Store) (f : ℕ) (old new : Journals) (ts : List Receipt) (r : ℕ) (e : Entry) (here : new r ≡ old r ++ (e ∷ [])) (other : (q : ℕ) → r ≢ q → new q ≡ old q) (step : IsEntry f r (left f r (fresh_state base) (old r)) e) (s : Sole base f old ts) where
-  abbrev told : List ℕ
-  told = instances_of (receipts_of r (new r) e)
+  abbrev reported : List ℕ
+  reported = instances_of (receipts_of r (new r) e)
 
-  told_is : told ≡ filter (gives r (new r)) (order_of e.done)
-  told_is = these_told r (new r) e e.done
+  reported_is : reported ≡ filter (gives r (new r)) (order_of e.done)
+  reported_is = these_reported r (new r) e e.done
 
   executes : executed_by base f new r ≡ executed_by base f old r ++ order_of e.done
   executes = ap (λ es. (left f r (fresh_state base) es).executed) here ∙ ap (λ (t : State). t.executed) (left_grows f r (fresh_state base) (old r) e)
@@ -84,14 +84,14 @@ module _ (base : Store) (f : ℕ) (old new : Journals) (ts : List Receipt) (r : 
   once_here : Once (executed_by base f old r ++ order_of e.done)
   once_here = event_once (left f r (fresh_state base) (old r)) e.event e.done step.step.executes (steps_once f r (fresh_state base) (old r) (s.steps r) tt)
 
-  told_here : (i : ℕ) → Has told i → Has (order_of e.done) i × (leader_of i ≡ r)
-  told_here i h =
-      let k = has_filter (gives r (new r)) (order_of e.done) i (subst (λ is. Has is i) told_is h) in
+  reported_here : (i : ℕ) → Has reported i → Has (order_of e.done) i × (leader_of i ≡ r)
+  reported_here i h =
+      let k = has_filter (gives r (new r)) (order_of e.done) i (subst (λ is. Has is i) reported_is h) in
       (k.0, its_own r (new r) i k.1)
 
-  not_before : (i : ℕ) → Has (instances_of ts) i → ¬ Has told i
+  not_before : (i : ℕ) → Has (instances_of ts) i → ¬ Has reported i
   not_before i h k =
-      let t = told_here i k in
+      let t = reported_here i k in
       apart (executed_by base f old r) (order_of e.done) i once_here (subst (λ q. Has (executed_by base f old q) i) t.1 (s.done i h)) t.0
 
   steps_after : (q : ℕ) → AreSteps f q (fresh_state base) (new q)
@@ -106,18 +106,18 @@ module _ (base : Store) (f : ℕ) (old new : Journals) (ts : List Receipt) (r : 
     | inr ne ↦ subst (λ es. Has (left f q (fresh_state base) es).executed i) (sym (other q ne)) h
   ]
 
-  now_done : (i : ℕ) → Has told i → Has (executed_by base f new (leader_of i)) i
+  now_done : (i : ℕ) → Has reported i → Has (executed_by base f new (leader_of i)) i
   now_done i h =
-      let t = told_here i h in
+      let t = reported_here i h in
       subst (λ q. Has (executed_by base f new q) i) (sym t.1) (subst (λ l. Has l i) (sym executes) (has_right (executed_by base f old r) (order_of e.done) i t.0))
 
   pub more_sole : Sole base f new (ts ++ receipts_of r (new r) e)
   more_sole = record {
     steps = steps_after;
-    done = λ i h. elim (has_split (instances_of ts) told i (subst (λ is. Has is i) (both_told ts (receipts_of r (new r) e)) h)) [ inl k ↦ still_done (leader_of i) i (s.done i k) | inr k ↦ now_done i k ];
-    once = subst Once (sym (both_told ts (receipts_of r (new r) e)))
-        (once-append (instances_of ts) told s.once
-        (subst Once (sym told_is) (once_filter (gives r (new r)) (order_of e.done) (once_right (executed_by base f old r) (order_of e.done) once_here))) not_before);
+    done = λ i h. elim (has_split (instances_of ts) reported i (subst (λ is. Has is i) (both_reported ts (receipts_of r (new r) e)) h)) [ inl k ↦ still_done (leader_of i) i (s.done i k) | inr k ↦ now_done i k ];
+    once = subst Once (sym (both_reported ts (receipts_of r (new r) e)))
+        (once-append (instances_of ts) reported s.once
+        (subst Once (sym reported_is) (once_filter (gives r (new r)) (order_of e.done) (once_right (executed_by base f old r) (order_of e.done) once_here))) not_before);
   }
 
 -- There are at most as many receipts as instances.
@@ -139,12 +139,12 @@ are_instances (t ∷ ts) all i h = elim (has_cons t.instance i (instances_of ts)
   | inr later ↦ are_instances ts (λ u k. all u (inr k)) i later
 ]
 
-count_told : (ts : List Receipt) → length (instances_of ts) ≡ length ts
-count_told [] = refl
-count_told (t ∷ ts) = ap suc (count_told ts)
+count_reported : (ts : List Receipt) → length (instances_of ts) ≡ length ts
+count_reported [] = refl
+count_reported (t ∷ ts) = ap suc (count_reported ts)
 
 pub few_receipts : (base : Store) (f : ℕ) (journal : Journals) (ts : List Receipt) → f ≤ 3 → AreLocalRuns base f journal → IsAccepted base f journal ts → Once (instances_of ts) → length ts ≤ most_deps
 few_receipts base f journal ts small local accepted once =
     let few = few_instances (instances_of ts) once (are_instances ts (λ t h. (let k = (accepted.agree t h).known in proposed_instance base f journal t.instance t.client t.request small local k.proposed))) in
-    let count = count_told ts in
+    let count = count_reported ts in
     omega arith

@@ -15,7 +15,7 @@ use Rattle.ep_world.specs.Playing.{Happens}
 use Rattle.ep_world.proofs.Grown.{with_other}
 use Rattle.ep_replay.specs.Outcome.{IsReplay}
 use Rattle.ep_replay.specs.Replays.{Replay, IsOpening}
-use Rattle.ep_replay.specs.Told.{instances_of}
+use Rattle.ep_replay.specs.Reported.{instances_of}
 use Rattle.ep_replay.specs.declared.replayed.Replayed.{Replayed}
 use Rattle.ep_replay.proofs.Keeping.{KeepsOf, all_keep}
 use Rattle.ep_replay.proofs.OneReceipt.{Sole, none_sole, more_sole}

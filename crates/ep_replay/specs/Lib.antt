@@ -3,4 +3,4 @@ pub mod Heads
 pub mod Replays
 pub mod Tables
 pub mod Outcome
-pub mod Told
+pub mod Reported

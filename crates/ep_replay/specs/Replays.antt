@@ -78,7 +78,7 @@ pub record Takes (p : Replay) (line : ℕ) (event : WorldEvent) (p' : Replay) : 
 pub record IsListed (p : Replay) (line : ℕ) (event : WorldEvent) (p' : Replay) : Type 0 where
   pub cause : Refusal
   pub refused : IsNotEnabled p.world event cause
-  pub told : cause ≢ Step Memory
+  pub reported : cause ≢ Step Memory
   pub becomes : p' ≡ record p { tried = p.tried ++ one_tried line event (Refused cause) ∷ [] }
 
 abbrev pub Tries : Replay → ℕ → WorldEvent → Replay → Type 0

@@ -1,4 +1,4 @@
--- What a player's tables tell of a replay.
+-- What a player's tables say of a replay.
 use Rattle.std.specs.Prelude.{◌≡◌, ◌↔◌, ℕ, suc, ◌≤◌, nat_eq, Bool, true, false, Option, Some, None, List, [], slice_index_or as get_or}
 use Rattle.indexmap.specs.IndexMap.{get}
 use Rattle.ep_journal.specs.Openings.{opens}
@@ -32,7 +32,7 @@ AreCounted clients proposers receipts = (c : ℕ) → known clients c ≡ record
 
 -- Messages.
 
--- the flags tell which messages were given; up to the floor all were
+-- the flags say which messages were given; up to the floor all were
 pub record AreFlagged (flags : Given) (given : List ℕ) : Type 0 where
   pub flag : (place : ℕ) → (get_or flags.flags.items place false ≡ true) ↔ In (suc place) given
   pub floor : (m : ℕ) → 1 ≤ m → m ≤ flags.floor → In m given
@@ -55,8 +55,8 @@ abbrev pub nothing : Behind
 nothing = record { proposers = []; given = []; tried = [] }
 
 -- how far the player has replayed
-abbrev pub told : Player → Behind → Replay
-told s b = record { world = s.world; proposers = b.proposers; given = b.given; receipts = s.receipts.items; tried = b.tried }
+abbrev pub reported : Player → Behind → Replay
+reported s b = record { world = s.world; proposers = b.proposers; given = b.given; receipts = s.receipts.items; tried = b.tried }
 
 pub record IsPlayerOf (s : Player) (b : Behind) : Type 0 where
   pub clients : AreCounted s.clients b.proposers s.receipts.items
@@ -65,20 +65,20 @@ pub record IsPlayerOf (s : Player) (b : Behind) : Type 0 where
   pub refused : s.refused.items ≡ refusals b.tried
   pub log : s.keeps ≡ true → s.tried.items ≡ b.tried
 
--- the player tells of a replay that R holds of, and keeps each event, or not, as the one before
+-- the player names a replay that R holds of, and keeps each event, or not, as the one before
 pub record LedTo (R : Replay → Type 0) (s s' : Player) : Type 0 where
   pub behind : Behind
-  pub related : R (told s' behind)
-  pub tells : IsPlayerOf s' behind
+  pub related : R (reported s' behind)
+  pub reports : IsPlayerOf s' behind
   pub keeps : s'.keeps ≡ s.keeps
 
--- whatever replay the one player tells of, the other tells of one to which R leads
+-- whatever replay the one player names, the other names one to which R leads
 abbrev pub LeadsTo : (Replay → Replay → Type 0) → Player → Player → Type 0
-LeadsTo R s s' = (b : Behind) → IsPlayerOf s b → LedTo (R (told s b)) s s'
+LeadsTo R s s' = (b : Behind) → IsPlayerOf s b → LedTo (R (reported s b)) s s'
 
 -- the player has played all lines of the script
 pub record HasPlayed (script : Plan) (kept : Bool) (s : Player) : Type 0 where
   pub behind : Behind
-  pub at_end : EndsAt script (told s behind)
-  pub tells : IsPlayerOf s behind
+  pub at_end : EndsAt script (reported s behind)
+  pub reports : IsPlayerOf s behind
   pub keeps : s.keeps ≡ kept

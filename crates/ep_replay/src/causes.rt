@@ -8,7 +8,7 @@ use ep_journal::{Refusal, StepFault};
 use std::alloc::AllocError;
 
 /// Whether the refusal is listed: out of memory is none that is.
-fn told(refusal: Refusal) -> Result<(), AllocError>
+fn reported(refusal: Refusal) -> Result<(), AllocError>
     ensures { OnOk result (refusal ≢ Step Memory) }
 {
     match refusal {
@@ -26,10 +26,10 @@ pub(crate) fn list(
     refusal: Refusal,
 ) -> Result<(), AllocError>
     ensures listed { OnOk result (refused.new.items ≡ refused.old.items ++ (line, refusal) ∷ []) }
-    ensures told { OnOk result (refusal ≢ Step Memory) }
+    ensures reported { OnOk result (refusal ≢ Step Memory) }
 {
     let listed = refusal;
-    told(refusal)?;
+    reported(refusal)?;
     refused.push((line, listed))?;
     Ok(())
 }

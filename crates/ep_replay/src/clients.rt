@@ -1,7 +1,7 @@
 //! The clients of a replay.
 
 ghost use Rattle.std.specs.Prelude.{◌≡◌, ℕ, ◌+◌, ◌++◌, ◌∷◌, [], List, eqb, cond, OnOk, IfOk};
-ghost use Rattle.ep_rules.specs.declared.receipt.Receipt.{Receipt as Told};
+ghost use Rattle.ep_rules.specs.declared.receipt.Receipt.{Receipt as Reported};
 ghost use Rattle.ep_replay.specs.Clients.{times, greatest};
 ghost use Rattle.ep_replay.specs.Tables.{known, AreCounted};
 
@@ -67,9 +67,9 @@ impl Clients {
 
     /// Counts one proposal more of the client, and gives what is then known of it.
     pub fn count(&mut self, client: u32) -> Result<Client, AllocError>
-        ensures requests { IfOk result (λ k. (ps : List ℕ) (ts : List Told) → AreCounted self.old ps ts → k.requests ≡ times client ps + 1) }
-        ensures seen { IfOk result (λ k. (ps : List ℕ) (ts : List Told) → AreCounted self.old ps ts → k.seen ≡ greatest client ts) }
-        ensures counted { OnOk result ((ps : List ℕ) (ts : List Told) → AreCounted self.old ps ts → AreCounted self.new (ps ++ client ∷ []) ts) }
+        ensures requests { IfOk result (λ k. (ps : List ℕ) (ts : List Reported) → AreCounted self.old ps ts → k.requests ≡ times client ps + 1) }
+        ensures seen { IfOk result (λ k. (ps : List ℕ) (ts : List Reported) → AreCounted self.old ps ts → k.seen ≡ greatest client ts) }
+        ensures counted { OnOk result ((ps : List ℕ) (ts : List Reported) → AreCounted self.old ps ts → AreCounted self.new (ps ++ client ∷ []) ts) }
     {
         let before = self.get(client);
         let requests = next(before.requests)?;
@@ -83,7 +83,7 @@ impl Clients {
 
     /// The client of the receipt has seen its stamp.
     fn note(&mut self, receipt: &Receipt) -> Result<(), AllocError>
-        ensures { OnOk result ((ps : List ℕ) (ts : List Told) → AreCounted self.old ps ts → AreCounted self.new ps (ts ++ receipt.now ∷ [])) }
+        ensures { OnOk result ((ps : List ℕ) (ts : List Reported) → AreCounted self.old ps ts → AreCounted self.new ps (ts ++ receipt.now ∷ [])) }
     {
         let before = self.get(receipt.client);
         let known = Client {
@@ -96,7 +96,7 @@ impl Clients {
 
     /// The clients of the receipts have seen their stamps.
     pub fn note_all(&mut self, receipts: &[Receipt]) -> Result<(), AllocError>
-        ensures { OnOk result ((ps : List ℕ) (ts : List Told) → AreCounted self.old ps ts → AreCounted self.new ps (ts ++ receipts.now)) }
+        ensures { OnOk result ((ps : List ℕ) (ts : List Reported) → AreCounted self.old ps ts → AreCounted self.new ps (ts ++ receipts.now)) }
     {
         for receipt in receipts {
             self.note(receipt)?;

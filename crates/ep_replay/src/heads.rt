@@ -60,7 +60,7 @@ fn opening_of(alloc: Global, said: &Said) -> Result<Opening, AllocError>
     }
 }
 
-/// What the replicas begin with that the head tells of.
+/// What the replicas begin with that the head names.
 pub fn beginning_of(alloc: Global, head: &Head) -> Result<Beginning, AllocError>
     ensures version { IfOk result (λ b. b.version ≡ head.now.version) }
     ensures opening { IfOk result (λ b. b.opening ≡ opening_of head.now.opening) }
@@ -70,7 +70,7 @@ pub fn beginning_of(alloc: Global, head: &Head) -> Result<Beginning, AllocError>
     Beginning::opened(alloc, head.version(), opening)
 }
 
-/// The world that the head tells of, before any event.
+/// The world that the head names, before any event.
 pub fn begun(alloc: Global, head: &Head) -> Result<World, AllocError>
     ensures version { IfOk result (λ w. w.version ≡ head.now.version) }
     ensures faults { IfOk result (λ w. w.faults ≡ head.now.faults) }

@@ -3,7 +3,7 @@
 ghost use Rattle.std.specs.Prelude.{◌≡◌, ℕ, ◌+◌, ◌≤◌, ◌++◌, ◌∷◌, List, [], false, length, OnOk, IfOk};
 ghost use Rattle.ep_rules.specs.Audits.{IsAccepted};
 ghost use Rattle.ep_rules.specs.Counts.{AreOnce};
-ghost use Rattle.ep_rules.specs.declared.receipt.Receipt.{Receipt as Told};
+ghost use Rattle.ep_rules.specs.declared.receipt.Receipt.{Receipt as Reported};
 ghost use Rattle.ep_journal.specs.Entries.{entry_of, journals_of};
 ghost use Rattle.ep_journal.specs.Openings.{opens};
 ghost use Rattle.ep_replica.specs.Receipts.{receipts_of};
@@ -14,7 +14,7 @@ ghost use Rattle.ep_replay.specs.Heads.{opening_of};
 ghost use Rattle.ep_replay.specs.Outcome.{HasEnded, IsReplay};
 ghost use Rattle.ep_replay.specs.Replays.{one_tried, was_sent};
 ghost use Rattle.ep_replay.specs.Tables.{AreCounted, AreOwn, HasPlayed};
-ghost use Rattle.ep_replay.specs.Told.{instances_of};
+ghost use Rattle.ep_replay.specs.Reported.{instances_of};
 ghost use Rattle.ep_replay.specs.declared.outcome.Outcome.TheVariants.{Took};
 
 use crate::causes::list;
@@ -152,12 +152,12 @@ impl Player {
     ghost use Rattle.ep_script.specs.declared.line.Line.TheVariants as asked;
     ghost use Rattle.ep_world.specs.declared.world_event.WorldEvent.TheVariants as event;
     ghost use Rattle.ep_replay.specs.Replays.{Asks, IsOpening, Tries, Gives, Plays, PlayAll, AreUngiven, above, proposal, with_proposer, with_given};
-    ghost use Rattle.ep_replay.specs.Tables.{AreFlagged, AreOwn, IsPlayerOf, nothing, told, LeadsTo};
+    ghost use Rattle.ep_replay.specs.Tables.{AreFlagged, AreOwn, IsPlayerOf, nothing, reported, LeadsTo};
 
     /// A player before any line, with the world of this head, that keeps each event that it tries, or doesn't.
     fn new(alloc: Global, head: &Head, keeps: bool) -> Result<Player, AllocError>
-        ensures opening { IfOk result (λ s. IsOpening head.now (told s nothing)) }
-        ensures tells { IfOk result (λ s. IsPlayerOf s nothing) }
+        ensures opening { IfOk result (λ s. IsOpening head.now (reported s nothing)) }
+        ensures reports { IfOk result (λ s. IsPlayerOf s nothing) }
         ensures keeps { IfOk result (λ s. s.keeps ≡ keeps) }
     {
         let world = begun(alloc, head)?;

@@ -10,13 +10,13 @@ use Rattle.ep_journal.specs.Entries.{Log, entry_of, entries_of}
 use Rattle.ep_journal.specs.declared.entry.Entry.{Entry}
 use Rattle.ep_journal.specs.declared.event.Event.{Event as Happening}
 use Rattle.ep_replica.specs.Applied.{Applied}
-use Rattle.ep_replica.specs.FirstExecutions.{or_spot, first_among, first_done, spot_at, AreFirsts, told_done, told_in, told_at}
+use Rattle.ep_replica.specs.FirstExecutions.{or_spot, first_among, first_done, spot_at, AreFirsts, reported_done, reported_in, reported_at}
 use Rattle.ep_replica.specs.Kept.{Kept}
-use Rattle.ep_replica.specs.Outcomes.{receipt, or_this, told_among, told_by}
+use Rattle.ep_replica.specs.Outcomes.{receipt, or_this, reported_among, reported_by}
 use Rattle.ep_replica.specs.Receipts.{proposal_of, own_proposal, outcome_of}
 use Rattle.ep_replica.specs.declared.proposal.Proposal.{Proposal}
 use Rattle.ep_replica.specs.declared.execution_place.ExecutionPlace.{ExecutionPlace}
-use Rattle.ep_replica.proofs.Outcomes.{told_first}
+use Rattle.ep_replica.proofs.Outcomes.{reported_first}
 
 or_none : (s : Option ExecutionPlace) → or_spot s None ≡ s
 or_none None = refl
@@ -56,64 +56,64 @@ firsts_next j j' event r me n old mid new a is count h same marked =
 
 -- The receipt.
 
--- an execution at the place, counted from the k-th, is the one that is told of
-record ToldAmong (me i : ℕ) (p : Proposal) (e : Entry) (k : ℕ) (ds : List (ℕ × Answer)) (place : ℕ) : Type 0 where
+-- an execution at the place, counted from the k-th, is the one that is reported
+record ReportedAmong (me i : ℕ) (p : Proposal) (e : Entry) (k : ℕ) (ds : List (ℕ × Answer)) (place : ℕ) : Type 0 where
   steps : ℕ
   counted : place ≡ k + steps
   done : ℕ × Answer
   at : slice_get ds steps ≡ Some done
-  told : told_among me i p (entry_of e) ds ≡ Some (receipt me i p (entry_of e) done.1)
+  reported : reported_among me i p (entry_of e) ds ≡ Some (receipt me i p (entry_of e) done.1)
 
-among_none : (me i n k : ℕ) (p : Proposal) (e : Entry) (ds : List (ℕ × Answer)) → first_among n k ds i ≡ None → told_among me i p (entry_of e) ds ≡ None
+among_none : (me i n k : ℕ) (p : Proposal) (e : Entry) (ds : List (ℕ × Answer)) → first_among n k ds i ≡ None → reported_among me i p (entry_of e) ds ≡ None
 among_none me i n k p e [] is = refl
 among_none me i n k p e (d ∷ ds) is = go (eqb d.0 i) is (among_none me i n (suc k) p e ds)
   where
-    go : (b : Bool) → cond b (Some (record { entry = n; place = k })) (first_among n (suc k) ds i) ≡ None → (first_among n (suc k) ds i ≡ None → told_among me i p (entry_of e) ds ≡ None)
-        → cond b (Some (receipt me i p (entry_of e) d.1)) (told_among me i p (entry_of e) ds) ≡ None
+    go : (b : Bool) → cond b (Some (record { entry = n; place = k })) (first_among n (suc k) ds i) ≡ None → (first_among n (suc k) ds i ≡ None → reported_among me i p (entry_of e) ds ≡ None)
+        → cond b (Some (receipt me i p (entry_of e) d.1)) (reported_among me i p (entry_of e) ds) ≡ None
     go true is rest = absurd (cc)
     go false is rest = rest is
 
-among_some : (me i n k : ℕ) (p : Proposal) (e : Entry) (ds : List (ℕ × Answer)) (s : ExecutionPlace) → first_among n k ds i ≡ Some s → ToldAmong me i p e k ds s.place × (s.entry ≡ n)
+among_some : (me i n k : ℕ) (p : Proposal) (e : Entry) (ds : List (ℕ × Answer)) (s : ExecutionPlace) → first_among n k ds i ≡ Some s → ReportedAmong me i p e k ds s.place × (s.entry ≡ n)
 among_some me i n k p e [] s is = absurd (cc)
 among_some me i n k p e (d ∷ ds) s is = go (eqb d.0 i) refl is (among_some me i n (suc k) p e ds s)
   where
     go : (b : Bool) → eqb d.0 i ≡ b → cond b (Some (record { entry = n; place = k })) (first_among n (suc k) ds i) ≡ Some s
-        → (first_among n (suc k) ds i ≡ Some s → ToldAmong me i p e (suc k) ds s.place × (s.entry ≡ n)) → ToldAmong me i p e k (d ∷ ds) s.place × (s.entry ≡ n)
+        → (first_among n (suc k) ds i ≡ Some s → ReportedAmong me i p e (suc k) ds s.place × (s.entry ≡ n)) → ReportedAmong me i p e k (d ∷ ds) s.place × (s.entry ≡ n)
     go true test is rest =
         let this : record { entry = n; place = k } ≡ s = same_Some (record { entry = n; place = k }) s is in
         let at : k ≡ s.place = ap (λ (z : ExecutionPlace). z.place) this in
-        (record { steps = 0; counted = omega (arith, at); done = d; at = refl; told = ap (λ b. cond b (Some (receipt me i p (entry_of e) d.1)) (told_among me i p (entry_of e) ds)) test }, sym (ap (λ (z : ExecutionPlace). z.entry) this))
+        (record { steps = 0; counted = omega (arith, at); done = d; at = refl; reported = ap (λ b. cond b (Some (receipt me i p (entry_of e) d.1)) (reported_among me i p (entry_of e) ds)) test }, sym (ap (λ (z : ExecutionPlace). z.entry) this))
     go false test is rest =
         let r = rest is in
         let at : s.place ≡ suc k + r.0.steps = r.0.counted in
-        (record { steps = suc r.0.steps; counted = omega (arith, at); done = r.0.done; at = r.0.at; told = ap (λ b. cond b (Some (receipt me i p (entry_of e) d.1)) (told_among me i p (entry_of e) ds)) test ∙ r.0.told }, r.1)
+        (record { steps = suc r.0.steps; counted = omega (arith, at); done = r.0.done; at = r.0.at; reported = ap (λ b. cond b (Some (receipt me i p (entry_of e) d.1)) (reported_among me i p (entry_of e) ds)) test ∙ r.0.reported }, r.1)
 
-pub told_none : (me i n : ℕ) (p : Proposal) (es : List Entry) → first_done n es i ≡ None → told_by me i p (entries_of es) ≡ None
-told_none me i n p [] is = refl
-told_none me i n p (e ∷ es) is = go (first_among n 0 e.done i) refl is (told_none me i (suc n) p es)
+pub reported_none : (me i n : ℕ) (p : Proposal) (es : List Entry) → first_done n es i ≡ None → reported_by me i p (entries_of es) ≡ None
+reported_none me i n p [] is = refl
+reported_none me i n p (e ∷ es) is = go (first_among n 0 e.done i) refl is (reported_none me i (suc n) p es)
   where
-    go : (o : Option ExecutionPlace) → first_among n 0 e.done i ≡ o → or_spot o (first_done (suc n) es i) ≡ None → (first_done (suc n) es i ≡ None → told_by me i p (entries_of es) ≡ None) → told_by me i p (entries_of (e ∷ es)) ≡ None
-    go None none is rest = ap (λ t. or_this t (told_by me i p (entries_of es))) (among_none me i n 0 p e e.done none) ∙ rest is
+    go : (o : Option ExecutionPlace) → first_among n 0 e.done i ≡ o → or_spot o (first_done (suc n) es i) ≡ None → (first_done (suc n) es i ≡ None → reported_by me i p (entries_of es) ≡ None) → reported_by me i p (entries_of (e ∷ es)) ≡ None
+    go None none is rest = ap (λ t. or_this t (reported_by me i p (entries_of es))) (among_none me i n 0 p e e.done none) ∙ rest is
     go (Some t) some is rest = absurd (cc)
 
--- the entry at the place, counted from the n-th, is the one that tells
-record ToldBy (me i : ℕ) (p : Proposal) (n : ℕ) (es : List Entry) (s : ExecutionPlace) : Type 0 where
+-- the entry at the place, counted from the n-th, is the one that reports
+record ReportedBy (me i : ℕ) (p : Proposal) (n : ℕ) (es : List Entry) (s : ExecutionPlace) : Type 0 where
   steps : ℕ
   counted : s.entry ≡ n + steps
-  told : told_by me i p (entries_of es) ≡ told_in me i p (slice_get es steps) s.place
+  reported : reported_by me i p (entries_of es) ≡ reported_in me i p (slice_get es steps) s.place
 
-told_some : (me i n : ℕ) (p : Proposal) (es : List Entry) (s : ExecutionPlace) → first_done n es i ≡ Some s → ToldBy me i p n es s
-told_some me i n p [] s is = absurd (cc)
-told_some me i n p (e ∷ es) s is = go (first_among n 0 e.done i) refl is (told_some me i (suc n) p es s)
+reported_some : (me i n : ℕ) (p : Proposal) (es : List Entry) (s : ExecutionPlace) → first_done n es i ≡ Some s → ReportedBy me i p n es s
+reported_some me i n p [] s is = absurd (cc)
+reported_some me i n p (e ∷ es) s is = go (first_among n 0 e.done i) refl is (reported_some me i (suc n) p es s)
   where
     rest : Option Receipt
-    rest = told_by me i p (entries_of es)
+    rest = reported_by me i p (entries_of es)
 
-    go : (o : Option ExecutionPlace) → first_among n 0 e.done i ≡ o → or_spot o (first_done (suc n) es i) ≡ Some s → (first_done (suc n) es i ≡ Some s → ToldBy me i p (suc n) es s) → ToldBy me i p n (e ∷ es) s
+    go : (o : Option ExecutionPlace) → first_among n 0 e.done i ≡ o → or_spot o (first_done (suc n) es i) ≡ Some s → (first_done (suc n) es i ≡ Some s → ReportedBy me i p (suc n) es s) → ReportedBy me i p n (e ∷ es) s
     go None none is later =
         let r = later is in
         let at : s.entry ≡ suc n + r.steps = r.counted in
-        record { steps = suc r.steps; counted = omega (arith, at); told = ap (λ t. or_this t rest) (among_none me i n 0 p e e.done none) ∙ r.told }
+        record { steps = suc r.steps; counted = omega (arith, at); reported = ap (λ t. or_this t rest) (among_none me i n 0 p e e.done none) ∙ r.reported }
     go (Some t) some is later =
         let same : t ≡ s = same_Some t s is in
         let found = among_some me i n 0 p e e.done s (some ∙ ap (λ (z : ExecutionPlace). Some z) same) in
@@ -123,16 +123,16 @@ told_some me i n p (e ∷ es) s is = go (first_among n 0 e.done i) refl is (told
         record {
           steps = 0;
           counted = omega (arith, here);
-          told = ap (λ o. or_this o rest) found.0.told ∙ sym (ap (told_done me i p e) (sym (ap (slice_get e.done) at) ∙ found.0.at));
+          reported = ap (λ o. or_this o rest) found.0.reported ∙ sym (ap (reported_done me i p e) (sym (ap (slice_get e.done) at) ∙ found.0.at));
         }
 
 -- what stands where the first execution is noted is the first receipt
-pub told_spot : (me i : ℕ) (p : Proposal) (es : List Entry) (s : ExecutionPlace) → first_done 0 es i ≡ Some s → told_at me i p es s ≡ told_by me i p (entries_of es)
-told_spot me i p es s is =
-    let r = told_some me i 0 p es s is in
+pub reported_spot : (me i : ℕ) (p : Proposal) (es : List Entry) (s : ExecutionPlace) → first_done 0 es i ≡ Some s → reported_at me i p es s ≡ reported_by me i p (entries_of es)
+reported_spot me i p es s is =
+    let r = reported_some me i 0 p es s is in
     let steps : s.entry ≡ 0 + r.steps = r.counted in
     let at : s.entry ≡ r.steps = omega (arith, steps) in
-    ap (λ n. told_in me i p (slice_get es n) s.place) at ∙ sym r.told
+    ap (λ n. reported_in me i p (slice_get es n) s.place) at ∙ sym r.reported
 
 -- before any entry
 pub nothing_done : (me : ℕ) (es : List Entry) (spots : List (Option ExecutionPlace)) → es ≡ [] → spots ≡ [] → AreFirsts me es spots
@@ -161,12 +161,12 @@ searched_none l k i n spots p same firsts at low none =
     subst (λ (z : Kept). Some p ≡ own_proposal z.me (entries_of z.entries) i → None ≡ outcome_of z.me (entries_of z.entries) i) same
     (λ own.
     let es = entries_of l.entries in
-    sym (told_first l.me i es p es (sym own) ∙ told_none l.me i 0 p l.entries (sym (none ∙ found_first l.me i n l.entries spots p firsts own at low))))
+    sym (reported_first l.me i es p es (sym own) ∙ reported_none l.me i 0 p l.entries (sym (none ∙ found_first l.me i n l.entries spots p firsts own at low))))
 
 pub searched_some : (l : Log) (k : Kept) (i n : ℕ) (spots : List (Option ExecutionPlace)) (p : Proposal) (s : ExecutionPlace) → l ≡ k → AreFirsts l.me l.entries spots → n ≡ number_of i → number_of i ≤ highest_number → Some s ≡ spot_at spots n
-    → Some p ≡ own_proposal k.me (entries_of k.entries) i → told_at l.me i p l.entries s ≡ outcome_of k.me (entries_of k.entries) i
+    → Some p ≡ own_proposal k.me (entries_of k.entries) i → reported_at l.me i p l.entries s ≡ outcome_of k.me (entries_of k.entries) i
 searched_some l k i n spots p s same firsts at low some =
-    subst (λ (z : Kept). Some p ≡ own_proposal z.me (entries_of z.entries) i → told_at l.me i p l.entries s ≡ outcome_of z.me (entries_of z.entries) i) same
+    subst (λ (z : Kept). Some p ≡ own_proposal z.me (entries_of z.entries) i → reported_at l.me i p l.entries s ≡ outcome_of z.me (entries_of z.entries) i) same
     (λ own.
     let es = entries_of l.entries in
-    told_spot l.me i p l.entries s (sym (some ∙ found_first l.me i n l.entries spots p firsts own at low)) ∙ sym (told_first l.me i es p es (sym own)))
+    reported_spot l.me i p l.entries s (sym (some ∙ found_first l.me i n l.entries spots p firsts own at low)) ∙ sym (reported_first l.me i es p es (sym own)))

@@ -48,11 +48,11 @@ mark_is number stamp m is = go (ltb number 4294967296 && ltb stamp 2814749767106
     go false is = absurd (cc)
 
 -- the clock's mark may come next
-pub clock_next : (k : Kept) (count last told : ℕ) (o : Option Mark) → count ≡ length k.entries → last ≡ last_of k → o ≡ mark_of (count + 1) (1 + max last told) → IfSome o (λ m. MarksNext k.opening k.entries m)
-clock_next k count last told None number stamp is = tt
-clock_next k count last told (Some m) number stamp is =
-    let at = mark_is (count + 1) (1 + max last told) m is in
-    let ticks : m.stamp ≡ 1 + max last told = at.1 in
+pub clock_next : (k : Kept) (count last reported : ℕ) (o : Option Mark) → count ≡ length k.entries → last ≡ last_of k → o ≡ mark_of (count + 1) (1 + max last reported) → IfSome o (λ m. MarksNext k.opening k.entries m)
+clock_next k count last reported None number stamp is = tt
+clock_next k count last reported (Some m) number stamp is =
+    let at = mark_is (count + 1) (1 + max last reported) m is in
+    let ticks : m.stamp ≡ 1 + max last reported = at.1 in
     record { number = at.0 ∙ ap (λ n. n + 1) number; stamp = omega arith }
 
 -- there is a mark: no stamp leaps, and it is the clock's
@@ -120,9 +120,9 @@ pub read_off : (j j' : Kept) (es' : List Entry) (event : Happening) (mark : Opti
 read_off j j' es' event mark r clock a same' is = last_made j j' event r (applied j j' event mark clock a) (subst (λ (xs : List Entry). r ≡ get_or xs (length xs - 1) r) same' is)
 
 -- what the entry proposes is noted
-pub tells_next : (j j' : Kept) (event : Happening) (r : Entry) (me : ℕ) (old mid new : List (Option Proposal)) → Applied j event r j' → me ≡ j'.me → HoldsProposals j.me j.entries old → ((n : ℕ) → found mid n ≡ found old n)
+pub reports_next : (j j' : Kept) (event : Happening) (r : Entry) (me : ℕ) (old mid new : List (Option Proposal)) → Applied j event r j' → me ≡ j'.me → HoldsProposals j.me j.entries old → ((n : ℕ) → found mid n ≡ found old n)
     → ((es : List Entry) → HoldsProposals me es mid → HoldsProposals me (es ++ r ∷ []) new) → HoldsProposals j'.me j'.entries new
-tells_next j j' event r me old mid new a is h same noted =
+reports_next j j' event r me old mid new a is h same noted =
     let em : j'.me ≡ j.me = ap (λ (k : Kept). k.me) a.appended in
     let ee : j'.entries ≡ j.entries ++ r ∷ [] = ap (λ (k : Kept). k.entries) a.appended in
     let here : HoldsProposals me j.entries mid = subst (λ m. HoldsProposals m j.entries mid) (sym (is ∙ em)) (λ n le. same n ∙ h n le) in

@@ -34,10 +34,10 @@ pub grows : (es : List Entry) (e : Entry) (i : ℕ) → proposal_of (entries_of 
 grows es e i = ap (λ xs. proposal_of xs i) (entries_grow es e) ∙ proposal_grows (entries_of es) (entry_of e) i
 
 -- an entry that proposes nothing of the replica's own changes nothing
-pub still_tells : (me : ℕ) (es : List Entry) (e : Entry) (slots : List (Option Proposal)) → ((number : ℕ) → number ≤ highest_number → proposed_by (event_of e.event) (frames_at e.frames) (instance_of me number) ≡ None)
+pub still_reports : (me : ℕ) (es : List Entry) (e : Entry) (slots : List (Option Proposal)) → ((number : ℕ) → number ≤ highest_number → proposed_by (event_of e.event) (frames_at e.frames) (instance_of me number) ≡ None)
     → HoldsProposals me es slots → HoldsProposals me (es ++ e ∷ []) slots
-still_tells me es e slots nothing tells number low =
-    tells number low ∙ sym (grows es e (instance_of me number) ∙ ap (λ p. or_else p (proposal_of (entries_of es) (instance_of me number))) (nothing number low))
+still_reports me es e slots nothing reports number low =
+    reports number low ∙ sym (grows es e (instance_of me number) ∙ ap (λ p. or_else p (proposal_of (entries_of es) (instance_of me number))) (nothing number low))
 
 -- there is a place for an own proposal
 pub own_place : (me : ℕ) (e : Entry) (slots : List (Option Proposal)) (j n : ℕ) (p : Proposal) → HasPlace me e slots → leader_of j ≡ me → n ≡ number_of j → number_of j ≤ highest_number
@@ -59,10 +59,10 @@ pub place_for_none : (me : ℕ) (e : Entry) (slots : List (Option Proposal)) →
 place_for_none me e slots is number limit some = absurd (some (is (instance_of me number)))
 
 -- an own proposal is put at its number
-pub tells_more : (me : ℕ) (es : List Entry) (e : Entry) (slots : List (Option Proposal)) (j n : ℕ) (p : Proposal) → n < length slots → leader_of j ≡ me → n ≡ number_of j → number_of j ≤ highest_number
+pub reports_more : (me : ℕ) (es : List Entry) (e : Entry) (slots : List (Option Proposal)) (j n : ℕ) (p : Proposal) → n < length slots → leader_of j ≡ me → n ≡ number_of j → number_of j ≤ highest_number
     → ((i : ℕ) → proposed_by (event_of e.event) (frames_at e.frames) i ≡ named (Some (j, p)) i)
     → HoldsProposals me es slots → HoldsProposals me (es ++ e ∷ []) (set slots n (Some p))
-tells_more me es e slots j n p room own n_is low is tells number limit = go (eqb j (instance_of me number)) refl
+reports_more me es e slots j n p room own n_is low is reports number limit = go (eqb j (instance_of me number)) refl
   where
     rest : Option Proposal
     rest = proposal_of (entries_of es) (instance_of me number)
@@ -76,15 +76,15 @@ tells_more me es e slots j n p room own n_is low is tells number limit = go (eqb
     go false test =
         let apart : j ≢ instance_of me number = eqb-false j (instance_of me number) test in
         let other : number ≢ n = omega arith in
-        get_or-set_other slots n number (Some p) None other ∙ tells number limit
+        get_or-set_other slots n number (Some p) None other ∙ reports number limit
         ∙ sym (grows es e (instance_of me number) ∙ ap (λ q. or_else q rest) (is (instance_of me number) ∙ ap (λ b. cond b (Some p) None) test))
 
 -- one that another replica leads is not kept
-pub others_tell : (me : ℕ) (es : List Entry) (e : Entry) (slots : List (Option Proposal)) (j : ℕ) (p : Proposal) → leader_of j ≢ me → ((i : ℕ) → proposed_by (event_of e.event) (frames_at e.frames) i ≡ named (Some (j, p)) i)
+pub others_report : (me : ℕ) (es : List Entry) (e : Entry) (slots : List (Option Proposal)) (j : ℕ) (p : Proposal) → leader_of j ≢ me → ((i : ℕ) → proposed_by (event_of e.event) (frames_at e.frames) i ≡ named (Some (j, p)) i)
     → HoldsProposals me es slots → HoldsProposals me (es ++ e ∷ []) slots
-others_tell me es e slots j p other is tells =
-    still_tells me es e slots
-    (λ number limit. is (instance_of me number) ∙ ap (λ b. cond b (Some p) None) (ne_eqb j (instance_of me number) (λ same. other (let this : j ≡ instance_of me number = same in omega arith)))) tells
+others_report me es e slots j p other is reports =
+    still_reports me es e slots
+    (λ number limit. is (instance_of me number) ∙ ap (λ b. cond b (Some p) None) (ne_eqb j (instance_of me number) (λ same. other (let this : j ≡ instance_of me number = same in omega arith)))) reports
 
 -- what an entry proposes, by its first frame
 pub proposal_is : (e : Entry) (client request : ℕ) (command : Command) (seen : ℕ) (spared : Option ℕ) (b : List ℕ) (j : ℕ) → e.event ≡ Propose client request command seen spared → Some b ≡ slice_get e.frames 0 → j ≡ instance_of_message (message_at b)
@@ -98,6 +98,6 @@ proposal_is e client request command seen spared b j is first about i = ap (λ (
         ap (λ n. cond (eqb n i) (Some (record { client = client; request = request; seen = seen })) None) (sym (about ∙ ap (λ (x : List ℕ). instance_of_message (message_at x)) same))
 
 -- before any entry
-pub nothing_told : (me : ℕ) (es : List Entry) (slots : List (Option Proposal)) → es ≡ [] → slots ≡ [] → HoldsProposals me es slots
-nothing_told me es slots none empty number low =
+pub nothing_reported : (me : ℕ) (es : List Entry) (slots : List (Option Proposal)) → es ≡ [] → slots ≡ [] → HoldsProposals me es slots
+nothing_reported me es slots none empty number low =
     ap (λ (xs : List (Option Proposal)). found xs number) empty ∙ sym (ap (λ (xs : List Entry). proposal_of (entries_of xs) (instance_of me number)) none)

@@ -4,7 +4,7 @@ use Rattle.std.proofs.lemmas.Bool.{eqb-true}
 use Rattle.ep_base.specs.declared.reply.Answer.{Answer}
 use Rattle.ep_rules.specs.Journals.{Entry}
 use Rattle.ep_rules.specs.declared.receipt.Receipt.{Receipt}
-use Rattle.ep_replica.specs.Outcomes.{receipt, or_this, told_among, told_by}
+use Rattle.ep_replica.specs.Outcomes.{receipt, or_this, reported_among, reported_by}
 use Rattle.ep_replica.specs.Receipts.{own_proposal, receipt_of, receipts_for, receipts_by, first_about}
 use Rattle.ep_replica.specs.declared.proposal.Proposal.{Proposal}
 
@@ -25,14 +25,14 @@ own_receipt : (me i : ℕ) (e : Entry) (d : ℕ × Answer) (p : Proposal) → eq
 own_receipt me i e d p test =
     ap (λ b. cond b (Some (receipt me d.0 p e d.1)) None) test ∙ ap (λ j. Some (receipt me j p e d.1)) (eqb-true d.0 i test)
 
-told_for : (me i : ℕ) (es : List Entry) (p : Proposal) (e : Entry) (ds : List (ℕ × Answer)) → own_proposal me es i ≡ Some p → first_about i (receipts_for me es e ds) ≡ told_among me i p e ds
-told_for me i es p e [] own = refl
-told_for me i es p e (d ∷ ds) own =
-    first_of_both i (receipt_of me e d (own_proposal me es d.0)) (receipts_for me es e ds) ∙ ap (λ t. or_this (first_about i (receipt_of me e d (own_proposal me es d.0))) t) (told_for me i es p e ds own)
+reported_for : (me i : ℕ) (es : List Entry) (p : Proposal) (e : Entry) (ds : List (ℕ × Answer)) → own_proposal me es i ≡ Some p → first_about i (receipts_for me es e ds) ≡ reported_among me i p e ds
+reported_for me i es p e [] own = refl
+reported_for me i es p e (d ∷ ds) own =
+    first_of_both i (receipt_of me e d (own_proposal me es d.0)) (receipts_for me es e ds) ∙ ap (λ t. or_this (first_about i (receipt_of me e d (own_proposal me es d.0))) t) (reported_for me i es p e ds own)
     ∙ go (eqb d.0 i) refl
   where
     rest : Option Receipt
-    rest = told_among me i p e ds
+    rest = reported_among me i p e ds
 
     go : (b : Bool) → eqb d.0 i ≡ b → or_this (first_about i (receipt_of me e d (own_proposal me es d.0))) rest ≡ cond (eqb d.0 i) (Some (receipt me i p e d.1)) rest
     go true test =
@@ -41,10 +41,10 @@ told_for me i es p e (d ∷ ds) own =
         ap (λ o. or_this (first_about i (receipt_of me e d o)) rest) found ∙ ap (λ t. or_this t rest) (own_receipt me i e d p test) ∙ sym (ap (λ b. cond b (Some (receipt me i p e d.1)) rest) test)
     go false test = ap (λ t. or_this t rest) (other_receipt me i e d (own_proposal me es d.0) test) ∙ sym (ap (λ b. cond b (Some (receipt me i p e d.1)) rest) test)
 
-pub told_first : (me i : ℕ) (es : List Entry) (p : Proposal) (these : List Entry) → own_proposal me es i ≡ Some p → first_about i (receipts_by me es these) ≡ told_by me i p these
-told_first me i es p [] own = refl
-told_first me i es p (e ∷ these) own =
-    first_of_both i (receipts_for me es e e.done) (receipts_by me es these) ∙ ap (λ t. or_this t (first_about i (receipts_by me es these))) (told_for me i es p e e.done own) ∙ ap (λ t. or_this (told_among me i p e e.done) t) (told_first me i es p these own)
+pub reported_first : (me i : ℕ) (es : List Entry) (p : Proposal) (these : List Entry) → own_proposal me es i ≡ Some p → first_about i (receipts_by me es these) ≡ reported_by me i p these
+reported_first me i es p [] own = refl
+reported_first me i es p (e ∷ these) own =
+    first_of_both i (receipts_for me es e e.done) (receipts_by me es these) ∙ ap (λ t. or_this t (first_about i (receipts_by me es these))) (reported_for me i es p e e.done own) ∙ ap (λ t. or_this (reported_among me i p e e.done) t) (reported_first me i es p these own)
 
 none_for : (me i : ℕ) (es : List Entry) (e : Entry) (ds : List (ℕ × Answer)) → own_proposal me es i ≡ None → first_about i (receipts_for me es e ds) ≡ None
 none_for me i es e [] own = refl

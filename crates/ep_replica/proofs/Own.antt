@@ -8,18 +8,18 @@ use Rattle.ep_rules.specs.States.{fresh_state}
 use Rattle.ep_rules.specs.Steps.{Frame, Event, Propose, Handle, GiveUp, Recover, Execute}
 use Rattle.ep_rules.specs.Worlds.{In}
 use Rattle.ep_rules.specs.Journals.{Entry, AreSteps}
-use Rattle.ep_rules.specs.Verdicts.{Proposes, TellsOf, IsOwn}
+use Rattle.ep_rules.specs.Verdicts.{Proposes, ReportsOf, IsOwn}
 use Rattle.ep_rules.specs.declared.receipt.Receipt.{Receipt}
 use Rattle.ep_rules.proofs.Merged.{in_split}
-use Rattle.ep_rules.proofs.OneProposal.{proposals_tell_lem}
+use Rattle.ep_rules.proofs.OneProposal.{proposals_report_lem}
 use Rattle.ep_replica.specs.Receipts.{proposed_by, proposal_of, or_else, own_proposal, receipt_of, receipts_for, receipts_by, receipts_after}
 use Rattle.ep_replica.specs.declared.proposal.Proposal.{Proposal}
 use Rattle.ep_rules.specs.OneMap.{Store}
 
 -- the entry proposes the instance for this request
 pub record Proposer (e : Entry) (i : ℕ) (p : Proposal) : Type 0 where
-  pub tells : TellsOf e i p.client p.request
-  pub same : tells.seen ≡ p.seen
+  pub reports : ReportsOf e i p.client p.request
+  pub same : reports.seen ≡ p.seen
 
 proposer : (e : Entry) (i : ℕ) (p : Proposal) (event : Event) (out : List Frame) → e.event ≡ event → e.out ≡ out → proposed_by event out i ≡ Some p → Proposer e i p
 proposer e i p (Propose client request c seen named) [] ev eo is = absurd (cc)
@@ -32,7 +32,7 @@ proposer e i p (Propose client request c seen named) (m ∷ ms) ev eo is = go (e
     go true test is =
         let same : here ≡ p = (cc) in
         subst (λ (q : Proposal). Proposer e i q) same (record {
-          tells = record { command = c; seen = seen; spared = named; event = ev; frame = m; first = subst (λ (ms : List Frame). slice_get ms 0 ≡ Some m) (sym eo) refl; about = eqb-true (instance_of_message m.sent.message) i test };
+          reports = record { command = c; seen = seen; spared = named; event = ev; frame = m; first = subst (λ (ms : List Frame). slice_get ms 0 ≡ Some m) (sym eo) refl; about = eqb-true (instance_of_message m.sent.message) i test };
           same = refl;
         })
     go false test is = absurd (cc)
@@ -87,8 +87,8 @@ in_drop (suc n) (x ∷ es) e h = inr (in_drop n es e h)
 proposes : (base : Store) (f me : ℕ) (es : List Entry) (i : ℕ) (p : Proposal) → 0 < f → AreSteps f me (fresh_state base) es → proposal_of es i ≡ Some p → (q : Proposes base f me es i p.client p.request) × (q.seen ≡ p.seen)
 proposes base f me es i p some steps is =
     let r = proposer_in es i p is in
-    let q = (proposals_tell_lem base f me es some steps i p.client p.request).1 r.0 r.1 r.2.tells in
-    let same : Propose p.client p.request q.0.command q.0.seen q.0.spared ≡ Propose p.client p.request r.2.tells.command r.2.tells.seen r.2.tells.spared = sym q.0.event ∙ ap (λ (e : Entry). e.event) q.1 ∙ r.2.tells.event in
+    let q = (proposals_report_lem base f me es some steps i p.client p.request).1 r.0 r.1 r.2.reports in
+    let same : Propose p.client p.request q.0.command q.0.seen q.0.spared ≡ Propose p.client p.request r.2.reports.command r.2.reports.seen r.2.reports.spared = sym q.0.event ∙ ap (λ (e : Entry). e.event) q.1 ∙ r.2.reports.event in
     (q.0, (cc) ∙ r.2.same)
 
 pub receipts_are_own : (base : Store) (f me n : ℕ) (es : List Entry) → 0 < f → AreSteps f me (fresh_state base) es → (t : Receipt) → In t (receipts_after me n es) → IsOwn base f me es t

@@ -86,11 +86,11 @@ refused_next k s k' n i fault same is few h short t =
     let here : i ≡ instance_of k.me n = is ∙ ap (λ (z : Kept). instance_of z.me n) same in
     ((i, subst (λ (z : Kept). IsPending z i) same t.0, subst (λ (z : Kept). IsDeclined z (Execute i) fault) same t.1, short, lesser_wait k n i here few h), t.2 ∙ same)
 
--- What isn't told apart.
+-- What isn't distinguished.
 
-pub told_next : (k k' : Kept) (executed : Bool) → TriesNext k (Ok executed) k' → ExecutesNext k executed k'
-told_next k k' true t = t
-told_next k k' false t = (inl t.0, t.1)
+pub reported_next : (k k' : Kept) (executed : Bool) → TriesNext k (Ok executed) k' → ExecutesNext k executed k'
+reported_next k k' true t = t
+reported_next k k' false t = (inl t.0, t.1)
 
 pub held_next : (k k' : Kept) (fault : StepFault) → TriesNext k (Err fault) k' → ExecutesNext k false k'
 held_next k k' fault t = let h = t.0 in (inr (h.0, h.1, (fault, h.2, h.3), h.4), t.1)

@@ -23,15 +23,15 @@ use Rattle.ep_replica.specs.declared.replica_fault.ReplicaFault.TheVariants.{Bad
 abbrev pub last_of : Kept → ℕ
 last_of k = stamp_after k.opening.base_stamp (entries_of k.entries)
 
--- one more than the greatest stamp that is known: the last one, or what the event tells of
+-- one more than the greatest stamp that is known: the last one, or what the event names
 abbrev pub next_stamp : Kept → Happening → ℕ
 next_stamp k event = 1 + max (last_of k) (heard (event_of event))
 
--- in a generation no stamp leaps: what is told of is at most 2^40 above the last one, or one wrong word would end a life and not an event
+-- in a generation no stamp leaps: what is named is at most 2^40 above the last one, or one wrong word would end a life and not an event
 abbrev pub leaps : Version → ℕ → ℕ → Bool
-leaps V1 last told = false
-leaps V2 last told = false
-leaps (V3 g) last told = ltb (last + 1099511627776) told
+leaps V1 last reported = false
+leaps V2 last reported = false
+leaps (V3 g) last reported = ltb (last + 1099511627776) reported
 
 -- the number and the stamp; none where one is past its limit
 abbrev pub mark_of : ℕ → ℕ → Option Mark

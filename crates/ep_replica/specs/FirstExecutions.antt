@@ -45,13 +45,13 @@ AreNoted me n before ds k spots =
 -- The receipt of an execution.
 
 -- what was executed at a place of an entry, as a receipt of instance i
-abbrev pub told_done : ℕ → ℕ → Proposal → Entry → Option (ℕ × Answer) → Option Receipt
-told_done me i p e None = None
-told_done me i p e (Some d) = Some (receipt me i p (entry_of e) d.1)
+abbrev pub reported_done : ℕ → ℕ → Proposal → Entry → Option (ℕ × Answer) → Option Receipt
+reported_done me i p e None = None
+reported_done me i p e (Some d) = Some (receipt me i p (entry_of e) d.1)
 
-abbrev pub told_in : ℕ → ℕ → Proposal → Option Entry → ℕ → Option Receipt
-told_in me i p None place = None
-told_in me i p (Some e) place = told_done me i p e (slice_get e.done place)
+abbrev pub reported_in : ℕ → ℕ → Proposal → Option Entry → ℕ → Option Receipt
+reported_in me i p None place = None
+reported_in me i p (Some e) place = reported_done me i p e (slice_get e.done place)
 
-abbrev pub told_at : ℕ → ℕ → Proposal → List Entry → ExecutionPlace → Option Receipt
-told_at me i p es s = told_in me i p (slice_get es s.entry) s.place
+abbrev pub reported_at : ℕ → ℕ → Proposal → List Entry → ExecutionPlace → Option Receipt
+reported_at me i p es s = reported_in me i p (slice_get es s.entry) s.place

@@ -14,11 +14,11 @@ or_this None other = other
 or_this (Some t) other = Some t
 
 -- that of the first of these executions by the entry
-abbrev pub told_among : ℕ → ℕ → Proposal → Entry → List (ℕ × Answer) → Option Receipt
-told_among me i p e [] = None
-told_among me i p e (d ∷ ds) = cond (eqb d.0 i) (Some (receipt me i p e d.1)) (told_among me i p e ds)
+abbrev pub reported_among : ℕ → ℕ → Proposal → Entry → List (ℕ × Answer) → Option Receipt
+reported_among me i p e [] = None
+reported_among me i p e (d ∷ ds) = cond (eqb d.0 i) (Some (receipt me i p e d.1)) (reported_among me i p e ds)
 
 -- that of the first execution by these entries
-abbrev pub told_by : ℕ → ℕ → Proposal → List Entry → Option Receipt
-told_by me i p [] = None
-told_by me i p (e ∷ es) = or_this (told_among me i p e e.done) (told_by me i p es)
+abbrev pub reported_by : ℕ → ℕ → Proposal → List Entry → Option Receipt
+reported_by me i p [] = None
+reported_by me i p (e ∷ es) = or_this (reported_among me i p e e.done) (reported_by me i p es)

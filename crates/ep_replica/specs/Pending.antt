@@ -62,7 +62,7 @@ ExecutesNext k false k' = (((j : ℕ) → IsPending k j → IsWaiting k j) ⊎ (
 abbrev pub IsHeldUp : Kept → StepFault → Type 0
 IsHeldUp k fault = (i : ℕ) × IsPending k i × IsDeclined k (Execute i) fault × ((fault ≡ Memory) ⊎ (fault ≡ StampFull)) × LesserWait k i
 
--- the same, told apart: the least was executed; or each waits; or it was refused
+-- the same, distinguished: the least was executed; or each waits; or it was refused
 abbrev pub TriesNext : Kept → Result Bool StepFault → Kept → Type 0
 TriesNext k (Ok true) k' = ExecutesNext k true k'
 TriesNext k (Ok false) k' = ((j : ℕ) → IsPending k j → IsWaiting k j) × (k' ≡ k)

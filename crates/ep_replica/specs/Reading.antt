@@ -8,7 +8,7 @@ use Rattle.ep_rules.specs.States.{State}
 use Rattle.ep_replica.specs.declared.reading.Reading.{Reading}
 use Rattle.ep_replica.specs.declared.reading.Reading.TheVariants.{Replied, Waits}
 
--- A read of c at a replica of this state, for which this was found, is told the map's reply, where all of it is executed there. Else it waits for the
+-- A read of c at a replica of this state, for which this was found, is answered the map's reply, where all of it is executed there. Else it waits for the
 -- least that isn't.
 abbrev pub IsReading : State → Command → List ℕ → Reading → Type 0
 IsReading s c found (Replied r) = ((i : ℕ) → Has found i → Has s.executed i) × (r ≡ reply s.store c)

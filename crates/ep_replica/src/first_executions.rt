@@ -123,7 +123,7 @@ impl FirstExecutions {
     #[inline(always)]
     pub(crate) fn mark(&mut self, me: ReplicaId, before: usize, entry: &Entry)
         requires room { HavePlaces me (length self.old) entry.now.done }
-        ensures told { (es : List Entry) → length es ≡ before → AreFirsts me es self.old → AreFirsts me (es ++ entry.now ∷ []) self.new }
+        ensures reported { (es : List Entry) → length es ≡ before → AreFirsts me es self.old → AreFirsts me (es ++ entry.now ∷ []) self.new }
         ensures room { length self.new ≡ length self.old }
     {
         note_all(&mut self.items, me, before, entry.done.as_slice());

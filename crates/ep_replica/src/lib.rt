@@ -4,7 +4,7 @@
 //! keeps the new entry, and sends its frames.
 //! docs/EMBEDDING.md says how, and `ep_example` does it. `ep_world` holds replicas too.
 //!
-//! Start with `replica.rt`, then specs/Applied.antt (one event), specs/Receipts.antt (what callers are told) and `clock.rt`. What a
+//! Start with `replica.rt`, then specs/Applied.antt (one event), specs/Receipts.antt (what callers are answered) and `clock.rt`. What a
 //! program asks beside is in `asking.rt`; where instances were first executed, in `first_executions.rt`.
 //!
 //! It keeps to `ep_journal`'s step, with the number and the stamp of its own clock, and its state is what its journal leaves,

@@ -157,7 +157,7 @@ impl Replica {
     }
 
     /// As `try_next`, but `false` too if memory runs out or no stamp is left.
-    #[tactic(auto, using(crate::proofs::Trying::told_next, crate::proofs::Trying::held_next))]
+    #[tactic(auto, using(crate::proofs::Trying::reported_next, crate::proofs::Trying::held_next))]
     pub fn execute_next(&mut self) -> bool
         ensures { ExecutesNext self.old result self.new }
     {

@@ -1,7 +1,7 @@
 //! Receipts, borrowed.
 
 ghost use Rattle.std.specs.Prelude.{◌≡◌, IfOk};
-ghost use Rattle.ep_replica.specs.FirstExecutions.{told_at};
+ghost use Rattle.ep_replica.specs.FirstExecutions.{reported_at};
 
 use crate::execution_place::ExecutionPlace;
 use crate::proposal::Proposal;
@@ -11,7 +11,7 @@ use ep_rules::Receipt;
 use std::alloc::{AllocError, Global};
 use std::marker::Model;
 
-/// What a client is told of its command, lent by the replica that executed it.
+/// What a client is answered of its command, lent by the replica that executed it.
 #[derive(Drop)]
 pub struct ReceiptView<'a> {
     proposal: Proposal,
@@ -57,14 +57,14 @@ impl<'a> ReceiptView<'a> {
 }
 
 /// The receipt for this proposal of the replica, executed at this spot as this instance; none if nothing was.
-pub(crate) fn told_at<'a>(
+pub(crate) fn reported_at<'a>(
     replica: ReplicaId,
     instance: InstanceId,
     proposal: Proposal,
     entries: &'a [Entry],
     spot: ExecutionPlace,
 ) -> Option<ReceiptView<'a>>
-    ensures { result ≡ told_at replica instance proposal entries.now spot }
+    ensures { result ≡ reported_at replica instance proposal entries.now spot }
 {
     let entry = entries.get(spot.entry)?;
     let (_, answer) = entry.done.as_slice().get(spot.place)?;

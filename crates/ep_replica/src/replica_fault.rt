@@ -8,7 +8,7 @@ use ep_frame::FrameFault;
 use ep_journal::StepFault;
 use thiserror::Error;
 
-/// Why an event was not applied: the bytes are no frame of the replica's version and generation; or a `StepFault`, whose instance is told by its two numbers. The replica is then as it was.
+/// Why an event was not applied: the bytes are no frame of the replica's version and generation; or a `StepFault`, whose instance is reported by its two numbers. The replica is then as it was.
 #[derive(Clone, Copy, Debug, PartialEq, Eq, Error)]
 pub enum ReplicaFault {
     #[error("E1 memory")]
@@ -22,7 +22,7 @@ pub enum ReplicaFault {
     /// The frame is for another replica.
     #[error("E13 not mine")]
     NotMine,
-    /// The entry's stamp or number would pass its limit; or, in a generation, the event tells of a stamp more than 2^40 above the last one.
+    /// The entry's stamp or number would pass its limit; or, in a generation, the event names a stamp more than 2^40 above the last one.
     #[error("E15 stamp full")]
     StampFull,
     /// The replica has a record of each of its instances that is for the command: 2,000 in version 2, and in version 3 9,000 for a seal and 8,990 for

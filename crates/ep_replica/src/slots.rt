@@ -79,7 +79,7 @@ impl Slots {
     pub(crate) fn reserve(&mut self, top: u16) -> Result<(), AllocError>
         ensures room { OnOk result (top < length self.new) }
         ensures same { (number : ℕ) → found self.new number ≡ found self.old number }
-        ensures tells { (me : ℕ) (es : List Entry) → HoldsProposals me es self.old → HoldsProposals me es self.new }
+        ensures reports { (me : ℕ) (es : List Entry) → HoldsProposals me es self.old → HoldsProposals me es self.new }
     {
         for _ in self.items.len()..usize::from(top) + 1 {
             self.items.push(None)?;
@@ -110,7 +110,7 @@ impl Slots {
     #[inline(always)]
     pub(crate) fn note(&mut self, me: ReplicaId, entry: &Entry)
         requires room { HasPlace me entry.now self.old }
-        ensures told { (es : List Entry) → HoldsProposals me es self.old → HoldsProposals me (es ++ entry.now ∷ []) self.new }
+        ensures reported { (es : List Entry) → HoldsProposals me es self.old → HoldsProposals me (es ++ entry.now ∷ []) self.new }
         ensures room { length self.new ≡ length self.old }
     {
         let Some((instance, proposal)) = proposal_in(entry) else {

@@ -24,13 +24,13 @@ pub and_more : (o a b x y : List ℕ) → x ≡ o ++ a → y ≡ x ++ b → y �
 and_more o a b x y e f = f ∙ ap (λ (t : List ℕ). t ++ b) e ∙ append_assoc o a b
 
 -- the parts of a generation's line in a chain
-pub link_told : {T E : Type 0} (r : Result T E) (o g closing contents t1 t2 whole : List ℕ) →
+pub link_reported : {T E : Type 0} (r : Result T E) (o g closing contents t1 t2 whole : List ℕ) →
     t1 ≡ o ++ g → t2 ≡ t1 ++ closing ++ codes " " → OnOk r (whole ≡ t2 ++ contents ++ codes "\n") → OnOk r (whole ≡ o ++ (g ++ closing ++ codes " " ++ contents) ++ codes "\n")
-link_told (Ok x) o g closing contents t1 t2 whole is1 is2 is3 =
+link_reported (Ok x) o g closing contents t1 t2 whole is1 is2 is3 =
     is3 ∙ ap (λ (t : List ℕ). t ++ codes "\n") (
     and_more o (g ++ closing ++ codes " ") contents t2 (t2 ++ contents)
     (and_more o (g ++ closing) (codes " ") (t1 ++ closing) t2 (and_more o g closing t1 (t1 ++ closing) is1 refl) is2) refl)
-link_told (Err x) o g closing contents t1 t2 whole is1 is2 is3 = is3
+link_reported (Err x) o g closing contents t1 t2 whole is1 is2 is3 = is3
 
 -- five parts below a first line
 pub text_of_parts : (first : List ℕ) (p q r s t : List (List ℕ)) (a b c d e f : List ℕ) →

@@ -55,7 +55,7 @@ abbrev pub link_line : Life → ℕ → ℕ → List ℕ
 link_line l committed history =
     generation_line l ++ codes " committed " ++ decimal committed ++ codes " history " ++ decimal history ++ codes " " ++ closing_line l.closing ++ codes " " ++ contents_line l.contents
 
--- What journals and their history tell of it.
+-- What journals and their history say of it.
 
 -- of the generation g, whose clocks went on from the stamp since, the first seal of its history, and the map that this leaves
 abbrev pub life_with : ℕ → ℕ → Option Closing → Contents → Life
@@ -66,21 +66,21 @@ life_at V1 base_stamp closing m = None
 life_at V2 base_stamp closing m = None
 life_at (V3 g) base_stamp closing m = Some (life_with g base_stamp closing m)
 
--- of these journals, where this is the map that a report tells
-abbrev pub life_told : Collected → Option Closing → Option Contents → Option Life
-life_told c closing None = None
-life_told c closing (Some m) = life_at c.version c.opening.base_stamp closing m
+-- of these journals, where this is the map that a report shows
+abbrev pub life_reported : Collected → Option Closing → Option Contents → Option Life
+life_reported c closing None = None
+life_reported c closing (Some m) = life_at c.version c.opening.base_stamp closing m
 
--- the map that a report tells; versions 1 and 2 tell none
-abbrev pub told_at : Version → Contents → Option Contents
-told_at V1 m = None
-told_at V2 m = None
-told_at (V3 g) m = Some m
+-- the map that a report shows; versions 1 and 2 show none
+abbrev pub reported_at : Version → Contents → Option Contents
+reported_at V1 m = None
+reported_at V2 m = None
+reported_at (V3 g) m = Some m
 
 -- of these journals, with this history
-abbrev pub told_in : Collected → List Happening → Option Contents
-told_in c lines = told_at c.version (left_by (opens c.opening) lines)
+abbrev pub reported_in : Collected → List Happening → Option Contents
+reported_in c lines = reported_at c.version (left_by (opens c.opening) lines)
 
 -- what they say of their generation; versions 1 and 2 have none
 abbrev pub life_in : Collected → Summary → Option Life
-life_in c s = life_told c s.closing (told_in c s.history.items)
+life_in c s = life_reported c s.closing (reported_in c s.history.items)

@@ -36,15 +36,15 @@ abbrev pub second_key_text : Option (List ℕ) → List ℕ
 second_key_text None = []
 second_key_text (Some key) = codes " " ++ word_of key
 
--- what an item says of its key: its guard, that it is told, and what is written, those of them that it has
+-- what an item says of its key: its guard, that it is reported, and what is written, those of them that it has
 
 abbrev pub guard_text : List ℕ → Option (Option (List ℕ)) → List ℕ
 guard_text key None = []
 guard_text key (Some wanted) = codes " if " ++ word_of key ++ codes " " ++ option_text wanted
 
-abbrev pub told_text : List ℕ → Bool → List ℕ
-told_text key false = []
-told_text key true = codes " get " ++ word_of key
+abbrev pub reported_text : List ℕ → Bool → List ℕ
+reported_text key false = []
+reported_text key true = codes " get " ++ word_of key
 
 abbrev pub write_text : List ℕ → Option (Option (List ℕ)) → List ℕ
 write_text key None = []
@@ -52,13 +52,13 @@ write_text key (Some None) = codes " del " ++ word_of key
 write_text key (Some (Some value)) = codes " put " ++ word_of key ++ codes " " ++ word_of value
 
 abbrev pub item_text : Item → List ℕ
-item_text i = guard_text i.key i.guard ++ told_text i.key i.told ++ write_text i.key i.write
+item_text i = guard_text i.key i.guard ++ reported_text i.key i.reported ++ write_text i.key i.write
 
 abbrev pub items_text : List Item → List ℕ
 items_text [] = []
 items_text (i ∷ is) = item_text i ++ items_text is
 
--- a value that is told, or that there is none
+-- a value that is reported, or that there is none
 abbrev pub value_text : Option (List ℕ) → List ℕ
 value_text None = codes " absent"
 value_text (Some value) = codes " present " ++ word_of value

@@ -34,7 +34,7 @@ abbrev pub history_lines : ℕ → List Happening → List (List ℕ)
 history_lines place [] = []
 history_lines place (h ∷ hs) = history_line place h ∷ history_lines (place + 1) hs
 
--- what a client was told
+-- what a client was answered
 abbrev pub receipt_line : Receipt → List ℕ
 receipt_line t = codes "client " ++ decimal t.client ++ codes " request " ++ decimal t.request ++ codes " " ++ instance_text t.instance ++ codes " " ++ answer_text t.answer
 

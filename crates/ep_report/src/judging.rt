@@ -5,7 +5,7 @@ ghost use Rattle.ep_report.specs.Judging.{IsSaid};
 
 use crate::findings::Findings;
 use crate::judgement::Judgement;
-use crate::lives::{life_of, told_contents};
+use crate::lives::{life_of, reported_contents};
 use crate::reports::{accepted, refusal};
 use ep_audit::{VerdictFault, audit_summary};
 use ep_journal::Journals;
@@ -22,7 +22,7 @@ pub fn judge(
 {
     match audit_summary(alloc, journals, receipts) {
         Ok(summary) => {
-            let contents = told_contents(alloc, journals, &summary.history)?;
+            let contents = reported_contents(alloc, journals, &summary.history)?;
             let life = life_of(journals, summary.closing.as_ref(), &contents);
             let found = Findings {
                 life: life.as_ref(),

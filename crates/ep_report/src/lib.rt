@@ -1,6 +1,6 @@
 //! The reports of a replicated key-value core: what the program prints of a run, byte for byte.
 //!
-//! `ep_main` prints them, and `ep_library` hands out what an audit says (`judging.rt`). They tell what `ep_audit` finds, a verdict or a fault, and the lines that `ep_replay` and `ep_run` name as refused, each by its `Refusal`.
+//! `ep_main` prints them, and `ep_library` hands out what an audit says (`judging.rt`). They say what `ep_audit` finds, a verdict or a fault, and the lines that `ep_replay` and `ep_run` name as refused, each by its `Refusal`.
 //! It keeps to docs/CLI.md, section 5.
 //!
 //! Start with `reports.rt` and specs/Reports.antt, which says the lines in order.
@@ -28,7 +28,7 @@ pub use judgement::Judgement;
 pub use judging::judge;
 pub use life::Life;
 pub use lines::{push_contents, push_digest, push_link_line};
-pub use lives::{life_of, told_contents};
+pub use lives::{life_of, reported_contents};
 pub use losses::Losses;
 pub use part::Part;
 pub use parts::{

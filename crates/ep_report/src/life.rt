@@ -9,7 +9,7 @@ use ep_base::Generation;
 use ep_exec::Contents;
 use std::marker::Model;
 
-/// A generation, as its journals tell it: its number, the stamp that its clocks went on from, the first seal of its history, if it has one, and
+/// A generation, as its journals report it: its number, the stamp that its clocks went on from, the first seal of its history, if it has one, and
 /// what the keys have after all of the history. Fewer than 2^32 keys have something.
 #[derive(Drop)]
 pub struct Life<'a> {

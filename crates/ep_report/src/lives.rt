@@ -1,9 +1,9 @@
-//! What journals and their history tell of a generation.
+//! What journals and their history say of a generation.
 
 ghost use Rattle.std.specs.Prelude.{◌≡◌, ◌<◌, ◌≤◌, ◌^◌, length, IfOk, IfSome};
 ghost use Rattle.std.specs.FinMap.{entries};
 ghost use Rattle.std.specs.Option.{option_copied};
-ghost use Rattle.ep_report.specs.Lives.{life_told, life_with, told_in};
+ghost use Rattle.ep_report.specs.Lives.{life_reported, life_with, reported_in};
 
 use crate::life::Life;
 use ep_audit::{Closing, Happening, contents_of};
@@ -12,13 +12,13 @@ use ep_exec::Contents;
 use ep_journal::Journals;
 use std::alloc::{AllocError, Global};
 
-/// What the keys have after the journals' history; none in versions 1 and 2, whose reports don't tell it.
-pub fn told_contents(
+/// What the keys have after the journals' history; none in versions 1 and 2, whose reports don't have it.
+pub fn reported_contents(
     alloc: Global,
     journals: &Journals,
     history: &[Happening],
 ) -> Result<Option<Contents>, AllocError>
-    ensures value { IfOk result (λ m. m ≡ told_in journals.now history.now) }
+    ensures value { IfOk result (λ m. m ≡ reported_in journals.now history.now) }
     ensures few { IfOk result (λ m. IfSome m (λ m. length (entries m) < 2 ^ 32)) }
 {
     match journals.version().kind() {
@@ -34,7 +34,7 @@ pub fn life_of<'a>(
     contents: &'a Option<Contents>,
 ) -> Option<Life<'a>>
     requires { IfSome contents.now (λ m. length (entries m) < 2 ^ 32) }
-    ensures { result ≡ life_told journals.now (option_copied closing.entry) contents.now }
+    ensures { result ≡ life_reported journals.now (option_copied closing.entry) contents.now }
 {
     let base_stamp = journals.opening().base_stamp();
     match contents {

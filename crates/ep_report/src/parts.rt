@@ -5,7 +5,7 @@ ghost use Rattle.std.specs.Option.{option_copied};
 ghost use Rattle.ep_base.specs.Commands.{Put, Swap, Cas, Opaque};
 ghost use Rattle.ep_base.specs.CommandParts.{items_of};
 ghost use Rattle.ep_base.specs.Views.{asked, seen, touched};
-ghost use Rattle.ep_report.specs.Parts.{instance_text, deps_text, more_deps, option_text, request_text, second_key_text, guard_text, told_text, write_text, item_text, items_text, value_text, values_text, command_text, reply_text, answer_text, part_text, parts_text};
+ghost use Rattle.ep_report.specs.Parts.{instance_text, deps_text, more_deps, option_text, request_text, second_key_text, guard_text, reported_text, write_text, item_text, items_text, value_text, values_text, command_text, reply_text, answer_text, part_text, parts_text};
 ghost use Rattle.ep_script.specs.Word.{word_of};
 
 use crate::part::Part;
@@ -145,7 +145,7 @@ fn push_item(text: &mut Vec<u8>, item: &ItemView<'_>) -> Result<(), AllocError>
     ensures { OnOk result (text.new.items ≡ text.old.items ++ item_text (seen item.now)) }
 {
     push_guard(text, item.key, item.guard)?;
-    push_told(text, item.key, item.told)?;
+    push_reported(text, item.key, item.reported)?;
     push_write(text, item.key, item.write)
 }
 
@@ -166,10 +166,10 @@ fn push_guard(
     }
 }
 
-fn push_told(text: &mut Vec<u8>, key: &[u8], told: bool) -> Result<(), AllocError>
-    ensures { OnOk result (text.new.items ≡ text.old.items ++ told_text key.now told) }
+fn push_reported(text: &mut Vec<u8>, key: &[u8], reported: bool) -> Result<(), AllocError>
+    ensures { OnOk result (text.new.items ≡ text.old.items ++ reported_text key.now reported) }
 {
-    if told {
+    if reported {
         push_spelled(text, b" get ", key)
     } else {
         Ok(())
@@ -279,18 +279,18 @@ pub fn push_reply(text: &mut Vec<u8>, reply: &Reply) -> Result<(), AllocError>
         Reply::Present(value) => push_spelled(text, b"present ", value.as_slice()),
         Reply::Closed => text.extend_from_slice(b"closed"),
         Reply::Ordered => text.extend_from_slice(b"ordered"),
-        Reply::Done(told) => {
+        Reply::Done(reported) => {
             text.extend_from_slice(b"done")?;
-            push_values(text, told.as_slice())
+            push_values(text, reported.as_slice())
         }
-        Reply::Undone(told) => {
+        Reply::Undone(reported) => {
             text.extend_from_slice(b"undone")?;
-            push_values(text, told.as_slice())
+            push_values(text, reported.as_slice())
         }
     }
 }
 
-// Appends what keys had that are told.
+// Appends what keys had that are reported.
 fn push_values(text: &mut Vec<u8>, values: &[Option<Value>]) -> Result<(), AllocError>
     ensures { OnOk result (text.new.items ≡ text.old.items ++ values_text values.now) }
 {

@@ -39,10 +39,10 @@ joined_first : (x : List ℕ) (xs ys : List (List ℕ)) → joined true ((x ∷ 
 joined_first x xs ys = sym (joined_more x (x ++ joined false xs) (x ++ joined false xs ++ joined false ys) xs ys refl refl)
 
 -- an object whose members come in three parts, of which the first has some
-pub object_told :
+pub object_reported :
     (o a b c d e x : List ℕ) (xs ys zs : List (List ℕ)) → a ≡ o ++ codes "{" → b ≡ a ++ joined true (x ∷ xs) → c ≡ b ++ joined false ys → d ≡ c ++ joined false zs →
     e ≡ d ++ codes "}" → e ≡ o ++ object ((x ∷ xs) ++ ys ++ zs)
-object_told o a b c d e x xs ys zs is1 is2 is3 is4 is5 =
+object_reported o a b c d e x xs ys zs is1 is2 is3 is4 is5 =
     let two : c ≡ a ++ joined true ((x ∷ xs) ++ ys) =
     is3 ∙ ap (λ (t : List ℕ). t ++ joined false ys) is2 ∙ append_assoc a (joined true (x ∷ xs)) (joined false ys) ∙ ap (λ (t : List ℕ). a ++ t) (sym (joined_first x xs ys)) in
     let three : d ≡ a ++ joined true ((x ∷ xs) ++ ys ++ zs) =

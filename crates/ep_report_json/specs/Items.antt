@@ -40,7 +40,7 @@ abbrev pub history_items : ℕ → List Happening → List (List ℕ)
 history_items place [] = []
 history_items place (h ∷ hs) = history_item place h ∷ history_items (place + 1) hs
 
--- what a client was told
+-- what a client was answered
 abbrev pub receipt_item : Receipt → List ℕ
 receipt_item t = object (
     member (codes "client") (decimal t.client)

@@ -12,7 +12,7 @@ use crate::members::{first_word, push_members};
 use crate::reports::{begun, push_closing, push_end, push_generation, refused};
 use ep_audit::{ChainFault, ChainLink, Verdict};
 use ep_json::push_comma;
-use ep_report::{Life, Part, life_of, push_chain_fault, told_contents};
+use ep_report::{Life, Part, life_of, push_chain_fault, reported_contents};
 use std::alloc::{AllocError, Global};
 
 /// The report of a chain that the audit accepts, as one object with an item for each generation.
@@ -59,7 +59,7 @@ fn push_link_value(
 ) -> Result<(), AllocError>
     ensures { OnOk result (text.new.items ≡ text.old.items ++ link_value link.now verdict.now) }
 {
-    let contents = told_contents(alloc, &link.journals, &verdict.history)?;
+    let contents = reported_contents(alloc, &link.journals, &verdict.history)?;
     let life = life_of(&link.journals, verdict.closing.as_ref(), &contents);
     push_life_value(
         text,

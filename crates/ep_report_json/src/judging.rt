@@ -6,7 +6,7 @@ ghost use Rattle.ep_report_json.specs.Judging.{IsJudged};
 use crate::reports::{accepted_json, refusal_json};
 use ep_audit::{VerdictFault, audit_summary};
 use ep_journal::Journals;
-use ep_report::{Findings, Judgement, life_of, told_contents};
+use ep_report::{Findings, Judgement, life_of, reported_contents};
 use ep_rules::Receipt;
 use std::alloc::{AllocError, Global};
 
@@ -20,7 +20,7 @@ pub fn judge_json(
 {
     match audit_summary(alloc, journals, receipts) {
         Ok(summary) => {
-            let contents = told_contents(alloc, journals, &summary.history)?;
+            let contents = reported_contents(alloc, journals, &summary.history)?;
             let life = life_of(journals, summary.closing.as_ref(), &contents);
             let found = Findings {
                 life: life.as_ref(),

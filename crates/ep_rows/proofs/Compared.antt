@@ -15,12 +15,12 @@ cas_x expected new = Cas (120 ∷ []) expected new
 abbrev x_has : List ℕ → Store
 x_has v = record { contents = (120 ∷ [], v) ∷ []; seal = None }
 
--- a lock at x, whose owner's token is its value: 1 takes it, 2 is refused and told who has it, 1 gives it back, 2 takes it
+-- a lock at x, whose owner's token is its value: 1 takes it, 2 is refused and answered who has it, 1 gives it back, 2 takes it
 abbrev lock : List Command
 lock = cas_x None (Some (1 ∷ [])) ∷ (cas_x None (Some (2 ∷ [])) ∷ (cas_x (Some (1 ∷ [])) None ∷ (cas_x None (Some (2 ∷ [])) ∷ [])))
 
-lock_tells : replies (opened empty) lock ≡ Absent ∷ (Present (1 ∷ []) ∷ (Present (1 ∷ []) ∷ (Absent ∷ [])))
-lock_tells = refl
+lock_reports : replies (opened empty) lock ≡ Absent ∷ (Present (1 ∷ []) ∷ (Present (1 ∷ []) ∷ (Absent ∷ [])))
+lock_reports = refl
 
 lock_leaves : after_commands (opened empty) lock ≡ x_has (2 ∷ [])
 lock_leaves = refl
@@ -36,8 +36,8 @@ cas_fits = refl
 cas_differs : after (after (opened empty) (put_x 49)) (cas_x None (Some (50 ∷ []))) ≡ x_has (49 ∷ [])
 cas_differs = refl
 
-cas_tells : replies (x_has (49 ∷ [])) (cas_x (Some (49 ∷ [])) (Some (50 ∷ [])) ∷ (cas_x (Some (49 ∷ [])) (Some (51 ∷ [])) ∷ [])) ≡ Present (49 ∷ []) ∷ (Present (50 ∷ []) ∷ [])
-cas_tells = refl
+cas_reports : replies (x_has (49 ∷ [])) (cas_x (Some (49 ∷ [])) (Some (50 ∷ [])) ∷ (cas_x (Some (49 ∷ [])) (Some (51 ∷ [])) ∷ [])) ≡ Present (49 ∷ []) ∷ (Present (50 ∷ []) ∷ [])
+cas_reports = refl
 
 -- values of one length, and a beginning of another, are not the same
 cas_length : after (x_has (49 ∷ [])) (cas_x (Some (50 ∷ [])) None) ≡ x_has (49 ∷ [])
@@ -50,8 +50,8 @@ cas_beginning = refl
 cas_absent : after (opened empty) (cas_x None None) ≡ opened empty
 cas_absent = refl
 
-cas_absent_tells : replies (opened empty) (cas_x None None ∷ []) ≡ Absent ∷ []
-cas_absent_tells = refl
+cas_absent_reports : replies (opened empty) (cas_x None None ∷ []) ≡ Absent ∷ []
+cas_absent_reports = refl
 
 -- a value of no bytes is a value, and not its absence
 cas_empty_expected : after (opened empty) (cas_x (Some []) (Some (49 ∷ []))) ≡ opened empty
@@ -63,8 +63,8 @@ cas_absent_expected = refl
 cas_empty_new : after (opened empty) (cas_x None (Some [])) ≡ x_has []
 cas_empty_new = refl
 
-cas_empty_told : replies (x_has []) (cas_x (Some []) (Some (49 ∷ [])) ∷ (get_x ∷ [])) ≡ Present [] ∷ (Present (49 ∷ []) ∷ [])
-cas_empty_told = refl
+cas_empty_reported : replies (x_has []) (cas_x (Some []) (Some (49 ∷ [])) ∷ (get_x ∷ [])) ≡ Present [] ∷ (Present (49 ∷ []) ∷ [])
+cas_empty_reported = refl
 
 -- it interferes as a put does: also where it would exchange nothing
 cas_meets : map (λ c. interfere (cas_x None None) c) (put_x 49 ∷ (get_x ∷ (Del (120 ∷ []) ∷ (cas_x None None ∷ (Get (121 ∷ []) ∷ (Noop ∷ [])))))) ≡ true ∷ (true ∷ (true ∷ (true ∷ (false ∷ (false ∷ [])))))
@@ -87,12 +87,12 @@ writer_meets = refl
 reader_meets : map (λ c. interfere (of_both true) c) (put_x 49 ∷ (put_y ∷ (Get (121 ∷ []) ∷ (of_x true ∷ (of_x false ∷ (Swap (record { first = 122 ∷ []; second = 121 ∷ [] }) ∷ [])))))) ≡ true ∷ (true ∷ (false ∷ (false ∷ (true ∷ (true ∷ [])))))
 reader_meets = refl
 
--- it leaves the map, and is told that it is in order
+-- it leaves the map, and is answered that it is in order
 outside_leaves : after (x_has (49 ∷ [])) (of_both false) ≡ x_has (49 ∷ [])
 outside_leaves = refl
 
-outside_told : replies (opened empty) (put_x 49 ∷ (of_both false ∷ (get_x ∷ (of_x true ∷ [])))) ≡ Absent ∷ (Ordered ∷ (Present (49 ∷ []) ∷ (Ordered ∷ [])))
-outside_told = refl
+outside_reported : replies (opened empty) (put_x 49 ∷ (of_both false ∷ (get_x ∷ (of_x true ∷ [])))) ≡ Absent ∷ (Ordered ∷ (Present (49 ∷ []) ∷ (Ordered ∷ [])))
+outside_reported = refl
 
 -- one of x and y at replica 0 and a put of y at replica 1, at once: the put came first to replica 1
 abbrev outside_and_put : Played

@@ -138,7 +138,7 @@ are_moves : (l : Generations) (xs : List Line) → CanAll l xs → AreLifeMoves 
 are_moves l [] can = tt
 are_moves l (x ∷ xs) can = (is_move l x can.0, are_moves (after_move one l (made l x)) xs can.1)
 
--- what the put of the next generation tells: the value before
+-- what the put of the next generation reports: the value before
 abbrev before : Answer
 before = Replied (Present (49 ∷ []))
 
@@ -177,9 +177,9 @@ executed_seal =
 executed_next : (n r : ℕ) → graph_in (node (at n) 1 r).records (instance_of 1 1) ≡ Some (attrs 1 []) → (node (at n) 1 r).executed ≡ [] →
     answers_of (command_in (node (at n) 1 r).records) (node (at n) 1 r).store (instance_of 1 1 ∷ []) ≡ before ∷ [] →
     IsExecution (node (at n) 1 r) (instance_of 1 1) ((instance_of 1 1, before) ∷ [])
-executed_next n r is none told = execution (node (at n) 1 r) (instance_of 1 1) (attrs 1 []) before
+executed_next n r is none reported = execution (node (at n) 1 r) (instance_of 1 1) (attrs 1 []) before
     (subst (IsClosed (graph_in (node (at n) 1 r).records)) (sym none) (closed_none (graph_in (node (at n) 1 r).records))) is (λ j h. absurd (omega arith))
-    (λ h. absurd (none_in (instance_of 1 1) (subst (λ is. Has is (instance_of 1 1)) none h))) told
+    (λ h. absurd (none_in (instance_of 1 1) (subst (λ is. Has is (instance_of 1 1)) none h))) reported
 
 sealed_at : (n : ℕ) (e : Entry) → slice_get (handed_out ((at n).cluster 0) 0) 5 ≡ Some e → Has (order_of e.done) (instance_of 0 2) →
     committed_in (left 1 0 (fresh_state (opened ((at n).map 0 0))) (handed_out ((at n).cluster 0) 0)).records (instance_of 0 2) ≡ Some (decree (Seal (7 ∷ [])) 2 (instance_of 0 1 ∷ [])) →
@@ -346,11 +346,11 @@ reading_is_one = record {
       (subst (λ m. Has (found (state_at no_start one moves 1 m q) get_x) i) (sym (looked_at n (eqb q 0) (eqb q 2) e)) k));
 }
 
--- so it is told the value of that put, and not that of the generation before, which node 0 would have answered when it was asked
-reading_tells : map (λ n. node_reply no_start one moves 1 (record reading { answered = n })) (21 ∷ 25 ∷ []) ≡ Present (49 ∷ []) ∷ (Present (50 ∷ []) ∷ [])
-reading_tells = refl
+-- so it is answered the value of that put, and not that of the generation before, which node 0 would have answered when it was asked
+reading_reports : map (λ n. node_reply no_start one moves 1 (record reading { answered = n })) (21 ∷ 25 ∷ []) ≡ Present (49 ∷ []) ∷ (Present (50 ∷ []) ∷ [])
+reading_reports = refl
 
--- In the first generation, which node 0 has closed, a read is told so: nodes 0 and 1 are looked at when the next one is open.
+-- In the first generation, which node 0 has closed, a read is answered so: nodes 0 and 1 are looked at when the next one is open.
 
 abbrev closed_reading : Read
 closed_reading = record { command = get_x; reader = 0; asked = 14; looked = λ q. point (eqb q 0) (eqb q 1); answered = 22 }
@@ -386,8 +386,8 @@ closed_is_one = record {
       (subst (λ m. Has (found (state_at no_start one moves 0 m q) get_x) i) (sym (looked_at n (eqb q 0) (eqb q 1) e)) k));
 }
 
-closed_tells : node_reply no_start one moves 0 closed_reading ≡ Closed
-closed_tells = refl
+closed_reports : node_reply no_start one moves 0 closed_reading ≡ Closed
+closed_reports = refl
 
 -- the life that stands has the put and the seal of the first generation, and the put of the next one; what a crash took isn't in it
 lived_history : one_history empty one (life_of moves)

@@ -13,15 +13,15 @@ use Rattle.ep_rows.specs.Worlds.{Act}
 use Rattle.ep_rows.proofs.Playing.{Proposal, Deliver, Execution, Played, play, fresh, given, put_x, get_x, put_as}
 
 -- a put is answered at replica 0 (4 acts); then its commit comes to replica 2, which executes it
-abbrev put_told : Played
-put_told =
+abbrev put_reported : Played
+put_reported =
     play 1 fresh (Proposal 0 (put_x 49) ∷ given (1 ∷ 2 ∷ []) (Execution 0 (instance_of 0 1) (Replied Absent) ∷ (Deliver 4 ∷ (Execution 2 (instance_of 0 1) (Replied Absent) ∷ []))))
 
-put_told_refuses_nothing : put_told.refused ≡ []
-put_told_refuses_nothing = refl
+put_reported_refuses_nothing : put_reported.refused ≡ []
+put_reported_refuses_nothing = refl
 
 abbrev acts : List Act
-acts = put_told.acts
+acts = put_reported.acts
 
 -- the point of a look at replica 1, or at replica 2
 abbrev point : Bool → Bool → Option ℕ
@@ -73,9 +73,9 @@ reading_is_one = record {
       (subst (λ m. Has (found ((world_at (opened empty) 1 acts m).states q) get_x) i) (sym is) k));
 }
 
--- so it is told the value of the put, behind which it has its place
-reading_tells : reply_of (opened empty) 1 acts reading ≡ Present (49 ∷ [])
-reading_tells = refl
+-- so it is answered the value of the put, behind which it has its place
+reading_reports : reply_of (opened empty) 1 acts reading ≡ Present (49 ∷ [])
+reading_reports = refl
 
 reading_between : map (λ n. history_at (opened empty) 1 acts n) (4 ∷ 6 ∷ []) ≡ (put_as 0 49 ∷ []) ∷ ((put_as 0 49 ∷ []) ∷ [])
 reading_between = refl

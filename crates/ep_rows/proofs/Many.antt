@@ -9,9 +9,9 @@ use Rattle.ep_base.specs.declared.reply.Reply.TheVariants.{Absent, Present, Clos
 use Rattle.ep_rows.specs.OneMap.{empty, Store, opened, after, after_commands, replies}
 use Rattle.ep_rows.proofs.Playing.{put_x, get_x}
 
--- a key of one byte, with a guard, whether it is told, and what is written
+-- a key of one byte, with a guard, whether it is reported, and what is written
 abbrev item : ℕ → Option (Option (List ℕ)) → Bool → Option (Option (List ℕ)) → Item
-item k guard told write = record { key = k ∷ []; guard = guard; told = told; write = write }
+item k guard reported write = record { key = k ∷ []; guard = guard; reported = reported; write = write }
 
 -- `if x %! put x 1 get y`
 abbrev one : Command
@@ -25,13 +25,13 @@ two = Tx (item 120 None true (Some None) ∷ (item 121 None true (Some (Some (50
 abbrev both : Command
 both = Tx (item 120 None true None ∷ (item 121 None true None ∷ []))
 
--- the guard holds once; told is what was there just before
-one_tells : replies (opened empty) (one ∷ (one ∷ (get_x ∷ []))) ≡ Done (None ∷ []) ∷ (Undone (None ∷ []) ∷ (Present (49 ∷ []) ∷ []))
-one_tells = refl
+-- the guard holds once; what is reported is what was there just before
+one_reports : replies (opened empty) (one ∷ (one ∷ (get_x ∷ []))) ≡ Done (None ∷ []) ∷ (Undone (None ∷ []) ∷ (Present (49 ∷ []) ∷ []))
+one_reports = refl
 
-two_tells : replies (opened empty) (one ∷ (two ∷ (both ∷ (one ∷ (both ∷ [])))))
+two_reports : replies (opened empty) (one ∷ (two ∷ (both ∷ (one ∷ (both ∷ [])))))
     ≡ Done (None ∷ []) ∷ (Done (Some (49 ∷ []) ∷ (None ∷ [])) ∷ (Done (None ∷ (Some (50 ∷ []) ∷ [])) ∷ (Done (Some (50 ∷ []) ∷ []) ∷ (Done (Some (49 ∷ []) ∷ (Some (50 ∷ []) ∷ [])) ∷ []))))
-two_tells = refl
+two_reports = refl
 
 -- one guard that fails keeps all from being written
 none_written : after_commands (opened empty) (Tx (item 120 (Some (Some (49 ∷ []))) false None ∷ (item 121 None false (Some (Some [])) ∷ [])) ∷ []) ≡ opened empty
@@ -42,9 +42,9 @@ all_written : after_commands (opened empty) (put_x 49 ∷ (Tx (item 120 (Some (S
     ≡ record { contents = (121 ∷ [], 50 ∷ []) ∷ []; seal = None }
 all_written = refl
 
--- behind a seal nothing is written, and that is told
-closed_tells : replies (opened empty) (Seal [] ∷ (one ∷ (both ∷ []))) ≡ Absent ∷ (Closed ∷ (Closed ∷ []))
-closed_tells = refl
+-- behind a seal nothing is written, and that is reported
+closed_reports : replies (opened empty) (Seal [] ∷ (one ∷ (both ∷ []))) ≡ Absent ∷ (Closed ∷ (Closed ∷ []))
+closed_reports = refl
 
 -- any common key, unless both only read
 one_meets : map (λ c. interfere one c) (get_x ∷ (Get (121 ∷ []) ∷ (Get (122 ∷ []) ∷ (both ∷ (one ∷ (Noop ∷ (Seal [] ∷ [])))))))

@@ -52,7 +52,7 @@ module _ (g : Graph) (done : List ℕ) (closed : IsClosed g done) (i : ℕ) (x :
 
 pub execution : (s : State) (i : ℕ) (x : Attrs) (answer : Answer) → IsClosed (graph_in s.records) s.executed → graph_in s.records i ≡ Some x → ((j : ℕ) → Has x.deps j → Has s.executed j) → ¬ Has s.executed i →
     answers_of (command_in s.records) s.store (i ∷ []) ≡ answer ∷ [] → IsExecution s i ((i, answer) ∷ [])
-execution s i x answer closed is deps left told = (alone (graph_in s.records) s.executed closed i x is deps left, sym told)
+execution s i x answer closed is deps left reported = (alone (graph_in s.records) s.executed closed i x is deps left, sym reported)
 
 -- nothing is closed, and so is one instance that depends on nothing
 pub closed_none : (g : Graph) → IsClosed g []

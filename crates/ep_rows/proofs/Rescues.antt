@@ -14,7 +14,7 @@ stopped_commits = refl
 stopped_takes_all : stopped.refused ≡ []
 stopped_takes_all = refl
 
--- a race of two recoveries with one counter, and the leader has stopped: replica 1 is told a counter that isn't above its own, and its second ballot is above both
+-- a race of two recoveries with one counter, and the leader has stopped: replica 1 hears of a counter that isn't above its own, and its second ballot is above both
 abbrev raced : List Line → Played
 raced ls = play 1 fresh (Proposal 0 (put_x 49) ∷ (Recovery 1 (instance_of 0 1) ∷ (Recovery 2 (instance_of 0 1) ∷ given (3 ∷ 6 ∷ []) (Recovery 1 (instance_of 0 1) ∷ ls))))
 
@@ -25,11 +25,11 @@ raced_takes_all : (raced (given (8 ∷ 9 ∷ 11 ∷ 12 ∷ 14 ∷ 15 ∷ []) [])
 raced_takes_all = refl
 
 -- of five replicas two have stopped, all that voted for it but one among them: the one that was spared has committed, and its answer is enough
-abbrev told_one : Played
-told_one = play 2 fresh (Proposal 0 (put_x 49) ∷ given (1 ∷ 2 ∷ 3 ∷ 4 ∷ 5 ∷ 6 ∷ 10 ∷ []) (Recovery 2 (instance_of 0 1) ∷ given (13 ∷ 14 ∷ 15 ∷ 16 ∷ []) []))
+abbrev reported_one : Played
+reported_one = play 2 fresh (Proposal 0 (put_x 49) ∷ given (1 ∷ 2 ∷ 3 ∷ 4 ∷ 5 ∷ 6 ∷ 10 ∷ []) (Recovery 2 (instance_of 0 1) ∷ given (13 ∷ 14 ∷ 15 ∷ 16 ∷ []) []))
 
-told_one_commits : map (λ r. committed told_one r (instance_of 0 1)) (1 ∷ 2 ∷ 3 ∷ 4 ∷ []) ≡ None ∷ Some (decree (put_x 49) 1 []) ∷ None ∷ Some (decree (put_x 49) 1 []) ∷ []
-told_one_commits = refl
+reported_one_commits : map (λ r. committed reported_one r (instance_of 0 1)) (1 ∷ 2 ∷ 3 ∷ 4 ∷ []) ≡ None ∷ Some (decree (put_x 49) 1 []) ∷ None ∷ Some (decree (put_x 49) 1 []) ∷ []
+reported_one_commits = refl
 
-told_one_takes_all : told_one.refused ≡ []
-told_one_takes_all = refl
+reported_one_takes_all : reported_one.refused ≡ []
+reported_one_takes_all = refl

@@ -128,7 +128,7 @@ both = play 1 fresh (Proposal 0 (put_x 49) ∷ (Proposal 1 (put_x 50) ∷ given 
 both_commit : map (λ i. committed both 0 i) (instance_of 0 1 ∷ instance_of 1 1 ∷ []) ≡ Some (decree (put_x 49) 2 (instance_of 1 1 ∷ [])) ∷ Some (decree (put_x 50) 3 (instance_of 0 1 ∷ [])) ∷ []
 both_commit = refl
 
--- two puts of one key, by callers that tell each other nothing: the second one is proposed at another replica, after the first was executed
+-- two puts of one key, by callers that say nothing to each other: the second one is proposed at another replica, after the first was executed
 abbrev in_turn : List Line → Played
 in_turn ls =
     play 1 fresh (Proposal 0 (put_x 49) ∷ given (1 ∷ 2 ∷ 3 ∷ 4 ∷ []) (Execution 0 (instance_of 0 1) (Replied Absent) ∷ (Proposal 1 (put_x 50) ∷ given (5 ∷ 6 ∷ 7 ∷ 8 ∷ []) (Execution 1 (instance_of 0 1) (Replied Absent) ∷ ls))))
@@ -225,5 +225,5 @@ swap_away = refl
 swap_back : after (after (after (opened empty) (put_x 49)) (swap_of 120 121)) (swap_of 120 121) ≡ after (opened empty) (put_x 49)
 swap_back = refl
 
-swap_tells_its_first_key : reply (after (opened empty) (put_x 49)) (swap_of 121 120) ≡ Absent
-swap_tells_its_first_key = refl
+swap_reports_its_first_key : reply (after (opened empty) (put_x 49)) (swap_of 121 120) ≡ Absent
+swap_reports_its_first_key = refl

@@ -32,7 +32,7 @@ abbrev pub written_by : Contents → List Operation → Contents
 written_by m [] = m
 written_by m (o ∷ os) = written_by (written m o.command) os
 
--- and what they are told there
+-- and what they are answered there
 abbrev pub read_by : Contents → List Operation → List Reply
 read_by m [] = []
 read_by m (o ∷ os) = read m o.command ∷ read_by (written m o.command) os
@@ -69,7 +69,7 @@ RunsCloseAlike =
     HasClosed (ends f (opening (opened start)) early) r → HasClosed (ends f (opening (opened start)) (early ++ late)) q →
     store_of (ends f (opening (opened start)) early) r ≡ store_of (ends f (opening (opened start)) (early ++ late)) q
 
--- Whoever has executed a seal has executed each operation up to the first seal: so it can tell of each command of the run whether it was done, and its reply.
+-- Whoever has executed a seal has executed each operation up to the first seal: so it can say of each command of the run whether it was done, and its reply.
 abbrev pub RunsExecuteAll : Type 0
 RunsExecuteAll =
     (start : Contents) (f : ℕ) → 0 < f → size f ≤ 256 → (acts : List Act) → IsRun f (opening (opened start)) acts → (r : ℕ) → HasClosed (ends f (opening (opened start)) acts) r →
@@ -79,4 +79,4 @@ RunsExecuteAll =
 abbrev pub OneSettling : Type 0
 OneSettling =
     (start : Contents) (f : ℕ) → 0 < f → size f ≤ 256 → (early late : List Act) → IsRun f (opening (opened start)) (early ++ late) → (r : ℕ) → HasClosed (ends f (opening (opened start)) early) r →
-    (a : Act) (i : ℕ) (told : Reply) → In a (early ++ late) → In (i, Replied told) a.done → told ≢ Closed → Has ((ends f (opening (opened start)) early).states r).executed i
+    (a : Act) (i : ℕ) (reported : Reply) → In a (early ++ late) → In (i, Replied reported) a.done → reported ≢ Closed → Has ((ends f (opening (opened start)) early).states r).executed i

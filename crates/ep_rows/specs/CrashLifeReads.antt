@@ -53,9 +53,9 @@ pub record IsKept (start : Start) (f : ℕ → ℕ) (moves : List LifeMove) (g q
   pub whole : (n : ℕ) → a ≤ n → n ≤ b → length ((nodes_at start f moves g a).journal q) ≤ length ((nodes_at start f moves g n).journal q)
   pub on_disk : length ((nodes_at start f moves g a).journal q) ≤ (nodes_at start f moves g b).out q
 
--- What a read of one key in generation g has to keep to. Its reply is taken from the reader's map where it is answered, and told when all is on the reader's disk
+-- What a read of one key in generation g has to keep to. Its reply is taken from the reader's map where it is answered, and reported when all is on the reader's disk
 -- that it had then.
-pub record IsCrashLifeRead (start : Start) (f : ℕ → ℕ) (moves : List LifeMove) (g : ℕ) (r : Read) (told : ℕ) : Type 0 where
+pub record IsCrashLifeRead (start : Start) (f : ℕ → ℕ) (moves : List LifeMove) (g : ℕ) (r : Read) (reported : ℕ) : Type 0 where
   pub reads : ReadsOneKey r.command
   pub in_order : r.asked ≤ r.answered
   -- more than F nodes of the generation are looked at, each after the question. What they have needn't be on their disks.
@@ -63,7 +63,7 @@ pub record IsCrashLifeRead (start : Start) (f : ℕ → ℕ) (moves : List LifeM
   pub later : (q n : ℕ) → r.looked q ≡ Some n → r.asked ≤ n
   pub here : (q n : ℕ) → r.looked q ≡ Some n → (generations_at start f moves n).has_opened g q ≡ true
   pub reader : (generations_at start f moves r.answered).has_opened g r.reader ≡ true
-  pub kept : IsKept start f moves g r.reader r.answered told
+  pub kept : IsKept start f moves g r.reader r.answered reported
   -- all that the looks found is executed at the reader when its reply is taken
   pub executed :
       (q n i : ℕ) → r.looked q ≡ Some n → Has (found (state_at start f moves g n q) r.command) i →
@@ -78,19 +78,19 @@ node_reply start f moves g r = reply (state_at start f moves g r.answered r.read
 abbrev pub CrashLifeReadsAreLinearizable : Type 0
 CrashLifeReadsAreLinearizable =
     (start : Start) (f : ℕ → ℕ) → ((g : ℕ) → (0 < f g) × (size (f g) ≤ 256)) → (moves : List LifeMove) → AreLifeMoves f (newborn start) moves →
-    (g : ℕ) (r : Read) (told : ℕ) → IsCrashLifeRead start f moves g r told →
+    (g : ℕ) (r : Read) (reported : ℕ) → IsCrashLifeRead start f moves g r reported →
     let there = in_life moves r in
     (p : ℕ) × (length (history_to start.map f (life_of moves) g there.asked) ≤ p) × (p ≤ length (history_to start.map f (life_of moves) g there.answered))
     × IsRightOrClosed start.map f (life_of moves) g r.command (node_reply start f moves g r) ((generations_at start f moves r.asked).has_opened (suc g)) p
 
 -- What a read of any keys has to keep to. Its reply is taken where it is asked: the looks come after that, and all that they find was executed then.
-pub record IsCrashLifeWholeRead (start : Start) (f : ℕ → ℕ) (moves : List LifeMove) (g : ℕ) (r : Read) (told : ℕ) : Type 0 where
+pub record IsCrashLifeWholeRead (start : Start) (f : ℕ → ℕ) (moves : List LifeMove) (g : ℕ) (r : Read) (reported : ℕ) : Type 0 where
   pub only : only_reads r.command ≡ true
   pub many : f g < count (size (f g)) (λ k. is_some (r.looked k))
   pub later : (k n : ℕ) → r.looked k ≡ Some n → r.asked ≤ n
   pub here : (k n : ℕ) → r.looked k ≡ Some n → (generations_at start f moves n).has_opened g k ≡ true
   pub reader : (generations_at start f moves r.asked).has_opened g r.reader ≡ true
-  pub kept : IsKept start f moves g r.reader r.asked told
+  pub kept : IsKept start f moves g r.reader r.asked reported
   pub executed :
       (k n i : ℕ) → r.looked k ≡ Some n → Has (found (state_at start f moves g n k) r.command) i →
       Has (state_at start f moves g r.asked r.reader).executed i
@@ -99,7 +99,7 @@ pub record IsCrashLifeWholeRead (start : Start) (f : ℕ → ℕ) (moves : List 
 abbrev pub CrashLifeWholeReadsAreLinearizable : Type 0
 CrashLifeWholeReadsAreLinearizable =
     (start : Start) (f : ℕ → ℕ) → ((g : ℕ) → (0 < f g) × (size (f g) ≤ 256)) → (moves : List LifeMove) → AreLifeMoves f (newborn start) moves →
-    (g : ℕ) (r : Read) (told : ℕ) → IsCrashLifeWholeRead start f moves g r told →
+    (g : ℕ) (r : Read) (reported : ℕ) → IsCrashLifeWholeRead start f moves g r reported →
     IsRightOrClosed start.map f (life_of moves) g r.command (reply (state_at start f moves g r.asked r.reader).store r.command)
     ((generations_at start f moves r.asked).has_opened (suc g)) (length (history_to start.map f (life_of moves) g (in_life moves r).asked))
 

@@ -1,5 +1,5 @@
 -- tools/generate writes this file, from crates/ep_rules/specs/OneMap.antt.
--- One map of bytes, until a seal closes it: what commands do to it, and what they are told.
+-- One map of bytes, until a seal closes it: what commands do to it, and what they are answered.
 use Rattle.std.specs.Prelude.{ℕ, List, [], ◌∷◌, Option, Some, None, Bool, true, is_none, not, ◌&&◌, if◌then◌else◌}
 use Rattle.std.specs.Ordering.{nat_cmp}
 use Rattle.std.specs.Cmp.Lexicographic.{slice_cmp}
@@ -49,10 +49,10 @@ abbrev pub with_writes : Contents → List Item → Contents
 with_writes m [] = m
 with_writes m (i ∷ is) = with_writes (with_write m i.key i.write) is
 
--- what each key has that is told
-abbrev pub told_values : Contents → List Item → List (Option (List ℕ))
-told_values m [] = []
-told_values m (i ∷ is) = if i.told then value_at m i.key ∷ told_values m is else told_values m is
+-- what each key has that is reported
+abbrev pub reply_values : Contents → List Item → List (Option (List ℕ))
+reply_values m [] = []
+reply_values m (i ∷ is) = if i.reported then value_at m i.key ∷ reply_values m is else reply_values m is
 
 -- the contents after a command on an open map; a seal leaves them, and so does a command of a machine outside
 abbrev pub written : Contents → Command → Contents
@@ -67,21 +67,21 @@ written m (Opaque p b) = m
 written m (Tx is) = if all_hold m is then with_writes m is else m
 
 -- what a reply says of a key
-abbrev pub told : Option (List ℕ) → Reply
-told None = Absent
-told (Some v) = Present v
+abbrev pub reported : Option (List ℕ) → Reply
+reported None = Absent
+reported (Some v) = Present v
 
--- the reply of an open map: what the command's key, of a swap the first one, has just before it; to a command of a machine outside, that it is in order; to one over many keys, whether it wrote, and what each told key has just before it
+-- the reply of an open map: what the command's key, of a swap the first one, has just before it; to a command of a machine outside, that it is in order; to one over many keys, whether it wrote, and what each reported key has just before it
 abbrev pub read : Contents → Command → Reply
 read m Noop = Absent
-read m (Get k) = told (value_at m k)
-read m (Put k v) = told (value_at m k)
-read m (Del k) = told (value_at m k)
-read m (Swap keys) = told (value_at m keys.first)
-read m (Cas k expected new) = told (value_at m k)
+read m (Get k) = reported (value_at m k)
+read m (Put k v) = reported (value_at m k)
+read m (Del k) = reported (value_at m k)
+read m (Swap keys) = reported (value_at m keys.first)
+read m (Cas k expected new) = reported (value_at m k)
 read m (Seal v) = Absent
 read m (Opaque p b) = Ordered
-read m (Tx is) = if all_hold m is then Done (told_values m is) else Undone (told_values m is)
+read m (Tx is) = if all_hold m is then Done (reply_values m is) else Undone (reply_values m is)
 
 -- the map: what its keys have, and the value of the seal that closed it
 pub record Store : Type 0 where

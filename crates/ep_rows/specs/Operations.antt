@@ -22,7 +22,7 @@ abbrev pub commands_of : List Operation → List Command
 commands_of [] = []
 commands_of (o ∷ os) = o.command ∷ commands_of os
 
--- the operations in these instances, whose commands c tells: a no-op is none
+-- the operations in these instances, whose commands c gives: a no-op is none
 abbrev pub operations_of : (ℕ → Command) → List ℕ → List Operation
 operations_of c [] = []
 operations_of c (i ∷ is) = cond (is_noop (c i)) (operations_of c is) (record { instance = i; command = c i } ∷ operations_of c is)

@@ -19,7 +19,7 @@ use Rattle.ep_rules.proofs.CutHistories.{AreReal, real_history, cut_of, before_s
 use Rattle.ep_rules.proofs.JournalsExecutions.{executions, done_is}
 use Rattle.ep_rules.proofs.OnceDone.{from_once}
 use Rattle.ep_rules.proofs.Places.{place_inj, filter_has}
-use Rattle.ep_rules.proofs.RunCommits.{told_in, wells}
+use Rattle.ep_rules.proofs.RunCommits.{reported_in, wells}
 use Rattle.ep_rules.proofs.RunHistories.{command_is, instance_in}
 use Rattle.ep_rules.proofs.RunsLinear.{linearizability_holds}
 use Rattle.ep_rules.proofs.Sealing.{FirstSeal, find_seal, seal_is}
@@ -39,7 +39,7 @@ meets_seal a b n v e = elim (cases_Bool (interfere a b)) [
 
 module _ (start : Contents) (f : ℕ) (some : 0 < f) (few : size f ≤ 256) (acts : List Act) (run : IsRun f (opening (opened start)) acts) (r : ℕ) (shut : HasClosed (ends f (opening (opened start)) acts) r) where
   abbrev c : ℕ → Command
-  c = told_in (opened start) f acts
+  c = reported_in (opened start) f acts
 
   abbrev l : List ℕ
   l = done_after nothing (executions f (opening (opened start)) acts) r

@@ -60,7 +60,7 @@ real_reply c m (x ∷ xs) i real h = go (eqb x i) (is_noop (c x)) refl refl h (�
     go false false es et l r = rw es (r (after m (c x)) (omega arith))
     go false true es et l r = r m (omega arith) ∙ ap (λ n. reply (after_all c n (take (place xs i) xs)) (c i)) (sym (after_noop m (c x) et))
 
--- what is told at a place of a list
+-- what is reported at a place of a list
 replies_at : (c : ℕ → Command) (m : Store) (xs : List ℕ) (i : ℕ) → Has xs i → get_or (replies m (map c xs)) (place xs i) Absent ≡ reply (after_all c m (take (place xs i) xs)) (c i)
 replies_at c m [] i h = absurd (omega arith)
 replies_at c m (x ∷ xs) i h = go (eqb x i) refl h (replies_at c (after m (c x)) xs i)
@@ -118,19 +118,19 @@ module _ (base : Store) (all : Graph) (c : ℕ → Command) (dep : AreDependent 
       front : take (place (before ++ e.order) i) (before ++ e.order) ≡ before ++ take k e.order
       front = ap (λ n. take n (before ++ e.order)) here ∙ take_in_second before e.order k
 
-      told : get_or e.answers k x ≡ answer (after_all c base (take (place (before ++ e.order) i) (before ++ e.order))) (c i)
-      told = ap (λ as'. get_or as' k x) is ∙ answers_at c (after_all c base before) e.order k i x lt ∙ ap (λ y. answer (after_all c (after_all c base before) (take k e.order)) (c y)) at
+      reported : get_or e.answers k x ≡ answer (after_all c base (take (place (before ++ e.order) i) (before ++ e.order))) (c i)
+      reported = ap (λ as'. get_or as' k x) is ∙ answers_at c (after_all c base before) e.order k i x lt ∙ ap (λ y. answer (after_all c (after_all c base before) (take k e.order)) (c y)) at
           ∙ ap (λ m. answer m (c i)) (sym (after_both c base before (take k e.order)) ∙ ap (λ ys. after_all c base ys) (sym front))
 
       go : (b : Bool) → is_noop (c i) ≡ b → ((is_noop (c i) ≡ true) × (get_or e.answers k x ≡ Lost)) ⊎ (Has (filter (is_real c) h) i × (get_or e.answers k x ≡ Replied (get_or (replies base (map c (filter (is_real c) h))) (place (filter (is_real c) h) i) Absent)))
-      go true n = inl (n, told ∙ ap (λ b. cond b Lost (Replied (reply (after_all c base (take (place (before ++ e.order) i) (before ++ e.order))) (c i)))) n)
+      go true n = inl (n, reported ∙ ap (λ b. cond b Lost (Replied (reply (after_all c base (take (place (before ++ e.order) i) (before ++ e.order))) (c i)))) n)
       go false n =
           let r : is_real c i ≡ true = ap (λ b. cond b false true) n in
           let hi : Has h i = within i has in
           let hr : Has (filter (is_real c) h) i = filter_has (is_real c) h i r hi in
           inr (
             hr,
-            told ∙ ap (λ b. cond b Lost (Replied (reply (after_all c base (take (place (before ++ e.order) i) (before ++ e.order))) (c i)))) n
+            reported ∙ ap (λ b. cond b Lost (Replied (reply (after_all c base (take (place (before ++ e.order) i) (before ++ e.order))) (c i)))) n
                 ∙ ap Replied (same_reply (before ++ e.order) i w has hi ∙ sym (real_reply c base h i r hi) ∙ sym (replies_at c base (filter (is_real c) h) i hr)),
           )
 

@@ -13,7 +13,7 @@ use Rattle.ep_rules.specs.Operations.{Operation, operations_of}
 use Rattle.ep_rules.proofs.Answered.{is_real, noop_left}
 use Rattle.ep_rules.proofs.Executions.{AreExecuted, all_well, start}
 use Rattle.ep_rules.proofs.Places.{has_filter, filter_has, once_filter, filter_forth, filter_back}
-use Rattle.ep_rules.proofs.Turns.{run, Commute, AreUnseen, IsAlike, idle_out, same_after, one_told}
+use Rattle.ep_rules.proofs.Turns.{run, Commute, AreUnseen, IsAlike, idle_out, same_after, one_reported}
 use Rattle.ep_rules.proofs.Wells.{Well, well_ordered}
 
 -- Plans alone.
@@ -84,9 +84,9 @@ module _ {S R : Type 0} (M : Machine S R) (c : ℕ → Command) where
       go true r = r s
       go false r = r (M.after s (op x))
 
-  told : (s : S) (xs : List ℕ) (i : ℕ) → is_noop (c i) ≡ false → Has xs i → reply_to M s (operations_of c xs) i ≡ ask (run step s (take (place xs i) xs)) i
-  told s [] i real h = absurd (omega arith)
-  told s (x ∷ xs) i real h = go (eqb x i) (is_noop (c x)) refl refl h (λ n. told n xs i real)
+  reported : (s : S) (xs : List ℕ) (i : ℕ) → is_noop (c i) ≡ false → Has xs i → reply_to M s (operations_of c xs) i ≡ ask (run step s (take (place xs i) xs)) i
+  reported s [] i real h = absurd (omega arith)
+  reported s (x ∷ xs) i real h = go (eqb x i) (is_noop (c x)) refl refl h (λ n. reported n xs i real)
     where
       go : (t b : Bool) → eqb x i ≡ t → is_noop (c x) ≡ b → cond t 0 (suc (place xs i)) < suc (length xs) →
           ((n : S) → Has xs i → reply_to M n (operations_of c xs) i ≡ ask (run step n (take (place xs i) xs)) i) →
@@ -106,13 +106,13 @@ module _ {S R : Type 0} (M : Machine S R) (c : ℕ → Command) where
   asked s i real = ap (λ t. cond t None (Some (M.reply s (op i)))) real
 
   module _ (all : Graph) (dep : AreDependent all c) (l m : List ℕ) (wl : Well all l) (wm : Well all m) (base : S) where
-    -- two lists in execution order tell an operation the same
-    pub same_told : (i : ℕ) → Has l i → Has m i → is_noop (c i) ≡ false → (x : R) × (reply_to M base (operations_of c l) i ≡ Some x) × (reply_to M base (operations_of c m) i ≡ Some x)
-    same_told i hl hm real =
+    -- two lists in execution order answer an operation alike
+    pub same_reported : (i : ℕ) → Has l i → Has m i → is_noop (c i) ≡ false → (x : R) × (reply_to M base (operations_of c l) i ≡ Some x) × (reply_to M base (operations_of c m) i ≡ Some x)
+    same_reported i hl hm real =
         let s : S = run step base (take (place l i) l) in
-        let first : reply_to M base (operations_of c l) i ≡ ask s i = told base l i real hl in
-        let both : ask s i ≡ ask (run step base (take (place m i) m)) i = one_told step meets commute i base l m wl.once wm.once hl hm (well_ordered all c dep l m wl wm) ask unseen in
-        (M.reply s (op i), first ∙ asked s i real, told base m i real hm ∙ sym both ∙ asked s i real)
+        let first : reply_to M base (operations_of c l) i ≡ ask s i = reported base l i real hl in
+        let both : ask s i ≡ ask (run step base (take (place m i) m)) i = one_reported step meets commute i base l m wl.once wm.once hl hm (well_ordered all c dep l m wl wm) ask unseen in
+        (M.reply s (op i), first ∙ asked s i real, reported base m i real hm ∙ sym both ∙ asked s i real)
 
     -- and, with the same operations, leave one state
     pub same_left : ((i : ℕ) → is_noop (c i) ≡ false → Has l i ↔ Has m i) → after_operations M base (operations_of c l) ≡ after_operations M base (operations_of c m)
@@ -144,7 +144,7 @@ module _ {S R : Type 0} (M : Machine S R) (c : ℕ → Command) where
 pub one_machine_lem : (S R : Type 0) → OneMachine S R
 one_machine_lem S R M base all c es dep h r i hi real =
     let w = all_well all nothing [] es (start all) (planned all nothing es h) in
-    same_told M c all dep (done_after nothing es r) (merged [] es) (w.each r) w.whole base i hi (w.within r i hi) real
+    same_reported M c all dep (done_after nothing es r) (merged [] es) (w.each r) w.whole base i hi (w.within r i hi) real
 
 pub one_state_lem : (S R : Type 0) → OneState S R
 one_state_lem S R M base all c early late dep h r q same =

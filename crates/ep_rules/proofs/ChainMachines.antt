@@ -37,9 +37,9 @@ module _ {S R : Type 0} (M : Machine S R) where
   resumed : (s : S) (xs ys : List Operation) → after_operations M s (xs ++ ys) ≡ after_operations M (after_operations M s xs) ys
   resumed s xs ys = (machines_resume_lem S R M s xs ys).0
 
-  -- what stands up to the seal is told the same
-  cut_told : (s : S) (h : List Operation) (i : ℕ) → Has (instances_of (up_to_seal h)) i → reply_to M s h i ≡ reply_to M s (up_to_seal h) i
-  cut_told s h i k = let t = cut_goes_on h in ap (λ os. reply_to M s os i) t.1 ∙ (machines_resume_lem S R M s (up_to_seal h) t.0).1 i k
+  -- what stands up to the seal is answered the same
+  cut_reported : (s : S) (h : List Operation) (i : ℕ) → Has (instances_of (up_to_seal h)) i → reply_to M s h i ≡ reply_to M s (up_to_seal h) i
+  cut_reported s h i k = let t = cut_goes_on h in ap (λ os. reply_to M s os i) t.1 ∙ (machines_resume_lem S R M s (up_to_seal h) t.0).1 i k
 
   -- operations of generations
 
@@ -77,11 +77,11 @@ module _ {S R : Type 0} (M : Machine S R) where
         ∙ resumed start (operations (joined h m)) (up_to_seal (h m))
         ∙ ap (λ s. after_operations M s (up_to_seal (h m))) (joined_left m)
 
-    -- what it tells an operation of a generation
-    joined_told : (n g i : ℕ) → g < n → Has (instances_of (up_to_seal (h g))) i → reply_in M start (joined h n) g i ≡ reply_to M (state_at M start h g) (up_to_seal (h g)) i
-    joined_told zero g i lt k = absurd (omega arith)
-    joined_told (suc m) g i lt k = elim (cases_lt g m) [
-      | inl less ↦ reply_first start (joined h m) (named m (up_to_seal (h m))) g i (J_forth h m g i less k) ∙ joined_told m g i less k
+    -- what it answers an operation of a generation
+    joined_reported : (n g i : ℕ) → g < n → Has (instances_of (up_to_seal (h g))) i → reply_in M start (joined h n) g i ≡ reply_to M (state_at M start h g) (up_to_seal (h g)) i
+    joined_reported zero g i lt k = absurd (omega arith)
+    joined_reported (suc m) g i lt k = elim (cases_lt g m) [
+      | inl less ↦ reply_first start (joined h m) (named m (up_to_seal (h m))) g i (J_forth h m g i less k) ∙ joined_reported m g i less k
       | inr ge ↦ (
           let is : m ≡ g = omega arith in
           reply_second start (joined h m) (named m (up_to_seal (h m))) g i (λ has. let b = (J_back h m g i has).0 in omega arith)
@@ -97,7 +97,7 @@ chains_one_machine_lem S R M start n f maps journal schedule chain =
       replies = λ g r o lt k has. (
           let x = journals_one_machine_lem S R M (state_at M start h g) (opened (maps g)) (f g) (journal g) (schedule g) (chain.merges g lt) r o k in
           let there = (J_back h n g o.instance has).1 in
-          (x.0, x.1, joined_told M start h n g o.instance lt there ∙ sym (cut_told M (state_at M start h g) (h g) o.instance there) ∙ x.2));
+          (x.0, x.1, joined_reported M start h n g o.instance lt there ∙ sym (cut_reported M (state_at M start h g) (h g) o.instance there) ∙ x.2));
       closes = λ g r lt seals. (
           let given : Merges (opened (maps g)) (f g) (journal g) (schedule g) = chain.merges g lt in
           let same : executed_at (ends (f g) (opening (opened (maps g))) (acts_of (schedule g))) r ≡ executed_in (opened (maps g)) (f g) (journal g) r =
@@ -137,12 +137,12 @@ module _ (contents : Contents) (f : ℕ → ℕ) (sizes : (g : ℕ) → (0 < f g
     abbrev begin : ℕ → S
     begin g = state_at M start h_in g
 
-    life_told : (g r : ℕ) (o : Operation) → In o (executed_at (run_of g) r) → HasIn (one_history contents f turns) g o.instance →
+    life_reported : (g r : ℕ) (o : Operation) → In o (executed_at (run_of g) r) → HasIn (one_history contents f turns) g o.instance →
         (x : R) × (reply_to M (begin g) (executed_at (run_of g) r) o.instance ≡ Some x) × (reply_in M start (one_history contents f turns) g o.instance ≡ Some x)
-    life_told g r o k has =
+    life_reported g r o k has =
         let x = runs_one_machine_lem S R M (begin g) (base_in g) (f g) (sizes g).0 (sizes g).1 (acts_in g turns) (is_run_of g) r o k in
         let there = J_back h_in (ages turns) g o.instance has in
-        (x.0, x.1, joined_told M start h_in (ages turns) g o.instance there.0 there.1 ∙ sym (cut_told M (begin g) (h_in g) o.instance there.1) ∙ x.2)
+        (x.0, x.1, joined_reported M start h_in (ages turns) g o.instance there.0 there.1 ∙ sym (cut_reported M (begin g) (h_in g) o.instance there.1) ∙ x.2)
 
     life_closes : (g r : ℕ) → has_seal (executed_at (run_of g) r) ≡ true → after_operations M (begin g) (up_to_seal (executed_at (run_of g) r)) ≡ begin (suc g)
     life_closes g r e = (runs_close_machines_lem S R M (begin g) (base_in g) (f g) (sizes g).0 (sizes g).1 (acts_in g turns) (is_run_of g) r e).1
@@ -150,7 +150,7 @@ module _ (contents : Contents) (f : ℕ → ℕ) (sizes : (g : ℕ) → (0 < f g
     one_machine_in : IsOneMachineIn M start contents f turns
     one_machine_in = record {
       replies = λ g r o k has. elim (same_there g r) [
-        | inl e ↦ (let x = life_told g r o (subst (λ os. In o os) e k) has in (x.0, ap (λ os. reply_to M (begin g) os o.instance) e ∙ x.1, x.2))
+        | inl e ↦ (let x = life_reported g r o (subst (λ os. In o os) e k) has in (x.0, ap (λ os. reply_to M (begin g) os o.instance) e ∙ x.1, x.2))
         | inr e ↦ absurd (subst (λ os. In o os) e k)
       ];
       closes = λ g r seals. elim (same_there g r) [

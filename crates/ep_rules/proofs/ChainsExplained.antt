@@ -33,7 +33,7 @@ use Rattle.ep_rules.proofs.JournalsReplies.{merged_same, each_reply_lem}
 use Rattle.ep_rules.proofs.Merged.{of_in}
 use Rattle.ep_rules.proofs.OnceDone.{from_once}
 use Rattle.ep_rules.proofs.Places.{Once, has_cons}
-use Rattle.ep_rules.proofs.RunCommits.{committed_below, decrees, told_in, all_known}
+use Rattle.ep_rules.proofs.RunCommits.{committed_below, decrees, reported_in, all_known}
 use Rattle.ep_rules.proofs.RunHistories.{command_is, instance_in, IsHistory, history_is}
 use Rattle.ep_rules.proofs.RunsLinear.{has_in, linearizability_holds}
 use Rattle.ep_rules.proofs.Sealing.{noop_is}
@@ -74,8 +74,8 @@ module _ (m : Contents) (f : ℕ) (journal : Journals) (schedule : List Schedule
       ap (λ o. or_else o (committed_in (w.states n).records i)) (decrees_below n i)
       ∙ ap (λ (s : State). or_else (agreed_below (opened m) n f journal i) (committed_in s.records i)) (state_is (opened m) f journal schedule given n)
 
-  pub told_same : (i : ℕ) → told_in (opened m) f acts i ≡ command_at (opened m) f journal i
-  told_same i = ap command_of (decrees_below (size f) i)
+  pub reported_same : (i : ℕ) → reported_in (opened m) f acts i ≡ command_at (opened m) f journal i
+  reported_same i = ap command_of (decrees_below (size f) i)
 
   is_history : IsHistory (opened m) f (decrees (opened m) f acts) (history_of (opened m) f acts) (merged [] (executions f (opening (opened m)) acts))
   is_history = history_is (opened m) f (decrees (opened m) f acts) acts (opening (opened m)) [] [] run (all_known (opened m) f given.some given.few acts run) (record { instances = refl; commands = tt })
@@ -83,7 +83,7 @@ module _ (m : Contents) (f : ℕ) (journal : Journals) (schedule : List Schedule
   pub same_history : instances_of (history_from m f schedule) ≡ verdicts.history_of (command_at (opened m) f journal) schedule
   same_history =
       is_history.instances
-      ∙ ap (λ (c : ℕ → Command). filter (is_real c) (merged [] (executions f (opening (opened m)) acts))) (λ t. λ i. told_same i t)
+      ∙ ap (λ (c : ℕ → Command). filter (is_real c) (merged [] (executions f (opening (opened m)) acts))) (λ t. λ i. reported_same i t)
       ∙ ap (λ is. filter (is_real (command_at (opened m) f journal)) is) (merged_same f schedule (opening (opened m)) [] run)
 
   pub closes_left : (r : ℕ) → is_closed (store_left m f journal r) ≡ true →
@@ -104,10 +104,10 @@ module _ (m : Contents) (f : ℕ) (journal : Journals) (schedule : List Schedule
       let x = has_in e.done i k in
       let has : Has (verdicts.history_of (command_at (opened m) f journal) schedule) i = elim (each_reply_lem (opened m) f journal schedule given b.0 i x.0 b.1 (subst (λ (d : Entry). In (i, x.0) d.done) (sym b.3) x.1)) [
         | inl lost ↦ absurd (false≢true (sym (seal_real (command_at (opened m) f journal i) seals) ∙ lost.0))
-        | inr told ↦ told.0
+        | inr reported ↦ reported.0
       ] in
       let s = has_operation (history_from m f schedule) i (subst (λ is. Has is i) (sym same_history) has) in
-      let c : s.0.command ≡ command_at (opened m) f journal i = command_is (told_in (opened m) f acts) (history_of (opened m) f acts) s.0 is_history.commands s.1 ∙ told_same s.0.instance ∙ ap (command_at (opened m) f journal) s.2 in
+      let c : s.0.command ≡ command_at (opened m) f journal i = command_is (reported_in (opened m) f acts) (history_of (opened m) f acts) s.0 is_history.commands s.1 ∙ reported_same s.0.instance ∙ ap (command_at (opened m) f journal) s.2 in
       (s.0, s.1, s.2, ap is_seal c ∙ seals)
 
 pub same_history_lem : SameHistory

@@ -15,7 +15,7 @@ use Rattle.ep_rules.specs.Phases.{holds}
 use Rattle.ep_rules.specs.Recovery.{Choice, CommitIt, AcceptIt, AcceptFast, ProposeIt, ProposeNoop, answered_ballot, top_ballot, votes, did_commit, did_accept_at, did_preaccept_at, did_preaccept_this, is_backed, is_fast_witness, with_vote_of, choose_at, choose}
 use Rattle.ep_rules.proofs.Attributes.{within}
 use Rattle.ep_rules.proofs.Counting.{count_more, count_le, meet, count_without, count_some, least_some, least_none}
-use Rattle.ep_rules.proofs.Facts.{Backed, Quiet, Seen, sees, can_see, CanSee, History, can_accept, CanChoose, Member, CanBeFast, Safe, Free, Decided, IsValid, PreVote, AcceptVote, IsCast, IsLast, ballot_at, Reported, HistoryOk}
+use Rattle.ep_rules.proofs.Facts.{Backed, Quiet, Seen, sees, can_see, CanSee, History, can_accept, CanChoose, Member, CanBeFast, Safe, Free, Decided, IsValid, PreVote, AcceptVote, IsCast, IsLast, ballot_at, PromisedReport, HistoryOk}
 use Rattle.ep_rules.proofs.Stable.{some_of}
 
 -- Votes and answers.
@@ -107,7 +107,7 @@ ChoiceOk f l h b (ProposeIt c) = MayPropose f l h b c
 ChoiceOk f l h b ProposeNoop = MayPropose f l h b Noop
 
 module _ (f l : ℕ) (two : 0 < f) (h : History) (ok : HistoryOk f l h) (b : ℕ) (answer : ℕ → Option (Option Vote))
-    (each : (k : ℕ) (v : Option Vote) → answer k ≡ Some v → Reported f l h k b v)
+    (each : (k : ℕ) (v : Option Vote) → answer k ≡ Some v → PromisedReport f l h k b v)
     (enough : f + 1 ≤ count (size f) (λ r. is_some (answer r))) where
   abbrev top : ℕ
   top = top_ballot l (size f) answer
@@ -126,7 +126,7 @@ module _ (f l : ℕ) (two : 0 < f) (h : History) (ok : HistoryOk f l h) (b : ℕ
   not_above c above lt can =
       let t = heard c lt can in
       let low = top_bounds l (size f) answer t.0 t.1 t.2 t.3 in
-      let gap = (each t.0 t.1 t.3).told.gap c (omega arith) lt in
+      let gap = (each t.0 t.1 t.3).reported.gap c (omega arith) lt in
       false≢true (sym gap ∙ t.4)
 
   abbrev HeardSeen : ℕ → Type 0
@@ -143,7 +143,7 @@ module _ (f l : ℕ) (two : 0 < f) (h : History) (ok : HistoryOk f l h) (b : ℕ
   not_seen_above c above lt can =
       let t = heard_seen c lt can in
       let low = top_bounds l (size f) answer t.0 t.1 t.2 t.3 in
-      let blank = (each t.0 t.1 t.3).told.blank c (omega arith) lt in
+      let blank = (each t.0 t.1 t.3).reported.blank c (omega arith) lt in
       not_both t.5 blank
 
   -- quiet up to b: quiet below the top, and nothing seen at it
@@ -176,20 +176,20 @@ module _ (f l : ℕ) (two : 0 < f) (h : History) (ok : HistoryOk f l h) (b : ℕ
   not_at_top nc na c is lt can =
       let t = heard c lt can in
       let low = top_bounds l (size f) answer t.0 t.1 t.2 t.3 in
-      let told = (each t.0 t.1 t.3).told in
+      let reported = (each t.0 t.1 t.3).reported in
       elim (cases_order (ballot_at f l t.1) c) [
         | inl e ↦ (
-            let u = unaccepted_last t.0 t.1 told.cast (nc t.0 t.1 t.2 t.3) (na t.0 t.1 t.2 t.3 (e ∙ is)) in
+            let u = unaccepted_last t.0 t.1 reported.cast (nc t.0 t.1 t.2 t.3) (na t.0 t.1 t.2 t.3 (e ∙ is)) in
             let i = ap (h.accepted t.0) e in
             false≢true (sym u ∙ i ∙ t.4))
-        | inr (inl below) ↦ false≢true (sym (told.gap c below lt) ∙ t.4)
+        | inr (inl below) ↦ false≢true (sym (reported.gap c below lt) ∙ t.4)
         | inr (inr above) ↦ absurd (omega arith)
       ]
 
   -- an accept at the top
   accept_safe : (k : ℕ) (v : Vote) → answer k ≡ Some (Some v) → is_accept v.status ≡ true → v.ballot ≡ top → MayAccept f l h b v.decree
   accept_safe k v e a at =
-      let cast : AcceptVote f l h k v.ballot v.decree = subst (λ s. IsCast f l h k s v.ballot v.decree) (status_accepted v.status a) (each k (Some v) e).told.cast in
+      let cast : AcceptVote f l h k v.ballot v.decree = subst (λ s. IsCast f l h k s v.ballot v.decree) (status_accepted v.status a) (each k (Some v) e).reported.cast in
       let s = ok.safe v.ballot v.decree cast.chosen in (
         record {
           below = λ c low lt can. elim (cases_order c top) [
@@ -210,7 +210,7 @@ module _ (f l : ℕ) (two : 0 < f) (h : History) (ok : HistoryOk f l h) (b : ℕ
       )
 
   pre_cast : (k : ℕ) (v : Vote) → answer k ≡ Some (Some v) → is_preaccept v.status ≡ true → PreVote f l h k v.ballot v.decree
-  pre_cast k v e p = subst (λ s. IsCast f l h k s v.ballot v.decree) (status_preaccepted v.status p) (each k (Some v) e).told.cast
+  pre_cast k v e p = subst (λ s. IsCast f l h k s v.ballot v.decree) (status_preaccepted v.status p) (each k (Some v) e).reported.cast
 
   abbrev votes_for : Decree → ℕ → Bool
   votes_for y r = is_other l r && votes (did_preaccept_this l y) (answer r)
@@ -281,7 +281,7 @@ module _ (f l : ℕ) (two : 0 < f) (h : History) (ok : HistoryOk f l h) (b : ℕ
       ]
 
   low_top : l ≤ top
-  low_top = let t = some_answer in let low = (each t.0 t.1 t.3).told.low in let at = t.4 in omega arith
+  low_top = let t = some_answer in let low = (each t.0 t.1 t.3).reported.low in let at = t.4 in omega arith
 
   free_cast : (k : ℕ) (s : VoteStatus) (c : ℕ) (x : Decree) → IsCast f l h k s c x → l < c → is_commit s ≡ false → is_accept s ≡ false → Free f l h c
   free_cast k PreAccepted c x v lt u a = v.free lt
@@ -296,7 +296,7 @@ module _ (f l : ℕ) (two : 0 < f) (h : History) (ok : HistoryOk f l h) (b : ℕ
   free_top nc na lt =
       let t = some_answer in
       let at = t.4 in
-      subst (λ c. Free f l h c) t.4 (free_last t.0 t.1 (each t.0 t.1 t.3).told.cast (omega arith) (nc t.0 t.1 t.2 t.3) (na t.0 t.1 t.2 t.3 t.4))
+      subst (λ c. Free f l h c) t.4 (free_last t.0 t.1 (each t.0 t.1 t.3).reported.cast (omega arith) (nc t.0 t.1 t.2 t.3) (na t.0 t.1 t.2 t.3 t.4))
 
   -- where y can be fast, an answer of a member of the fast quorum is a vote for it
   member_cast : (y : Decree) (k : ℕ) (s : VoteStatus) (c : ℕ) (x : Decree) → IsCast f l h k s c x → h.early k ≡ Some y → c ≡ l → k ≢ l → is_commit s ≡ false → is_accept s ≡ false → (is_preaccept s ≡ true) × (x ≡ y)
@@ -313,13 +313,13 @@ module _ (f l : ℕ) (two : 0 < f) (h : History) (ok : HistoryOk f l h) (b : ℕ
   member_votes : NoCommit → NoAccept → top ≡ l → (y : Decree) (can : CanBeFast f l h y) → (k : ℕ) → k < size f → is_fast l can.spared k ≡ true → k ≢ l → (v : Option Vote) → answer k ≡ Some v → votes (did_preaccept_this l y) (Some v) ≡ true
   member_votes nc na is y can k lt member ne v e =
       let r = each k v e in
-      let low = r.told.low in
+      let low = r.reported.low in
       let high = top_bounds l (size f) answer k v lt e in
       let at : ballot_at f l v ≡ l = omega arith in
       let m = r.promised in
       let n = r.before in
       let early : h.early k ≡ Some y = elim (can.members k lt member) [ inl o ↦ o | inr o ↦ absurd (omega arith) ] in
-      member_last y k v r.told.cast early at ne (nc k v lt e) (na k v lt e (at ∙ sym is))
+      member_last y k v r.reported.cast early at ne (nc k v lt e) (na k v lt e (at ∙ sym is))
 
   votes_at : (y : Decree) (k : ℕ) (o : Option (Option Vote)) → answer k ≡ o → is_some o ≡ true → ((v : Option Vote) → o ≡ Some v → votes (did_preaccept_this l y) (Some v) ≡ true) → votes (did_preaccept_this l y) o ≡ true
   votes_at y k None e s all = absurd (cc)
@@ -360,8 +360,8 @@ module _ (f l : ℕ) (two : 0 < f) (h : History) (ok : HistoryOk f l h) (b : ℕ
   leader_quick : NoCommit → (y : Decree) → CanBeFast f l h y → l < size f → (v : Option Vote) → answer l ≡ Some v → ⊥
   leader_quick nc y can lt v e =
       let r = each l v e in
-      let fast = r.told.unfast refl (nc l v lt e) in
-      let low = r.told.low in
+      let fast = r.reported.unfast refl (nc l v lt e) in
+      let low = r.reported.low in
       let m = r.promised in
       let n = r.before in
       elim can.leader [ inl i ↦ absurd (cc) | inr t ↦ absurd (omega (arith, t.1)) ]
@@ -406,12 +406,12 @@ module _ (f l : ℕ) (two : 0 < f) (h : History) (ok : HistoryOk f l h) (b : ℕ
       let is = t.4 in
       quiet_by (λ c low lt can. absurd (omega arith)) (λ k d e v lt o.
       let low = top_bounds l (size f) answer k v lt o in
-      let told = (each k v o).told in
+      let reported = (each k v o).reported in
       let before = (each k v o).before in
       let other = (each t.0 t.1 t.3).before in
       elim (cases_order (ballot_at f l v) top) [
-        | inl i ↦ unseen_last k v d told.cast (nc k v lt o) (na k v lt o i) (nv k v lt o i) (ap (h.seen k) i ∙ e)
-        | inr (inl less) ↦ not_both e (told.blank top less (omega arith))
+        | inl i ↦ unseen_last k v d reported.cast (nc k v lt o) (na k v lt o i) (nv k v lt o i) (ap (h.seen k) i ∙ e)
+        | inr (inl less) ↦ not_both e (reported.blank top less (omega arith))
         | inr (inr more) ↦ absurd (omega arith)
       ])
 
@@ -499,5 +499,5 @@ module _ (f l : ℕ) (two : 0 < f) (h : History) (ok : HistoryOk f l h) (b : ℕ
 
   pub choose_ok : l < size f → ChoiceOk f l h b (choose f l answer)
   choose_ok small = stage_votes did_commit (λ x. CommitIt x) second
-      (λ k v e is. subst (λ st. IsCast f l h k st v.ballot v.decree) (status_committed _ e) (each k (Some v) is).told.cast)
+      (λ k v e is. subst (λ st. IsCast f l h k st v.ballot v.decree) (status_committed _ e) (each k (Some v) is).reported.cast)
       (λ none. two_or_later small (no_commit none))

@@ -1,4 +1,4 @@
--- Machines at a seal: by a machine that stops there, and tells its state.
+-- Machines at a seal: by a machine that stops there, and reports its state.
 use Rattle.std.proofs.Common.{◌≡◌, ℕ, inl, inr, Bool, true, false, cond, eqb, Option, Some, None, List, [], ◌∷◌, refl, sym, ap, subst, ◌∙◌, append-nil}
 use Rattle.std.proofs.lemmas.Bool.{eq-eqb, ne_eqb, false≢true}
 use Rattle.std.specs.Prelude.{◌&&◌, ◌||◌, not}
@@ -16,7 +16,7 @@ use Rattle.ep_rules.specs.Worlds.{opening, In, ends}
 use Rattle.ep_rules.proofs.JournalsCommitted.{is_run, state_is}
 use Rattle.ep_rules.proofs.JournalsExecutions.{executions}
 use Rattle.ep_rules.proofs.Places.{Once, once_filter}
-use Rattle.ep_rules.proofs.RunCommits.{told_in, wells}
+use Rattle.ep_rules.proofs.RunCommits.{reported_in, wells}
 use Rattle.ep_rules.proofs.RunHistories.{instance_in, instances_real}
 use Rattle.ep_rules.proofs.RunMachines.{handed_then, runs_one_machine_lem}
 use Rattle.ep_rules.proofs.Answered.{is_real}
@@ -44,9 +44,9 @@ module _ {S R : Type 0} (M : Machine S R) where
   reply_under true s o = None
   reply_under false s o = cond (is_seal o.command) (Some (M.after s o)) None
 
-  none_told : (b : Bool) (s : S) (o : Operation) → is_seal o.command ≡ false → reply_under b s o ≡ None
-  none_told true s o e = refl
-  none_told false s o e = ap (λ t. cond t (Some (M.after s o)) None) e
+  none_reported : (b : Bool) (s : S) (o : Operation) → is_seal o.command ≡ false → reply_under b s o ≡ None
+  none_reported true s o e = refl
+  none_reported false s o e = ap (λ t. cond t (Some (M.after s o)) None) e
 
   stopped_commute : (b : Bool) (s : S) (o p : Operation) → AreFree o p → after_under (after_under b s o).1 (after_under b s o).0 p ≡ after_under (after_under b s p).1 (after_under b s p).0 o
   stopped_commute true s o p f = refl
@@ -61,16 +61,16 @@ module _ {S R : Type 0} (M : Machine S R) where
     after = λ t o. after_under t.1 t.0 o;
     reply = λ t o. reply_under t.1 t.0 o;
     commute = λ t o p f. stopped_commute t.1 t.0 o p f;
-    unseen = λ t o p f. (let n = no_seals o p f in none_told (after_under t.1 t.0 o).1 (after_under t.1 t.0 o).0 p n.1 ∙ sym (none_told t.1 t.0 p n.1));
+    unseen = λ t o p f. (let n = no_seals o p f in none_reported (after_under t.1 t.0 o).1 (after_under t.1 t.0 o).0 p n.1 ∙ sym (none_reported t.1 t.0 p n.1));
   }
 
   abbrev running : S → S × Bool
   running s = (s, false)
 
-  -- the first seal is told the state that it leaves
-  seal_told : (s : S) (os : List Operation) → Once (instances_of os) → has_seal os ≡ true → (z : Operation) × In z os × (reply_to stopped (running s) os z.instance ≡ Some (Some (after_operations M s (up_to_seal os))))
-  seal_told s [] o h = absurd (false≢true h)
-  seal_told s (o ∷ os) once h = go (is_seal o.command) refl h (seal_told (M.after s o) os once.1)
+  -- the first seal is answered the state that it leaves
+  seal_reported : (s : S) (os : List Operation) → Once (instances_of os) → has_seal os ≡ true → (z : Operation) × In z os × (reply_to stopped (running s) os z.instance ≡ Some (Some (after_operations M s (up_to_seal os))))
+  seal_reported s [] o h = absurd (false≢true h)
+  seal_reported s (o ∷ os) once h = go (is_seal o.command) refl h (seal_reported (M.after s o) os once.1)
     where
       go : (b : Bool) → is_seal o.command ≡ b → (b || has_seal os) ≡ true →
           (has_seal os ≡ true → (z : Operation) × In z os × (reply_to stopped (running (M.after s o)) os z.instance ≡ Some (Some (after_operations M (M.after s o) (up_to_seal os))))) →
@@ -98,10 +98,10 @@ module _ {S R : Type 0} (M : Machine S R) where
       go true e rec = absurd (cc)
       go false e rec = rec e
 
-  -- who is told a state has stopped the machine there
-  told_back : (s : S) (os : List Operation) (i : ℕ) (x : S) → reply_to stopped (running s) os i ≡ Some (Some x) → (has_seal os ≡ true) × (x ≡ after_operations M s (up_to_seal os))
-  told_back s [] i x e = absurd (cc)
-  told_back s (o ∷ os) i x e = go (eqb o.instance i) (is_seal o.command) e (told_back (M.after s o) os i x)
+  -- who is answered a state has stopped the machine there
+  reported_back : (s : S) (os : List Operation) (i : ℕ) (x : S) → reply_to stopped (running s) os i ≡ Some (Some x) → (has_seal os ≡ true) × (x ≡ after_operations M s (up_to_seal os))
+  reported_back s [] i x e = absurd (cc)
+  reported_back s (o ∷ os) i x e = go (eqb o.instance i) (is_seal o.command) e (reported_back (M.after s o) os i x)
     where
       go : (b t : Bool) → cond b (Some (cond t (Some (M.after s o)) None)) (reply_to stopped (M.after s o, t) os i) ≡ Some (Some x) →
           (reply_to stopped (running (M.after s o)) os i ≡ Some (Some x) → (has_seal os ≡ true) × (x ≡ after_operations M (M.after s o) (up_to_seal os))) →
@@ -114,14 +114,14 @@ module _ {S R : Type 0} (M : Machine S R) where
 pub runs_close_machines_lem : (S R : Type 0) → RunsCloseMachines S R
 runs_close_machines_lem S R M start base f some few acts run r sealed =
     let own : List Operation = executed_at (ends f (opening base) acts) r in
-    let cs : ℕ → Command = told_in base f acts in
+    let cs : ℕ → Command = reported_in base f acts in
     let done : List ℕ = done_after nothing (executions f (opening base) acts) r in
     let is : own ≡ operations_of cs done = handed_then base f some few acts run acts [] (append-nil acts) r in
     let once : Once (instances_of own) =
     subst Once (sym (ap instances_of is ∙ instances_real cs cs done (λ i h. refl))) (once_filter (is_real cs) done ((wells base f some few acts run).each r).once) in
-    let z = seal_told M start own once sealed in
+    let z = seal_reported M start own once sealed in
     let x = runs_one_machine_lem (S × Bool) (Option S) (stopped M) (running M start) base f some few acts run r z.0 z.1 in
-    let back = told_back M start (history_of base f acts) z.0.instance (after_operations M start (up_to_seal own)) (x.2 ∙ sym x.1 ∙ z.2) in
+    let back = reported_back M start (history_of base f acts) z.0.instance (after_operations M start (up_to_seal own)) (x.2 ∙ sym x.1 ∙ z.2) in
     back
 
 pub journals_one_machine_lem : (S R : Type 0) → JournalsOneMachine S R

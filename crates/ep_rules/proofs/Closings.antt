@@ -19,7 +19,7 @@ use Rattle.ep_rules.proofs.Executions.{all_well, start as well_start}
 use Rattle.ep_rules.proofs.Interleaved.{interleaved}
 use Rattle.ep_rules.proofs.JournalsExecutions.{executions, Known, Stored, known_next, stored_next, done_is}
 use Rattle.ep_rules.proofs.Replies.{noops_out}
-use Rattle.ep_rules.proofs.RunCommits.{decrees, graph_of, told_in, all_known, locals, dependent}
+use Rattle.ep_rules.proofs.RunCommits.{decrees, graph_of, reported_in, all_known, locals, dependent}
 use Rattle.ep_rules.proofs.RunHistories.{commands_are, IsHistory, history_is}
 use Rattle.ep_rules.proofs.Sealing.{noop_is, closed_stays, by_commands, same_closing, not_seal, stays_open, sealed_here}
 use Rattle.ep_rules.proofs.Runs.{ends_append}
@@ -89,7 +89,7 @@ stored_ends base f all (a ∷ these) w run known stored =
 
 module _ (base : Store) (f : ℕ) (some : 0 < f) (few : size f ≤ 256) (acts : List Act) (run : IsRun f (opening base) acts) where
   abbrev c : ℕ → Command
-  c = told_in base f acts
+  c = reported_in base f acts
 
   pub store_is : (r : ℕ) → store_of (ends f (opening base) acts) r ≡ after_all c base (done_after nothing (executions f (opening base) acts) r)
   store_is r =

@@ -18,7 +18,7 @@ use Rattle.ep_base.proofs.Same.{Decides-same_list}
 use Rattle.ep_base.proofs.Tests.{or_true}
 use Rattle.ep_base.specs.declared.reply.Reply.{Reply}
 use Rattle.ep_base.specs.declared.reply.Reply.TheVariants.{Absent, Done, Undone}
-use Rattle.ep_rules.specs.OneMap.{Contents, value_at, with_key, holds_of, all_hold, with_write, with_writes, told_values, written, read, told, Store, sealed_by, after_under, after, reply_under, reply}
+use Rattle.ep_rules.specs.OneMap.{Contents, value_at, with_key, holds_of, all_hold, with_write, with_writes, reply_values, written, read, reported, Store, sealed_by, after_under, after, reply_under, reply}
 
 abbrev pub is_key : List ℕ → List ℕ → Bool
 is_key q k = eq_by_cmp (slice_cmp nat_cmp) q k
@@ -98,13 +98,13 @@ holds_past m k o (i ∷ is) e =
     let rest = holds_past m k o is n.1 in
     λ t. holds_of i.guard (had t) && rest t
 
-told_past : (m : Contents) (k : List ℕ) (o : Option (List ℕ)) (is : List Item) → has_key k (item_keys is) ≡ false → told_values (with_key m k o) is ≡ told_values m is
-told_past m k o [] e = refl
-told_past m k o (i ∷ is) e =
+reported_past : (m : Contents) (k : List ℕ) (o : Option (List ℕ)) (is : List Item) → has_key k (item_keys is) ≡ false → reply_values (with_key m k o) is ≡ reply_values m is
+reported_past m k o [] e = refl
+reported_past m k o (i ∷ is) e =
     let n = or_parts (same_list k i.key) (has_key k (item_keys is)) e in
     let had = unseen_key m k i.key o n.0 in
-    let rest = told_past m k o is n.1 in
-    λ t. cond i.told (had t ∷ rest t) (rest t)
+    let rest = reported_past m k o is n.1 in
+    λ t. cond i.reported (had t ∷ rest t) (rest t)
 
 item_untouched : (m : Contents) (l k : List ℕ) (w : Option (Option (List ℕ))) → same_list l k ≡ false → value_at (with_write m l w) k ≡ value_at m k
 item_untouched m l k None n = refl
@@ -117,7 +117,7 @@ writes_untouched m (i ∷ is) k e =
     writes_untouched (with_write m i.key i.write) is k n.1 ∙ item_untouched m i.key k i.write (turned k i.key n.0)
 
 abbrev answered : Bool → List (Option (List ℕ)) → Reply
-answered held told = cond held (Done told) (Undone told)
+answered held reported = cond held (Done reported) (Undone reported)
 
 -- a key that a command doesn't name: what is written there is of no matter to it
 
@@ -145,14 +145,14 @@ write_past m k o (Tx is) e =
 
 read_past : (m : Contents) (k : List ℕ) (o : Option (List ℕ)) (b : Command) → has_key k (keys_of b) ≡ false → read (with_key m k o) b ≡ read m b
 read_past m k o Noop e = refl
-read_past m k o (Get l) e = ap told (unseen_key m k l o (alone (same_list k l) e))
-read_past m k o (Put l w) e = ap told (unseen_key m k l o (alone (same_list k l) e))
-read_past m k o (Del l) e = ap told (unseen_key m k l o (alone (same_list k l) e))
-read_past m k o (Swap p) e = ap told (unseen_key m k p.first o (or_parts (same_list k p.first) (same_list k p.second || false) e).0)
-read_past m k o (Cas l x n) e = ap told (unseen_key m k l o (alone (same_list k l) e))
+read_past m k o (Get l) e = ap reported (unseen_key m k l o (alone (same_list k l) e))
+read_past m k o (Put l w) e = ap reported (unseen_key m k l o (alone (same_list k l) e))
+read_past m k o (Del l) e = ap reported (unseen_key m k l o (alone (same_list k l) e))
+read_past m k o (Swap p) e = ap reported (unseen_key m k p.first o (or_parts (same_list k p.first) (same_list k p.second || false) e).0)
+read_past m k o (Cas l x n) e = ap reported (unseen_key m k l o (alone (same_list k l) e))
 read_past m k o (Seal v) e = refl
 read_past m k o (Opaque q w) e = refl
-read_past m k o (Tx is) e = let held = holds_past m k o is e in let told = told_past m k o is e in λ t. answered (held t) (told t)
+read_past m k o (Tx is) e = let held = holds_past m k o is e in let reported = reported_past m k o is e in λ t. answered (held t) (reported t)
 
 untouched : (m : Contents) (b : Command) (k : List ℕ) → has_key k (keys_of b) ≡ false → value_at (written m b) k ≡ value_at m k
 untouched m Noop k e = refl

@@ -1,4 +1,4 @@
--- A history up to its first seal: its places, and what it is told there.
+-- A history up to its first seal: its places, and what it is answered there.
 use Rattle.std.proofs.Common.{◌≡◌, ℕ, zero, suc, ◌<◌, ◌≤◌, Bool, true, false, cond, ◌||◌, inl, inr, Option, Some, None, List, [], ◌∷◌, ◌++◌, length, get_or, refl, sym, ap, subst, ◌∙◌, arith}
 use Rattle.std.proofs.lemmas.Bool.{false≢true}
 use Rattle.std.specs.List.{filter}
@@ -9,7 +9,7 @@ use Rattle.ep_base.specs.Commands.{Command, Noop, Get, Put, Del, Swap, Cas, Seal
 use Rattle.ep_base.specs.declared.reply.Reply.TheVariants.{Absent, Closed, Done, Undone}
 use Rattle.ep_rules.specs.Closing.{has_seal, up_to_seal, written_by, read_by}
 use Rattle.ep_rules.specs.History.{is_new}
-use Rattle.ep_rules.specs.OneMap.{Contents, written, read, told, all_hold, told_values, opened, after, replies}
+use Rattle.ep_rules.specs.OneMap.{Contents, written, read, reported, all_hold, reply_values, opened, after, replies}
 use Rattle.ep_rules.specs.Operations.{Operation, instances_of, commands_of, operations_of, executed_by, new_to, history_after}
 use Rattle.ep_rules.specs.Steps.{order_of}
 use Rattle.ep_rules.specs.Worlds.{World, In, Act, moved}
@@ -127,22 +127,22 @@ find_seal (o ∷ os) e = go (is_seal o.command) refl e (find_seal os)
 
 -- Replies.
 
-told_open : (v : Option (List ℕ)) → told v ≡ Closed → ⊥
-told_open None e = absurd (cc)
-told_open (Some v) e = absurd (cc)
+reported_open : (v : Option (List ℕ)) → reported v ≡ Closed → ⊥
+reported_open None e = absurd (cc)
+reported_open (Some v) e = absurd (cc)
 
 read_open : (m : Contents) (c : Command) → read m c ≡ Closed → ⊥
 read_open m Noop e = absurd (cc)
-read_open m (Get k) e = told_open _ e
-read_open m (Put k v) e = told_open _ e
-read_open m (Del k) e = told_open _ e
-read_open m (Swap p) e = told_open _ e
-read_open m (Cas k x n) e = told_open _ e
+read_open m (Get k) e = reported_open _ e
+read_open m (Put k v) e = reported_open _ e
+read_open m (Del k) e = reported_open _ e
+read_open m (Swap p) e = reported_open _ e
+read_open m (Cas k x n) e = reported_open _ e
 read_open m (Seal v) e = absurd (cc)
 read_open m (Opaque q w) e = absurd (cc)
 read_open m (Tx is) e = go (all_hold m is) e
   where
-    go : (b : Bool) → cond b (Done (told_values m is)) (Undone (told_values m is)) ≡ Closed → ⊥
+    go : (b : Bool) → cond b (Done (reply_values m is)) (Undone (reply_values m is)) ≡ Closed → ⊥
     go true h = absurd (cc)
     go false h = absurd (cc)
 

@@ -152,18 +152,18 @@ module _ (f l : ℕ) where
   ballot_at v = answered_ballot l (Some v)
 
   -- what the last vote v of r says of r's votes below b
-  pub record Told (h : History) (r b : ℕ) (v : Option Vote) : Type 0 where
+  pub record Reported (h : History) (r b : ℕ) (v : Option Vote) : Type 0 where
     pub low : l ≤ ballot_at v
     pub gap : (c : ℕ) → ballot_at v < c → c < b → h.accepted r c ≡ false
     pub blank : (c : ℕ) → ballot_at v < c → c < b → h.seen r c ≡ None
     pub cast : IsLast h r v
     pub unfast : r ≡ l → is_committed v ≡ false → h.fast ≡ None
 
-  -- the same, told with a promise of b
-  pub record Reported (h : History) (r b : ℕ) (v : Option Vote) : Type 0 where
+  -- the same, reported with a promise of b
+  pub record PromisedReport (h : History) (r b : ℕ) (v : Option Vote) : Type 0 where
     pub promised : b ≤ h.promised r
     pub before : ballot_at v < b
-    pub told : Told h r b v
+    pub reported : Reported h r b v
 
   -- the last vote is of this status, at b
   abbrev pub VotedAt : VoteStatus → ℕ → Option Vote → Type 0
@@ -192,7 +192,7 @@ module _ (f l : ℕ) where
     pub unchosen : h.chosen b ≡ None
     pub unasked : h.asked b ≡ None
     pub unvoted : x.promised ≡ b → ballot_at x.vote < b
-    pub each : (k : ℕ) (v : Option Vote) → answer answers k ≡ Some v → Reported h k b v
+    pub each : (k : ℕ) (v : Option Vote) → answer answers k ≡ Some v → PromisedReport h k b v
 
   abbrev pub LedOk : History → ℕ → Record → Option LedInstance → Type 0
   LedOk h r x None = Unit {0}
@@ -204,7 +204,7 @@ module _ (f l : ℕ) where
   pub record HeldOk (h : History) (r : ℕ) (x : Record) (led : Option LedInstance) : Type 0 where
     pub promised : h.promised r ≡ x.promised
     pub order : ballot_at x.vote ≤ x.promised
-    pub vote : (b : ℕ) → Told h r b x.vote
+    pub vote : (b : ℕ) → Reported h r b x.vote
     pub leads : LedOk h r x led
 
   pub record AskOk (h : History) (to b : ℕ) (x : Decree) : Type 0 where
@@ -225,7 +225,7 @@ module _ (f l : ℕ) where
   MessageOk h from to (AcceptOk i b) = h.accepted from b ≡ true
   MessageOk h from to (Commit i x) = Decided h x
   MessageOk h from to (Prepare i b) = Unit {0}
-  MessageOk h from to (PrepareOk i b v) = Reported h from b v
+  MessageOk h from to (PrepareOk i b v) = PromisedReport h from b v
   MessageOk h from to (Nack i b p) = Unit {0}
 
   pub record HistoryOk (h : History) : Type 0 where

@@ -131,7 +131,7 @@ handled_few f me from s (Accept i b x) =
     (either f (is_settled_at b r.vote) nothing (recorded (voted b Accepted x) from (AcceptOk i b)) (none_out f) (one_out f))
 handled_few f me from s (AcceptOk i b) = accept_ok_few f i me b (record_in s i) (more_accepting from (get s.leads i))
 handled_few f me from s (Commit i x) =
-    either f (is_committed (record_in s i).vote) nothing (record { entry = Some (with_commit i (record_in s i) x); led = Some None; told = None; out = [] }) (none_out f) (none_out f)
+    either f (is_committed (record_in s i).vote) nothing (record { entry = Some (with_commit i (record_in s i) x); led = Some None; reported = None; out = [] }) (none_out f) (none_out f)
 handled_few f me from s (Prepare i b) =
     let r : Record = record_in s i in
     either f (ltb b r.promised) (answered from (Nack i b r.promised)) _ (one_out f)
@@ -149,16 +149,16 @@ proposed_few f me q s c (Some n) =
     let i : ℕ = instance_of me (n + 1) in
     placed_few f i (propose f i q c (interference s.records i c)) (limited_few f (interference s.records i c) _ (few f (is_fast (leader_of i) q) _))
 
-recover_few : (f i me : ℕ) (r : Record) (told : ℕ) → FewIn f (recover f i me r told)
-recover_few f i me r told =
+recover_few : (f i me : ℕ) (r : Record) (reported : ℕ) → FewIn f (recover f i me r reported)
+recover_few f i me r reported =
     either_outcome f (is_committed r.vote) (Err AlreadyCommitted) _ tt
-    (either_outcome f (leb (next_counter r told) highest_counter) (Ok (prepare_phase f i me (ballot_of (next_counter r told) me) r)) (Err BallotsExhausted) (few f (is_other me) _) tt)
+    (either_outcome f (leb (next_counter r reported) highest_counter) (Ok (prepare_phase f i me (ballot_of (next_counter r reported) me) r)) (Err BallotsExhausted) (few f (is_other me) _) tt)
 
 acts_few : (f me : ℕ) (s : State) (e : Event) → FewAt f (acts f me s e)
 acts_few f me s (Propose client request c seen named) = proposed_few f me (spared f me named) s c (free_number s.records me)
 acts_few f me s (Handle m) = placed_few f (instance_of_message m.sent.message) _ (handled_few f me m.sent.from s m.sent.message)
 acts_few f me s (GiveUp i) = placed_few f i _ (give_up_few f i me (record_in s i) (get s.leads i))
-acts_few f me s (Recover i) = placed_few f i _ (recover_few f i me (record_in s i) (cell_in s i).told)
+acts_few f me s (Recover i) = placed_few f i _ (recover_few f i me (record_in s i) (cell_in s i).reported)
 acts_few f me s (Execute root) = none_out f
 
 as_many : (me : ℕ) (out : List (ℕ × Message)) → length (sent_from me out) ≡ length out

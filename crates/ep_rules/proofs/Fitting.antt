@@ -154,7 +154,7 @@ fast_fits : (f i me : ℕ) (a : Attrs) (r : Record) (v : Option Vote) → leader
 fast_fits f i me a r None small fits = nothing_fits i me
 fast_fits f i me a r (Some v) small fits = commit_fits f i me _ r small fits
 
-kept_fits : (i me : ℕ) (l : LedInstance) → ChangeFits i me (record { entry = None; led = Some (Some l); told = None; out = [] })
+kept_fits : (i me : ℕ) (l : LedInstance) → ChangeFits i me (record { entry = None; led = Some (Some l); reported = None; out = [] })
 kept_fits i me l = record { entry = tt; out = tt }
 
 count_fits : (f i me b s : ℕ) (a : Attrs) (answers : Answers Attrs) (r : Record) → leader_of i < 256 → BallotFits i b → RecordFits i r → ChangeFits i me (count_pre_accept_ok f i me b s a answers r)
@@ -232,9 +232,9 @@ prepare_fits i me from b r small other counter fits =
     (λ e. split i me (eqb b r.promised) nothing (recorded (record { promised = b; vote = r.vote }) from (PrepareOk i b r.vote)) (λ g. nothing_fits i me)
     (λ g. record { entry = record { promised = ballot; vote = fits.vote }; out = (other, (counter, fits.vote), tt) }))
 
-recover_fits : (f i me : ℕ) (r : Record) (told : ℕ) → me < 256 → RecordFits i r → OutcomeFits i me (recover f i me r told)
-recover_fits f i me r told small fits =
-    let n : ℕ = next_counter r told in
+recover_fits : (f i me : ℕ) (r : Record) (reported : ℕ) → me < 256 → RecordFits i r → OutcomeFits i me (recover f i me r reported)
+recover_fits f i me r reported small fits =
+    let n : ℕ = next_counter r reported in
     let is : counter_of (ballot_of n me) ≡ n = div-mul-add n 256 me small in
     let some : 1 ≤ counter_of (ballot_of n me) = subst (λ k. 1 ≤ k) (sym is) (omega arith) in
     let ballot : BallotFits i (ballot_of n me) = λ e. absurd (omega arith) in
@@ -316,7 +316,7 @@ acts_fit f me s (GiveUp i) few here fits event sc =
     placed_fits i me _ (give_up_fits f i me (record_in s i) (get s.leads i) small)
 acts_fit f me s (Recover i) few here fits event sc =
     let small : leader_of i < 256 = below i (size f) true few (alone _ (screened_within f me (Recover i) _ sc)) in
-    placed_fits i me _ (recover_fits f i me (record_in s i) (cell_in s i).told (omega arith) (found_fits i (get s.records i) small (fits i)))
+    placed_fits i me _ (recover_fits f i me (record_in s i) (cell_in s i).reported (omega arith) (found_fits i (get s.records i) small (fits i)))
 acts_fit f me s (Execute root) few here fits event sc = nothing_fits root me
 
 all_sent : (me : ℕ) (out : List (ℕ × Message)) → AllFit me out → AllSpellable me (sent_from me out)

@@ -17,7 +17,7 @@ use Rattle.ep_rules.proofs.Lives.{in_both}
 use Rattle.ep_rules.proofs.NamedPlaces.{length_named, named_here, named_elsewhere, operations_named, operations_both, length_operations, has_in_or, place_in_both, place_in_second, in_named, named_once, once_both}
 use Rattle.ep_rules.proofs.Places.{Once, has_or}
 
--- Histories of generations, each up to its first seal, joined: places, and what one map tells.
+-- Histories of generations, each up to its first seal, joined: places, and what one map reports.
 module _ (h_of : ℕ → List Operation) where
   abbrev cut : ℕ → List Operation
   cut g = up_to_seal (h_of g)
@@ -138,14 +138,14 @@ module _ (h_of : ℕ → List Operation) where
     -- a legal answer of a generation is one of the joined history
     pub legal_in : (n g i : ℕ) (x : Answer) → ((g : ℕ) → suc g < n → base (suc g) ≡ written_by (base g) (cut g)) → g < n → AreReal (h_of g) → IsLegal (opened (base g)) (h_of g) i x → IsLegalIn start (J n) g i x
     legal_in n g i x next lt real (inl lost) = inl ((λ hj. lost.0 (cut_in (h_of g) i (J_back n g i hj).1).0), inl lost.1)
-    legal_in n g i x next lt real (inr told) = elim (has_or (instances_of (cut g)) i) [
+    legal_in n g i x next lt real (inr reported) = elim (has_or (instances_of (cut g)) i) [
       | inl c ↦ (
           let hj = J_forth n g i lt c in
           let at = J_back n g i hj in
           let p = cut_in (h_of g) i c in
           inr (
             hj,
-            told.1 ∙ ap Replied (
+            reported.1 ∙ ap Replied (
                 ap (λ n. get_or (replies (opened (base g)) (commands_of (h_of g))) n Absent) (sym p.1)
                 ∙ cut_reply (base g) (h_of g) (place (instances_of (cut g)) i) c
                 ∙ sym (read_J n g (place (instances_of (cut g)) i) next lt c)
@@ -153,6 +153,6 @@ module _ (h_of : ℕ → List Operation) where
           ))
       | inr none ↦ inl (
         (λ hj. none (J_back n g i hj).1),
-        inr (told.1 ∙ ap Replied (late_reply (base g) (h_of g) (place (instances_of (h_of g)) i) real (cut_out (h_of g) i none) told.0)),
+        inr (reported.1 ∙ ap Replied (late_reply (base g) (h_of g) (place (instances_of (h_of g)) i) real (cut_out (h_of g) i none) reported.0)),
       )
     ]

@@ -76,8 +76,8 @@ module _ (base : Store) (f : ℕ) (all : ℕ → Option Decree) where
   abbrev pub graph : Graph
   graph i = attrs_of (all i)
 
-  abbrev pub told : ℕ → Command
-  told i = command_of (all i)
+  abbrev pub reported : ℕ → Command
+  reported i = command_of (all i)
 
   -- what is committed at any time is what is committed
   abbrev pub Known : World → List Act → Type 0
@@ -85,13 +85,13 @@ module _ (base : Store) (f : ℕ) (all : ℕ → Option Decree) where
 
   -- each map is what was executed has left
   abbrev pub Stored : World → Type 0
-  Stored w = (r : ℕ) → (w.states r).store ≡ after_all told base (w.states r).executed
+  Stored w = (r : ℕ) → (w.states r).store ≡ after_all reported base (w.states r).executed
 
   pub known_next : (w : World) (a : Act) (these : List Act) → Known w (a ∷ these) → Known (moved f w a) these
   known_next w a these known early late e = known (a ∷ early) late (ap (λ z. a ∷ z) e)
 
   -- the commands of what is executed
-  pub same_commands : (w : World) (a : Act) (these : List Act) → Known w (a ∷ these) → Executes (w.states a.replica) a.event a.done → (i : ℕ) → Has (order_of a.done) i → command_in (w.states a.replica).records i ≡ told i
+  pub same_commands : (w : World) (a : Act) (these : List Act) → Known w (a ∷ these) → Executes (w.states a.replica) a.event a.done → (i : ℕ) → Has (order_of a.done) i → command_in (w.states a.replica).records i ≡ reported i
   same_commands w a these known h i k =
       let x = step_known (w.states a.replica) a.event a.done i h k in
       ap command_of x.1 ∙ sym (ap command_of (known [] (a ∷ these) refl a.replica i x.0 x.1))
@@ -99,12 +99,12 @@ module _ (base : Store) (f : ℕ) (all : ℕ → Option Decree) where
   pub stored_next : (w : World) (a : Act) (these : List Act) → Known w (a ∷ these) → Executes (w.states a.replica) a.event a.done → Stored w → Stored (moved f w a)
   stored_next w a these known h stored r = go (eqb a.replica r) refl
     where
-      go : (b : Bool) → eqb a.replica r ≡ b → (cond b (leaves f r (w.states r) a.event a.done) (w.states r)).store ≡ after_all told base (cond b (leaves f r (w.states r) a.event a.done) (w.states r)).executed
+      go : (b : Bool) → eqb a.replica r ≡ b → (cond b (leaves f r (w.states r) a.event a.done) (w.states r)).store ≡ after_all reported base (cond b (leaves f r (w.states r) a.event a.done) (w.states r)).executed
       go false q = stored r
-      go true q = subst (λ z. (leaves f z (w.states z) a.event a.done).store ≡ after_all told base (leaves f z (w.states z) a.event a.done).executed) (eqb-true a.replica r q)
-          (after_same (command_in (w.states a.replica).records) told (w.states a.replica).store (order_of a.done) (same_commands w a these known h)
-          ∙ ap (λ m. after_all told m (order_of a.done)) (stored a.replica)
-          ∙ sym (after_both told base (w.states a.replica).executed (order_of a.done)))
+      go true q = subst (λ z. (leaves f z (w.states z) a.event a.done).store ≡ after_all reported base (leaves f z (w.states z) a.event a.done).executed) (eqb-true a.replica r q)
+          (after_same (command_in (w.states a.replica).records) reported (w.states a.replica).store (order_of a.done) (same_commands w a these known h)
+          ∙ ap (λ m. after_all reported m (order_of a.done)) (stored a.replica)
+          ∙ sym (after_both reported base (w.states a.replica).executed (order_of a.done)))
 
   module _ (w : World) (a : Act) (these : List Act) (known : Known w (a ∷ these)) (stored : Stored w) (r : ℕ) where
     abbrev rest : List Execution
@@ -115,7 +115,7 @@ module _ (base : Store) (f : ℕ) (all : ℕ → Option Decree) where
 
     -- the run from what r has executed, after this act
     abbrev After : Bool → Type 0
-    After b = IsLocal base graph told (cond b (leaves f r (w.states r) a.event a.done) (w.states r)).executed (History.of r rest)
+    After b = IsLocal base graph reported (cond b (leaves f r (w.states r) a.event a.done) (w.states r)).executed (History.of r rest)
 
     same_executed : (b : Bool) → a.done ≡ [] → (cond b (leaves f r (w.states r) a.event a.done) (w.states r)).executed ≡ (w.states r).executed
     same_executed true none = ap (λ d. (w.states r).executed ++ order_of d) none ∙ append-nil (w.states r).executed
@@ -126,25 +126,25 @@ module _ (base : Store) (f : ℕ) (all : ℕ → Option Decree) where
         let x = attrs_some (committed_in (w.states a.replica).records i) b e in
         ap attrs_of (known [] (a ∷ these) refl a.replica i x.0 x.1) ∙ ap Some x.2
 
-    executed_one : (root : ℕ) → ((i : ℕ) → Has (order_of a.done) i → command_in (w.states a.replica).records i ≡ told i) → IsPlan (graph_in (w.states a.replica).records) (w.states a.replica).executed root (order_of a.done) →
+    executed_one : (root : ℕ) → ((i : ℕ) → Has (order_of a.done) i → command_in (w.states a.replica).records i ≡ reported i) → IsPlan (graph_in (w.states a.replica).records) (w.states a.replica).executed root (order_of a.done) →
         answers_in a.done ≡ answers_of (command_in (w.states a.replica).records) (w.states a.replica).store (order_of a.done) →
-        (b : Bool) → eqb a.replica r ≡ b → After b → IsLocal base graph told (w.states r).executed (cond b (one root ∷ History.of r rest) (History.of r rest))
+        (b : Bool) → eqb a.replica r ≡ b → After b → IsLocal base graph reported (w.states r).executed (cond b (one root ∷ History.of r rest) (History.of r rest))
     executed_one root same plan answers false q rec = rec
     executed_one root same plan answers true q rec =
         let is = eqb-true a.replica r q in
-        let by : answers_in a.done ≡ answers_of told (after_all told base (w.states a.replica).executed) (order_of a.done) =
-        answers ∙ answers_same (command_in (w.states a.replica).records) told (w.states a.replica).store (order_of a.done) same ∙ ap (λ m. answers_of told m (order_of a.done)) (stored a.replica) in (
+        let by : answers_in a.done ≡ answers_of reported (after_all reported base (w.states a.replica).executed) (order_of a.done) =
+        answers ∙ answers_same (command_in (w.states a.replica).records) reported (w.states a.replica).store (order_of a.done) same ∙ ap (λ m. answers_of reported m (order_of a.done)) (stored a.replica) in (
           agrees,
           subst (λ z. IsPlan (graph_in (w.states a.replica).records) (w.states z).executed root (order_of a.done)) is plan,
-          subst (λ z. answers_in a.done ≡ answers_of told (after_all told base (w.states z).executed) (order_of a.done)) is by,
+          subst (λ z. answers_in a.done ≡ answers_of reported (after_all reported base (w.states z).executed) (order_of a.done)) is by,
           rec,
         )
 
-    no_step : a.done ≡ [] → After (eqb a.replica r) → IsLocal base graph told (w.states r).executed (History.of r rest)
-    no_step none rec = subst (λ xs. IsLocal base graph told xs (History.of r rest)) (same_executed (eqb a.replica r) none) rec
+    no_step : a.done ≡ [] → After (eqb a.replica r) → IsLocal base graph reported (w.states r).executed (History.of r rest)
+    no_step none rec = subst (λ xs. IsLocal base graph reported xs (History.of r rest)) (same_executed (eqb a.replica r) none) rec
 
-    local_step : (e : Event) → Executes (w.states a.replica) e a.done → ((i : ℕ) → Has (order_of a.done) i → command_in (w.states a.replica).records i ≡ told i) → After (eqb a.replica r) →
-        IsLocal base graph told (w.states r).executed (History.of r (exec_of w a e rest))
+    local_step : (e : Event) → Executes (w.states a.replica) e a.done → ((i : ℕ) → Has (order_of a.done) i → command_in (w.states a.replica).records i ≡ reported i) → After (eqb a.replica r) →
+        IsLocal base graph reported (w.states r).executed (History.of r (exec_of w a e rest))
     local_step (Propose client request c seen spared) h same rec = no_step h rec
     local_step (Handle m) h same rec = no_step h rec
     local_step (GiveUp i) h same rec = no_step h rec
@@ -152,7 +152,7 @@ module _ (base : Store) (f : ℕ) (all : ℕ → Option Decree) where
     local_step (Execute root) h same rec = executed_one root same h.0 h.1 (eqb a.replica r) refl rec
 
   -- each replica's executions are a local run
-  pub local_runs : (these : List Act) (w : World) → IsRun f w these → Known w these → Stored w → (r : ℕ) → IsLocal base graph told (w.states r).executed (History.of r (executions f w these))
+  pub local_runs : (these : List Act) (w : World) → IsRun f w these → Known w these → Stored w → (r : ℕ) → IsLocal base graph reported (w.states r).executed (History.of r (executions f w these))
   local_runs [] w h known stored r = tt
   local_runs (a ∷ these) w h known stored r =
       local_step w a these known stored r a.event h.0.step.executes (same_commands w a these known h.0.step.executes)

@@ -66,7 +66,7 @@ module _ (base : Store) (f : ℕ) (c : ℕ → Command) (h : List ℕ) where
       let t = at_place a.done k i x e in
       elim (all.0 k i x t.0 t.1) [
         | inl lost ↦ inl (lost.0, sym t.2 ∙ lost.1)
-        | inr told ↦ inr (told.0, sym t.2 ∙ told.1)
+        | inr reported ↦ inr (reported.0, sym t.2 ∙ reported.1)
       ]
 
   pub each_reply_of : (these : List Scheduled) (w : World) → IsRun f w (acts_of these) → AllByRecursion (AnswersBy base c h) (executions f w (acts_of these)) → (a : Scheduled) (k i : ℕ) (x : Answer) → In a these → slice_get a.entry.done k ≡ Some (i, x) → IsReply base c h i x

@@ -29,7 +29,7 @@ newer_entry None e = e
 newer_entry (Some r) e = Some r
 
 abbrev pub applied : Cell → Change → Cell
-applied c ch = record { entry = newer_entry ch.entry c.entry; led = newer ch.led c.led; told = newer ch.told c.told }
+applied c ch = record { entry = newer_entry ch.entry c.entry; led = newer ch.led c.led; reported = newer ch.reported c.reported }
 
 abbrev pub record_of : ℕ → Cell → Record
 record_of i c = record_or_fresh i c.entry
@@ -116,14 +116,14 @@ module _ {f i r : ℕ} {own : Command → Attrs} {new : Command → Type 0} {h :
   pub keep_nack : (from b p : ℕ) → Kept f i r own new h c (answered from (Nack i b p))
   keep_nack from b p = keep_same (answered from (Nack i b p)) (record { held = cell.held; fresh = cell.fresh }) (tt, tt)
 
-  pub keep_told : (promised : ℕ) → Kept f i r own new h c (on_nack promised c.told)
-  keep_told promised = keep_same (on_nack promised c.told) (record { held = cell.held; fresh = cell.fresh }) tt
+  pub keep_reported : (promised : ℕ) → Kept f i r own new h c (on_nack promised c.reported)
+  keep_reported promised = keep_same (on_nack promised c.reported) (record { held = cell.held; fresh = cell.fresh }) tt
 
   pub keep_led : (led : LedInstance) → LedOk f (leader_of i) h r (record_of i c) (Some led) → Kept f i r own new h c (kept led)
   keep_led led p = keep_same (kept led) (record { held = record { promised = (cell.held).promised; order = (cell.held).order; vote = (cell.held).vote; leads = p }; fresh = cell.fresh }) tt
 
-  -- a commit that was told
-  pub keep_committed : (x : Decree) → Decided f (leader_of i) h x → Kept f i r own new h c (record { entry = Some (with_commit i (record_of i c) x); led = Some None; told = None; out = [] })
+  -- a commit that was reported
+  pub keep_committed : (x : Decree) → Decided f (leader_of i) h x → Kept f i r own new h c (record { entry = Some (with_commit i (record_of i c) x); led = Some None; reported = None; out = [] })
   keep_committed x decided = keep_same _ (record { held = commit_held cell h x refl (λ _. refl) (λ _. refl) decided; fresh = λ e. absurd (cc) }) tt
 
   pub keep_commit_phase : (x : Decree) → Decided f (leader_of i) h x → Kept f i r own new h c (commit_phase f i r x (record_of i c))

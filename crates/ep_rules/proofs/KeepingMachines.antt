@@ -67,7 +67,7 @@ module _ {X R : Type 0} (act : (List ℕ → X) → Operation → List ℕ → X
     after = act;
     reply = say;
     commute = λ s o p f. λ t k. at_key s o p f k t;
-    unseen = λ s o p f. keeps.told (act s o) s p (left_there s o p f);
+    unseen = λ s o p f. keeps.reported (act s o) s p (left_there s o p f);
   }
 
 pub keepers_are_machines_lem : (X R : Type 0) → KeepersAreMachines X R

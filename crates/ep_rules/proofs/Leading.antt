@@ -209,16 +209,16 @@ module _ {f i r : ℕ} {own : Command → Attrs} {new : Command → Type 0} (few
 
   keep_count_pre_accept_ok : (from b sp : ℕ) (a : Attrs) (answers : Answers Attrs) → ProposingOk f (leader_of i) h r (record_of i c) b sp answers → (record_of i c).promised ≡ b → is_committed (record_of i c).vote ≡ false →
       MessageOk f (leader_of i) h from r (PreAcceptOk i b a) → Kept f i r own new h c (count_pre_accept_ok f i r b sp a (with_answer answers from a) (record_of i c))
-  keep_count_pre_accept_ok from b sp a answers p at live told =
+  keep_count_pre_accept_ok from b sp a answers p at live reported =
       let l = leader_of i in
       let all = with_answer answers from a in
       let more : b ≡ l → (k : ℕ) (d : Attrs) → answer all k ≡ Some d → (e : Command) × (h.early k ≡ Some (record { command = e; attrs = d })) = (λ first k d e.
       elim (answer_back answers from a k d e) [
         | inl o ↦ p.each first k d o
-        | inr t ↦ subst (λ w. (u : Command) × (h.early k ≡ Some (record { command = u; attrs = w }))) t.1 (subst (λ j. (u : Command) × (h.early j ≡ Some (record { command = u; attrs = a }))) (sym t.0) (told.0 first))
+        | inr t ↦ subst (λ w. (u : Command) × (h.early k ≡ Some (record { command = u; attrs = w }))) t.1 (subst (λ j. (u : Command) × (h.early j ≡ Some (record { command = u; attrs = a }))) (sym t.0) (reported.0 first))
       ]) in
       let views : Views f l h b all = (λ k d e.
-      elim (answer_back answers from a k d e) [ inl o ↦ p.views k d o | inr t ↦ subst (λ w. View f l h k b w) t.1 (subst (λ j. View f l h j b a) (sym t.0) told.1) ]) in
+      elim (answer_back answers from a k d e) [ inl o ↦ p.views k d o | inr t ↦ subst (λ w. View f l h k b w) t.1 (subst (λ j. View f l h j b a) (sym t.0) reported.1) ]) in
       let stay = keep_led ok cell (Proposing b sp all) (record { mine = p.mine; reached = p.reached; low = p.low; unchosen = p.unchosen; vote = p.vote; spared = p.spared; views = views; each = more }) in
       split (Kept f i r own new h c) (eqb b l) _ _
       (λ first.
@@ -226,33 +226,33 @@ module _ {f i r : ℕ} {own : Command → Attrs} {new : Command → Type 0} (few
       let leads : r ≡ l = (let o = ap owner_of j in let m = p.mine in omega arith) in
       split (Kept f i r own new h c) (fast_answered f l sp all) _ _
       (λ came. split (Kept f i r own new h c) (all_equal f a all) _ _
-      (λ equal. keep_fast b sp answers all a j p at live (more j) (ok.early_origin from _ (told.0 j).1) came equal)
+      (λ equal. keep_fast b sp answers all a j p at live (more j) (ok.early_origin from _ (reported.0 j).1) came equal)
       (λ e. keep_slow b sp answers all p at live views (fast_many f l sp r all leads came)))
       (λ e. stay))
       (λ e. split (Kept f i r own new h c) (leb f (others f r all)) _ _ (λ m. keep_slow b sp answers all p at live views (leb-true _ _ m)) (λ e. stay))
 
   keep_led_pre_accept_ok : (from b : ℕ) (a : Attrs) (led : Option LedInstance) → LedOk f (leader_of i) h r (record_of i c) led → MessageOk f (leader_of i) h from r (PreAcceptOk i b a) → Kept f i r own new h c (on_pre_accept_ok f i r from b a (record_of i c) led)
-  keep_led_pre_accept_ok from b a None p told = keep_nothing ok cell
-  keep_led_pre_accept_ok from b a (Some (Accepting lb answers)) p told = keep_nothing ok cell
-  keep_led_pre_accept_ok from b a (Some (Preparing lb answers)) p told = keep_nothing ok cell
-  keep_led_pre_accept_ok from b a (Some (Proposing lb sp answers)) p told =
+  keep_led_pre_accept_ok from b a None p reported = keep_nothing ok cell
+  keep_led_pre_accept_ok from b a (Some (Accepting lb answers)) p reported = keep_nothing ok cell
+  keep_led_pre_accept_ok from b a (Some (Preparing lb answers)) p reported = keep_nothing ok cell
+  keep_led_pre_accept_ok from b a (Some (Proposing lb sp answers)) p reported =
       split (λ more. Kept f i r own new h c (use_pre_accept_ok f i r b a (record_of i c) more)) (is_some (answer answers from)) _ _
       (λ e. keep_nothing ok cell)
       (λ e. split (Kept f i r own new h c) (is_usable b (record_of i c) lb) _ _
-      (λ e. let u = usable b (record_of i c) lb e in keep_count_pre_accept_ok from b sp a answers (subst (λ n. ProposingOk f (leader_of i) h r (record_of i c) n sp answers) u.0 p) u.1 u.2 told)
+      (λ e. let u = usable b (record_of i c) lb e in keep_count_pre_accept_ok from b sp a answers (subst (λ n. ProposingOk f (leader_of i) h r (record_of i c) n sp answers) u.0 p) u.1 u.2 reported)
       (λ e. keep_nothing ok cell))
 
   pub keep_pre_accept_ok : (from b : ℕ) (a : Attrs) → MessageOk f (leader_of i) h from r (PreAcceptOk i b a) → Kept f i r own new h c (on_pre_accept_ok f i r from b a (record_of i c) c.led)
-  keep_pre_accept_ok from b a told = keep_led_pre_accept_ok from b a c.led (cell.held).leads told
+  keep_pre_accept_ok from b a reported = keep_led_pre_accept_ok from b a c.led (cell.held).leads reported
 
   -- Answers to Accept.
 
   keep_count_accept_ok : (from b : ℕ) (answers : Answers (Unit {0})) → AcceptingOk f (leader_of i) h r (record_of i c) b answers → (record_of i c).promised ≡ b → is_committed (record_of i c).vote ≡ false → h.accepted from b ≡ true →
       Kept f i r own new h c (count_accept_ok f i r b (with_answer answers from tt) (record_of i c))
-  keep_count_accept_ok from b answers p at live told =
+  keep_count_accept_ok from b answers p at live reported =
       let all = with_answer answers from tt in
       let more : (k : ℕ) (w : Unit {0}) → answer all k ≡ Some w → h.accepted k b ≡ true = (λ k w g.
-      elim (answer_back answers from tt k w g) [ inl o ↦ p.each k w o | inr t ↦ ap (λ j. h.accepted j b) t.0 ∙ told ]) in
+      elim (answer_back answers from tt k w g) [ inl o ↦ p.each k w o | inr t ↦ ap (λ j. h.accepted j b) t.0 ∙ reported ]) in
       let s = p.vote at live in
       let y = s.0 in
       let cast : AcceptVote f (leader_of i) h r b y = last_cast cell Accepted b y s.1 in
@@ -266,18 +266,18 @@ module _ {f i r : ℕ} {own : Command → Attrs} {new : Command → Type 0} (few
       (λ m. keep_led ok cell (Accepting b all) (record { mine = p.mine; reached = p.reached; vote = p.vote; each = more }))
 
   keep_led_accept_ok : (from b : ℕ) (led : Option LedInstance) → LedOk f (leader_of i) h r (record_of i c) led → h.accepted from b ≡ true → Kept f i r own new h c (on_accept_ok f i r from b (record_of i c) led)
-  keep_led_accept_ok from b None p told = keep_nothing ok cell
-  keep_led_accept_ok from b (Some (Proposing lb sp answers)) p told = keep_nothing ok cell
-  keep_led_accept_ok from b (Some (Preparing lb answers)) p told = keep_nothing ok cell
-  keep_led_accept_ok from b (Some (Accepting lb answers)) p told =
+  keep_led_accept_ok from b None p reported = keep_nothing ok cell
+  keep_led_accept_ok from b (Some (Proposing lb sp answers)) p reported = keep_nothing ok cell
+  keep_led_accept_ok from b (Some (Preparing lb answers)) p reported = keep_nothing ok cell
+  keep_led_accept_ok from b (Some (Accepting lb answers)) p reported =
       split (λ more. Kept f i r own new h c (use_accept_ok f i r b (record_of i c) more)) (is_some (answer answers from)) _ _
       (λ e. keep_nothing ok cell)
       (λ e. split (Kept f i r own new h c) (is_usable b (record_of i c) lb) _ _
-      (λ e. let u = usable b (record_of i c) lb e in keep_count_accept_ok from b answers (subst (λ n. AcceptingOk f (leader_of i) h r (record_of i c) n answers) u.0 p) u.1 u.2 told)
+      (λ e. let u = usable b (record_of i c) lb e in keep_count_accept_ok from b answers (subst (λ n. AcceptingOk f (leader_of i) h r (record_of i c) n answers) u.0 p) u.1 u.2 reported)
       (λ e. keep_nothing ok cell))
 
   pub keep_accept_ok : (from b : ℕ) → h.accepted from b ≡ true → Kept f i r own new h c (on_accept_ok f i r from b (record_of i c) c.led)
-  keep_accept_ok from b told = keep_led_accept_ok from b c.led (cell.held).leads told
+  keep_accept_ok from b reported = keep_led_accept_ok from b c.led (cell.held).leads reported
 
 -- Giving up.
 module _ {f i r : ℕ} (own : Command → Attrs) (new : Command → Type 0) (few : size f ≤ 256) (l_low : leader_of i < size f) (r_low : r < size f) {h : History} (ok : HistoryOk f (leader_of i) h) {c : Cell} (cell : CellOk f i h r c) where

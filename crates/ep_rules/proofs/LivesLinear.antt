@@ -24,7 +24,7 @@ use Rattle.ep_rules.proofs.Lives.{acts_both, life_parts, first_of, Kept, kept_at
 use Rattle.ep_rules.proofs.OnceDone.{from_once}
 use Rattle.ep_rules.proofs.Places.{Once, same_refl}
 use Rattle.ep_rules.proofs.RunHistories.{instance_in, history_grows_lem}
-use Rattle.ep_rules.proofs.RunsLinear.{linearizability_holds, told_lost, told_from}
+use Rattle.ep_rules.proofs.RunsLinear.{linearizability_holds, reported_lost, reported_from}
 use Rattle.ep_rules.proofs.JournalsCallers.{in_has}
 
 -- Turns and acts.
@@ -169,14 +169,14 @@ module _ (start : Contents) (f : ℕ → ℕ) (sizes : (g : ℕ) → (0 < f g) �
         t.3,
         λ e. elim (legal g t.0 i (Replied t.1) m t.3) [
           | inl none ↦ none.0 hj
-          | inr told ↦ reads_open start (operations (J (ages turns))) (place_in (J (ages turns)) g i) (sym (told_from _ _ told.1) ∙ e)
+          | inr reported ↦ reads_open start (operations (J (ages turns))) (place_in (J (ages turns)) g i) (sym (reported_from _ _ reported.1) ∙ e)
         ],
       )
 
   responded : (g i : ℕ) → RespondsIn turns g i → HasIn (J (ages turns)) g i
   responded g i t = elim (legal g t.0 i (Replied t.1) t.2 t.3) [
-    | inl none ↦ elim none.1 [ inl lost ↦ told_lost t.1 lost | inr shut ↦ absurd (t.4 (told_from _ _ shut)) ]
-    | inr told ↦ told.0
+    | inl none ↦ elim none.1 [ inl lost ↦ reported_lost t.1 lost | inr shut ↦ absurd (t.4 (reported_from _ _ shut)) ]
+    | inr reported ↦ reported.0
   ]
 
   -- Proposals.

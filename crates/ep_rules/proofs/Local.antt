@@ -144,11 +144,11 @@ module _ (f i me : ℕ) (x : Record) where
       (λ u. split (Local i x) (leb f (others f me (with_answer answers from tt))) _ _ (λ m. local_commit_own (usable b x lb u).2 x.vote) (λ m. local_kept (Accepting b (with_answer answers from tt))))
       (λ u. local_nothing))
 
-  local_recover : (told : ℕ) → LocalOk i x (recover f i me x told)
-  local_recover told =
+  local_recover : (reported : ℕ) → LocalOk i x (recover f i me x reported)
+  local_recover reported =
       split (LocalOk i x) (is_committed x.vote) _ _ (λ e. tt) (λ e.
-      split (LocalOk i x) (leb (next_counter x told) highest_counter) _ _
-      (λ u. record { about = sent_to_those _ (is_other me) (size f) (Prepare i (ballot_of (next_counter x told) me)) (λ k lt e. refl); stays = λ done. refl })
+      split (LocalOk i x) (leb (next_counter x reported) highest_counter) _ _
+      (λ u. record { about = sent_to_those _ (is_other me) (size f) (Prepare i (ballot_of (next_counter x reported) me)) (λ k lt e. refl); stays = λ done. refl })
       (λ u. tt))
 
   local_prepare : (from b : ℕ) → Local i x (on_prepare i from b x)
@@ -217,5 +217,5 @@ pub local_acts : (f me : ℕ) (s : State) (e : Event) → LocalAct s (acts f me 
 local_acts f me s (Propose client request c seen named) = local_proposed f me (spared f me named) s c (free_number s.records me) refl
 local_acts f me s (Handle m) = local_at s (instance_of_message m.sent.message) _ (local_handled f me m.sent.from s m.sent.message)
 local_acts f me s (GiveUp i) = local_at s i _ (local_give_up f i me (record_in s i) (get s.leads i))
-local_acts f me s (Recover i) = local_at s i _ (local_recover f i me (record_in s i) (cell_in s i).told)
+local_acts f me s (Recover i) = local_at s i _ (local_recover f i me (record_in s i) (cell_in s i).reported)
 local_acts f me s (Execute root) = local_nothing f root me (record_in s root)

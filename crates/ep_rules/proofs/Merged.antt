@@ -93,13 +93,13 @@ module _ (base : Store) (f : ℕ) (journal : Journals) (whole : List Scheduled) 
   there before rest a w is sent (Recover i) e = tt
   there before rest a w is sent (Execute root) e = tt
   there before rest a w is sent (Handle m) e =
-      let told = matched a.replica a.entry m (stands before rest a is) e in
-      let from = told.0 in
+      let reported = matched a.replica a.entry m (stands before rest a is) e in
+      let from = reported.0 in
       let out : In m from.entry.out = at_in from.entry.out m.place m from.frame in
       let origin = of_in m.sent.from from.entry whole (subst (λ z. In from.entry z) (sym (scheduled.0 m.sent.from)) from.stands) in
       let stamp : m.stamp ≡ from.entry.stamp = numbered_stamp 1 0 (journal m.sent.from) from.entry m (local.local m.sent.from).0 from.stands out in
       let same : origin.0.entry.stamp ≡ from.entry.stamp = ap (λ z. z.stamp) origin.3 in
-      let lt : origin.0.entry.stamp < a.entry.stamp = (let l : m.stamp < a.entry.stamp = told.1 in omega arith) in
+      let lt : origin.0.entry.stamp < a.entry.stamp = (let l : m.stamp < a.entry.stamp = reported.1 in omega arith) in
       let first : In origin.0 before = in_before before rest a origin.0 (subst Rises (sym is) scheduled.1) (subst (λ z. In origin.0 z) (sym is) origin.1) lt in
       sent origin.0 m first (subst (λ (z : Entry). In m z.out) (sym origin.3) out)
 

@@ -30,9 +30,9 @@ led_here m i None = refl
 led_here m i (Some None) = remove_same m i
 led_here m i (Some (Some x)) = insert_same m i x
 
-told_here : (m : Map ℕ) (i : ℕ) (o : Option ℕ) → or_zero (get (with_entry m i o) i) ≡ newer o (or_zero (get m i))
-told_here m i None = refl
-told_here m i (Some x) = ap or_zero (insert_same m i x)
+reported_here : (m : Map ℕ) (i : ℕ) (o : Option ℕ) → or_zero (get (with_entry m i o) i) ≡ newer o (or_zero (get m i))
+reported_here m i None = refl
+reported_here m i (Some x) = ap or_zero (insert_same m i x)
 
 entry_other : {X : Type 0} (m : Map X) (i : ℕ) (o : Option X) (j : ℕ) → j ≢ i → get (with_entry m i o) j ≡ get m j
 entry_other m i None j ne = refl
@@ -44,10 +44,10 @@ led_other m i (Some None) j ne = remove_other m i j ne
 led_other m i (Some (Some x)) j ne = insert_other m i x j ne
 
 pub cell_here : (s : State) (i : ℕ) (ch : Change) → cell_in (changed s i ch) i ≡ applied (cell_in s i) ch
-cell_here s i ch = λ k. record { entry = entry_here s.records i ch.entry k; led = led_here s.leads i ch.led k; told = told_here s.told i ch.told k }
+cell_here s i ch = λ k. record { entry = entry_here s.records i ch.entry k; led = led_here s.leads i ch.led k; reported = reported_here s.reported i ch.reported k }
 
 pub cell_other : (s : State) (i : ℕ) (ch : Change) (j : ℕ) → j ≢ i → cell_in (changed s i ch) j ≡ cell_in s j
-cell_other s i ch j ne = λ k. record { entry = entry_other s.records i ch.entry j ne k; led = led_other s.leads i ch.led j ne k; told = ap or_zero (entry_other s.told i ch.told j ne) k }
+cell_other s i ch j ne = λ k. record { entry = entry_other s.records i ch.entry j ne k; led = led_other s.leads i ch.led j ne k; reported = ap or_zero (entry_other s.reported i ch.reported j ne) k }
 
 -- Worlds.
 

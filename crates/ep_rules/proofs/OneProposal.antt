@@ -17,7 +17,7 @@ use Rattle.ep_rules.specs.Steps.{Event, Propose, acts, at, proposed, changed_by,
 use Rattle.ep_rules.specs.Worlds.{In}
 use Rattle.ep_rules.specs.Journals.{Entry, IsEntry, AreSteps, left}
 use Rattle.ep_rules.specs.Verdicts.{Proposes}
-use Rattle.ep_rules.specs.Merging.{Takes, OneProposal, ProposalsTell}
+use Rattle.ep_rules.specs.Merging.{Takes, OneProposal, ProposalsReport}
 use Rattle.ep_rules.specs.declared.record.Record.{Record}
 use Rattle.ep_rules.proofs.Lookups.{insert_same, insert_other}
 use Rattle.ep_rules.proofs.Merged.{at_in}
@@ -142,8 +142,8 @@ one_proposal_lem base f me es steps i client request other_client other_request 
       | before more e ↦ absurd (never_again base f me es steps i other_client other_request client request q p more e)
     ]
 
-pub proposals_tell_lem : ProposalsTell
-proposals_tell_lem base f me es some steps i client request = (
+pub proposals_report_lem : ProposalsReport
+proposals_report_lem base f me es some steps i client request = (
   (λ p.
       let t : Takes me (left f me (fresh_state base) p.before) p.proposal = proposals_name_lem f me (left f me (fresh_state base) p.before) p.proposal client request p.seen p.spared p.command some p.event (at_proposal base f me es steps i client request p) in
       let is : t.number ≡ p.number = same_Some t.number p.number (sym t.free ∙ p.free) in
@@ -156,22 +156,22 @@ proposals_tell_lem base f me es some steps i client request = (
         first = t.first;
         about = t.about t.frame (at_in p.proposal.out 0 t.frame t.first) ∙ ap (λ n. instance_of me (n + 1)) is ∙ p.instance;
       }),
-  (λ e h tells.
+  (λ e h reports.
       let at : Parts e es = parts e es h in
       let mine : IsEntry f me (left f me (fresh_state base) at.before) e = step_at f me (fresh_state base) at.before e at.rest (subst (AreSteps f me (fresh_state base)) (sym at.split) steps) in
-      let t : Takes me (left f me (fresh_state base) at.before) e = proposals_name_lem f me (left f me (fresh_state base) at.before) e client request tells.seen tells.spared tells.command some tells.event mine in (
+      let t : Takes me (left f me (fresh_state base) at.before) e = proposals_name_lem f me (left f me (fresh_state base) at.before) e client request reports.seen reports.spared reports.command some reports.event mine in (
         record {
           before = at.before;
           proposal = e;
           rest = at.rest;
           split = at.split;
-          command = tells.command;
-          seen = tells.seen;
-          spared = tells.spared;
-          event = tells.event;
+          command = reports.command;
+          seen = reports.seen;
+          spared = reports.spared;
+          event = reports.event;
           number = t.number;
           free = t.free;
-          instance = sym (t.about tells.frame (at_in e.out 0 tells.frame tells.first)) ∙ tells.about;
+          instance = sym (t.about reports.frame (at_in e.out 0 reports.frame reports.first)) ∙ reports.about;
         },
         refl,
       )),

@@ -27,7 +27,7 @@ use Rattle.ep_rules.specs.declared.record.Record.{Record}
 use Rattle.ep_rules.proofs.Attributes.{has, within, within_has, has_first, has_later, has_place}
 use Rattle.ep_rules.proofs.Choices.{not_both}
 use Rattle.ep_rules.proofs.Counting.{count_all, count_le, count_more, count_without, meet}
-use Rattle.ep_rules.proofs.Facts.{History, can_see, CanSee, Seen, sees, Backed, Decided, slowly, quickly, IsValid, IsCast, ballot_at, Told, HistoryOk}
+use Rattle.ep_rules.proofs.Facts.{History, can_see, CanSee, Seen, sees, Backed, Decided, slowly, quickly, IsValid, IsCast, ballot_at, Reported, HistoryOk}
 use Rattle.ep_rules.proofs.Keeping.{record_of, Kept}
 use Rattle.ep_rules.proofs.Runs.{can_choose, Invariant, IsProposal, Step, step_here, step_elsewhere, step_of, opening_ok, nothing_seen_yet, committed_decided, decided_proposed, run_split, ends_append, committed_in_range}
 use Rattle.ep_rules.proofs.Stable.{holds_some, can_see_later, decided_kept}
@@ -127,19 +127,19 @@ module _ (f l : ℕ) (h : History) (ok : HistoryOk f l h) where
       (ok.asked_free m t.0 t.2 (omega arith)).below b low lt (can_choose f l h ok b many))
 
   -- the last vote is at m or above
-  not_lower : (k m : ℕ) (d : List ℕ) (v : Option Vote) → h.seen k m ≡ Some d → ((b : ℕ) → Told f l h k b v) → ballot_at f l v < m → ⊥
-  not_lower k m d v seen told lt = not_both seen ((told (suc m)).blank m lt (omega arith))
+  not_lower : (k m : ℕ) (d : List ℕ) (v : Option Vote) → h.seen k m ≡ Some d → ((b : ℕ) → Reported f l h k b v) → ballot_at f l v < m → ⊥
+  not_lower k m d v seen reported lt = not_both seen ((reported (suc m)).blank m lt (omega arith))
 
-  record_still : (k m : ℕ) (d : List ℕ) (x : Command) (v : Option Vote) → h.seen k m ≡ Some d → h.proposed ≡ Some x → ((b : ℕ) → Told f l h k b v) → (w : Vote) × (v ≡ Some w) × Still m w.decree.command x
-  record_still k m d x None seen prop told = absurd (
+  record_still : (k m : ℕ) (d : List ℕ) (x : Command) (v : Option Vote) → h.seen k m ≡ Some d → h.proposed ≡ Some x → ((b : ℕ) → Reported f l h k b v) → (w : Vote) × (v ≡ Some w) × Still m w.decree.command x
+  record_still k m d x None seen prop reported = absurd (
       let t = seen_proposed k m d seen in
       let low = (ok.asked_led m t.0 t.2).0 in
       elim (cases_order l m) [
-        | inl i ↦ not_both (ap (h.seen k) i ∙ seen) (told 0).cast.unseen
-        | inr (inl under) ↦ not_lower k m d None seen told under
+        | inl i ↦ not_both (ap (h.seen k) i ∙ seen) (reported 0).cast.unseen
+        | inr (inl under) ↦ not_lower k m d None seen reported under
         | inr (inr over) ↦ omega arith
       ])
-  record_still k m d x (Some w) seen prop told = (w, refl, cast_still k m w.ballot d x w.status w.decree seen prop (not_lower k m d (Some w) seen told) (told 0).cast)
+  record_still k m d x (Some w) seen prop reported = (w, refl, cast_still k m w.ballot d x w.status w.decree seen prop (not_lower k m d (Some w) seen reported) (reported 0).cast)
 
 -- What holds of two instances in every world.
 

@@ -25,9 +25,9 @@ use Rattle.ep_rules.specs.declared.led_instance.LedInstance.TheVariants.{Proposi
 use Rattle.ep_rules.specs.declared.record.Record.{Record}
 use Rattle.ep_rules.proofs.Attributes.{within_self}
 use Rattle.ep_rules.proofs.Choices.{choose_ok, ChoiceOk, MayAccept, MayPropose, not_both}
-use Rattle.ep_rules.proofs.Facts.{Seen, History, ballot_at, Told, Reported, PreparingOk, LedOk, CellOk, MessageOk, HistoryOk, Advance}
+use Rattle.ep_rules.proofs.Facts.{Seen, History, ballot_at, Reported, PromisedReport, PreparingOk, LedOk, CellOk, MessageOk, HistoryOk, Advance}
 use Rattle.ep_rules.proofs.Histories.{advance_trans, ask, ask_advance, ask_news, with_seen, see, note, note_here, note_other, see_advance, see_news, put_same, put_here, history_next, promise, promise_advance, promise_news, choose_at, propose_at, propose_at_advance, propose_at_news, same_advance}
-use Rattle.ep_rules.proofs.Keeping.{record_of, split, sent_to_those, FreshSeen, Kept, KeptOk, keep_nothing, keep_told, keep_led, keep_commit_phase, keep_limited, later_unseen, later_unaccepted}
+use Rattle.ep_rules.proofs.Keeping.{record_of, split, sent_to_those, FreshSeen, Kept, KeptOk, keep_nothing, keep_reported, keep_led, keep_commit_phase, keep_limited, later_unseen, later_unaccepted}
 use Rattle.ep_rules.proofs.Leading.{usable, choice_led, choice_advance, keep_accept_phase, keep_pre_accept_ok, keep_accept_ok}
 use Rattle.ep_rules.proofs.Lookups.{answer_back}
 use Rattle.ep_rules.proofs.Stable.{safe_kept, quiet_kept, free_kept, backed_kept}
@@ -36,13 +36,13 @@ use Rattle.ep_rules.proofs.Votes.{note_fresh, promised_vote, keep_prepare, keep_
 -- A new ballot.
 
 abbrev next : ℕ → Record → ℕ → ℕ
-next r x told = ballot_of (next_counter x told) r
+next r x reported = ballot_of (next_counter x reported) r
 
-next_above : (r : ℕ) (x : Record) (told : ℕ) → x.promised < next r x told
-next_above r x told = omega arith
+next_above : (r : ℕ) (x : Record) (reported : ℕ) → x.promised < next r x reported
+next_above r x reported = omega arith
 
-next_mine : (r : ℕ) (x : Record) (told : ℕ) → r < 256 → owner_of (next r x told) ≡ r
-next_mine r x told lt = omega arith
+next_mine : (r : ℕ) (x : Record) (reported : ℕ) → r < 256 → owner_of (next r x reported) ≡ r
+next_mine r x reported lt = omega arith
 
 -- what only a promise of its owner lets be
 none_yet : {X : Type 0} (f l : ℕ) (h : History) (at : ℕ → Option X) (b : ℕ) → ((x : X) → at b ≡ Some x → b ≤ h.promised (owner_of b)) → h.promised (owner_of b) < b → (o : Option X) → at b ≡ o → o ≡ None
@@ -59,7 +59,7 @@ module _ {f i r : ℕ} {own : Command → Attrs} {new : Command → Type 0} {h :
       let order = (cell.held).order in
       let low = ((cell.held).vote 0).low in
       let higher : h.promised (owner_of b) < b = (let at = ap h.promised owns in omega arith) in
-      let reported : Reported f l (promise h r b) r b (record_of i c).vote = (let p = put_same h.promised r b in record { promised = (omega arith); before = (omega arith); told = promised_vote cell b b (omega arith) }) in
+      let promised_report : PromisedReport f l (promise h r b) r b (record_of i c).vote = (let p = put_same h.promised r b in record { promised = (omega arith); before = (omega arith); reported = promised_vote cell b b (omega arith) }) in
       record {
         after = promise h r b;
         advance = go;
@@ -78,7 +78,7 @@ module _ {f i r : ℕ} {own : Command → Attrs} {new : Command → Type 0} {h :
               unvoted = λ e. omega arith;
               each = λ k v e. elim (answer_back [] r (record_of i c).vote k v e) [
                 | inl o ↦ absurd (cc)
-                | inr t ↦ subst (λ w. Reported f l (promise h r b) k b w) t.1 (subst (λ j. Reported f l (promise h r b) j b (record_of i c).vote) (sym t.0) reported)
+                | inr t ↦ subst (λ w. PromisedReport f l (promise h r b) k b w) t.1 (subst (λ j. PromisedReport f l (promise h r b) j b (record_of i c).vote) (sym t.0) promised_report)
               ];
             };
           };
@@ -90,11 +90,11 @@ module _ {f i r : ℕ} {own : Command → Attrs} {new : Command → Type 0} {h :
       }
 
 module _ {f i r : ℕ} (own : Command → Attrs) (new : Command → Type 0) (few : size f ≤ 256) (r_low : r < size f) {h : History} (ok : HistoryOk f (leader_of i) h) {c : Cell} (cell : CellOk f i h r c) where
-  pub keep_recover : KeptOk f i r own new h c (recover f i r (record_of i c) c.told)
+  pub keep_recover : KeptOk f i r own new h c (recover f i r (record_of i c) c.reported)
   keep_recover =
       split (KeptOk f i r own new h c) (is_committed (record_of i c).vote) _ _ (λ e. tt) (λ e.
-      split (KeptOk f i r own new h c) (leb (next_counter (record_of i c) c.told) highest_counter) _ _
-      (λ u. keep_prepare_phase ok cell (next r (record_of i c) c.told) (next_mine r (record_of i c) c.told (omega arith)) (next_above r (record_of i c) c.told))
+      split (KeptOk f i r own new h c) (leb (next_counter (record_of i c) c.reported) highest_counter) _ _
+      (λ u. keep_prepare_phase ok cell (next r (record_of i c) c.reported) (next_mine r (record_of i c) c.reported (omega arith)) (next_above r (record_of i c) c.reported))
       (λ u. tt))
 
 -- What r knows where it may choose at b.
@@ -221,34 +221,34 @@ module _ {f i r : ℕ} (own : Command → Attrs) (new : Command → Type 0) (two
 
   -- Answers to Prepare.
 
-  keep_count_prepare_ok : (from b : ℕ) (v : Option Vote) (answers : Answers (Option Vote)) → PreparingOk f (leader_of i) h r (record_of i c) b answers → (record_of i c).promised ≡ b → is_committed (record_of i c).vote ≡ false → Reported f (leader_of i) h from b v →
+  keep_count_prepare_ok : (from b : ℕ) (v : Option Vote) (answers : Answers (Option Vote)) → PreparingOk f (leader_of i) h r (record_of i c) b answers → (record_of i c).promised ≡ b → is_committed (record_of i c).vote ≡ false → PromisedReport f (leader_of i) h from b v →
       KeptOk f i r own new h c (count_prepare_ok f i r b (with_answer answers from v) own (record_of i c))
-  keep_count_prepare_ok from b v answers p at live told =
+  keep_count_prepare_ok from b v answers p at live reported =
       let l = leader_of i in
       let all = with_answer answers from v in
-      let more : (k : ℕ) (w : Option Vote) → answer all k ≡ Some w → Reported f l h k b w = (λ k w g.
+      let more : (k : ℕ) (w : Option Vote) → answer all k ≡ Some w → PromisedReport f l h k b w = (λ k w g.
       elim (answer_back answers from v k w g) [
         | inl o ↦ p.each k w o
-        | inr t ↦ subst (λ z. Reported f l h k b z) t.1 (subst (λ j. Reported f l h j b v) (sym t.0) told)
+        | inr t ↦ subst (λ z. PromisedReport f l h k b z) t.1 (subst (λ j. PromisedReport f l h j b v) (sym t.0) reported)
       ]) in
       split (KeptOk f i r own new h c) (leb (f + 1) (answered_all f all)) _ _
       (λ m. keep_choice b (record { unasked = p.unasked; at = at; live = live; owned = p.mine; unchosen = p.unchosen; late = p.low; before = p.unvoted at }) (choose f l (λ q. answer all q))
       (choose_ok f l two h ok b (λ q. answer all q) more (leb-true _ _ m) l_low))
       (λ m. keep_led ok cell (Preparing b all) (record { mine = p.mine; reached = p.reached; low = p.low; unchosen = p.unchosen; unasked = p.unasked; unvoted = p.unvoted; each = more }))
 
-  keep_led_prepare_ok : (from b : ℕ) (v : Option Vote) (led : Option LedInstance) → LedOk f (leader_of i) h r (record_of i c) led → Reported f (leader_of i) h from b v → KeptOk f i r own new h c (on_prepare_ok f i r from b v own (record_of i c) led)
-  keep_led_prepare_ok from b v None p told = keep_nothing ok cell
-  keep_led_prepare_ok from b v (Some (Proposing lb sp answers)) p told = keep_nothing ok cell
-  keep_led_prepare_ok from b v (Some (Accepting lb answers)) p told = keep_nothing ok cell
-  keep_led_prepare_ok from b v (Some (Preparing lb answers)) p told =
+  keep_led_prepare_ok : (from b : ℕ) (v : Option Vote) (led : Option LedInstance) → LedOk f (leader_of i) h r (record_of i c) led → PromisedReport f (leader_of i) h from b v → KeptOk f i r own new h c (on_prepare_ok f i r from b v own (record_of i c) led)
+  keep_led_prepare_ok from b v None p reported = keep_nothing ok cell
+  keep_led_prepare_ok from b v (Some (Proposing lb sp answers)) p reported = keep_nothing ok cell
+  keep_led_prepare_ok from b v (Some (Accepting lb answers)) p reported = keep_nothing ok cell
+  keep_led_prepare_ok from b v (Some (Preparing lb answers)) p reported =
       split (λ more. KeptOk f i r own new h c (use_prepare_ok f i r b own (record_of i c) more)) (is_some (answer answers from)) _ _
       (λ e. keep_nothing ok cell)
       (λ e. split (KeptOk f i r own new h c) (is_usable b (record_of i c) lb) _ _
-      (λ e. let u = usable b (record_of i c) lb e in keep_count_prepare_ok from b v answers (subst (λ n. PreparingOk f (leader_of i) h r (record_of i c) n answers) u.0 p) u.1 u.2 told)
+      (λ e. let u = usable b (record_of i c) lb e in keep_count_prepare_ok from b v answers (subst (λ n. PreparingOk f (leader_of i) h r (record_of i c) n answers) u.0 p) u.1 u.2 reported)
       (λ e. keep_nothing ok cell))
 
-  keep_prepare_ok : (from b : ℕ) (v : Option Vote) → Reported f (leader_of i) h from b v → KeptOk f i r own new h c (on_prepare_ok f i r from b v own (record_of i c) c.led)
-  keep_prepare_ok from b v told = keep_led_prepare_ok from b v c.led (cell.held).leads told
+  keep_prepare_ok : (from b : ℕ) (v : Option Vote) → PromisedReport f (leader_of i) h from b v → KeptOk f i r own new h c (on_prepare_ok f i r from b v own (record_of i c) c.led)
+  keep_prepare_ok from b v reported = keep_led_prepare_ok from b v c.led (cell.held).leads reported
 
 -- Proposals.
 module _ {f i r : ℕ} (own : Command → Attrs) (new : Command → Type 0) (few : size f ≤ 256) (l_low : leader_of i < size f) {h : History} (ok : HistoryOk f (leader_of i) h) {c : Cell} (cell : CellOk f i h r c) where
@@ -257,7 +257,7 @@ module _ {f i r : ℕ} (own : Command → Attrs) (new : Command → Type 0) (few
       let l = leader_of i in
       let fresh = cell.fresh none leads in
       let same : record_of i c ≡ fresh_record i = ap (record_or_fresh i) none in
-      let told : Told f l h r 0 None = subst (λ (m : Record). Told f l h r 0 m.vote) same ((cell.held).vote 0) in
+      let reported : Reported f l h r 0 None = subst (λ (m : Record). Reported f l h r 0 m.vote) same ((cell.held).vote 0) in
       let promised : (record_of i c).promised ≡ l = ap (λ (m : Record). m.promised) same in
       let is = (cell.held).promised in
       let at : h.promised l ≤ l = (let j = ap h.promised leads in omega arith) in
@@ -274,7 +274,7 @@ module _ {f i r : ℕ} (own : Command → Attrs) (new : Command → Type 0) (few
       let ok2 : HistoryOk f l h2 = history_next f l r h1 h2 two (ask_news f l l x h1 (record { unchosen = fresh.1; low = (omega arith); led = led; free = λ lt. absurd (omega arith); valid = inr refl })) ok1 in
       let asked : h2.asked l ≡ Some x = put_same h1.asked l (Some x) in
       let low2 : h2.promised r ≤ l = (let p = put_here h.promised l l r leads in omega arith) in
-      let three : Advance f l r h2 h3 = see_advance f l r l d h2 low2 told.cast.unseen in
+      let three : Advance f l r h2 h3 = see_advance f l r l d h2 low2 reported.cast.unseen in
       let ok3 : HistoryOk f l h3 = history_next f l r h2 h3 three (see_news f l r l d h2 x asked real) ok2 in
       let go : Advance f l r h h3 = advance_trans f l r h h2 h3 (advance_trans f l r h h1 h2 one two) three in
       let seen : Seen f l h3 r l d = record { part = d; is = note_here h2.seen r l d; inside = within_self d } in
@@ -291,7 +291,7 @@ module _ {f i r : ℕ} (own : Command → Attrs) (new : Command → Type 0) (few
               gap = λ n low high. later_unaccepted cell n (omega arith);
               blank = λ n low high. note_other h2.seen r l d r n (λ _ j. omega arith) ∙ later_unseen cell n (omega arith);
               cast = record {
-                unaccepted = told.cast.unaccepted;
+                unaccepted = reported.cast.unaccepted;
                 free = λ lt. absurd (omega arith);
                 early = λ e n. absurd (n leads);
                 proposed = λ e. refl;
@@ -300,7 +300,7 @@ module _ {f i r : ℕ} (own : Command → Attrs) (new : Command → Type 0) (few
                 quiet = λ n. absurd (false≢true (sym real ∙ n));
                 seen = λ n. seen;
               };
-              unfast = λ j u. told.unfast j refl;
+              unfast = λ j u. reported.unfast j refl;
             };
             leads = record { mine = owner ∙ sym leads; reached = (omega arith); low = (omega arith); unchosen = fresh.1; vote = λ e u. (y, refl); spared = λ e. refl; views = λ k a g. absurd (cc); each = λ e k a g. absurd (cc) };
           };
@@ -334,4 +334,4 @@ module _ (f r : ℕ) (new : Command → Type 0) (two : 0 < f) (few : size f ≤ 
   keep_handled from (Commit i x) l_low ok cell p = keep_commit ok cell x p
   keep_handled from (Prepare i b) l_low ok cell p = keep_prepare ok cell from b
   keep_handled from (PrepareOk i b v) l_low ok cell p = keep_prepare_ok (interference s.records i) new two few l_low r_low ok cell from b v p
-  keep_handled from (Nack i b p) l_low ok cell told = keep_told ok cell p
+  keep_handled from (Nack i b p) l_low ok cell reported = keep_reported ok cell p

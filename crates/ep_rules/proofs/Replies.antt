@@ -9,7 +9,7 @@ use Rattle.ep_rules.specs.OneMap.{Store, after, after_all, reply}
 use Rattle.ep_rules.specs.History.{reply_in}
 use Rattle.ep_rules.proofs.Places.{Once}
 use Rattle.ep_rules.proofs.Commuting.{commutes, unseen, after_noop}
-use Rattle.ep_rules.proofs.Turns.{run, Commute, AreUnseen, IsOrdered, idle_out, one_told, one_left}
+use Rattle.ep_rules.proofs.Turns.{run, Commute, AreUnseen, IsOrdered, idle_out, one_reported, one_left}
 
 module _ (base : Store) (c : ℕ → Command) where
   abbrev step : Store → ℕ → Store
@@ -43,7 +43,7 @@ module _ (base : Store) (c : ℕ → Command) where
     pub one_reply : reply_in base c l i ≡ reply_in base c m i
     one_reply =
         ap (λ s. reply s (c i)) (runs base (take (place l i) l))
-        ∙ one_told step meets commute i base l m ol om hl hm alike ask are_unseen
+        ∙ one_reported step meets commute i base l m ol om hl hm alike ask are_unseen
         ∙ sym (ap (λ s. reply s (c i)) (runs base (take (place m i) m)))
 
     -- and before i they leave one map, where only no-ops don't interfere with i

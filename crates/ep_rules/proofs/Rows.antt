@@ -81,7 +81,7 @@ joined = record { promised = ballot_of 1 4; vote = None }
 
 -- a replica that knows of 1.1 votes with it as a dependency
 votes_after : on_pre_accept i 0 (ballot_of 0 0) put_alone after (fresh_record i)
-    ≡ Ok (record { entry = Some (voted (ballot_of 0 0) PreAccepted put_after); led = None; told = None; out = (0, PreAcceptOk i (ballot_of 0 0) after) ∷ [] })
+    ≡ Ok (record { entry = Some (voted (ballot_of 0 0) PreAccepted put_after); led = None; reported = None; out = (0, PreAcceptOk i (ballot_of 0 0) after) ∷ [] })
 votes_after = refl
 
 -- and not again
@@ -90,7 +90,7 @@ votes_once = refl
 
 -- a replica that has promised more refuses, and says what
 refuses : on_pre_accept i 0 (ballot_of 0 0) put_alone alone joined
-    ≡ Ok (record { entry = None; led = None; told = None; out = (0, Nack i (ballot_of 0 0) (ballot_of 1 4)) ∷ [] })
+    ≡ Ok (record { entry = None; led = None; reported = None; out = (0, Nack i (ballot_of 0 0) (ballot_of 1 4)) ∷ [] })
 refuses = refl
 
 -- the leader's record of its own vote
@@ -109,7 +109,7 @@ sparing_asks : propose 2 i 1 put_x alone
     ≡ Ok (record {
       entry = Some own;
       led = Some (Some (Proposing (ballot_of 0 0) 1 []));
-      told = None;
+      reported = None;
       out = (2, PreAccept i (ballot_of 0 0) put_alone) ∷ (3, PreAccept i (ballot_of 0 0) put_alone) ∷ (4, PreAccept i (ballot_of 0 0) put_alone) ∷ [];
     })
 sparing_asks = refl
@@ -123,7 +123,7 @@ sparing_commits : on_pre_accept_ok 2 i 0 3 (ballot_of 0 0) after own (Some (Prop
     ≡ record {
       entry = Some (voted (ballot_of 0 0) Committed put_after);
       led = Some None;
-      told = None;
+      reported = None;
       out = (1, Commit i put_after) ∷ (2, Commit i put_after) ∷ (3, Commit i put_after) ∷ (4, Commit i put_after) ∷ [];
     }
 sparing_commits = refl
@@ -133,7 +133,7 @@ slow_path : on_pre_accept_ok 2 i 0 3 (ballot_of 0 0) alone own (leads ((2, after
     ≡ record {
       entry = Some (voted (ballot_of 0 0) Accepted put_after);
       led = Some (Some (Accepting (ballot_of 0 0) []));
-      told = None;
+      reported = None;
       out = (1, Accept i (ballot_of 0 0) put_after) ∷ (2, Accept i (ballot_of 0 0) put_after) ∷ (3, Accept i (ballot_of 0 0) put_after) ∷ (4, Accept i (ballot_of 0 0) put_after) ∷ [];
     }
 slow_path = refl
@@ -143,7 +143,7 @@ fast_path : on_pre_accept_ok 2 i 0 3 (ballot_of 0 0) after own (leads ((2, after
     ≡ record {
       entry = Some (voted (ballot_of 0 0) Committed put_after);
       led = Some None;
-      told = None;
+      reported = None;
       out = (1, Commit i put_after) ∷ (2, Commit i put_after) ∷ (3, Commit i put_after) ∷ (4, Commit i put_after) ∷ [];
     }
 fast_path = refl
@@ -165,7 +165,7 @@ no_fast_path_in_recovery : on_pre_accept_ok 2 i 1 2 (ballot_of 1 1) alone (voted
     ≡ record {
       entry = Some (voted (ballot_of 1 1) Accepted put_alone);
       led = Some (Some (Accepting (ballot_of 1 1) []));
-      told = None;
+      reported = None;
       out = (0, Accept i (ballot_of 1 1) put_alone) ∷ (2, Accept i (ballot_of 1 1) put_alone) ∷ (3, Accept i (ballot_of 1 1) put_alone) ∷ (4, Accept i (ballot_of 1 1) put_alone) ∷ [];
     }
 no_fast_path_in_recovery = refl

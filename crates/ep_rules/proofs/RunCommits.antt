@@ -37,8 +37,8 @@ decrees base f acts i = committed_below (size f) (ends f (opening base) acts) i
 abbrev pub graph_of : (base : Store) → ℕ → List Act → Graph
 graph_of base f acts i = attrs_of (decrees base f acts i)
 
-abbrev pub told_in : (base : Store) → ℕ → List Act → ℕ → Command
-told_in base f acts i = command_of (decrees base f acts i)
+abbrev pub reported_in : (base : Store) → ℕ → List Act → ℕ → Command
+reported_in base f acts i = command_of (decrees base f acts i)
 
 -- the states of those that are no replicas stay as they are
 outside : (f : ℕ) (acts : List Act) (w : World) → IsRun f w acts → (r : ℕ) → size f ≤ r → (ends f w acts).states r ≡ w.states r
@@ -93,25 +93,25 @@ module _ (base : Store) (f : ℕ) (some : 0 < f) (few : size f ≤ 256) (acts : 
   all_known early late whole r i x e =
       committed_is r i x (subst (λ these. Committed (ends f (opening base) these) r i x) whole (keeps base f early late (subst (IsRun f (opening base)) (sym whole) run) r i x e))
 
-  pub locals : AreLocal base (graph_of base f acts) (told_in base f acts) (executions f (opening base) acts)
+  pub locals : AreLocal base (graph_of base f acts) (reported_in base f acts) (executions f (opening base) acts)
   locals r = local_runs base f (decrees base f acts) acts (opening base) run all_known (λ q. refl) r
 
-  pub dependent : AreDependent (graph_of base f acts) (told_in base f acts)
+  pub dependent : AreDependent (graph_of base f acts) (reported_in base f acts)
   dependent i j a b ne gi gj meet =
       let x = attrs_some (decrees base f acts i) a gi in
       let y = attrs_some (decrees base f acts j) b gj in
       let r = committed_back (size f) (ends f (opening base) acts) i x.0 x.1 in
       let q = committed_back (size f) (ends f (opening base) acts) j y.0 y.1 in
-      let m : interfere x.0.command y.0.command ≡ true = subst (λ o. interfere (command_of o) y.0.command ≡ true) x.1 (subst (λ o. interfere (told_in base f acts i) (command_of o) ≡ true) y.1 meet) in
+      let m : interfere x.0.command y.0.command ≡ true = subst (λ o. interfere (command_of o) y.0.command ≡ true) x.1 (subst (λ o. interfere (reported_in base f acts i) (command_of o) ≡ true) y.1 meet) in
       elim (dependency_holds base f some few acts [] run_nil i j r.0 q.0 x.0 y.0 ne r.2 (end_nil q.0 j y.0 q.2) m) [
         | inl d ↦ inl (a, gi, subst (λ (z : Attrs). Has z.deps j) x.2 d)
         | inr d ↦ inr (b, gj, subst (λ (z : Attrs). Has z.deps i) y.2 d)
       ]
 
   -- each answer of each execution is one map's reply to the history
-  pub answered : AllByRecursion (AnswersBy base (told_in base f acts) (history (told_in base f acts) (executions f (opening base) acts))) (executions f (opening base) acts)
-  answered = one_history_lem base (graph_of base f acts) (told_in base f acts) (executions f (opening base) acts) dependent locals
+  pub answered : AllByRecursion (AnswersBy base (reported_in base f acts) (history (reported_in base f acts) (executions f (opening base) acts))) (executions f (opening base) acts)
+  answered = one_history_lem base (graph_of base f acts) (reported_in base f acts) (executions f (opening base) acts) dependent locals
 
   -- each replica's list, and the merged one, are in the order of execution
   pub wells : AllWell (graph_of base f acts) (History.done_after nothing (executions f (opening base) acts)) (History.merged [] (executions f (opening base) acts))
-  wells = all_well (graph_of base f acts) nothing [] (executions f (opening base) acts) (start (graph_of base f acts)) (interleaved base (graph_of base f acts) (told_in base f acts) nothing (executions f (opening base) acts) locals).0
+  wells = all_well (graph_of base f acts) nothing [] (executions f (opening base) acts) (start (graph_of base f acts)) (interleaved base (graph_of base f acts) (reported_in base f acts) nothing (executions f (opening base) acts) locals).0

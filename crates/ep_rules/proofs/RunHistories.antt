@@ -13,13 +13,13 @@ use Rattle.ep_rules.specs.Operations.{Operation, instances_of, commands_of, oper
 use Rattle.ep_rules.specs.States.{command_in}
 use Rattle.ep_rules.specs.Steps.{order_of}
 use Rattle.ep_rules.specs.Worlds.{World, opening, Act, In, moved, IsRun, ends}
-use Rattle.ep_rules.proofs.JournalsExecutions.{executions, Known, told, same_commands, known_next}
+use Rattle.ep_rules.proofs.JournalsExecutions.{executions, Known, reported, same_commands, known_next}
 use Rattle.ep_rules.proofs.JournalsReplies.{merged_step}
 use Rattle.ep_rules.proofs.Places.{has_or, not_has, place_head, has_tail, filter_has, has_filter}
 use Rattle.ep_rules.proofs.Answered.{is_real}
 use Rattle.ep_rules.specs.OneMap.{Store}
 
--- Operations whose commands c tells.
+-- Operations whose commands c gives.
 
 abbrev pub AreOf : (ℕ → Command) → List Operation → Type 0
 AreOf c [] = Unit {0}
@@ -145,18 +145,18 @@ history_grows_lem base f early late =
 -- The history that acts make.
 module _ (base : Store) (f : ℕ) (all : ℕ → Option Decree) where
   pub record IsHistory (h : List Operation) (seen : List ℕ) : Type 0 where
-    pub instances : instances_of h ≡ filter (is_real (told base f all)) seen
-    pub commands : AreOf (told base f all) h
+    pub instances : instances_of h ≡ filter (is_real (reported base f all)) seen
+    pub commands : AreOf (reported base f all) h
 
   pub history_is : (these : List Act) (w : World) (h : List Operation) (seen : List ℕ) → IsRun f w these → Known base f all w these → IsHistory h seen →
       IsHistory (history_after f w h these) (merged seen (executions f w these))
   history_is [] w h seen run known is = is
   history_is (a ∷ these) w h seen run known is =
-      let same : (i : ℕ) → Has (order_of a.done) i → command_in (w.states a.replica).records i ≡ told base f all i = same_commands base f all w a these known run.0.step.executes in
+      let same : (i : ℕ) → Has (order_of a.done) i → command_in (w.states a.replica).records i ≡ reported base f all i = same_commands base f all w a these known run.0.step.executes in
       let d : ℕ → Command = command_in (w.states a.replica).records in
       let next : IsHistory (h ++ new_to h (executed_by w a)) (seen ++ filter (is_new seen) (order_of a.done)) = record {
-        instances = one_more (told base f all) d h seen (order_of a.done) same is.instances;
-        commands = of_more (told base f all) d h seen (order_of a.done) same is.commands;
+        instances = one_more (reported base f all) d h seen (order_of a.done) same is.instances;
+        commands = of_more (reported base f all) d h seen (order_of a.done) same is.commands;
       } in
       subst (λ m. IsHistory (history_after f (moved f w a) (h ++ new_to h (executed_by w a)) these) m) (sym (merged_step f w a seen (executions f (moved f w a) these) a.event run.0.step.executes))
       (history_is these (moved f w a) (h ++ new_to h (executed_by w a)) (seen ++ filter (is_new seen) (order_of a.done)) run.1 (known_next base f all w a these known) next)

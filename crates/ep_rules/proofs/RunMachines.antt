@@ -22,7 +22,7 @@ use Rattle.ep_rules.proofs.JournalsCallers.{executions_both}
 use Rattle.ep_rules.proofs.JournalsCommitted.{run_parts}
 use Rattle.ep_rules.proofs.JournalsExecutions.{executions, attrs_some, done_is}
 use Rattle.ep_rules.proofs.Places.{has_cons, has_tail}
-use Rattle.ep_rules.proofs.RunCommits.{decrees, graph_of, told_in, all_known, dependent, locals}
+use Rattle.ep_rules.proofs.RunCommits.{decrees, graph_of, reported_in, all_known, dependent, locals}
 use Rattle.ep_rules.proofs.RunHistories.{AreOf, history_is}
 use Rattle.ep_rules.proofs.Runs.{ends_append}
 use Rattle.ep_rules.proofs.Answered.{is_real}
@@ -117,7 +117,7 @@ module _ (f : ℕ) where
 -- A run, and what is executed at any time of it.
 module _ (base : Store) (f : ℕ) (some : 0 < f) (few : size f ≤ 256) (acts : List Act) (run : IsRun f (opening base) acts) where
   abbrev cs : ℕ → Command
-  cs = told_in base f acts
+  cs = reported_in base f acts
 
   abbrev es : List Execution
   es = executions f (opening base) acts
@@ -138,15 +138,15 @@ module _ (base : Store) (f : ℕ) (some : 0 < f) (few : size f ≤ 256) (acts : 
     done_then : done_after nothing (executions f (opening base) early) r ≡ ((ends f (opening base) early).states r).executed
     done_then = done_is f early (opening base) nothing first (λ q. refl) r
 
-    -- what a replica has executed by then is what the whole run tells
-    told_then : (i : ℕ) → Has ((ends f (opening base) early).states r).executed i → command_in ((ends f (opening base) early).states r).records i ≡ cs i
-    told_then i k =
+    -- what a replica has executed by then is what the whole run reports
+    reported_then : (i : ℕ) → Has ((ends f (opening base) early).states r).executed i → command_in ((ends f (opening base) early).states r).records i ≡ cs i
+    reported_then i k =
         let a = closed_run f early (opening base) first (λ q. fresh_closed base) r i k in
         let x = attrs_some _ a.0 a.1 in
         ap command_of (x.1 ∙ sym (all_known base f some few acts run early late whole r i x.0 x.1))
 
     pub handed_then : executed_at (ends f (opening base) early) r ≡ operations_of cs (done_after nothing (executions f (opening base) early) r)
-    handed_then = operations_same _ cs ((ends f (opening base) early).states r).executed told_then ∙ ap (λ xs. operations_of cs xs) (sym done_then)
+    handed_then = operations_same _ cs ((ends f (opening base) early).states r).executed reported_then ∙ ap (λ xs. operations_of cs xs) (sym done_then)
 
   module _ {S R : Type 0} (M : Machine S R) (start : S) where
     machine_then : (r : ℕ) (o : Operation) → In o (executed_at (ends f (opening base) acts) r) →
@@ -165,7 +165,7 @@ module _ (base : Store) (f : ℕ) (some : 0 < f) (few : size f ≤ 256) (early l
   both = early ++ late
 
   abbrev cb : ℕ → Command
-  cb = told_in base f both
+  cb = reported_in base f both
 
   abbrev first_done : List ℕ
   first_done = done_after nothing (executions f (opening base) early) r
@@ -218,7 +218,7 @@ handed_stays_lem base f some few early late run r =
     let own = first_own base f some few early late run r r in
     let later = second_own base f some few early late run r r in
     let grown = executed_grows f late (ends f (opening base) early) r in
-    let cb : ℕ → Command = told_in base f (early ++ late) in
+    let cb : ℕ → Command = reported_in base f (early ++ late) in
     let d1 = done_then base f some few (early ++ late) run early late refl r in
     let d2 = done_then base f some few (early ++ late) run (early ++ late) [] (append-nil (early ++ late)) r in (
       operations_of cb grown.0,

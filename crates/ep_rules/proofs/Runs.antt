@@ -196,14 +196,14 @@ module _ (f : ℕ) (two : 0 < f) (few : size f ≤ 256) (w : World) (a : Act) (s
       (keep_propose (interference s.records i) (IsProposal w a i) few leads v.ok (v.cells a.replica) k c now real own none))
 
   kept_handled : (s : Sent) → SentOk f i v.history s → s.to ≡ a.replica → KeptAct (at (instance_of_message s.message) (handled f a.replica s.from (w.states a.replica) s.message))
-  kept_handled s told mine =
+  kept_handled s reported mine =
       let t = w.states a.replica in
       let h = v.history in
       let n = instance_of_message s.message in
       kept_at n (handled f a.replica s.from t s.message) (λ is.
       subst (λ j. leader_of j < size f → HistoryOk f (leader_of j) h → CellOk f j h a.replica (cell_in t j) → MessageOk f (leader_of j) h s.from a.replica s.message → KeptOk f j a.replica (interference t.records j) (IsProposal w a i) h (cell_in t j) (handled f a.replica s.from t s.message)) is
       (keep_handled f a.replica (IsProposal w a i) two few small h t s.from s.message)
-      leads v.ok (v.cells a.replica) (subst (λ k. MessageOk f (leader_of i) h s.from k s.message) mine (told is)))
+      leads v.ok (v.cells a.replica) (subst (λ k. MessageOk f (leader_of i) h s.from k s.message) mine (reported is)))
 
   keeps_act : (e : Event) → a.event ≡ e → is_within f a.replica e ≡ true → is_for a.replica e ≡ true → IsThere w.sent e → KeptAct (acts f a.replica (w.states a.replica) e)
   keeps_act (Propose client request c seen named) is within mine there =
@@ -215,7 +215,7 @@ module _ (f : ℕ) (two : 0 < f) (few : size f ≤ 256) (w : World) (a : Act) (s
       (keep_give_up (interference s.records i) (IsProposal w a i) few leads small v.ok (v.cells a.replica)))
   keeps_act (Recover n) is within mine there =
       let s = w.states a.replica in
-      kept_at n (recover f n a.replica (record_in s n) (cell_in s n).told) (λ e. subst (λ j. KeptHere (recover f j a.replica (record_in s j) (cell_in s j).told)) (sym e)
+      kept_at n (recover f n a.replica (record_in s n) (cell_in s n).reported) (λ e. subst (λ j. KeptHere (recover f j a.replica (record_in s j) (cell_in s j).reported)) (sym e)
       (keep_recover (interference s.records i) (IsProposal w a i) few small v.ok (v.cells a.replica)))
   keeps_act (Execute root) is within mine there = λ e. keep_nothing v.ok (v.cells a.replica)
 
@@ -269,7 +269,7 @@ module _ (base : Store) (f : ℕ) (two : 0 < f) (few : size f ≤ 256) where
   }
 
   abbrev first_cell : Cell
-  first_cell = record { entry = None; led = None; told = 0 }
+  first_cell = record { entry = None; led = None; reported = 0 }
 
   pub first_cell_ok : (i r : ℕ) → CellOk f i (first_history (leader_of i)) r first_cell
   unfolding first_history
@@ -284,7 +284,7 @@ module _ (base : Store) (f : ℕ) (two : 0 < f) (few : size f ≤ 256) where
   }
 
   pub cell_at_first : (i : ℕ) → cell_in (fresh_state base) i ≡ first_cell
-  cell_at_first i = λ k. record { entry = none_there i k; led = none_there i k; told = ap or_zero (none_there i) k }
+  cell_at_first i = λ k. record { entry = none_there i k; led = none_there i k; reported = ap or_zero (none_there i) k }
 
   unfoldable pub opening_ok : (i : ℕ) → Invariant f i (opening base)
   opening_ok i = record { history = first_history (leader_of i); ok = first_ok (leader_of i); cells = λ r. subst (λ c. CellOk f i (first_history (leader_of i)) r c) (sym (cell_at_first i)) (first_cell_ok i r); sent = tt }

@@ -35,7 +35,7 @@ use Rattle.ep_rules.proofs.JournalsReplies.{here, all_rest}
 use Rattle.ep_rules.proofs.JournalsUnproposed.{unproposed_lem}
 use Rattle.ep_rules.proofs.Merged.{in_at}
 use Rattle.ep_rules.proofs.Places.{once_filter, has_cons, has_filter, filter_back}
-use Rattle.ep_rules.proofs.RunCommits.{decrees, graph_of, told_in, all_known, dependent, answered, wells}
+use Rattle.ep_rules.proofs.RunCommits.{decrees, graph_of, reported_in, all_known, dependent, answered, wells}
 use Rattle.ep_rules.proofs.RunHistories.{AreOf, commands_are, command_is, instance_in, IsHistory, history_is}
 use Rattle.ep_rules.proofs.Runs.{validity_holds}
 use Rattle.ep_rules.proofs.Wells.{linked, same_order, has_before}
@@ -89,27 +89,27 @@ to_legal : (base : Store) → (c : ℕ → Command) (h : List Operation) → Are
 to_legal base c h of are_real i x (inl p) = inl ((λ k. false≢true (sym (ap (λ b. cond b false true) p.0) ∙ are_real i k)), p.1)
 to_legal base c h of are_real i x (inr p) = inr (p.0, p.1 ∙ ap (λ cs. Replied (get_or (replies base cs) (place (instances_of h) i) Absent)) (sym (commands_are c h of)))
 
-pub told_lost : {X : Type 0} (y : Reply) → Replied y ≡ Lost → X
-told_lost y e = absurd (cc)
+pub reported_lost : {X : Type 0} (y : Reply) → Replied y ≡ Lost → X
+reported_lost y e = absurd (cc)
 
-pub told_from : (y z : Reply) → Replied y ≡ Replied z → y ≡ z
-told_from y z e = cc
+pub reported_from : (y z : Reply) → Replied y ≡ Replied z → y ≡ z
+reported_from y z e = cc
 
 module _ (base : Store) (f : ℕ) (some : 0 < f) (few : size f ≤ 256) (acts : List Act) (run : IsRun f (opening base) acts) where
   is_history : IsHistory base f (decrees base f acts) (history_of base f acts) (merged [] (executions f (opening base) acts))
   is_history = history_is base f (decrees base f acts) acts (opening base) [] [] run (all_known base f some few acts run) (record { instances = refl; commands = tt })
 
   -- an instance of the history is executed, and is no no-op
-  in_history : (i : ℕ) → Has (instances_of (history_of base f acts)) i → Has (merged [] (executions f (opening base) acts)) i × (is_real (told_in base f acts) i ≡ true)
-  in_history i k = has_filter (is_real (told_in base f acts)) (merged [] (executions f (opening base) acts)) i (subst (λ js. Has js i) is_history.instances k)
+  in_history : (i : ℕ) → Has (instances_of (history_of base f acts)) i → Has (merged [] (executions f (opening base) acts)) i × (is_real (reported_in base f acts) i ≡ true)
+  in_history i k = has_filter (is_real (reported_in base f acts)) (merged [] (executions f (opening base) acts)) i (subst (λ js. Has js i) is_history.instances k)
 
   legal : (a : Act) (i : ℕ) (x : Answer) → In a acts → In (i, x) a.done → IsLegal base (history_of base f acts) i x
   legal a i x m k =
       let at = in_at a.done (i, x) k in
-      let all : AllByRecursion (AnswersBy base (told_in base f acts) (instances_of (history_of base f acts))) (executions f (opening base) acts) =
-      subst (λ js. AllByRecursion (AnswersBy base (told_in base f acts) js) (executions f (opening base) acts)) (sym is_history.instances) (answered base f some few acts run) in
-      to_legal base (told_in base f acts) (history_of base f acts) is_history.commands (λ j n. (in_history j n).1) i x
-      (each_reply base f (told_in base f acts) (instances_of (history_of base f acts)) acts (opening base) run all a at.0 i x m at.1)
+      let all : AllByRecursion (AnswersBy base (reported_in base f acts) (instances_of (history_of base f acts))) (executions f (opening base) acts) =
+      subst (λ js. AllByRecursion (AnswersBy base (reported_in base f acts) js) (executions f (opening base) acts)) (sym is_history.instances) (answered base f some few acts run) in
+      to_legal base (reported_in base f acts) (history_of base f acts) is_history.commands (λ j n. (in_history j n).1) i x
+      (each_reply base f (reported_in base f acts) (instances_of (history_of base f acts)) acts (opening base) run all a at.0 i x m at.1)
 
   responds : (i : ℕ) → Has (instances_of (history_of base f acts)) i → Responds acts i
   responds i k = elim (has_executed [] (executions f (opening base) acts) i (in_history i k).0) [
@@ -119,26 +119,26 @@ module _ (base : Store) (f : ℕ) (some : 0 < f) (few : size f ≤ 256) (acts : 
         let x = has_in a.0.done i a.2 in
         elim (legal a.0 i x.0 a.1 x.1) [
           | inl lost ↦ absurd (lost.0 k)
-          | inr told ↦ (a.0, get_or (replies base (commands_of (history_of base f acts))) (place (instances_of (history_of base f acts)) i) Absent, a.1, subst (λ (z : Answer). In (i, z) a.0.done) told.1 x.1)
+          | inr reported ↦ (a.0, get_or (replies base (commands_of (history_of base f acts))) (place (instances_of (history_of base f acts)) i) Absent, a.1, subst (λ (z : Answer). In (i, z) a.0.done) reported.1 x.1)
         ])
   ]
 
   responded : (i : ℕ) → Responds acts i → Has (instances_of (history_of base f acts)) i
-  responded i t = elim (legal t.0 i (Replied t.1) t.2 t.3) [ inl lost ↦ told_lost t.1 lost.1 | inr told ↦ told.0 ]
+  responded i t = elim (legal t.0 i (Replied t.1) t.2 t.3) [ inl lost ↦ reported_lost t.1 lost.1 | inr reported ↦ reported.0 ]
 
   -- the run in two parts
   module _ (before : List Act) (rest : List Act) (whole : before ++ rest ≡ acts) where
     parts : IsRun f (opening base) before × IsRun f (ends f (opening base) before) rest
     parts = run_parts f before rest (opening base) (subst (IsRun f (opening base)) (sym whole) run)
 
-    known_then : (r i : ℕ) (x : Decree) → Committed (ends f (opening base) before) r i x → told_in base f acts i ≡ x.command
+    known_then : (r i : ℕ) (x : Decree) → Committed (ends f (opening base) before) r i x → reported_in base f acts i ≡ x.command
     known_then r i x e = ap command_of (all_known base f some few acts run before rest whole r i x e)
 
     executions_then : executions f (opening base) acts ≡ executions f (opening base) before ++ executions f (ends f (opening base) before) rest
     executions_then = ap (λ these. executions f (opening base) these) (sym whole) ∙ executions_both f before rest (opening base)
 
     -- what its leader has no record of isn't executed, where it is no no-op
-    not_yet : (i : ℕ) → get ((ends f (opening base) before).states (leader_of i)).records i ≡ None → is_noop (told_in base f acts i) ≡ false → IsExecutedIn (executions f (opening base) before) i → ⊥
+    not_yet : (i : ℕ) → get ((ends f (opening base) before).states (leader_of i)).records i ≡ None → is_noop (reported_in base f acts i) ≡ false → IsExecutedIn (executions f (opening base) before) i → ⊥
     not_yet i none is_command k =
         let x = executed_in f i before (opening base) parts.0 k in
         let there : Committed (ends f (opening base) before) x.replica i x.decree =
@@ -151,9 +151,9 @@ module _ (base : Store) (f : ℕ) (some : 0 < f) (few : size f ≤ 256) (acts : 
   proposed o before rest a m whole k =
       let p = parts before (a ∷ rest) whole in
       let x = step_known ((ends f (opening base) before).states a.replica) a.event a.done o.instance p.1.0.step.executes k in
-      let same : told_in base f acts o.instance ≡ x.0.command = known_then before (a ∷ rest) whole a.replica o.instance x.0 x.1 in
-      let is_command : is_noop (told_in base f acts o.instance) ≡ false = not_noop (is_noop (told_in base f acts o.instance)) (in_history o.instance (instance_in (history_of base f acts) o m)).1 in
-      subst (λ d. WasProposed base f before o.instance d) (sym same ∙ sym (command_is (told_in base f acts) (history_of base f acts) o is_history.commands m))
+      let same : reported_in base f acts o.instance ≡ x.0.command = known_then before (a ∷ rest) whole a.replica o.instance x.0 x.1 in
+      let is_command : is_noop (reported_in base f acts o.instance) ≡ false = not_noop (is_noop (reported_in base f acts o.instance)) (in_history o.instance (instance_in (history_of base f acts) o m)).1 in
+      subst (λ d. WasProposed base f before o.instance d) (sym same ∙ sym (command_is (reported_in base f acts) (history_of base f acts) o is_history.commands m))
       (validity_holds base f some few before p.0 o.instance a.replica x.0 x.1 (sym (ap is_noop same) ∙ is_command))
 
   was_free : (i : ℕ) (d : Command) (p : WasProposed base f acts i d) → get ((ends f (opening base) p.before).states (leader_of i)).records i ≡ None
@@ -168,11 +168,11 @@ module _ (base : Store) (f : ℕ) (some : 0 < f) (few : size f ≤ 256) (acts : 
       let before : List Act = p.proposed.before in
       let rest : List Act = p.proposed.proposal ∷ p.proposed.after in
       let whole : before ++ rest ≡ acts = p.proposed.stands in
-      let ri : is_noop (told_in base f acts i) ≡ false = not_noop (is_noop (told_in base f acts i)) (in_history i hi).1 in
-      let rj : is_noop (told_in base f acts j) ≡ false = not_noop (is_noop (told_in base f acts j)) (in_history j hj).1 in
+      let ri : is_noop (reported_in base f acts i) ≡ false = not_noop (is_noop (reported_in base f acts i)) (in_history i hi).1 in
+      let rj : is_noop (reported_in base f acts j) ≡ false = not_noop (is_noop (reported_in base f acts j)) (in_history j hj).1 in
       let first : IsExecutedIn (executions f (opening base) before) i = is_executed base f before (opening base) (parts before rest whole).0 i p.act p.earlier p.executed in
-      let lt = earlier_first_lem (told_in base f acts) (executions f (opening base) before) (executions f (ends f (opening base) before) rest) j i rj ri first (not_yet before rest whole j (was_free j p.command p.proposed) rj) in
-      subst (λ js. place js i < place js j) (ap (λ xs. history (told_in base f acts) xs) (sym (executions_then before rest whole)) ∙ sym is_history.instances) lt
+      let lt = earlier_first_lem (reported_in base f acts) (executions f (opening base) before) (executions f (ends f (opening base) before) rest) j i rj ri first (not_yet before rest whole j (was_free j p.command p.proposed) rj) in
+      subst (λ js. place js i < place js j) (ap (λ xs. history (reported_in base f acts) xs) (sym (executions_then before rest whole)) ∙ sym is_history.instances) lt
 
   everywhere : (r : ℕ) (o p : Operation) → In o (history_of base f acts) → In p (history_of base f acts) → interfere o.command p.command ≡ true →
       place (instances_of (history_of base f acts)) o.instance < place (instances_of (history_of base f acts)) p.instance →
@@ -187,18 +187,18 @@ module _ (base : Store) (f : ℕ) (some : 0 < f) (few : size f ≤ 256) (acts : 
       let hi = in_history i (instance_in (history_of base f acts) o mo) in
       let hj = in_history j (instance_in (history_of base f acts) p mp) in
       let kj : Has d j = subst (λ l. Has l j) (sym own) k in
-      let before : place m i < place m j = filter_back (is_real (told_in base f acts)) m i j hi.1 hj.1 hi.0 (subst (λ js. place js i < place js j) is_history.instances lt) in
+      let before : place m i < place m j = filter_back (is_real (reported_in base f acts)) m i j hi.1 hj.1 hi.0 (subst (λ js. place js i < place js j) is_history.instances lt) in
       let ne : i ≢ j = (λ e. let s : place m i ≡ place m j = ap (λ n. place m n) e in omega arith) in
-      let inter : interfere (told_in base f acts i) (told_in base f acts j) ≡ true =
-      ap (λ b. interfere b (told_in base f acts j)) (sym (command_is (told_in base f acts) (history_of base f acts) o is_history.commands mo))
-      ∙ ap (λ b. interfere o.command b) (sym (command_is (told_in base f acts) (history_of base f acts) p is_history.commands mp)) ∙ meet in
-      let link = linked (graph_of base f acts) (told_in base f acts) (dependent base f some few acts run) i j ne (w.whole.committed i hi.0) (w.whole.committed j hj.0) inter in
+      let inter : interfere (reported_in base f acts i) (reported_in base f acts j) ≡ true =
+      ap (λ b. interfere b (reported_in base f acts j)) (sym (command_is (reported_in base f acts) (history_of base f acts) o is_history.commands mo))
+      ∙ ap (λ b. interfere o.command b) (sym (command_is (reported_in base f acts) (history_of base f acts) p is_history.commands mp)) ∙ meet in
+      let link = linked (graph_of base f acts) (reported_in base f acts) (dependent base f some few acts run) i j ne (w.whole.committed i hi.0) (w.whole.committed j hj.0) inter in
       let ki : Has d i = has_before (graph_of base f acts) d m (w.each r) w.whole j i kj (turn link) before in
       subst (λ l. place l i < place l j) own (same_order (graph_of base f acts) m d w.whole (w.each r) i j ki hj.0 link before)
 
   is_linearizable : IsLinearizable base f acts
   is_linearizable = record {
-    once = subst AreOnce (sym is_history.instances) (as_once _ (once_filter (is_real (told_in base f acts)) (merged [] (executions f (opening base) acts)) (wells base f some few acts run).whole.once));
+    once = subst AreOnce (sym is_history.instances) (as_once _ (once_filter (is_real (reported_in base f acts)) (merged [] (executions f (opening base) acts)) (wells base f some few acts run).whole.once));
     complete = λ i. (responds i, responded i);
     proposed = proposed;
     legal = legal;

@@ -17,7 +17,7 @@ use Rattle.ep_rules.proofs.Places.{has_or}
 use Rattle.ep_rules.proofs.JournalsCommitted.{run_parts}
 use Rattle.ep_rules.proofs.Lives.{cut_more}
 use Rattle.ep_rules.proofs.RunHistories.{history_grows_lem}
-use Rattle.ep_rules.proofs.RunsLinear.{linearizability_holds, told_lost, told_from}
+use Rattle.ep_rules.proofs.RunsLinear.{linearizability_holds, reported_lost, reported_from}
 
 module _ (start : Contents) (f : ℕ) (some : 0 < f) (few : size f ≤ 256) (early late : List Act) (run : IsRun f (opening (opened start)) (early ++ late)) (r : ℕ) (shut : HasClosed (ends f (opening (opened start)) early) r) where
   abbrev h : List Operation
@@ -32,19 +32,19 @@ module _ (start : Contents) (f : ℕ) (some : 0 < f) (few : size f ≤ 256) (ear
       let t = history_grows_lem (opened start) f early late in
       ap up_to_seal t.1 ∙ cut_more (history_of (opened start) f early) t.0 (runs_close_lem start f some few early before r shut).0
 
-  settled : (a : Act) (i : ℕ) (told : Reply) → In a (early ++ late) → In (i, Replied told) a.done → told ≢ Closed → Has ((ends f (opening (opened start)) early).states r).executed i
-  settled a i told m k open' = elim ((linearizability_holds (opened start) f some few (early ++ late) run).legal a i (Replied told) m k) [
-    | inl lost ↦ told_lost told lost.1
+  settled : (a : Act) (i : ℕ) (reported : Reply) → In a (early ++ late) → In (i, Replied reported) a.done → reported ≢ Closed → Has ((ends f (opening (opened start)) early).states r).executed i
+  settled a i reported m k open' = elim ((linearizability_holds (opened start) f some few (early ++ late) run).legal a i (Replied reported) m k) [
+    | inl lost ↦ reported_lost reported lost.1
     | inr there ↦ elim (has_or (instances_of (up_to_seal h)) i) [
       | inl c ↦ (
           let o = has_operation (up_to_seal h) i c in
           subst (λ n. Has ((ends f (opening (opened start)) early).states r).executed n) o.2
           (runs_execute_all_lem start f some few early before r shut o.0 (subst (λ os. In o.0 os) same o.1)))
       | inr none ↦ absurd (open' (
-          told_from _ _ there.1
+          reported_from _ _ there.1
           ∙ late_reply start h (place (instances_of h) i) (real_history f (opening (opened start)) [] (early ++ late) tt) (cut_out h i none) there.0))
     ]
   ]
 
 pub one_settling_lem : OneSettling
-one_settling_lem start f some few early late run r shut a i told m k open' = settled start f some few early late run r shut a i told m k open'
+one_settling_lem start f some few early late run r shut a i reported m k open' = settled start f some few early late run r shut a i reported m k open'

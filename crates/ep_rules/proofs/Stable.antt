@@ -19,7 +19,7 @@ use Rattle.ep_rules.specs.declared.led_instance.LedInstance.TheVariants.{Proposi
 use Rattle.ep_rules.specs.declared.record.Record.{Record}
 use Rattle.ep_rules.proofs.Attributes.{within}
 use Rattle.ep_rules.proofs.Counting.{count_le}
-use Rattle.ep_rules.proofs.Facts.{Quiet, View, Seen, Backed, sees, can_see, CanSee, History, can_accept, CanChoose, Member, AllEarly, CanBeFast, Safe, Free, Decided, slowly, quickly, IsValid, IsCast, IsLast, ballot_at, Told, Reported, LedOk, HeldOk, CellOk, MessageOk, Advance}
+use Rattle.ep_rules.proofs.Facts.{Quiet, View, Seen, Backed, sees, can_see, CanSee, History, can_accept, CanChoose, Member, AllEarly, CanBeFast, Safe, Free, Decided, slowly, quickly, IsValid, IsCast, IsLast, ballot_at, Reported, PromisedReport, LedOk, HeldOk, CellOk, MessageOk, Advance}
 
 pub holds_some : {X : Type 0} (p : X → Bool) (o : Option X) → holds p o ≡ true → (x : X) × (o ≡ Some x) × (p x ≡ true)
 holds_some p None e = absurd (cc)
@@ -150,8 +150,8 @@ module _ (f l r : ℕ) (h h' : History) (go : Advance f l r h h') where
   last_kept k None closed unvoted hidden n = record { unaccepted = closed n.unaccepted; unvoted = unvoted n.unvoted; unseen = hidden n.unseen }
   last_kept k (Some v) closed unvoted hidden p = cast_kept k v.status v.ballot v.decree closed unvoted hidden p
 
-  pub told_kept : (k b : ℕ) (v : Option Vote) → ballot_at f l v < b → ((c : ℕ) → c < b → h.accepted k c ≡ false → h'.accepted k c ≡ false) → (h.early k ≡ None → h'.early k ≡ None) → (k ≡ l → h.fast ≡ None → h'.fast ≡ None) → ((c : ℕ) → c < b → h.seen k c ≡ None → h'.seen k c ≡ None) → Told f l h k b v → Told f l h' k b v
-  told_kept k b v lt closed unvoted unfast hidden t = record {
+  pub reported_kept : (k b : ℕ) (v : Option Vote) → ballot_at f l v < b → ((c : ℕ) → c < b → h.accepted k c ≡ false → h'.accepted k c ≡ false) → (h.early k ≡ None → h'.early k ≡ None) → (k ≡ l → h.fast ≡ None → h'.fast ≡ None) → ((c : ℕ) → c < b → h.seen k c ≡ None → h'.seen k c ≡ None) → Reported f l h k b v → Reported f l h' k b v
+  reported_kept k b v lt closed unvoted unfast hidden t = record {
     low = t.low;
     gap = λ c low high. closed c high (t.gap c low high);
     blank = λ c low high. hidden c high (t.blank c low high);
@@ -171,18 +171,18 @@ module _ (f l r : ℕ) (h h' : History) (go : Advance f l r h h') where
   unfast_past : (k : ℕ) → l < h.promised k → k ≡ l → h.fast ≡ None → h'.fast ≡ None
   unfast_past k lt is e = none_after _ _ (λ x t. elim (go.fast_new x t) [ inl a ↦ a | inr p ↦ absurd (let q = p.1 in let at = ap h.promised is in omega arith) ]) e
 
-  pub reported_kept : (k b : ℕ) (v : Option Vote) → Reported f l h k b v → Reported f l h' k b v
-  reported_kept k b v t =
-      let past : l < h.promised k = (let low = t.told.low in omega arith) in
+  pub promised_report_kept : (k b : ℕ) (v : Option Vote) → PromisedReport f l h k b v → PromisedReport f l h' k b v
+  promised_report_kept k b v t =
+      let past : l < h.promised k = (let low = t.reported.low in omega arith) in
       record {
         promised = (let up = go.promised_up k in omega arith);
         before = t.before;
-        told = told_kept k b v t.before (λ c lt e. closed_at k c (omega arith) e) (unvoted_past k past) (unfast_past k past) (λ c lt e. hidden_at k c (omega arith) e) t.told;
+        reported = reported_kept k b v t.before (λ c lt e. closed_at k c (omega arith) e) (unvoted_past k past) (unfast_past k past) (λ c lt e. hidden_at k c (omega arith) e) t.reported;
       }
 
   -- a replica whose part of the history is as it was
-  pub told_same : (k b : ℕ) (v : Option Vote) → ((c : ℕ) → h'.accepted k c ≡ h.accepted k c) → h'.early k ≡ h.early k → (k ≡ l → h'.fast ≡ h.fast) → ((c : ℕ) → h'.seen k c ≡ h.seen k c) → Told f l h k b v → Told f l h' k b v
-  told_same k b v same_accepted same_early same_fast same_seen t = record {
+  pub reported_same : (k b : ℕ) (v : Option Vote) → ((c : ℕ) → h'.accepted k c ≡ h.accepted k c) → h'.early k ≡ h.early k → (k ≡ l → h'.fast ≡ h.fast) → ((c : ℕ) → h'.seen k c ≡ h.seen k c) → Reported f l h k b v → Reported f l h' k b v
+  reported_same k b v same_accepted same_early same_fast same_seen t = record {
     low = t.low;
     gap = λ c low high. same_accepted c ∙ t.gap c low high;
     blank = λ c low high. same_seen c ∙ t.blank c low high;
@@ -211,7 +211,7 @@ module _ (f l r : ℕ) (h h' : History) (go : Advance f l r h h') where
     unchosen = same b p.mine ∙ p.unchosen;
     unasked = same_asked b p.mine ∙ p.unasked;
     unvoted = p.unvoted;
-    each = λ j v is. reported_kept j b v (p.each j v is);
+    each = λ j v is. promised_report_kept j b v (p.each j v is);
   }
 
   -- the same, after a promise or a vote at a ballot that isn't led here
@@ -240,7 +240,7 @@ module _ (f l r : ℕ) (h h' : History) (go : Advance f l r h h') where
     unchosen = same b p.mine ∙ p.unchosen;
     unasked = same_asked b p.mine ∙ p.unasked;
     unvoted = λ e. absurd (ne b p.mine p.reached e);
-    each = λ j v is. reported_kept j b v (p.each j v is);
+    each = λ j v is. promised_report_kept j b v (p.each j v is);
   }
 
   -- what another replica holds
@@ -248,7 +248,7 @@ module _ (f l r : ℕ) (h h' : History) (go : Advance f l r h h') where
   held_other k x led ne p = record {
     promised = go.same_promised k ne ∙ p.promised;
     order = p.order;
-    vote = λ b. told_same k b _ (go.same_accepted k ne) (go.same_early k ne) (λ e. go.same_fast (λ i. ne (e ∙ sym i))) (go.same_seen k ne) (p.vote b);
+    vote = λ b. reported_same k b _ (go.same_accepted k ne) (go.same_early k ne) (λ e. go.same_fast (λ i. ne (e ∙ sym i))) (go.same_seen k ne) (p.vote b);
     leads = led_same k x led (λ b e. go.same_chosen b (λ i. ne (sym e ∙ i))) (λ b e. go.same_asked b (λ i. ne (sym e ∙ i))) p.leads;
   }
 
@@ -268,7 +268,7 @@ module _ (f l r : ℕ) (h h' : History) (go : Advance f l r h h') where
   message_kept from to (AcceptOk i b) p = go.accepted_kept from b p
   message_kept from to (Commit i x) p = decided_kept x p
   message_kept from to (Prepare i b) p = tt
-  message_kept from to (PrepareOk i b v) p = reported_kept from b v p
+  message_kept from to (PrepareOk i b v) p = promised_report_kept from b v p
   message_kept from to (Nack i b promised) p = tt
 
 -- the same, of a cell

@@ -1,4 +1,4 @@
--- Instances done in turn, whatever they do: two lists that order alike what doesn't commute leave one state, and tell each instance the same.
+-- Instances done in turn, whatever they do: two lists that order alike what doesn't commute leave one state, and answer each instance alike.
 use Rattle.std.proofs.Common.{◌≡◌, ◌≢◌, ℕ, suc, ◌<◌, ◌↔◌, inl, inr, List, [], ◌∷◌, length, take, Bool, true, false, cond, not, eqb, refl, sym, ap, subst, ◌∙◌, arith, length-take}
 use Rattle.std.proofs.lemmas.Bool.{cases_Bool, eq-eqb, false≢true, le-leb, leb-true, false_from_ne_true, eqb-true}
 use Rattle.std.specs.Prelude.{nat_le}
@@ -246,10 +246,10 @@ module _ {S : Type 0} (step : S → ℕ → S) (meets : ℕ → ℕ → Bool) (c
           (λ j. (λ h. let f = shared_has l m j h in has_shared m l j f.1 f.0, λ h. let f = shared_has m l j h in has_shared l m j f.1 f.0))
           alike_shared
 
-      -- two such lists tell i the same
-      pub one_told : {R : Type 0} (ask : S → ℕ → R) → AreUnseen step ask meets → ask (run step base (take (place l i) l)) i ≡ ask (run step base (take (place m i) m)) i
+      -- two such lists answer i alike
+      pub one_reported : {R : Type 0} (ask : S → ℕ → R) → AreUnseen step ask meets → ask (run step base (take (place l i) l)) i ≡ ask (run step base (take (place m i) m)) i
       unfolding front shared
-      one_told ask unseen =
+      one_reported ask unseen =
           taken_out ask unseen (is_in (front m)) base (front l) (once_front l ol) (idle l m hl hm alike)
           ∙ ap (λ n. ask n i) same_left
           ∙ sym (taken_out ask unseen (is_in (front l)) base (front m) (once_front m om) (idle m l hm hl (turned l m alike)))

@@ -15,10 +15,10 @@ use Rattle.ep_rules.specs.Phases.{with_attrs, on_pre_accept, on_accept, on_commi
 use Rattle.ep_rules.specs.Recovery.{on_prepare}
 use Rattle.ep_base.specs.Attributes.{join}
 use Rattle.ep_rules.proofs.Attributes.{within_trans, within_join_left, within_join_right}
-use Rattle.ep_rules.proofs.Facts.{Seen, History, Decided, IsLast, ballot_at, NoVote, Told, CellOk, AskOk, HistoryOk, Advance}
+use Rattle.ep_rules.proofs.Facts.{Seen, History, Decided, IsLast, ballot_at, NoVote, Reported, CellOk, AskOk, HistoryOk, Advance}
 use Rattle.ep_rules.proofs.Histories.{advance_trans, with_seen, see, note, note_here, note_other, note_back, see_advance, see_news, put_same, mark_here, mark_other, history_next, promise, promise_advance, promise_news, vote_accept, vote_accept_advance, vote_accept_news, vote_early, vote_early_advance, vote_early_news, same_advance}
 use Rattle.ep_rules.proofs.Keeping.{record_of, split, FreshSeen, Kept, KeptOk, keep_nothing, keep_nack, keep_committed, keep_limited, later_unseen, later_unaccepted}
-use Rattle.ep_rules.proofs.Stable.{member_kept, seen_kept, quiet_kept, free_kept, told_same, led_moved}
+use Rattle.ep_rules.proofs.Stable.{member_kept, seen_kept, quiet_kept, free_kept, reported_same, led_moved}
 
 -- What the tests say of the last vote.
 
@@ -50,9 +50,9 @@ note_fresh r own h b x asked k c d e = elim (note_back h.seen r b (own x).deps k
 ]
 
 -- after a promise of b, and no vote
-pub promised_vote : {f i r : ℕ} {h : History} {c : Cell} (cell : CellOk f i h r c) (b n : ℕ) → h.promised r ≤ b → Told f (leader_of i) (promise h r b) r n (record_of i c).vote
+pub promised_vote : {f i r : ℕ} {h : History} {c : Cell} (cell : CellOk f i h r c) (b n : ℕ) → h.promised r ≤ b → Reported f (leader_of i) (promise h r b) r n (record_of i c).vote
 promised_vote {f} {i} {r} {h} {c} cell b n le =
-    told_same f (leader_of i) r h (promise h r b) (promise_advance f (leader_of i) r b h le) r n (record_of i c).vote (λ _. refl) refl (λ _. refl) (λ _. refl) ((cell.held).vote n)
+    reported_same f (leader_of i) r h (promise h r b) (promise_advance f (leader_of i) r b h le) r n (record_of i c).vote (λ _. refl) refl (λ _. refl) (λ _. refl) ((cell.held).vote n)
 
 module _ {f i r : ℕ} {h : History} {c : Cell} (cell : CellOk f i h r c) where
   unaccepted_at : (b : ℕ) → (record_of i c).promised ≤ b → is_done_at b (record_of i c).vote ≡ false → h.accepted r b ≡ false
@@ -94,7 +94,7 @@ module _ {f i r : ℕ} {own : Command → Attrs} {new : Command → Type 0} {h :
           };
           fresh = λ e. absurd (cc);
         };
-        out = (record { promised = (let p = put_same h.promised r b in omega arith); before = (omega arith); told = promised_vote cell b b (omega arith) }, tt);
+        out = (record { promised = (let p = put_same h.promised r b in omega arith); before = (omega arith); reported = promised_vote cell b b (omega arith) }, tt);
         fresh_seen = (λ k b d e. inl e);
         proposed_new = (λ x e. inl e);
       }

@@ -65,27 +65,27 @@ committed_decree (Some v) = committed_at v.status v.decree
 
 -- Changes.
 
--- the new record, what is led from now on, and the counter that is told, each none where it stays as it was; and what is sent, with its receivers
+-- the new record, what is led from now on, and the counter that is reported, each none where it stays as it was; and what is sent, with its receivers
 pub record Change : Type 0 where
   pub entry : Option Record
   pub led : Option (Option LedInstance)
-  pub told : Option ℕ
+  pub reported : Option ℕ
   pub out : List (ℕ × Message)
 
 abbrev pub nothing : Change
-nothing = record { entry = None; led = None; told = None; out = [] }
+nothing = record { entry = None; led = None; reported = None; out = [] }
 
 -- nothing changes, and this is answered
 abbrev pub answered : ℕ → Message → Change
-answered from m = record { entry = None; led = None; told = None; out = (from, m) ∷ [] }
+answered from m = record { entry = None; led = None; reported = None; out = (from, m) ∷ [] }
 
 -- this is recorded and answered
 abbrev pub recorded : Record → ℕ → Message → Change
-recorded r from m = record { entry = Some r; led = None; told = None; out = (from, m) ∷ [] }
+recorded r from m = record { entry = Some r; led = None; reported = None; out = (from, m) ∷ [] }
 
 -- the answers are kept
 abbrev pub kept : LedInstance → Change
-kept l = record { entry = None; led = Some (Some l); told = None; out = [] }
+kept l = record { entry = None; led = Some (Some l); reported = None; out = [] }
 
 -- the record after a vote at b
 abbrev pub voted : ℕ → VoteStatus → Decree → Record
@@ -103,8 +103,8 @@ pub data Refusal : Type 0 where
   BallotsExhausted : Refusal
   NotCommitted : (instance : ℕ) → Refusal
 
--- what one replica knows of one instance: its record, what it leads, and the greatest counter that a Nack told it
+-- what one replica knows of one instance: its record, what it leads, and the greatest counter that a Nack reported it
 pub record Cell : Type 0 where
   pub entry : Option Record
   pub led : Option LedInstance
-  pub told : ℕ
+  pub reported : ℕ

@@ -15,7 +15,7 @@ abbrev pub state_at : {S R : Type 0} → Machine S R → S → (ℕ → List Ope
 state_at M start h zero = start
 state_at M start h (suc g) = after_operations M (state_at M start h g) (up_to_seal (h g))
 
--- what instance i of generation g is told where operations of generations are done in turn
+-- what instance i of generation g is answered where operations of generations are done in turn
 abbrev pub reply_in : {S R : Type 0} → Machine S R → S → List Named → ℕ → ℕ → Option R
 reply_in M s [] g i = None
 reply_in M s (o ∷ os) g i = cond (eqb o.generation g && eqb o.operation.instance i) (Some (M.reply s o.operation)) (reply_in M (M.after s o.operation) os g i)

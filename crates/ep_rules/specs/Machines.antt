@@ -24,13 +24,13 @@ pub record AreFree (o p : Operation) : Type 0 where
   pub second : is_noop p.command ≡ false
   pub meet : interfere o.command p.command ≡ false
 
--- A machine with these states and replies: what an operation leaves, and what it is told.
+-- A machine with these states and replies: what an operation leaves, and what it is answered.
 pub record Machine (S R : Type 0) : Type 0 where
   pub after : S → Operation → S
   pub reply : S → Operation → R
   -- two operations whose order is left open leave one state in either order
   pub commute : (s : S) (o p : Operation) → AreFree o p → after (after s o) p ≡ after (after s p) o
-  -- and neither is told of the other
+  -- and the reply of neither depends on the other
   pub unseen : (s : S) (o p : Operation) → AreFree o p → reply (after s o) p ≡ reply s p
 
 -- what operations in turn leave
@@ -38,7 +38,7 @@ abbrev pub after_operations : {S R : Type 0} → Machine S R → S → List Oper
 after_operations M s [] = s
 after_operations M s (o ∷ os) = after_operations M (M.after s o) os
 
--- what the operation of instance i is told where operations are done in turn
+-- what the operation of instance i is answered where operations are done in turn
 abbrev pub reply_to : {S R : Type 0} → Machine S R → S → List Operation → ℕ → Option R
 reply_to M s [] i = None
 reply_to M s (o ∷ os) i = cond (eqb o.instance i) (Some (M.reply s o)) (reply_to M (M.after s o) os i)
@@ -137,7 +137,7 @@ MapIsMachine = (M : Machine Store Reply) × ((s : Store) (o : Operation) → (M.
 abbrev pub AreSameAt : {X : Type 0} → Operation → (List ℕ → X) → (List ℕ → X) → Type 0
 AreSameAt o s t = (k : List ℕ) → has_key k (keys_of o.command) ≡ true → s k ≡ t k
 
--- What an operation does to a state that is a value at each key, and what it is told, keeps to its footprint.
+-- What an operation does to a state that is a value at each key, and what it is answered, keeps to its footprint.
 pub record KeepsToKeys (X R : Type 0) (after : (List ℕ → X) → Operation → List ℕ → X) (reply : (List ℕ → X) → Operation → R) : Type 0 where
   -- it changes what its keys have, and nothing else
   pub changes : (s : List ℕ → X) (o : Operation) (k : List ℕ) → has_key k (keys_of o.command) ≡ false → after s o k ≡ s k
@@ -145,8 +145,8 @@ pub record KeepsToKeys (X R : Type 0) (after : (List ℕ → X) → Operation �
   pub reads : (s : List ℕ → X) (o : Operation) (k : List ℕ) → only_reads o.command ≡ true → after s o k ≡ s k
   -- what its keys have then follows from what they had
   pub follows : (s t : List ℕ → X) (o : Operation) → AreSameAt o s t → AreSameAt o (after s o) (after t o)
-  -- and so does what it is told
-  pub told : (s t : List ℕ → X) (o : Operation) → AreSameAt o s t → reply s o ≡ reply t o
+  -- and so does what it is answered
+  pub reported : (s t : List ℕ → X) (o : Operation) → AreSameAt o s t → reply s o ≡ reply t o
 
 -- What keeps to its keys is a machine.
 abbrev pub KeepersAreMachines : (X R : Type 0) → Type 0

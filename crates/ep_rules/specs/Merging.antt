@@ -14,7 +14,7 @@ use Rattle.ep_rules.specs.Steps.{Propose, Handle, Frame}
 use Rattle.ep_rules.specs.Worlds.{opening, In, IsRun, ends}
 use Rattle.ep_rules.specs.Journals.{Entry, messages_of, IsEntry, AreSteps, left, AreMarked, AreNumbered, IsLocalRun, last_stamp, stamp_after, heard, AreClocked, asked_in, Journals, AreLocalRuns, WasSent, IsMatched, Scheduled, of, IsSchedule, acts_of, Plays, ArePlayed, frames_of}
 use Rattle.ep_rules.specs.Audits.{HasOrigin, IsAccepted, Fault, IsFault}
-use Rattle.ep_rules.specs.Verdicts.{committed_by, agreed, command_at, IsTable, history_of, IsReply, Proposes, TellsOf, HasDone, IsKnown, Agrees, IsOwn, AreOwn}
+use Rattle.ep_rules.specs.Verdicts.{committed_by, agreed, command_at, IsTable, history_of, IsReply, Proposes, ReportsOf, HasDone, IsKnown, Agrees, IsOwn, AreOwn}
 use Rattle.ep_rules.specs.declared.receipt.Receipt.{Receipt}
 use Rattle.ep_rules.specs.OneMap.{Store}
 
@@ -147,11 +147,11 @@ OneProposal = (base : Store) →
     (p : Proposes base f me es i client request) (q : Proposes base f me es i other_client other_request) → p.proposal ≡ q.proposal
 
 -- The entry that proposes a command as an instance is the one whose first frame is about it.
-abbrev pub ProposalsTell : Type 0
-ProposalsTell = (base : Store) →
+abbrev pub ProposalsReport : Type 0
+ProposalsReport = (base : Store) →
     (f me : ℕ) (es : List Entry) → 0 < f → AreSteps f me (fresh_state base) es → (i client request : ℕ) →
-    ((p : Proposes base f me es i client request) → TellsOf p.proposal i client request)
-    × ((e : Entry) → In e es → TellsOf e i client request → (p : Proposes base f me es i client request) × (p.proposal ≡ e))
+    ((p : Proposes base f me es i client request) → ReportsOf p.proposal i client request)
+    × ((e : Entry) → In e es → ReportsOf e i client request → (p : Proposes base f me es i client request) × (p.proposal ≡ e))
 
 -- Journals and receipts that grow.
 

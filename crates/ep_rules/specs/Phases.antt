@@ -30,19 +30,19 @@ limited own ch = cond (leb own.seq 1000000) (Ok ch) (Err SeqExhausted)
 
 -- phase 1 at b: the leader votes itself, and asks those that pass; s is kept
 abbrev pub first_phase : (ℕ → Bool) → ℕ → ℕ → ℕ → ℕ → Decree → Change
-first_phase asked f i b s x = record { entry = Some (voted b PreAccepted x); led = Some (Some (Proposing b s [])); told = None; out = to_those asked (size f) (PreAccept i b x) }
+first_phase asked f i b s x = record { entry = Some (voted b PreAccepted x); led = Some (Some (Proposing b s [])); reported = None; out = to_those asked (size f) (PreAccept i b x) }
 
 -- the accept phase at b: the leader accepts, and asks all others to
 abbrev pub accept_phase : ℕ → ℕ → ℕ → ℕ → Decree → Change
-accept_phase f i me b x = record { entry = Some (voted b Accepted x); led = Some (Some (Accepting b [])); told = None; out = to_those (is_other me) (size f) (Accept i b x) }
+accept_phase f i me b x = record { entry = Some (voted b Accepted x); led = Some (Some (Accepting b [])); reported = None; out = to_those (is_other me) (size f) (Accept i b x) }
 
 -- a commit leaves both ballots as they are
 abbrev pub with_commit : ℕ → Record → Decree → Record
 with_commit i r x = record { promised = r.promised; vote = Some (record { status = Committed; ballot = voted_ballot i r.vote; decree = x }) }
 
--- the leader commits, leads the instance no longer, and tells all others
+-- the leader commits, leads the instance no longer, and informs all others
 abbrev pub commit_phase : ℕ → ℕ → ℕ → Decree → Record → Change
-commit_phase f i me x r = record { entry = Some (with_commit i r x); led = Some None; told = None; out = to_those (is_other me) (size f) (Commit i x) }
+commit_phase f i me x r = record { entry = Some (with_commit i r x); led = Some None; reported = None; out = to_those (is_other me) (size f) (Commit i x) }
 
 -- The events.
 
@@ -68,7 +68,7 @@ on_accept i from b x r =
 abbrev pub on_commit : ℕ → Decree → Record → Change
 on_commit i x r =
     cond (is_committed r.vote) nothing
-    (record { entry = Some (with_commit i r x); led = Some None; told = None; out = [] })
+    (record { entry = Some (with_commit i r x); led = Some None; reported = None; out = [] })
 
 -- may the leader of b still use an answer: it leads b, has promised no other ballot, and has not committed
 abbrev pub is_usable : ℕ → Record → ℕ → Bool

@@ -102,23 +102,23 @@ act_on f i me b own r ProposeNoop = recover_with f i me b Noop (own Noop)
 
 -- The events.
 
--- above what the replica promised, and above all counters that it was told
+-- above what the replica promised, and above all counters that it has heard of
 abbrev pub next_counter : Record → ℕ → ℕ
-next_counter r told = 1 + max (counter_of r.promised) told
+next_counter r reported = 1 + max (counter_of r.promised) reported
 
 abbrev pub prepare_phase : ℕ → ℕ → ℕ → ℕ → Record → Change
 prepare_phase f i me b r =
     record {
       entry = Some (record { promised = b; vote = r.vote });
       led = Some (Some (Preparing b (with_answer [] me r.vote)));
-      told = None;
+      reported = None;
       out = to_those (is_other me) (size f) (Prepare i b);
     }
 
 abbrev pub recover : ℕ → ℕ → ℕ → Record → ℕ → Outcome
-recover f i me r told =
+recover f i me r reported =
     cond (is_committed r.vote) (Err AlreadyCommitted)
-    (cond (leb (next_counter r told) highest_counter) (Ok (prepare_phase f i me (ballot_of (next_counter r told) me) r)) (Err BallotsExhausted))
+    (cond (leb (next_counter r reported) highest_counter) (Ok (prepare_phase f i me (ballot_of (next_counter r reported) me) r)) (Err BallotsExhausted))
 
 -- a committed replica answers, too
 abbrev pub on_prepare : ℕ → ℕ → ℕ → Record → Change
@@ -150,6 +150,6 @@ use_prepare_ok f i me b own r (Some more) = cond (is_usable b r more.0) (count_p
 abbrev pub on_prepare_ok : ℕ → ℕ → ℕ → ℕ → ℕ → Option Vote → (Command → Attrs) → Record → Option LedInstance → Outcome
 on_prepare_ok f i me from b v own r led = use_prepare_ok f i me b own r (more_preparing from v led)
 
--- the greatest counter told is kept
+-- the greatest counter reported is kept
 abbrev pub on_nack : ℕ → ℕ → Change
-on_nack promised told = record { entry = None; led = None; told = Some (max told (counter_of promised)); out = [] }
+on_nack promised reported = record { entry = None; led = None; reported = Some (max reported (counter_of promised)); out = [] }

@@ -12,16 +12,16 @@ use Rattle.ep_rules.specs.OneMap.{Store}
 use Rattle.ep_rules.specs.declared.led_instance.LedInstance.{LedInstance}
 use Rattle.ep_rules.specs.declared.record.Record.{Record}
 
--- records, what the replica leads, the counters that Nacks told, what it executed, in order, and its map
+-- records, what the replica leads, the counters that Nacks reported, what it executed, in order, and its map
 pub record State : Type 0 where
   pub records : Map Record
   pub leads : Map LedInstance
-  pub told : Map ℕ
+  pub reported : Map ℕ
   pub executed : List ℕ
   pub store : Store
 
 abbrev pub fresh_state : (base : Store) → State
-fresh_state base = record { records = none; leads = none; told = none; executed = []; store = base }
+fresh_state base = record { records = none; leads = none; reported = none; executed = []; store = base }
 
 -- One instance.
 
@@ -31,7 +31,7 @@ or_zero (Some n) = n
 
 -- what the replica knows of an instance
 abbrev pub cell_in : State → ℕ → Cell
-cell_in s i = record { entry = get s.records i; led = get s.leads i; told = or_zero (get s.told i) }
+cell_in s i = record { entry = get s.records i; led = get s.leads i; reported = or_zero (get s.reported i) }
 
 abbrev pub record_in : State → ℕ → Record
 record_in s i = record_or_fresh i (get s.records i)
@@ -54,7 +54,7 @@ abbrev pub changed : State → ℕ → Change → State
 changed s i ch = record {
   records = with_entry s.records i ch.entry;
   leads = with_led s.leads i ch.led;
-  told = with_entry s.told i ch.told;
+  reported = with_entry s.reported i ch.reported;
   executed = s.executed;
   store = s.store;
 }

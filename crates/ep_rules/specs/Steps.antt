@@ -96,7 +96,7 @@ handled f me from s (AcceptOk i b) = Ok (on_accept_ok f i me from b (record_in s
 handled f me from s (Commit i x) = Ok (on_commit i x (record_in s i))
 handled f me from s (Prepare i b) = Ok (on_prepare i from b (record_in s i))
 handled f me from s (PrepareOk i b v) = on_prepare_ok f i me from b v (interference s.records i) (record_in s i) (get s.leads i)
-handled f me from s (Nack i b p) = Ok (on_nack p (cell_in s i).told)
+handled f me from s (Nack i b p) = Ok (on_nack p (cell_in s i).reported)
 
 -- the instance, and what changes there
 abbrev pub at : ℕ → Outcome → Result (ℕ × Change) Refusal
@@ -112,7 +112,7 @@ abbrev pub acts : ℕ → ℕ → State → Event → Result (ℕ × Change) Ref
 acts f me s (Propose client request c seen named) = proposed f me (spared f me named) s c (free_number s.records me)
 acts f me s (Handle m) = at (instance_of_message m.sent.message) (handled f me m.sent.from s m.sent.message)
 acts f me s (GiveUp i) = at i (give_up f i me (record_in s i) (get s.leads i))
-acts f me s (Recover i) = at i (recover f i me (record_in s i) (cell_in s i).told)
+acts f me s (Recover i) = at i (recover f i me (record_in s i) (cell_in s i).reported)
 acts f me s (Execute root) = Ok (root, nothing)
 
 -- Executions (EPaxos, section 4.3.2): an instance, with its answer.

@@ -83,7 +83,7 @@ pub record Proposes (base : Store) (f me : ℕ) (es : List Entry) (i client requ
   pub instance : instance_of me (number + 1) ≡ i
 
 -- the entry is a proposal for this client and request, and the first frame that it sends is about instance i
-pub record TellsOf (e : Entry) (i client request : ℕ) : Type 0 where
+pub record ReportsOf (e : Entry) (i client request : ℕ) : Type 0 where
   pub command : Command
   pub seen : ℕ
   pub spared : Option ℕ

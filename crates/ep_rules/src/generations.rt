@@ -10,7 +10,7 @@ pub fn one_opening()
 
 /// Every life is linearizable: the generations' histories, each up to its first seal, are one history of one map, which explains each answer and keeps real time across generations.
 ///
-/// What has no place in it was lost, or was told that the map is closed, and has changed nothing.
+/// What has no place in it was lost, or was answered that the map is closed, and has changed nothing.
 pub fn lives_are_linearizable()
     ensures { LivesAreLinearizable }
 {}

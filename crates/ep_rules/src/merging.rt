@@ -1,6 +1,6 @@
 //! Laws of journals: if they match, they are one run of a world, and what a world plays are journals that match.
 
-ghost use Rattle.ep_rules.specs.Merging.{AgreedIs, AgreesByStamp, AskedGrows, CallerOrder, ClockedAccepted, ClockedMatch, ClocksGrow, ClocksStayAbove, DoneByPlace, EachReply, FaultsAreFirst, FramesWereSent, JournalsAgree, JournalsDepend, JournalsKeep, JournalsOrder, JournalsPropose, LocalRunsGrow, MergedIsARun, NumbersArePlaces, OneProposal, OneSchedule, OneTable, OriginByPlace, OwnEntriesLeave, OwnReceiptsAgree, OwnStays, PlayedAccepted, PlayedGrows, PlayedIsARun, PlayedMatch, PlayedSends, ProposalsName, ProposalsTell, SentByPlace, SentStays, SomeSchedule};
+ghost use Rattle.ep_rules.specs.Merging.{AgreedIs, AgreesByStamp, AskedGrows, CallerOrder, ClockedAccepted, ClockedMatch, ClocksGrow, ClocksStayAbove, DoneByPlace, EachReply, FaultsAreFirst, FramesWereSent, JournalsAgree, JournalsDepend, JournalsKeep, JournalsOrder, JournalsPropose, LocalRunsGrow, MergedIsARun, NumbersArePlaces, OneProposal, OneSchedule, OneTable, OriginByPlace, OwnEntriesLeave, OwnReceiptsAgree, OwnStays, PlayedAccepted, PlayedGrows, PlayedIsARun, PlayedMatch, PlayedSends, ProposalsName, ProposalsReport, SentByPlace, SentStays, SomeSchedule};
 
 /// Matched journals, merged in the order of stamps, are a run of the world, whose replicas' own runs they are.
 pub fn merged_is_a_run()
@@ -98,8 +98,8 @@ pub fn one_proposal()
 {}
 
 /// The entry that proposes a command as an instance is the one proposal of the journal whose first frame is about that instance.
-pub fn proposals_tell()
-    ensures { ProposalsTell }
+pub fn proposals_report()
+    ensures { ProposalsReport }
 {}
 
 /// A local run and one more step are a local run if the step's entry has the next number and a greater stamp, and its frames bear both and their places.

@@ -1,4 +1,4 @@
-//! What a client is told of its command.
+//! What a client is answered of its command.
 
 ghost use Rattle.std.specs.Prelude.{◌≡◌, IfOk};
 

@@ -3,11 +3,11 @@ use Rattle.std.proofs.Common.{◌≡◌, ◌≢◌, ℕ, zero, suc, ◌<◌, ◌
 use Rattle.std.proofs.lemmas.List.{append-nil}
 use Rattle.std.proofs.lemmas.Bool.{cases_lt}
 use Rattle.std.proofs.lemmas.Bool.Decides.{eqb_tells}
-use Rattle.ep_host.specs.Node.{Node}
-use Rattle.ep_host.specs.RingFinishing.{replicas_in, entries_in}
-use Rattle.ep_host.specs.Tasks.{Use, tasks_in, events_in, refusals_in, event_made as event_by}
-use Rattle.ep_host.specs.declared.task.Task.{Task}
-use Rattle.ep_host.proofs.Accepting.{none_after}
+use Rattle.ep_threads.specs.Node.{Node}
+use Rattle.ep_threads.specs.RingFinishing.{replicas_in, entries_in}
+use Rattle.ep_threads.specs.Tasks.{Use, tasks_in, events_in, refusals_in, event_made as event_by}
+use Rattle.ep_threads.specs.declared.task.Task.{Task}
+use Rattle.ep_threads.proofs.Accepting.{none_after}
 use Rattle.ep_journal.specs.declared.entry.Entry.{Entry}
 use Rattle.ep_journal.specs.declared.step_fault.StepFault.{StepFault}
 use Rattle.ep_journal.specs.Entries.{entries_of}
@@ -112,18 +112,18 @@ entries_at [] r d low = absurd (omega (arith, low))
 entries_at (n ∷ ns) zero d low = refl
 entries_at (n ∷ ns) (suc r) d low = entries_at ns r d (omega (arith, low))
 
--- these are the lines that were refused, as the nodes tell
+-- these are the lines that were refused, as the nodes report them
 abbrev pub Refuses : List SectionPlan → List (ℕ × Refusal) → List Node → Type 0
-Refuses sections told nodes =
+Refuses sections reported nodes =
     (before : List (List Receipt)) (uses : ℕ → List Use) → (length before ≡ length sections) → ((i : ℕ) (d : Node) → i < length nodes → (get_or nodes i d).refused ≡ refusals_in 0 (uses i)) →
-    ((i : ℕ) → length nodes ≤ i → uses i ≡ []) → told ≡ refused_in (lines_of (asked_in [] sections before) uses)
+    ((i : ℕ) → length nodes ≤ i → uses i ≡ []) → reported ≡ refused_in (lines_of (asked_in [] sections before) uses)
 
 -- what the lines became
 pub are_done :
     (b : Begun) (turns : ℕ) (sections : List SectionPlan) (s : RingRun) (ran : Ran) → HasRun b turns sections s → ran.finished.journals.entries ≡ entries_in (replicas_in s.nodes.items) → ran.receipts.items ≡ s.receipts.items →
     (nodes : List Node) → nodes ≡ s.nodes.items → Refuses sections ran.refused.items nodes → AreDone turns sections ran
 are_done b turns sections s ran h journals receipts from same refuses =
-    let told : Refuses sections ran.refused.items s.nodes.items = subst (λ (l : List Node). Refuses sections ran.refused.items l) same refuses in
+    let reported : Refuses sections ran.refused.items s.nodes.items = subst (λ (l : List Node). Refuses sections ran.refused.items l) same refuses in
     let uses : ℕ → List Use = λ r. (h.used r).used in
     let asked = asked_in [] sections h.before in
     let nodes = s.nodes.items in record {
@@ -139,7 +139,7 @@ are_done b turns sections s ran h journals receipts from same refuses =
           (λ (high : length nodes ≤ r). ap (λ (es : List Entry). asked_in_entries (entries_of es)) (none_after nodes r high) ∙ ap events_in (sym (u.others high).0))
           (cases_lt r (length nodes)) in
           ap (λ (es : List (List Entry)). asked_in_entries (entries_of (get_or es r []))) journals ∙ events ∙ sym (made_lines r asked uses u.left u.parts);
-      told = told h.before uses h.sectioned (λ i d low. ((h.used i).node d low).refused) (λ i high. ((h.used i).others high).0);
+      reported = reported h.before uses h.sectioned (λ i d low. ((h.used i).node d low).refused) (λ i high. ((h.used i).others high).0);
       done = λ most. none_left_of asked uses (λ r.
           let u = h.used r in
           let empty : u.left ≡ [] = ⊎_elim

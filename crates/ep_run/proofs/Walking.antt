@@ -3,9 +3,9 @@ use Rattle.std.proofs.Common.{◌≡◌, ◌∙◌, ℕ, suc, ◌+◌, ◌<◌, 
 use Rattle.std.specs.Prelude.{is_some, replicate}
 use Rattle.std.proofs.lemmas.Bool.{eq-eqb, ne_eqb, lt-ltb}
 use Rattle.std.proofs.lemmas.List.{append-nil, drop-drop, get_or-replicate}
-use Rattle.ep_host.specs.Node.{Node}
-use Rattle.ep_host.specs.Tasks.{Use, refusal_at, refusals_in, next_place}
-use Rattle.ep_host.specs.declared.task.Task.{Task}
+use Rattle.ep_threads.specs.Node.{Node}
+use Rattle.ep_threads.specs.Tasks.{Use, refusal_at, refusals_in, next_place}
+use Rattle.ep_threads.specs.declared.task.Task.{Task}
 use Rattle.ep_journal.specs.declared.step_fault.StepFault.{StepFault}
 use Rattle.ep_journal.specs.declared.refusal.Refusal.{Refusal}
 use Rattle.ep_rules.specs.declared.receipt.Receipt.{Receipt}
@@ -53,8 +53,8 @@ fault_next p (u ∷ us) h =
     first_here p u.refusal (refusals_in (next_place p) us) (none_before p (next_place p) us later)
 
 -- the refusal of the line that is passed
-pub passed_fault : (p q told : ℕ) (rs : List (ℕ × StepFault)) (us : List Use) → q ≡ p + 1 → q < 4294967296 → drop told rs ≡ refusals_in p us → fault_at p (drop told rs) ≡ next_refusal us
-passed_fault p q told rs us after h is = ap (fault_at p) is ∙ fault_next p us (omega arith)
+pub passed_fault : (p q reported : ℕ) (rs : List (ℕ × StepFault)) (us : List Use) → q ≡ p + 1 → q < 4294967296 → drop reported rs ≡ refusals_in p us → fault_at p (drop reported rs) ≡ next_refusal us
+passed_fault p q reported rs us after h is = ap (fault_at p) is ∙ fault_next p us (omega arith)
 
 -- a line that wasn't refused
 rest_none : (p : ℕ) (us : List Use) → p + 1 < 4294967296 → next_refusal us ≡ None → refusals_in p us ≡ refusals_in (p + 1) (drop 1 us)
@@ -71,29 +71,29 @@ rest_some p (u ∷ us) f h some =
     ∙ ap (λ (n : ℕ). refusals_in n us) (next_is p h)
 
 pub passed_none :
-    (p q told : ℕ) (rs : List (ℕ × StepFault)) (us : List Use) (f : Option StepFault) → q ≡ p + 1 → q < 4294967296 → drop told rs ≡ refusals_in p us → f ≡ fault_at p (drop told rs) → is_some f ≡ false →
-    drop told rs ≡ refusals_in q (drop 1 us)
-passed_none p q told rs us None after h is this no-fault =
-    is ∙ rest_none p us (omega arith) (sym (passed_fault p q told rs us after h is) ∙ sym this) ∙ ap (λ (n : ℕ). refusals_in n (drop 1 us)) (sym after)
-passed_none p q told rs us (Some f) after h is this no-fault = absurd cc
+    (p q reported : ℕ) (rs : List (ℕ × StepFault)) (us : List Use) (f : Option StepFault) → q ≡ p + 1 → q < 4294967296 → drop reported rs ≡ refusals_in p us → f ≡ fault_at p (drop reported rs) → is_some f ≡ false →
+    drop reported rs ≡ refusals_in q (drop 1 us)
+passed_none p q reported rs us None after h is this no-fault =
+    is ∙ rest_none p us (omega arith) (sym (passed_fault p q reported rs us after h is) ∙ sym this) ∙ ap (λ (n : ℕ). refusals_in n (drop 1 us)) (sym after)
+passed_none p q reported rs us (Some f) after h is this no-fault = absurd cc
 
 pub passed_some :
-    (p q told : ℕ) (rs : List (ℕ × StepFault)) (us : List Use) (f : Option StepFault) → q ≡ p + 1 → q < 4294967296 → drop told rs ≡ refusals_in p us → f ≡ fault_at p (drop told rs) → is_some f ≡ true →
-    drop (told + 1) rs ≡ refusals_in q (drop 1 us)
-passed_some p q told rs us None after h is this a-fault = absurd cc
-passed_some p q told rs us (Some f) after h is this a-fault =
-    sym (drop-drop 1 told rs) ∙ ap (drop 1) is ∙ rest_some p us f (omega arith) (sym (passed_fault p q told rs us after h is) ∙ sym this) ∙ ap (λ (n : ℕ). refusals_in n (drop 1 us)) (sym after)
+    (p q reported : ℕ) (rs : List (ℕ × StepFault)) (us : List Use) (f : Option StepFault) → q ≡ p + 1 → q < 4294967296 → drop reported rs ≡ refusals_in p us → f ≡ fault_at p (drop reported rs) → is_some f ≡ true →
+    drop (reported + 1) rs ≡ refusals_in q (drop 1 us)
+passed_some p q reported rs us None after h is this a-fault = absurd cc
+passed_some p q reported rs us (Some f) after h is this a-fault =
+    sym (drop-drop 1 reported rs) ∙ ap (drop 1) is ∙ rest_some p us f (omega arith) (sym (passed_fault p q reported rs us after h is) ∙ sym this) ∙ ap (λ (n : ℕ). refusals_in n (drop 1 us)) (sym after)
 
 -- all nodes
 
 -- the start
 pub at_start :
-    (cs : List Cursor) (ns : List Node) (uses : ℕ → List Use) → cs ≡ replicate (length ns) (record { place = 0; told = 0 }) →
+    (cs : List Cursor) (ns : List Node) (uses : ℕ → List Use) → cs ≡ replicate (length ns) (record { place = 0; reported = 0 }) →
     ((i : ℕ) (d : Node) → i < length ns → (slice_index_or ns i d).refused ≡ refusals_in 0 (uses i)) → ((i : ℕ) → length ns ≤ i → uses i ≡ []) → AreAt cs ns uses
 at_start cs ns uses fresh refusals none = record {
   at =
       λ i c d within.
-      let start : Cursor = record { place = 0; told = 0 } in
+      let start : Cursor = record { place = 0; reported = 0 } in
       let first : slice_index_or cs i c ≡ start = ap (λ (xs : List Cursor). slice_index_or xs i c) fresh ∙ get_or-replicate (length ns) i start c within in
       subst (λ (k : Cursor). IsAt k (slice_index_or ns i d).refused (uses i)) (sym first) (refusals i d within);
   others = none;
@@ -115,28 +115,28 @@ left_both (x ∷ xs) ys uses = left_both xs ys (without_next x.1.0 uses)
 pub lists_both :
     (xs ys : List (ℕ × (ℕ × Task))) (ns : List Node) (xa xb xc : List Cursor) (ps qs rs : List (ℕ × Refusal)) → Lists xs ns xa xb ps qs → Lists ys ns xb xc qs rs → Lists (xs ++ ys) ns xa xc ps rs
 lists_both xs ys ns xa xb xc ps qs rs first next = record {
-  told =
+  reported =
       λ uses are.
       let mine : List (ℕ × Refusal) = refused_in (lines_of xs uses) in
       let more : List (ℕ × Refusal) = refused_in (lines_of ys (left_after xs uses)) in
-      next.told (left_after xs uses) (first.rest uses are) ∙ ap (λ (l : List (ℕ × Refusal)). l ++ more) (first.told uses are) ∙ append_assoc ps mine more ∙ ap (λ (l : List (ℕ × Refusal)). ps ++ l) (sym (lines_both xs ys uses));
+      next.reported (left_after xs uses) (first.rest uses are) ∙ ap (λ (l : List (ℕ × Refusal)). l ++ more) (first.reported uses are) ∙ append_assoc ps mine more ∙ ap (λ (l : List (ℕ × Refusal)). ps ++ l) (sym (lines_both xs ys uses));
   rest = λ uses are. subst (AreAt xc ns) (sym (left_both xs ys uses)) (next.rest (left_after xs uses) (first.rest uses are));
 }
 
 -- one line
 
-fate_told : (number : ℕ) (us : List Use) → refusal_of number (next_fate us) ≡ refusal_of number (fate_of (next_refusal us))
-fate_told number [] = refl
-fate_told number (u ∷ us) = refl
+fate_reported : (number : ℕ) (us : List Use) → refusal_of number (next_fate us) ≡ refusal_of number (fate_of (next_refusal us))
+fate_reported number [] = refl
+fate_reported number (u ∷ us) = refl
 
 lists_one :
     (number r : ℕ) (task : Task) (ns : List Node) (cs cs' : List Cursor) (rs rs' : List (ℕ × Refusal)) (f : Option StepFault) → ((uses : ℕ → List Use) → AreAt cs ns uses → f ≡ next_refusal (uses r)) →
     ((uses : ℕ → List Use) → AreAt cs ns uses → AreAt cs' ns (without_next r uses)) → rs' ≡ rs ++ refusal_of number (fate_of f) → Lists ((number, (r, task)) ∷ []) ns cs cs' rs rs'
 lists_one number r task ns cs cs' rs rs' f why rest is = record {
-  told =
+  reported =
       λ uses are.
       is ∙ ap (λ (l : List (ℕ × Refusal)). rs ++ l)
-      (ap (λ (o : Option StepFault). refusal_of number (fate_of o)) (why uses are) ∙ sym (fate_told number (uses r)) ∙ sym (append-nil (refusal_of number (next_fate (uses r)))));
+      (ap (λ (o : Option StepFault). refusal_of number (fate_of o)) (why uses are) ∙ sym (fate_reported number (uses r)) ∙ sym (append-nil (refusal_of number (next_fate (uses r)))));
   rest = rest;
 }
 

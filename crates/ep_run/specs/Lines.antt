@@ -1,8 +1,8 @@
 -- What became of the lines of a run over rings.
 use Rattle.std.specs.Prelude.{◌≡◌, ◌≢◌, ℕ, ◌+◌, ◌≤◌, eqb, cond, List, [], ◌∷◌, ◌++◌, length, All, Contains}
 use mathlib.Core.List.{IsPrefix}
-use Rattle.ep_host.specs.Tasks.{event_of}
-use Rattle.ep_host.specs.declared.task.Task.{Task}
+use Rattle.ep_threads.specs.Tasks.{event_of}
+use Rattle.ep_threads.specs.declared.task.Task.{Task}
 use Rattle.ep_journal.specs.Entries.{journals_of}
 use Rattle.ep_journal.specs.Events as journal
 use Rattle.ep_journal.specs.declared.step_fault.StepFault.{StepFault}
@@ -76,7 +76,7 @@ abbrev pub HaveAtMost : ℕ → List SectionPlan → Type 0
 HaveAtMost turns sections = (s : SectionPlan) → Contains sections s → (r : ℕ) → count_for r s.lines ≤ turns
 
 -- What became of the lines of these sections, where each section had so many turns: of each replica's lines, those that made entries are what was
--- asked of it, in order, and the refused lines are those that are told. None is left undone where the turns are as many as a section's lines.
+-- asked of it, in order, and the refused lines are those that are reported. None is left undone where the turns are as many as a section's lines.
 pub record AreDone (turns : ℕ) (sections : List SectionPlan) (ran : Ran) : Type 0 where
   pub lines : List Line
   -- the receipts that had been given before each section
@@ -85,5 +85,5 @@ pub record AreDone (turns : ℕ) (sections : List SectionPlan) (ran : Ran) : Typ
   pub sectioned : length before ≡ length sections
   pub asked : asks lines ≡ asked_in [] sections before
   pub entries : (r : ℕ) → asked_in_entries (journals_of ran.finished.journals r) ≡ made_at r lines
-  pub told : ran.refused.items ≡ refused_in lines
+  pub reported : ran.refused.items ≡ refused_in lines
   pub done : HaveAtMost turns sections → All (λ (l : Line). l.fate ≢ left) lines

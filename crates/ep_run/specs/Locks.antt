@@ -6,7 +6,7 @@ use Rattle.ep_journal.specs.Openings.{Opening}
 use Rattle.ep_replay.specs.Heads.{opening_of}
 use Rattle.ep_script.specs.Heads.{Head}
 
--- the replicas of a host, so many, of this version and with this opening, are those that the head tells of
+-- the replicas of a host, so many, of this version and with this opening, are those that the head names
 pub record HasBegun (h : Head) (cluster : ℕ) (version : Version) (opening : Opening) : Type 0 where
   pub cluster_is : cluster ≡ h.faults
   pub version_is : version ≡ h.version

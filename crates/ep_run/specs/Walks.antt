@@ -1,8 +1,8 @@
--- A walk over the lines of a script, beside the refusals that its nodes told.
+-- A walk over the lines of a script, beside the refusals that its nodes reported.
 use Rattle.std.specs.Prelude.{◌≡◌, ℕ, ◌<◌, ◌≤◌, eqb, cond, List, [], ◌∷◌, ◌++◌, length, drop, Option, Some, None, slice_index_or}
-use Rattle.ep_host.specs.Node.{Node}
-use Rattle.ep_host.specs.Tasks.{Use, refusals_in}
-use Rattle.ep_host.specs.declared.task.Task.{Task}
+use Rattle.ep_threads.specs.Node.{Node}
+use Rattle.ep_threads.specs.Tasks.{Use, refusals_in}
+use Rattle.ep_threads.specs.declared.task.Task.{Task}
 use Rattle.ep_journal.specs.declared.step_fault.StepFault.{StepFault}
 use Rattle.ep_journal.specs.declared.refusal.Refusal.{Refusal}
 use Rattle.ep_run.specs.Lines.{refused_in}
@@ -24,9 +24,9 @@ abbrev pub fault_at : ℕ → List (ℕ × StepFault) → Option StepFault
 fault_at place [] = None
 fault_at place (r ∷ rs) = cond (eqb r.0 place) (Some r.1) None
 
--- the walk has come to this at a node: its refusals that weren't told yet are those among what it uses up from here on
+-- the walk has come to this at a node: its unreported refusals are those among what it uses up from here on
 abbrev pub IsAt : Cursor → List (ℕ × StepFault) → List Use → Type 0
-IsAt c refused uses = drop c.told refused ≡ refusals_in c.place uses
+IsAt c refused uses = drop c.reported refused ≡ refusals_in c.place uses
 
 -- the same at each node; no other replica has used up anything
 pub record AreAt (cursors : List Cursor) (nodes : List Node) (uses : ℕ → List Use) : Type 0 where
@@ -35,5 +35,5 @@ pub record AreAt (cursors : List Cursor) (nodes : List Node) (uses : ℕ → Lis
 
 -- a walk over lines that asked for this lists those that were refused, and has then come to what these lines leave
 pub record Lists (asked : List (ℕ × (ℕ × Task))) (nodes : List Node) (cursors cursors' : List Cursor) (listed listed' : List (ℕ × Refusal)) : Type 0 where
-  pub told : (uses : ℕ → List Use) → AreAt cursors nodes uses → listed' ≡ listed ++ refused_in (lines_of asked uses)
+  pub reported : (uses : ℕ → List Use) → AreAt cursors nodes uses → listed' ≡ listed ++ refused_in (lines_of asked uses)
   pub rest : (uses : ℕ → List Use) → AreAt cursors nodes uses → AreAt cursors' nodes (left_after asked uses)

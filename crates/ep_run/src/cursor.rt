@@ -11,7 +11,7 @@ pub(crate) struct Cursor {
     /// How many of the node's lines came before: the place of the next one.
     place: u32,
     /// How many of the node's refusals were reported.
-    told: usize,
+    reported: usize,
 }
 
 /// The place after this one. No script has as many lines as it can count.
@@ -27,21 +27,24 @@ fn next(place: u32) -> Result<u32, AllocError>
 
 impl Cursor {
     ghost use Rattle.std.specs.Prelude.{◌≡◌, List, drop, IfOk, OnOk};
-    ghost use Rattle.ep_host.specs.Tasks.{Use};
+    ghost use Rattle.ep_threads.specs.Tasks.{Use};
     ghost use Rattle.ep_run.specs.Walks.{fault_at, next_refusal, IsAt};
 
     /// Before any line.
     pub(crate) fn new() -> Cursor
-        ensures { result ≡ record { place = 0; told = 0 } }
+        ensures { result ≡ record { place = 0; reported = 0 } }
     {
-        Cursor { place: 0, told: 0 }
+        Cursor {
+            place: 0,
+            reported: 0,
+        }
     }
 
     /// Why the node's next line was refused, if its next refusal is that line's.
     fn fault(&self, refused: &[(u32, StepFault)]) -> Option<StepFault>
-        ensures { result ≡ fault_at self.now.place (drop self.now.told refused.now) }
+        ensures { result ≡ fault_at self.now.place (drop self.now.reported refused.now) }
     {
-        let Some((place, fault)) = refused.get(self.told) else {
+        let Some((place, fault)) = refused.get(self.reported) else {
             return None;
         };
         if *place == self.place {
@@ -62,7 +65,7 @@ impl Cursor {
         let next = next(self.place)?;
         let fault = self.fault(refused);
         if fault.is_some() {
-            self.told += 1;
+            self.reported += 1;
         }
         self.place = next;
         Ok(fault)

@@ -2,9 +2,9 @@
 
 ghost use Rattle.std.specs.Prelude.{◌≡◌, ℕ, List, Some, IfOk, OnOk};
 ghost use Rattle.ep_base.specs.Quorums.{size as size_with};
-ghost use Rattle.ep_host.specs.Finishing.{IsFinished};
+ghost use Rattle.ep_threads.specs.Finishing.{IsFinished};
 ghost use Rattle.ep_replay.specs.Tables.{AreCounted};
-ghost use Rattle.ep_rules.specs.declared.receipt.Receipt.{Receipt as Told};
+ghost use Rattle.ep_rules.specs.declared.receipt.Receipt.{Receipt as Reported};
 ghost use Rattle.ep_script.specs.Fits.{FitsSection};
 ghost use Rattle.ep_replay.specs.Heads.{opening_of};
 ghost use Rattle.ep_run.specs.Asking.{AreSubmissions, proposers_of};
@@ -19,11 +19,11 @@ use crate::run_fault::RunFault;
 use crate::submission::Submission;
 use crate::weather::{want_of_memory, weather_in};
 use ep_base::ReplicaId;
-use ep_host::{LockHost, Start, Turn};
 use ep_journal::Refusal;
 use ep_replay::{Clients, beginning_of};
 use ep_rules::Receipt;
 use ep_script::{Head, RunScript, ScriptSection};
+use ep_threads::{LockHost, Start, Turn};
 use std::alloc::{AllocError, Global};
 use std::marker::{Brand, Send, Sync};
 use std::sync::Wait;
@@ -46,8 +46,8 @@ fn submissions_of(
     clients: &mut Clients,
     section: &ScriptSection,
 ) -> Result<Vec<Submission>, AllocError>
-    ensures tasks { IfOk result (λ tasks. (ps : List ℕ) (ts : List Told) → AreCounted clients.old ps ts → AreSubmissions ps ts section.now.lines tasks.items) }
-    ensures counted { OnOk result ((ps : List ℕ) (ts : List Told) → AreCounted clients.old ps ts → AreCounted clients.new (proposers_of ps section.now.lines) ts) }
+    ensures tasks { IfOk result (λ tasks. (ps : List ℕ) (ts : List Reported) → AreCounted clients.old ps ts → AreSubmissions ps ts section.now.lines tasks.items) }
+    ensures counted { OnOk result ((ps : List ℕ) (ts : List Reported) → AreCounted clients.old ps ts → AreCounted clients.new (proposers_of ps section.now.lines) ts) }
 {
     let mut tasks = Vec::new(alloc);
     for (line, asked) in section.lines() {
@@ -56,7 +56,7 @@ fn submissions_of(
     Ok(tasks)
 }
 
-/// The replicas that the head tells of, before any event.
+/// The replicas that the head names, before any event.
 fn host_of<S: Start>(alloc: Global, head: &Head, limits: &Limits) -> Result<LockHost<S>, AllocError>
     requires start { S.start ≡ (head.now.version, opening_of head.now.opening) }
     requires room { S.room ≡ Some limits.now.capacity }

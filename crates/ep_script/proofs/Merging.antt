@@ -8,7 +8,7 @@ use Rattle.std.specs.declared.cmp.Ordering.{Ordering}
 use Rattle.std.specs.declared.cmp.Ordering.TheVariants.{Less, Equal, Greater}
 use Rattle.std.proofs.lemmas.Bool.{and_parts, leb-true}
 use Rattle.ep_base.specs.Commands.{Command, Tx}
-use Rattle.ep_base.specs.Items.{Item, rise_above, told_count}
+use Rattle.ep_base.specs.Items.{Item, rise_above, reported_count}
 use Rattle.ep_base.specs.Ops.{is_items_len}
 use Rattle.ep_base.specs.CommandParts.{items_in, tx_bytes, all_items, are_items, is_tx}
 use Rattle.ep_base.proofs.Bodies.{tx_again, tx_parts, tx_there}
@@ -103,6 +103,6 @@ tx_refused is b e f = refuses is (λ are. true≢false (sym (tx_there is are) �
 
 pub too_many : (is : List Item) → 1024 < length is → None ≡ tx_with is
 too_many is more = refuses is (λ h.
-    let few = and_parts (nat_le 1 (length is) && nat_le (length is) 1024) (all_items is && (rise_above [] is && (nat_le (told_count is) 16 && is_items_len (length (tx_bytes is))))) h in
+    let few = and_parts (nat_le 1 (length is) && nat_le (length is) 1024) (all_items is && (rise_above [] is && (nat_le (reported_count is) 16 && is_items_len (length (tx_bytes is))))) h in
     let le = leb-true (length is) 1024 (and_parts (nat_le 1 (length is)) (nat_le (length is) 1024) few.0).1 in
     omega (arith, le, more))

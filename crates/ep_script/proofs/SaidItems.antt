@@ -15,9 +15,9 @@ use Rattle.ep_base.specs.Items.{Item, item_keys, rise_above}
 use Rattle.ep_base.specs.CommandParts.{flag}
 use Rattle.ep_base.proofs.Ascending.{below_none}
 use Rattle.ep_base.proofs.Same.{Decides-same_list}
-use Rattle.ep_script.specs.Clauses.{Said, alone, with_clause, placed, with_said, merged, said_of, guards, tolds, writes, IsTwice, listed, SaysThese, item_of, rise, AreSaid, MergingLaw}
+use Rattle.ep_script.specs.Clauses.{Said, alone, with_clause, placed, with_said, merged, said_of, guards, number_reported, writes, IsTwice, listed, SaysThese, item_of, rise, AreSaid, MergingLaw}
 use Rattle.ep_script.specs.declared.clause.Clause.{Clause}
-use Rattle.ep_script.specs.declared.clause.Clause.TheVariants.{Guard, Told, Write}
+use Rattle.ep_script.specs.declared.clause.Clause.TheVariants.{Guard, Reported, Write}
 use Rattle.ep_script.proofs.KeySets.{same_by_cmp}
 
 -- Options.
@@ -43,19 +43,19 @@ mapped_none f (Some x) e = absurd (cc)
 guards_more : (cs ds : List Clause) → guards (cs ++ ds) ≡ guards cs ++ guards ds
 guards_more [] ds = refl
 guards_more (Guard w ∷ cs) ds = ap (λ (xs : List (Option (List ℕ))). w ∷ xs) (guards_more cs ds)
-guards_more (Told ∷ cs) ds = guards_more cs ds
+guards_more (Reported ∷ cs) ds = guards_more cs ds
 guards_more (Write w ∷ cs) ds = guards_more cs ds
 
-tolds_more : (cs ds : List Clause) → tolds (cs ++ ds) ≡ tolds cs + tolds ds
-tolds_more [] ds = let e : tolds ds ≡ 0 + tolds ds = omega arith in e
-tolds_more (Guard w ∷ cs) ds = tolds_more cs ds
-tolds_more (Told ∷ cs) ds = let e : tolds (cs ++ ds) ≡ tolds cs + tolds ds = tolds_more cs ds in omega arith
-tolds_more (Write w ∷ cs) ds = tolds_more cs ds
+number_reported_more : (cs ds : List Clause) → number_reported (cs ++ ds) ≡ number_reported cs + number_reported ds
+number_reported_more [] ds = let e : number_reported ds ≡ 0 + number_reported ds = omega arith in e
+number_reported_more (Guard w ∷ cs) ds = number_reported_more cs ds
+number_reported_more (Reported ∷ cs) ds = let e : number_reported (cs ++ ds) ≡ number_reported cs + number_reported ds = number_reported_more cs ds in omega arith
+number_reported_more (Write w ∷ cs) ds = number_reported_more cs ds
 
 writes_more : (cs ds : List Clause) → writes (cs ++ ds) ≡ writes cs ++ writes ds
 writes_more [] ds = refl
 writes_more (Guard w ∷ cs) ds = writes_more cs ds
-writes_more (Told ∷ cs) ds = writes_more cs ds
+writes_more (Reported ∷ cs) ds = writes_more cs ds
 writes_more (Write w ∷ cs) ds = ap (λ (xs : List (Option (List ℕ))). w ∷ xs) (writes_more cs ds)
 
 -- what is said twice stays so
@@ -63,7 +63,7 @@ twice_more : (cs ds : List Clause) → IsTwice cs → IsTwice (cs ++ ds)
 twice_more cs ds (inl h) =
     let e : length (guards (cs ++ ds)) ≡ length (guards cs) + length (guards ds) = ap length (guards_more cs ds) ∙ length-append (guards cs) (guards ds) in
     inl (omega arith)
-twice_more cs ds (inr (inl h)) = let e : tolds (cs ++ ds) ≡ tolds cs + tolds ds = tolds_more cs ds in inr (inl (omega arith))
+twice_more cs ds (inr (inl h)) = let e : number_reported (cs ++ ds) ≡ number_reported cs + number_reported ds = number_reported_more cs ds in inr (inl (omega arith))
 twice_more cs ds (inr (inr h)) =
     let e : length (writes (cs ++ ds)) ≡ length (writes cs) + length (writes ds) = ap length (writes_more cs ds) ∙ length-append (writes cs) (writes ds) in
     inr (inr (omega arith))
@@ -81,33 +81,33 @@ some_said [] c e = absurd (cc)
 some_said (d ∷ cs) c e = absurd (cc)
 
 says_new : (k : List ℕ) (c : Clause) → SaysThese (c ∷ []) (alone k c)
-says_new k (Guard w) = record { some = some_said [] (Guard w); guard = refl; told = refl; write = refl }
-says_new k Told = record { some = some_said [] Told; guard = refl; told = refl; write = refl }
-says_new k (Write w) = record { some = some_said [] (Write w); guard = refl; told = refl; write = refl }
+says_new k (Guard w) = record { some = some_said [] (Guard w); guard = refl; reported = refl; write = refl }
+says_new k Reported = record { some = some_said [] Reported; guard = refl; reported = refl; write = refl }
+says_new k (Write w) = record { some = some_said [] (Write w); guard = refl; reported = refl; write = refl }
 
 says_more : (c : Clause) (cs : List Clause) (i j : Item) → SaysThese cs i → with_clause c i ≡ Some j → SaysThese (cs ++ c ∷ []) j
 says_more (Guard w) cs i j h e =
-    let p = some_then (is_some i.guard) (record { key = i.key; guard = Some w; told = i.told; write = i.write }) j e in
+    let p = some_then (is_some i.guard) (record { key = i.key; guard = Some w; reported = i.reported; write = i.write }) j e in
     subst (SaysThese (cs ++ Guard w ∷ [])) p.1 (record {
       some = some_said cs (Guard w);
       guard = guards_more cs (Guard w ∷ []) ∙ ap (λ (xs : List (Option (List ℕ))). xs ++ w ∷ []) (h.guard ∙ listed_none i.guard p.0);
-      told = tolds_more cs (Guard w ∷ []) ∙ (let e : tolds cs + 0 ≡ tolds cs = omega arith in e) ∙ h.told;
+      reported = number_reported_more cs (Guard w ∷ []) ∙ (let e : number_reported cs + 0 ≡ number_reported cs = omega arith in e) ∙ h.reported;
       write = writes_more cs (Guard w ∷ []) ∙ append-nil (writes cs) ∙ h.write;
     })
-says_more Told cs i j h e =
-    let p = some_then i.told (record { key = i.key; guard = i.guard; told = true; write = i.write }) j e in
-    subst (SaysThese (cs ++ Told ∷ [])) p.1 (record {
-      some = some_said cs Told;
-      guard = guards_more cs (Told ∷ []) ∙ append-nil (guards cs) ∙ h.guard;
-      told = tolds_more cs (Told ∷ []) ∙ ap (λ n. n + 1) (h.told ∙ ap (flag 1) p.0);
-      write = writes_more cs (Told ∷ []) ∙ append-nil (writes cs) ∙ h.write;
+says_more Reported cs i j h e =
+    let p = some_then i.reported (record { key = i.key; guard = i.guard; reported = true; write = i.write }) j e in
+    subst (SaysThese (cs ++ Reported ∷ [])) p.1 (record {
+      some = some_said cs Reported;
+      guard = guards_more cs (Reported ∷ []) ∙ append-nil (guards cs) ∙ h.guard;
+      reported = number_reported_more cs (Reported ∷ []) ∙ ap (λ n. n + 1) (h.reported ∙ ap (flag 1) p.0);
+      write = writes_more cs (Reported ∷ []) ∙ append-nil (writes cs) ∙ h.write;
     })
 says_more (Write w) cs i j h e =
-    let p = some_then (is_some i.write) (record { key = i.key; guard = i.guard; told = i.told; write = Some w }) j e in
+    let p = some_then (is_some i.write) (record { key = i.key; guard = i.guard; reported = i.reported; write = Some w }) j e in
     subst (SaysThese (cs ++ Write w ∷ [])) p.1 (record {
       some = some_said cs (Write w);
       guard = guards_more cs (Write w ∷ []) ∙ append-nil (guards cs) ∙ h.guard;
-      told = tolds_more cs (Write w ∷ []) ∙ (let e : tolds cs + 0 ≡ tolds cs = omega arith in e) ∙ h.told;
+      reported = number_reported_more cs (Write w ∷ []) ∙ (let e : number_reported cs + 0 ≡ number_reported cs = omega arith in e) ∙ h.reported;
       write = writes_more cs (Write w ∷ []) ∙ ap (λ (xs : List (Option (List ℕ))). xs ++ w ∷ []) (h.write ∙ listed_none i.write p.0);
     })
 
@@ -116,9 +116,9 @@ says_twice (Guard w) cs i h e =
     let one : length (guards cs) ≡ 1 = ap length h.guard ∙ listed_some i.guard (none_then (is_some i.guard) _ e) in
     let more : length (guards (cs ++ Guard w ∷ [])) ≡ length (guards cs) + 1 = ap length (guards_more cs (Guard w ∷ [])) ∙ length-append (guards cs) (w ∷ []) in
     inl (omega arith)
-says_twice Told cs i h e =
-    let one : tolds cs ≡ 1 = h.told ∙ ap (flag 1) (none_then i.told _ e) in
-    let more : tolds (cs ++ Told ∷ []) ≡ tolds cs + 1 = tolds_more cs (Told ∷ []) in
+says_twice Reported cs i h e =
+    let one : number_reported cs ≡ 1 = h.reported ∙ ap (flag 1) (none_then i.reported _ e) in
+    let more : number_reported (cs ++ Reported ∷ []) ≡ number_reported cs + 1 = number_reported_more cs (Reported ∷ []) in
     inr (inl (omega arith))
 says_twice (Write w) cs i h e =
     let one : length (writes cs) ≡ 1 = ap length h.write ∙ listed_some i.write (none_then (is_some i.write) _ e) in
@@ -129,13 +129,13 @@ says_twice (Write w) cs i h e =
 
 alone_key : (k : List ℕ) (c : Clause) → (alone k c).key ≡ k
 alone_key k (Guard w) = refl
-alone_key k Told = refl
+alone_key k Reported = refl
 alone_key k (Write w) = refl
 
 keeps_key : (c : Clause) (i j : Item) → with_clause c i ≡ Some j → j.key ≡ i.key
-keeps_key (Guard w) i j e = ap (λ (x : Item). x.key) (sym (some_then (is_some i.guard) (record { key = i.key; guard = Some w; told = i.told; write = i.write }) j e).1)
-keeps_key Told i j e = ap (λ (x : Item). x.key) (sym (some_then i.told (record { key = i.key; guard = i.guard; told = true; write = i.write }) j e).1)
-keeps_key (Write w) i j e = ap (λ (x : Item). x.key) (sym (some_then (is_some i.write) (record { key = i.key; guard = i.guard; told = i.told; write = Some w }) j e).1)
+keeps_key (Guard w) i j e = ap (λ (x : Item). x.key) (sym (some_then (is_some i.guard) (record { key = i.key; guard = Some w; reported = i.reported; write = i.write }) j e).1)
+keeps_key Reported i j e = ap (λ (x : Item). x.key) (sym (some_then i.reported (record { key = i.key; guard = i.guard; reported = true; write = i.write }) j e).1)
+keeps_key (Write w) i j e = ap (λ (x : Item). x.key) (sym (some_then (is_some i.write) (record { key = i.key; guard = i.guard; reported = i.reported; write = Some w }) j e).1)
 
 abbrev compared : Said → Item → Ordering
 compared s i = slice_cmp nat_cmp i.key s.key

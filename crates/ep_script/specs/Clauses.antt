@@ -8,7 +8,7 @@ use Rattle.ep_base.specs.Attributes.{same_list}
 use Rattle.ep_base.specs.Items.{Item, rise_above}
 use Rattle.ep_base.specs.CommandParts.{flag}
 use Rattle.ep_script.specs.declared.clause.Clause.{Clause}
-use Rattle.ep_script.specs.declared.clause.Clause.TheVariants.{Guard, Told, Write}
+use Rattle.ep_script.specs.declared.clause.Clause.TheVariants.{Guard, Reported, Write}
 
 -- what is said of a key
 pub record Said : Type 0 where
@@ -17,15 +17,15 @@ pub record Said : Type 0 where
 
 -- the item that says this alone
 abbrev pub alone : List ℕ → Clause → Item
-alone k (Guard wanted) = record { key = k; guard = Some wanted; told = false; write = None }
-alone k Told = record { key = k; guard = None; told = true; write = None }
-alone k (Write given) = record { key = k; guard = None; told = false; write = Some given }
+alone k (Guard wanted) = record { key = k; guard = Some wanted; reported = false; write = None }
+alone k Reported = record { key = k; guard = None; reported = true; write = None }
+alone k (Write given) = record { key = k; guard = None; reported = false; write = Some given }
 
 -- the item that says this too; none where it says something of the kind
 abbrev pub with_clause : Clause → Item → Option Item
-with_clause (Guard wanted) i = if is_some i.guard then None else Some (record { key = i.key; guard = Some wanted; told = i.told; write = i.write })
-with_clause Told i = if i.told then None else Some (record { key = i.key; guard = i.guard; told = true; write = i.write })
-with_clause (Write given) i = if is_some i.write then None else Some (record { key = i.key; guard = i.guard; told = i.told; write = Some given })
+with_clause (Guard wanted) i = if is_some i.guard then None else Some (record { key = i.key; guard = Some wanted; reported = i.reported; write = i.write })
+with_clause Reported i = if i.reported then None else Some (record { key = i.key; guard = i.guard; reported = true; write = i.write })
+with_clause (Write given) i = if is_some i.write then None else Some (record { key = i.key; guard = i.guard; reported = i.reported; write = Some given })
 
 -- what is said of a key, before the first item whose key is greater, or in the item of the key; rest is where it is put behind the first item
 abbrev pub placed : Ordering → Said → Item → List Item → Option (List Item) → Option (List Item)
@@ -63,26 +63,26 @@ said_of k (s ∷ ss) = if same_list k s.key then s.clause ∷ said_of k ss else 
 abbrev pub guards : List Clause → List (Option (List ℕ))
 guards [] = []
 guards (Guard wanted ∷ cs) = wanted ∷ guards cs
-guards (Told ∷ cs) = guards cs
+guards (Reported ∷ cs) = guards cs
 guards (Write given ∷ cs) = guards cs
 
--- how often it is told
-abbrev pub tolds : List Clause → ℕ
-tolds [] = 0
-tolds (Guard wanted ∷ cs) = tolds cs
-tolds (Told ∷ cs) = suc (tolds cs)
-tolds (Write given ∷ cs) = tolds cs
+-- how often it is reported
+abbrev pub number_reported : List Clause → ℕ
+number_reported [] = 0
+number_reported (Guard wanted ∷ cs) = number_reported cs
+number_reported (Reported ∷ cs) = suc (number_reported cs)
+number_reported (Write given ∷ cs) = number_reported cs
 
 -- what it is given
 abbrev pub writes : List Clause → List (Option (List ℕ))
 writes [] = []
 writes (Guard wanted ∷ cs) = writes cs
-writes (Told ∷ cs) = writes cs
+writes (Reported ∷ cs) = writes cs
 writes (Write given ∷ cs) = given ∷ writes cs
 
 -- something of one kind is said twice
 abbrev pub IsTwice : List Clause → Type 0
-IsTwice cs = (2 ≤ length (guards cs)) ⊎ (2 ≤ tolds cs) ⊎ (2 ≤ length (writes cs))
+IsTwice cs = (2 ≤ length (guards cs)) ⊎ (2 ≤ number_reported cs) ⊎ (2 ≤ length (writes cs))
 
 abbrev pub listed : Option (Option (List ℕ)) → List (Option (List ℕ))
 listed None = []
@@ -92,7 +92,7 @@ listed (Some o) = o ∷ []
 pub record SaysThese (cs : List Clause) (i : Item) : Type 0 where
   pub some : cs ≢ []
   pub guard : guards cs ≡ listed i.guard
-  pub told : tolds cs ≡ flag 1 i.told
+  pub reported : number_reported cs ≡ flag 1 i.reported
   pub write : writes cs ≡ listed i.write
 
 -- the item of the key

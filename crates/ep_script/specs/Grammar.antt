@@ -18,7 +18,7 @@ use Rattle.ep_script.specs.Parts.{number_of, digits_of}
 use Rattle.ep_script.specs.declared.agenda_line.AgendaLine.{AgendaLine}
 use Rattle.ep_script.specs.declared.agenda_line.AgendaLine.TheVariants as agenda
 use Rattle.ep_script.specs.declared.clause.Clause.{Clause}
-use Rattle.ep_script.specs.declared.clause.Clause.TheVariants.{Guard, Told, Write}
+use Rattle.ep_script.specs.declared.clause.Clause.TheVariants.{Guard, Reported, Write}
 use Rattle.ep_script.specs.declared.line.Line.{Line}
 use Rattle.ep_script.specs.declared.line.Line.TheVariants.{Execute, Deliver, Flush}
 use Rattle.ep_script.specs.declared.line.Line.TheVariants as asked
@@ -154,7 +154,7 @@ seal_of (v ∷ w ∷ more) = None
 -- what `get K` and `del K` say of K
 abbrev pub short_clause : List ℕ → Option Clause
 short_clause w =
-    if bytes_eq w (codes "get") then Some Told
+    if bytes_eq w (codes "get") then Some Reported
     else if bytes_eq w (codes "del") then Some (Write None)
     else None
 

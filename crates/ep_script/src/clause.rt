@@ -8,7 +8,7 @@ pub(crate) enum Clause {
     /// `if K E`: the key has to have this value, or none.
     Guard(Option<Value>),
     /// `get K`: the reply says what the key has.
-    Told,
+    Reported,
     /// `put K V` and `del K`: the key is given this value, or none.
     Write(Option<Value>),
 }

@@ -44,7 +44,7 @@ impl<'a> ItemWords<'a> {
 }
 
 impl<'a> ItemWord<'a> {
-    /// Whether an item that begins with this word says something of the kind: what a key has to have, that it is told, or what it is given.
+    /// Whether an item that begins with this word says something of the kind: what a key has to have, that it is reported, or what it is given.
     pub(crate) fn is_kind(&self, word: &[u8]) -> bool {
         if is_write(self.word) {
             is_write(word)

@@ -45,7 +45,7 @@ pub enum Operand {
     Value,
     /// A value, or `%!` for none.
     MaybeValue,
-    /// What a machine outside is told.
+    /// What a machine outside is answered.
     Body,
     /// The first word of an item of a command over many keys.
     Item,

@@ -1,7 +1,7 @@
 //! Whole scripts from a source.
 
 ghost use Rattle.std.specs.Prelude.{◌≡◌, ℕ, List, Some};
-ghost use Rattle.ep_base.specs.Devices.{FailsAsTold};
+ghost use Rattle.ep_base.specs.Devices.{FailsAsReported};
 ghost use Rattle.ep_script.specs.Faults.{is_read_failed};
 ghost use Rattle.ep_script.specs.Plan.{read_of, script_of, run_of};
 ghost use Rattle.ep_script.specs.Outcome.{IsScript};
@@ -20,12 +20,12 @@ use std::alloc::Global;
 /// The most lines that a script can have.
 pub(crate) const LINES: u32 = 100_000;
 
-/// Reads a script for a replay to the end of the source. `Refused` tells the first line at fault, `ReadFailed` that the
-/// source failed in this call, `Memory` that memory was refused. Past that line, or past 100,000 lines, nothing is read: so a source
+/// Reads a script for a replay to the end of the source. `Refused` reports the first line at fault, `ReadFailed` that
+/// the source failed in this call, `Memory` that memory was refused. Past that line, or past 100,000 lines, nothing is read: so a source
 /// without an end is refused too.
 pub fn read_script<S: Source>(alloc: Global, source: &mut S) -> Result<Script, ScriptFault>
     ensures bytes { (zs : List ℕ) → S.left source.old ≡ Some zs → IsScript result (script_of zs) }
-    ensures failed { FailsAsTold is_read_failed result (S.has_failed source.old) (S.has_failed source.new) }
+    ensures failed { FailsAsReported is_read_failed result (S.has_failed source.old) (S.has_failed source.new) }
 {
     read::<Script, S>(alloc, source)
 }
@@ -34,7 +34,7 @@ pub fn read_script<S: Source>(alloc: Global, source: &mut S) -> Result<Script, S
 /// refused, and so is a second line of one section's weather for one frame.
 pub fn read_run<S: Source>(alloc: Global, source: &mut S) -> Result<RunScript, ScriptFault>
     ensures bytes { (zs : List ℕ) → S.left source.old ≡ Some zs → IsScript result (run_of zs) }
-    ensures failed { FailsAsTold is_read_failed result (S.has_failed source.old) (S.has_failed source.new) }
+    ensures failed { FailsAsReported is_read_failed result (S.has_failed source.old) (S.has_failed source.new) }
 {
     let open = read::<OpenRun, S>(alloc, source)?;
     Ok(open.close()?)
@@ -42,7 +42,7 @@ pub fn read_run<S: Source>(alloc: Global, source: &mut S) -> Result<RunScript, S
 
 fn read<P: ScriptKind, S: Source>(alloc: Global, source: &mut S) -> Result<P, ScriptFault>
     ensures bytes { (zs : List ℕ) → S.left source.old ≡ Some zs → IsScript result (read_of P.begins P.takes zs) }
-    ensures failed { FailsAsTold is_read_failed result (S.has_failed source.old) (S.has_failed source.new) }
+    ensures failed { FailsAsReported is_read_failed result (S.has_failed source.old) (S.has_failed source.new) }
 {
     let mut window = Window::new();
     let mut line = Vec::new(alloc);

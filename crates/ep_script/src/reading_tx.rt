@@ -113,7 +113,7 @@ fn short_clause(word: &[u8]) -> Option<Clause>
     ensures { result ≡ short_clause word.now }
 {
     if is_word(word, b"get") {
-        return Some(Clause::Told);
+        return Some(Clause::Reported);
     }
     if is_word(word, b"del") {
         return Some(Clause::Write(None));

@@ -14,7 +14,7 @@ use crate::standing::Standing;
 use crate::why::Why;
 use crate::word::{escaped, is_plain_byte};
 use crate::words::{has_dot, is_silent_line, is_word, next_word, split_dot};
-use ep_base::{MOST_KEYS, MOST_TOLD, Size, Version};
+use ep_base::{MOST_KEYS, MOST_REPORTED, Size, Version};
 
 /// What an ask or an act has behind its word, where it has one key.
 const ONE_KEY: [Operand; 2] = [Operand::Key, Operand::Body];
@@ -44,10 +44,10 @@ pub struct Refusal<'a> {
     // what stands behind the word, and the word that another one has to differ from
     rest: &'a [u8],
     other: &'a [u8],
-    // the items of a command over many keys and the place of the word before them, and how many keys are told, and named
+    // the items of a command over many keys and the place of the word before them, and how many keys are reported, and named
     items: &'a [u8],
     items_place: u32,
-    told: usize,
+    reported: usize,
     keys: usize,
 }
 
@@ -89,7 +89,7 @@ impl<'a> Refusal<'a> {
             other: &[],
             items: &[],
             items_place: 0,
-            told: 0,
+            reported: 0,
             keys: 0,
         }
     }
@@ -220,9 +220,9 @@ impl<'a> Refusal<'a> {
         }
         let first = self.word;
         if is_word(first, b"get") {
-            self.told = self.told.saturating_add(1);
-            if self.told > MOST_TOLD {
-                self.why = Why::Told;
+            self.reported = self.reported.saturating_add(1);
+            if self.reported > MOST_REPORTED {
+                self.why = Why::Reported;
             }
         }
         self.pass(Operand::Key);

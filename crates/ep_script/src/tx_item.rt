@@ -4,7 +4,7 @@ ghost use Rattle.std.specs.Prelude.{◌≡◌, ◌≤◌, ◌++◌, ℕ, Some, N
 ghost use Rattle.ep_base.specs.CommandParts.{flag, write_flag, flags_of, part_bytes, put_bytes, guard_bytes, write_bytes, item_bytes};
 ghost use Rattle.ep_base.specs.Values.{most_value};
 ghost use Rattle.ep_script.specs.Clauses.{alone, with_clause};
-ghost use Rattle.ep_script.specs.declared.clause.Clause.TheVariants.{Guard, Told, Write};
+ghost use Rattle.ep_script.specs.declared.clause.Clause.TheVariants.{Guard, Reported, Write};
 
 use crate::clause::Clause;
 use ep_base::{Key, Value};
@@ -16,7 +16,7 @@ use std::marker::Model;
 pub(crate) struct TxItem {
     key: Key,
     guard: Option<Option<Value>>,
-    told: bool,
+    reported: bool,
     write: Option<Option<Value>>,
 }
 
@@ -25,7 +25,7 @@ impl Model for TxItem {
 
     ghost Value = { Item };
 
-    ghost view = { λ i. record { key = i.key; guard = i.guard; told = i.told; write = i.write } };
+    ghost view = { λ i. record { key = i.key; guard = i.guard; reported = i.reported; write = i.write } };
 }
 
 impl TxItem {
@@ -37,19 +37,19 @@ impl TxItem {
             Clause::Guard(wanted) => TxItem {
                 key,
                 guard: Some(wanted),
-                told: false,
+                reported: false,
                 write: None,
             },
-            Clause::Told => TxItem {
+            Clause::Reported => TxItem {
                 key,
                 guard: None,
-                told: true,
+                reported: true,
                 write: None,
             },
             Clause::Write(given) => TxItem {
                 key,
                 guard: None,
-                told: false,
+                reported: false,
                 write: Some(given),
             },
         }
@@ -68,7 +68,7 @@ impl TxItem {
     {
         match clause {
             Clause::Guard(wanted) => self.add_guard(wanted),
-            Clause::Told => self.add_told(),
+            Clause::Reported => self.add_reported(),
             Clause::Write(given) => self.add_write(given),
         }
     }
@@ -83,13 +83,13 @@ impl TxItem {
         true
     }
 
-    fn add_told(&mut self) -> bool
-        ensures { MatchBool result (with_clause Told self.old ≡ Some self.new) ((with_clause Told self.old ≡ None) × (self.new ≡ self.old)) }
+    fn add_reported(&mut self) -> bool
+        ensures { MatchBool result (with_clause Reported self.old ≡ Some self.new) ((with_clause Reported self.old ≡ None) × (self.new ≡ self.old)) }
     {
-        if self.told {
+        if self.reported {
             return false;
         }
-        self.told = true;
+        self.reported = true;
         true
     }
 
@@ -118,7 +118,7 @@ impl TxItem {
     fn flags(&self) -> u8
         ensures { result ≡ flags_of self.now }
     {
-        flag(1, self.told) + flag(2, self.guard.is_some()) + write_flag(&self.write)
+        flag(1, self.reported) + flag(2, self.guard.is_some()) + write_flag(&self.write)
     }
 }
 

@@ -1,7 +1,7 @@
 //! A window on the bytes of a source.
 
 ghost use Rattle.std.specs.Prelude.{◌≡◌, ◌↔◌, ◌≤◌, ℕ, List, [], true, length, drop, OnOk, IsTrue};
-ghost use Rattle.ep_base.specs.Devices.{FailsAsTold};
+ghost use Rattle.ep_base.specs.Devices.{FailsAsReported};
 ghost use Rattle.ep_script.specs.Window.{HasLeft};
 
 use ep_base::{ReadFailed, Source};
@@ -42,7 +42,7 @@ impl Window {
     /// Pulls bytes if there are none. None are there then only at the end of the source.
     pub(crate) fn ready<S: Source>(&mut self, source: &mut S) -> Result<(), ReadFailed>
         ensures bytes { (zs : List ℕ) → HasLeft self.old (S.left source.old) zs → OnOk result (HasLeft self.new (S.left source.new) zs × (self.new ≡ [] → zs ≡ [])) }
-        ensures failed { FailsAsTold (λ _. true) result (S.has_failed source.old) (S.has_failed source.new) }
+        ensures failed { FailsAsReported (λ _. true) result (S.has_failed source.old) (S.has_failed source.new) }
     {
         if !self.is_empty() {
             return Ok(());
@@ -61,7 +61,7 @@ impl Window {
     fn fill<S: Source>(&mut self, source: &mut S) -> Result<(), ReadFailed>
         requires { self.old ≡ [] }
         ensures bytes { (zs : List ℕ) → HasLeft self.old (S.left source.old) zs → OnOk result (HasLeft self.new (S.left source.new) zs × (self.new ≡ [] → zs ≡ [])) }
-        ensures failed { FailsAsTold (λ _. true) result (S.has_failed source.old) (S.has_failed source.new) }
+        ensures failed { FailsAsReported (λ _. true) result (S.has_failed source.old) (S.has_failed source.new) }
     {
         self.start = 0;
         self.end = 0;

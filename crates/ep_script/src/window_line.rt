@@ -2,7 +2,7 @@
 
 ghost use Rattle.std.specs.Prelude.{◌≡◌, ◌≢◌, ◌==◌, ◌≤◌, ℕ, List, [], length, min, IfOk};
 ghost use Rattle.std.specs.List.{position_or_len};
-ghost use Rattle.ep_base.specs.Devices.{FailsAsTold};
+ghost use Rattle.ep_base.specs.Devices.{FailsAsReported};
 ghost use Rattle.ep_script.specs.Window.{HasLeft};
 ghost use Rattle.ep_script.specs.RawLines.{GotOf, longest};
 ghost use Rattle.ep_script.specs.SoFar.{TakesRun};
@@ -26,7 +26,7 @@ impl Window {
         line: &mut Vec<u8>,
     ) -> Result<Got, LineFault>
         ensures bytes { (zs : List ℕ) → HasLeft self.old (S.left source.old) zs → IfOk result (λ got. GotOf got zs line.new.items self.new (S.left source.new)) }
-        ensures failed { FailsAsTold is_line_read_failed result (S.has_failed source.old) (S.has_failed source.new) }
+        ensures failed { FailsAsReported is_line_read_failed result (S.has_failed source.old) (S.has_failed source.new) }
     {
         line.clear();
         while line.len() <= LONGEST {

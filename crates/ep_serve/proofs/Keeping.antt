@@ -146,9 +146,9 @@ known_same seen old new same = λ bytes was. (bytes, ap seen same ∙ was)
 pub quiet_after : {D : Type 0} (n n' : Logged D) → n.closed ≡ false → n' ≡ record n { device = n'.device; synced = length n.replica.entries; on_disk = n'.on_disk } → IsQuiet n'
 quiet_after n n' works is = record { works = ap (λ x. x.closed) is ∙ works; synced = ap (λ x. x.synced) is ∙ ap (λ x. length x.replica.entries) (sym is) }
 
-pub kept_as : {D : Type 0} (digest told : List ℕ) (seen : D → Option (List ℕ)) (moment : D → ℕ) (left_since : D → ℕ → List ℕ → Type 0) (old mid new : D) (k k' : Kept) → told ≡ digest → mid ≡ old → k' ≡ k → IsKept told seen moment left_since mid new k → IsKept digest seen moment left_since old new k'
-kept_as digest told seen moment left_since old mid new k k' own same is kept =
-    subst (λ (d : List ℕ). IsKept d seen moment left_since old new k') own (subst (λ (x : Kept). IsKept told seen moment left_since old new x) (sym is) (subst (λ x. IsKept told seen moment left_since x new k) same kept))
+pub kept_as : {D : Type 0} (digest reported : List ℕ) (seen : D → Option (List ℕ)) (moment : D → ℕ) (left_since : D → ℕ → List ℕ → Type 0) (old mid new : D) (k k' : Kept) → reported ≡ digest → mid ≡ old → k' ≡ k → IsKept reported seen moment left_since mid new k → IsKept digest seen moment left_since old new k'
+kept_as digest reported seen moment left_since old mid new k k' own same is kept =
+    subst (λ (d : List ℕ). IsKept d seen moment left_since old new k') own (subst (λ (x : Kept). IsKept reported seen moment left_since old new x) (sym is) (subst (λ x. IsKept reported seen moment left_since x new k) same kept))
 
 pub onward_before : {D : Type 0} (seen : D → Option (List ℕ)) (moment : D → ℕ) (left_since : D → ℕ → List ℕ → Type 0) (old mid : Logged D) (new : D) → mid ≡ record old { replica = mid.replica } → old.synced ≤ length old.replica.entries → Extends old.replica mid.replica
     → GoesOn mid.digest seen moment left_since mid.device new mid.replica mid.synced → GoesOn old.digest seen moment left_since old.device new old.replica old.synced

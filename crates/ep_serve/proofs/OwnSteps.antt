@@ -1,4 +1,4 @@
--- Own instances that are executed, and what is told of it.
+-- Own instances that are executed, and what is reported of it.
 use Rattle.std.proofs.Common.{◌≡◌, ◌⊎◌, ◌≤◌, ◌<◌, ◌+◌, ◌-◌, ◌^◌, ℕ, zero, suc, Bool, true, false, List, [], ◌∷◌, length, Option, Some, None, Result, Ok, Err, inl, inr, refl, sym, ap, ◌∙◌, subst, arith}
 use Rattle.std.specs.Prelude.{IfOk, OnErr}
 use Rattle.std.proofs.lemmas.Bool.{false≢true}
@@ -32,20 +32,20 @@ pub none_next : (k k' : Kept) (executed : Bool) → executed ≡ false → Tries
 none_next k k' true is tries = absurd (false≢true (sym is))
 none_next k k' false is tries = (subst (λ (x : Kept). (j : ℕ) → IsPending x j → IsWaiting x j) (sym tries.1) tries.0, refl)
 
--- What is told.
+-- What is reported.
 
 abbrev pub AdvancesSome : Kept → Kept → Type 0
 AdvancesSome k k' = (times : ℕ) × ExecutesSo times k k'
 
 -- all that were ready were executed
 pub all_made : (k k' : Kept) (from : ℕ) (due : PendingAnswer) → AdvancesSome k k' → TriesNext k' (Ok false) k' → from ≡ length k.entries → due ≡ made_since from k' → AdvancesAll k due k'
-all_made k k' from due some none is told = (some.0, some.1, inl (none.0, told ∙ ap (λ n. made_since n k') is))
+all_made k k' from due some none is reported = (some.0, some.1, inl (none.0, reported ∙ ap (λ n. made_since n k') is))
 
 -- the next one was refused
 pub stopped_advance : {E : Type 0} (k k' : Kept) (from : ℕ) (fault : StepFault) (result : Result PendingAnswer E) → AdvancesSome k k' → IsHeldUp k' fault → from ≡ length k.entries → IfOk result (λ due. (fault ≡ StampFull) × (due ≡ stopped_since from k'))
     → IfOk result (λ due. AdvancesAll k due k')
-stopped_advance k k' from fault (Ok due) some held is told = (some.0, some.1, inr (subst (λ (f : StepFault). IsHeldUp k' f) told.0 held, told.1 ∙ ap (λ n. stopped_since n k') is))
-stopped_advance k k' from fault (Err e) some held is told = tt
+stopped_advance k k' from fault (Ok due) some held is reported = (some.0, some.1, inr (subst (λ (f : StepFault). IsHeldUp k' f) reported.0 held, reported.1 ∙ ap (λ n. stopped_since n k') is))
+stopped_advance k k' from fault (Err e) some held is reported = tt
 
 -- memory was wanted for the next one
 pub short_advance : {E : Type 0} (k k' : Kept) (fault : StepFault) (result : Result PendingAnswer E) → AdvancesSome k k' → IsHeldUp k' fault → OnErr result (AdvancesShort k k')

@@ -97,7 +97,7 @@ one_is_written mode how w k k' m l l' l'' old mid new ds r d s next a may t last
     batches = suc s.served.batches;
     out = s.served.out ++ t.bytes;
     served = served_more s.served.batches mode how w k s.replica m l s.from l'' s.served.out t.bytes s.served.served
-        (record { dues = ds; before = k'; from = l'; waiting = s.waiting; last = r; read = next; due = d; acted = a; written = may; told = t.told }) lasts;
+        (record { dues = ds; before = k'; from = l'; waiting = s.waiting; last = r; read = next; due = d; acted = a; written = may; reported = t.reported }) lasts;
     appended = Appends-trans old mid new s.served.out t.bytes s.served.appended t.appended;
   };
   waiting = record { requests = []; read = refl; acted = (refl, refl) };
@@ -105,27 +105,27 @@ one_is_written mode how w k k' m l l' l'' old mid new ds r d s next a may t last
 
 -- answers
 
-told_more : (k : Kept) (ds : List PendingAnswer) (d : PendingAnswer) (out bytes : List ℕ) → AreAnswersTo k ds out → IsAnswerTo k d bytes → AreAnswersTo k (ds ++ d ∷ []) (out ++ bytes)
-told_more k [] d out bytes h t = (bytes, [], t, refl, ap (λ (x : List ℕ). x ++ bytes) h ∙ sym (append-nil bytes))
-told_more k (e ∷ ds) d out bytes h t = (h.0, h.1 ++ bytes, h.2, told_more k ds d h.1 bytes h.3 t, ap (λ (x : List ℕ). x ++ bytes) h.4 ∙ append_assoc h.0 h.1 bytes)
+reported_more : (k : Kept) (ds : List PendingAnswer) (d : PendingAnswer) (out bytes : List ℕ) → AreAnswersTo k ds out → IsAnswerTo k d bytes → AreAnswersTo k (ds ++ d ∷ []) (out ++ bytes)
+reported_more k [] d out bytes h t = (bytes, [], t, refl, ap (λ (x : List ℕ). x ++ bytes) h ∙ sym (append-nil bytes))
+reported_more k (e ∷ ds) d out bytes h t = (h.0, h.1 ++ bytes, h.2, reported_more k ds d h.1 bytes h.3 t, ap (λ (x : List ℕ). x ++ bytes) h.4 ∙ append_assoc h.0 h.1 bytes)
 
-pub tell_none : (k : Kept) (old : Option (List ℕ)) → AnswersEach k [] old old
-tell_none k old = record { bytes = []; told = refl; appended = Appends-nil old }
+pub report_none : (k : Kept) (old : Option (List ℕ)) → AnswersEach k [] old old
+report_none k old = record { bytes = []; reported = refl; appended = Appends-nil old }
 
-pub tell_more : (k : Kept) (ds : List PendingAnswer) (d : PendingAnswer) (old mid new : Option (List ℕ)) → AnswersEach k ds old mid → AnswersOne k d mid new → AnswersEach k (ds ++ d ∷ []) old new
-tell_more k ds d old mid new s t = record {
+pub report_more : (k : Kept) (ds : List PendingAnswer) (d : PendingAnswer) (old mid new : Option (List ℕ)) → AnswersEach k ds old mid → AnswersOne k d mid new → AnswersEach k (ds ++ d ∷ []) old new
+report_more k ds d old mid new s t = record {
   bytes = s.bytes ++ t.bytes;
-  told = told_more k ds d s.bytes t.bytes s.told t.told;
+  reported = reported_more k ds d s.bytes t.bytes s.reported t.reported;
   appended = Appends-trans old mid new s.bytes t.bytes s.appended t.appended;
 }
 
-pub tell_next : (k : Kept) (i : ℕ) (ds : List PendingAnswer) (d : PendingAnswer) (old mid new : Option (List ℕ)) → i < length ds → d ≡ get_or ds i d → AnswersEach k (take i ds) old mid → AnswersOne k d mid new → AnswersEach k (take (i + 1) ds) old new
-tell_next k i ds d old mid new lt is s t = subst (λ (xs : List PendingAnswer). AnswersEach k xs old new) (sym (take_more i ds d lt is)) (tell_more k (take i ds) d old mid new s t)
+pub report_next : (k : Kept) (i : ℕ) (ds : List PendingAnswer) (d : PendingAnswer) (old mid new : Option (List ℕ)) → i < length ds → d ≡ get_or ds i d → AnswersEach k (take i ds) old mid → AnswersOne k d mid new → AnswersEach k (take (i + 1) ds) old new
+report_next k i ds d old mid new lt is s t = subst (λ (xs : List PendingAnswer). AnswersEach k xs old new) (sym (take_more i ds d lt is)) (report_more k (take i ds) d old mid new s t)
 
 -- The end of a run.
 
 pub all_served : (mode : Mode) (how : JournalDialect) (w : Crashes) (k k' : Kept) (l l' : Left) (old held new : Option (List ℕ)) (ds : List PendingAnswer) → InService mode how w k l old held k' l' ds → Lasts w k' → AnswersEach k' ds held new → ServesAll mode how w k l old new k' l'
-all_served mode how w k k' l l' old held new ds s lasts t = record { dues = ds; held = held; before = s; lasts = lasts; told = t }
+all_served mode how w k k' l l' old held new ds s lasts t = record { dues = ds; held = held; before = s; lasts = lasts; reported = t }
 
 -- at most one request more was done
 abbrev pub DoesLast : JournalDialect → Kept → Left → Kept → Type 0

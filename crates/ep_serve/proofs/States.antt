@@ -21,7 +21,7 @@ use Rattle.ep_serve.proofs.Growing.{Extends, acts_more, waiting_more}
 use Rattle.ep_serve.proofs.Keeping.{lasts_first, lasts_now, passes, rests}
 use Rattle.ep_serve.proofs.Runs.{all_served, begins, cut_short, one_is_written, one_waits, service_on}
 
--- what stands between two requests: those before are served, or wait, and the replica that told the last batch is on the disk
+-- what stands between two requests: those before are served, or wait, and the replica that reported the last batch is on the disk
 pub record Stands {D : Type 0} (seen : D → Option (List ℕ)) (moment : D → ℕ) (left_since : D → ℕ → List ℕ → Type 0) (mode : Mode) (start node : Logged D) (zs : List ℕ) (old held : Option (List ℕ)) (place : ℕ) (left : Option (List ℕ)) (dues : List PendingAnswer) : Type 0 where
   pub ys : List ℕ
   pub left_is : left ≡ Some ys
@@ -60,7 +60,7 @@ written_on : {D : Type 0} (seen : D → Option (List ℕ)) (moment : D → ℕ) 
     (s : Stands seen moment left_since mode start node zs old held p left before) → node.digest ≡ start.digest → next_request (dialect_of start.replica) (record { at = p; bytes = s.ys }) ≡ Ok (Some r, record { at = q; bytes = xs }) → Acts node.replica r d node'.replica → ¬ MayWait mode node.synced r node'.replica
     → AnswersEach node'.replica (before ++ d ∷ []) held new → IsQuiet node' → IsKept node.digest seen moment left_since node.device node'.device node'.replica → GoesOn node.digest seen moment left_since node.device node'.device node.replica node.synced → StaysKnown seen start.device node.device
     → Stands seen moment left_since mode start node' zs old new q (Some xs) []
-written_on seen moment left_since mode start node node' zs old held new left p q before r d xs s own next acted may told quiet kept goes known =
+written_on seen moment left_since mode start node node' zs old held new left p q before r d xs s own next acted may reported quiet kept goes known =
     let stays : IsKept start.digest seen moment left_since node.device node'.device node'.replica = subst (λ (x : List ℕ). IsKept x seen moment left_since node.device node'.device node'.replica) own kept in
     let onward : GoesOn start.digest seen moment left_since node.device node'.device node.replica node.synced = subst (λ (x : List ℕ). GoesOn x seen moment left_since node.device node'.device node.replica node.synced) own goes in
     let how : JournalDialect = dialect_of start.replica in
@@ -73,7 +73,7 @@ written_on seen moment left_since mode start node node' zs old held new left p q
       ys = xs;
       left_is = refl;
       service = one_is_written mode how w' start.replica node.replica node'.replica (record { at = 0; bytes = zs }) (record { at = p; bytes = s.ys }) (record { at = q; bytes = xs }) old held new before r d moved next acted
-          (λ m. may (may_as mode (length s.service.replica.entries) node.synced r node'.replica (sym s.synced) m)) told (lasts_now start.digest seen moment left_since start.device node.device node'.device node'.replica known stays);
+          (λ m. may (may_as mode (length s.service.replica.entries) node.synced r node'.replica (sym s.synced) m)) reported (lasts_now start.digest seen moment left_since start.device node.device node'.device node'.replica known stays);
       synced = quiet.synced;
     }
 
@@ -142,13 +142,13 @@ pub all_settled : {D : Type 0} (seen : D → Option (List ℕ)) (moment : D → 
     (s : Stands seen moment left_since mode start node zs old held p left before) → node.digest ≡ start.digest → node'.replica ≡ node.replica → AnswersEach node.replica before held new × (after ≡ []) → IsKept node.digest seen moment left_since node.device node'.device node.replica
     → GoesOn node.digest seen moment left_since node.device node'.device node.replica node.synced → StaysKnown seen start.device node.device
     → ServesAll mode (dialect_of start.replica) (crashes start.digest seen moment left_since start.device node'.device) start.replica (record { at = 0; bytes = zs }) old new node'.replica (record { at = p; bytes = s.ys })
-all_settled seen moment left_since mode start node node' zs old held new left p before after s own same told kept goes known =
+all_settled seen moment left_since mode start node node' zs old held new left p before after s own same reported kept goes known =
     let stays : IsKept start.digest seen moment left_since node.device node'.device node.replica = subst (λ (x : List ℕ). IsKept x seen moment left_since node.device node'.device node.replica) own kept in
     let how : JournalDialect = dialect_of start.replica in
     let w' : Crashes = crashes start.digest seen moment left_since start.device node'.device in
     subst (λ (x : Kept). ServesAll mode how w' start.replica (record { at = 0; bytes = zs }) old new x (record { at = p; bytes = s.ys })) (sym same)
     (all_served mode how w' start.replica node.replica (record { at = 0; bytes = zs }) (record { at = p; bytes = s.ys }) old held new before (goes_on_to seen moment left_since mode start node node' zs old held left p before s own goes known)
-    (lasts_now start.digest seen moment left_since start.device node.device node'.device node.replica known stays) told.0)
+    (lasts_now start.digest seen moment left_since start.device node.device node'.device node.replica known stays) reported.0)
 
 -- the node still works, and what is on its disk it has
 pub works_on : {D : Type 0} (mode : Mode) (node node' : Logged D) (r : Request) (before after : List PendingAnswer) (old new : Option (List ℕ)) (P : Type 0) → node.closed ≡ false → Waits mode node r before old node' after new P → node'.closed ≡ false
@@ -186,10 +186,10 @@ unwritten_of (Err f) e P is h = subst (λ (x : ServeFault). IfUnwritten (Err x) 
 pub written_out : {D : Type 0} (P : Type 0) (mode m : Mode) (old mid new : Logged D) (r : Request) (asks may : Bool) (before between after : List PendingAnswer) (held held' : Option (List ℕ)) → ((d : PendingAnswer) × Acts old.replica r d mid.replica × (between ≡ before ++ d ∷ []))
     → mid ≡ record old { replica = mid.replica } → m ≡ mode → ((q : Request) → asks ≡ is_sync q → (IsTrue may ↔ MayWait m mid.synced q mid.replica)) → asks ≡ is_sync r → may ≡ false → new.replica ≡ mid.replica → AnswersEach mid.replica between held held' × (after ≡ []) → IsQuiet new → P
     → Waits mode old r before held new after held' P
-written_out P mode m old mid new r asks may before between after held held' a same mode_is decides asked none replica told quiet p = (
+written_out P mode m old mid new r asks may before between after held held' a same mode_is decides asked none replica reported quiet p = (
   a.0,
   subst (λ (x : Kept). Acts old.replica r a.0 x) (sym replica) a.1,
-  inr ((λ w. false≢true (sym none ∙ (decides r asked).1 (as_before w))), told.1, subst (λ (x : Kept). AnswersEach x (before ++ a.0 ∷ []) held held') (sym replica) (subst (λ (x : List PendingAnswer). AnswersEach mid.replica x held held') a.2 told.0), quiet, p),
+  inr ((λ w. false≢true (sym none ∙ (decides r asked).1 (as_before w))), reported.1, subst (λ (x : Kept). AnswersEach x (before ++ a.0 ∷ []) held held') (sym replica) (subst (λ (x : List PendingAnswer). AnswersEach mid.replica x held held') a.2 reported.0), quiet, p),
 )
   where
     as_before : MayWait mode old.synced r new.replica → MayWait m mid.synced r mid.replica

@@ -144,8 +144,8 @@ led_tried r n i k k' done is h w j led low = elim (cases_lt (number_of j) n) [
 
 -- a leader's number was tried: the tried one's
 pub led_next : (r n i : ℕ) (k k' : Kept) (tried : Bool) → tried ≡ true → i ≡ instance_of r n → TriesOne k i tried k' → LedWait r n k → LedWait r (n + 1) k'
-led_next r n i k k' true told is h w = led_tried r n i k k' h.0 is h.1 w
-led_next r n i k k' false told is h w = absurd (let e : false ≡ true = told in cc)
+led_next r n i k k' true reported is h w = led_tried r n i k k' h.0 is h.1 w
+led_next r n i k k' false reported is h w = absurd (let e : false ≡ true = reported in cc)
 
 pub some_next : (start k k' : Kept) (i : ℕ) (tried : Bool) → ExecutesSome start k → TriesOne k i tried k' → ExecutesSome start k'
 some_next start k k' i true s h = some_both start k k' s (some_tried k k' i h.0 h.1)
@@ -153,8 +153,8 @@ some_next start k k' i false s h = subst (λ (x : Kept). ExecutesSome start x) (
 
 -- no stamp is left for one
 pub led_stops : (start k k' : Kept) (r i : ℕ) (tried : Bool) → tried ≡ false → ExecutesSome start k → TriesOne k i tried k' → (roots : List ℕ) × ExecutesEach start roots k' × IsSwept r false k'
-led_stops start k k' r i true told s h = absurd (let e : true ≡ false = told in cc)
-led_stops start k k' r i false told s h = subst (λ (x : Kept). (roots : List ℕ) × ExecutesEach start roots x × IsStampless x) (sym h.1) (s.0, s.1, (i, h.0.0, h.0.1))
+led_stops start k k' r i true reported s h = absurd (let e : true ≡ false = reported in cc)
+led_stops start k k' r i false reported s h = subst (λ (x : Kept). (roots : List ℕ) × ExecutesEach start roots x × IsStampless x) (sym h.1) (s.0, s.1, (i, h.0.0, h.0.1))
 
 each_committed : (k k' : Kept) (is : List ℕ) → ExecutesEach k is k' → (i : ℕ) → committed_in (state_of k').records i ≡ committed_in (state_of k).records i
 each_committed k k' [] h i = ap (λ (x : Kept). committed_in (state_of x).records i) h
@@ -199,8 +199,8 @@ pub all_none : (k : Kept) → AllWait 0 k
 all_none k i low = absurd (omega arith)
 
 pub every_next : (start k k' : Kept) (n r : ℕ) (swept : Bool) → swept ≡ true → r ≡ n → ExecutesSome start k → AllWait n k → (roots : List ℕ) × ExecutesEach k roots k' × IsSwept r swept k' → ExecutesSome start k' × AllWait (n + 1) k'
-every_next start k k' n r false told is s w h = absurd (let e : false ≡ true = told in cc)
-every_next start k k' n r true told is s w h = (
+every_next start k k' n r false reported is s w h = absurd (let e : false ≡ true = reported in cc)
+every_next start k k' n r true reported is s w h = (
   some_both start k k' s (h.0, h.1),
   λ i low. elim (cases_lt (leader_of i) n) [
     | inl lt ↦ each_still k k' h.0 i h.1 (w i lt)
@@ -209,8 +209,8 @@ every_next start k k' n r true told is s w h = (
 )
 
 pub every_stops : (start k k' : Kept) (r : ℕ) (swept : Bool) → swept ≡ false → ExecutesSome start k → (roots : List ℕ) × ExecutesEach k roots k' × IsSwept r swept k' → (roots : List ℕ) × ExecutesEach start roots k' × IsStampless k'
-every_stops start k k' r true told s h = absurd (let e : true ≡ false = told in cc)
-every_stops start k k' r false told s h = let all : ExecutesSome start k' = some_both start k k' s (h.0, h.1) in (all.0, all.1, h.2)
+every_stops start k k' r true reported s h = absurd (let e : true ≡ false = reported in cc)
+every_stops start k k' r false reported s h = let all : ExecutesSome start k' = some_both start k k' s (h.0, h.1) in (all.0, all.1, h.2)
 
 pub every_all : (start k : Kept) (n : ℕ) → 7 ≤ n → ExecutesSome start k → AllWait n k → (roots : List ℕ) × ExecutesEach start roots k × NoneIsReady k
 every_all start k n past s w = (s.0, s.1, λ i p. w i (let le = p.named.0 in omega arith) p)
@@ -231,12 +231,12 @@ every_short start k k' n r is s w h =
       },
     )
 
--- What is told.
+-- What is reported.
 
 pub all_swept : (k k' : Kept) (swept : Bool) (from : ℕ) (due : PendingAnswer) → swept ≡ true → (roots : List ℕ) × ExecutesEach k roots k' × AreSwept swept k' → from ≡ length k.entries → due ≡ made_since from k' → ExecutesAll k due k'
-all_swept k k' false from due is all starts told = absurd (let e : false ≡ true = is in cc)
-all_swept k k' true from due is all starts told = (all.0, all.1, inl (all.2, told ∙ ap (λ n. made_since n k') starts))
+all_swept k k' false from due is all starts reported = absurd (let e : false ≡ true = is in cc)
+all_swept k k' true from due is all starts reported = (all.0, all.1, inl (all.2, reported ∙ ap (λ n. made_since n k') starts))
 
 pub stopped_sweep : (k k' : Kept) (swept : Bool) (from : ℕ) (due : PendingAnswer) → swept ≡ false → (roots : List ℕ) × ExecutesEach k roots k' × AreSwept swept k' → from ≡ length k.entries → due ≡ stopped_since from k' → ExecutesAll k due k'
-stopped_sweep k k' true from due is all starts told = absurd (let e : true ≡ false = is in cc)
-stopped_sweep k k' false from due is all starts told = (all.0, all.1, inr (all.2, told ∙ ap (λ n. stopped_since n k') starts))
+stopped_sweep k k' true from due is all starts reported = absurd (let e : true ≡ false = is in cc)
+stopped_sweep k k' false from due is all starts reported = (all.0, all.1, inr (all.2, reported ∙ ap (λ n. stopped_since n k') starts))

@@ -55,7 +55,7 @@ seen_by (event.Execute i) = 0
 abbrev pub TakesNear : Kept → Happening → PendingAnswer → Kept → Type 0
 TakesNear k happening due k' = (IsFarAhead k (seen_by happening) × (due ≡ Refused (Step StampFull)) × (k' ≡ k)) ⊎ ((¬ IsFarAhead k (seen_by happening)) × TakesOrRefuses k happening due k')
 
--- How it is told that all that was ready was executed.
+-- How it is reported that all that was ready was executed.
 
 -- the entries that were made behind the first ones, so many
 abbrev pub made_since : ℕ → Kept → PendingAnswer

@@ -64,7 +64,7 @@ pub record Waiting (mode : Mode) (how : JournalDialect) (k : Kept) (l : Left) (d
   pub read : AreRead how l requests l'
   pub acted : AllWait mode (length k.entries) k requests ds k'
 
--- Requests whose answers are written together: those that wait, and the first one whose answer may not. They are told by the replica that they leave.
+-- Requests whose answers are written together: those that wait, and the first one whose answer may not. They are reported by the replica that they leave.
 pub record IsBatch (mode : Mode) (how : JournalDialect) (k : Kept) (l : Left) (out : List ℕ) (k' : Kept) (l' : Left) : Type 0 where
   pub dues : List PendingAnswer
   pub before : Kept
@@ -75,9 +75,9 @@ pub record IsBatch (mode : Mode) (how : JournalDialect) (k : Kept) (l : Left) (o
   pub due : PendingAnswer
   pub acted : Acts before last due k'
   pub written : ¬ MayWait mode (length k.entries) last k'
-  pub told : AreAnswersTo k' (dues ++ due ∷ []) out
+  pub reported : AreAnswersTo k' (dues ++ due ∷ []) out
 
--- So many batches, one after the other. Of each the entries of the replica that told it are on the disk from a moment on, which isn't after this one.
+-- So many batches, one after the other. Of each the entries of the replica that reported it are on the disk from a moment on, which isn't after this one.
 abbrev pub AreServed : ℕ → Mode → JournalDialect → Crashes → Kept → Left → List ℕ → Kept → Left → Type 0
 AreServed zero mode how w k l out k' l' = (out ≡ []) × (k' ≡ k) × (l' ≡ l)
 AreServed (suc b) mode how w k l out k' l' =
@@ -104,7 +104,7 @@ pub record ServesAll (mode : Mode) (how : JournalDialect) (w : Crashes) (k : Kep
   pub held : Option (List ℕ)
   pub before : InService mode how w k l old held k' l' dues
   pub lasts : Lasts w k'
-  pub told : AnswersEach k' dues held new
+  pub reported : AnswersEach k' dues held new
 
 -- no request follows
 abbrev pub IsOver : JournalDialect → Left → Type 0
@@ -128,7 +128,7 @@ pub record BreaksOff (mode : Mode) (how : JournalDialect) (w : Crashes) (k : Kep
 
 -- What is written when a node no longer serves, of its replica k' then: at the end of the input, where it can't be read, and where its bytes are no request,
 -- all requests before were answered; when out of memory all, or some batches of those that were done; where the log failed, some batches; where writing failed, these
--- and what the sink made of one more, of which nothing is known but that what it tells is on the disk.
+-- and what the sink made of one more, of which nothing is known but that what it reports is on the disk.
 abbrev pub Ends : Mode → JournalDialect → Crashes → Kept → Left → Option (List ℕ) → Option (List ℕ) → Result Unit ServeFault → Kept → Type 0
 Ends mode how w k l old new (Ok x) k' = (l' : Left) × ServesAll mode how w k l old new k' l' × IsOver how l'
 Ends mode how w k l old new (Err Memory) k' = BreaksOff mode how w k l old new k' ⊎ ((l' : Left) × ServesAll mode how w k l old new k' l')
@@ -203,7 +203,7 @@ Names (BadRequest at) why = Unit {0}
 Names WriteFailed why = Unit {0}
 Names (LogFailed cause) why = why ≡ Some cause
 
--- Whether the source had failed before, and has after: it fails where that is told, and not where all was read; where a device fails in settling, that is told.
+-- Whether the source had failed before, and has after: it fails where that is reported, and not where all was read; where a device fails in settling, that is reported.
 abbrev pub IsReadTo : Result Unit ServeFault → Bool → Bool → Type 0
 IsReadTo (Ok x) had has = has ≡ had
 IsReadTo (Err Memory) had has = Unit {0}

@@ -15,7 +15,7 @@ use ep_wire::Request;
 use std::alloc::AllocError;
 
 /// How far above the stamp of the replica's last entry a stamp may be that a client has seen: 2^40. Stamps are below 2^48, and
-/// a replica goes on from the greatest that it is told; so that one wrong word doesn't use them up.
+/// a replica goes on from the greatest that it is given; so that one wrong word doesn't use them up.
 const REACH: u64 = 1_099_511_627_776;
 
 /// The node takes an event, or refuses it.
@@ -71,7 +71,7 @@ fn take_near<D: Device>(node: &mut Node<D>, event: Event) -> Result<PendingAnswe
     take(node, event)
 }
 
-/// Does what the request asks, none of which is on the disk yet, and tells the answer that is due for it. `Err` where the node's device has failed, and
+/// Does what the request asks, none of which is on the disk yet, and reports the answer that is due for it. `Err` where the node's device has failed, and
 /// nothing changed; and when out of memory in executing all that is ready, own or not, of which some may have been executed. No other request fails at a
 /// node whose device works.
 pub fn act<D: Device>(node: &mut Node<D>, request: Request) -> Result<PendingAnswer, AllocError>

@@ -1,10 +1,10 @@
-//! What an answer tells, once all that its node took is on the disk.
+//! What an answer reports, once all that its node took is on the disk.
 
 ghost use Rattle.std.specs.Prelude.{◌≡◌, ◌<◌, ◌≤◌, ◌+◌, ◌++◌, ◌^◌, [], true, ℕ, List, Some, OnOk, IfOk, length, slice_get};
 ghost use Rattle.std.specs.Io.KnownBytes.{Appends};
 ghost use Rattle.ep_frame.specs.Fields.{number_bytes};
 ghost use Rattle.ep_journal.specs.declared.entry.Entry.{Entry as Written};
-ghost use Rattle.ep_serve.specs.Answering.{told_entry, told_from, AllAnswered, AreAnswersTo, AnswersEach, AnswersOne};
+ghost use Rattle.ep_serve.specs.Answering.{reported_entry, reported_from, AllAnswered, AreAnswersTo, AnswersEach, AnswersOne};
 ghost use Rattle.ep_serve.specs.declared.pending_answer.PendingAnswer.TheVariants.{Synced, Taken};
 ghost use Rattle.ep_wire.specs.Answers.{entry_bytes, taken_bytes};
 
@@ -48,23 +48,23 @@ fn put_with<K: Sink>(
 }
 
 /// The entry at this place, with its receipts.
-fn put_told_entry<K: Sink>(
+fn put_reported_entry<K: Sink>(
     alloc: Global,
     sink: &mut K,
     replica: &Replica,
     place: usize,
 ) -> Result<(), AnswerFault>
     requires { place < length replica.now.entries }
-    ensures { (e : Written) → slice_get replica.now.entries place ≡ Some e → OnOk result (Appends (K.held sink.old) (K.held sink.new) (told_entry replica.now e)) }
+    ensures { (e : Written) → slice_get replica.now.entries place ≡ Some e → OnOk result (Appends (K.held sink.old) (K.held sink.new) (reported_entry replica.now e)) }
 {
     let receipts = replica.receipts_of(alloc, place)?;
-    let told = put_with(sink, replica, place, &receipts);
+    let reported = put_with(sink, replica, place, &receipts);
     drop(receipts);
-    told
+    reported
 }
 
 /// So many entries from this place on.
-fn put_told_entries<K: Sink>(
+fn put_reported_entries<K: Sink>(
     alloc: Global,
     sink: &mut K,
     replica: &Replica,
@@ -73,10 +73,10 @@ fn put_told_entries<K: Sink>(
 ) -> Result<(), AnswerFault>
     requires there { from + count ≤ length replica.now.entries }
     requires fits { from + count < 2 ^ 64 }
-    ensures { OnOk result (Appends (K.held sink.old) (K.held sink.new) (told_from replica.now from count)) }
+    ensures { OnOk result (Appends (K.held sink.old) (K.held sink.new) (reported_from replica.now from count)) }
 {
     for index in 0..count {
-        put_told_entry(alloc, sink, replica, from + index)?;
+        put_reported_entry(alloc, sink, replica, from + index)?;
     }
     Ok(())
 }
@@ -99,14 +99,14 @@ fn taken_body(
 ) -> Result<Vec<u8>, AnswerFault>
     requires there { from + count ≤ length replica.now.entries }
     requires fits { from + count < 2 ^ 64 }
-    ensures { IfOk result (λ body. Appends (Some []) (Some body.items) (number_bytes 4 count ++ told_from replica.now from count)) }
+    ensures { IfOk result (λ body. Appends (Some []) (Some body.items) (number_bytes 4 count ++ reported_from replica.now from count)) }
 {
     let Ok(number) = u32::try_from(count) else {
         return Err(AnswerFault);
     };
     let mut body = Noted::new(Vec::with_capacity(alloc, ROOM)?);
     put_u32(&mut body, number)?;
-    put_told_entries(alloc, &mut body, replica, from, count)?;
+    put_reported_entries(alloc, &mut body, replica, from, count)?;
     Ok(body.into_inner())
 }
 
@@ -150,7 +150,7 @@ fn put_synced<K: Sink>(sink: &mut K, replica: &Replica) -> Result<(), AnswerFaul
     Ok(())
 }
 
-/// Appends the answer that waits, as the replica tells it; none of what there is to tell.
+/// Appends the answer that waits, as the replica reports it; none of what there is to report.
 fn put_asked<K: Sink>(
     alloc: Global,
     sink: &mut K,
@@ -167,7 +167,7 @@ fn put_asked<K: Sink>(
         PendingAnswer::Leads(instance) => put_asked_lead(sink, replica, *instance),
         PendingAnswer::Synced => put_synced(sink, replica),
         PendingAnswer::State => put_asked_state(sink, replica),
-        // What there is to tell the node tells.
+        // What there is to report the node reports.
         PendingAnswer::Ready { .. } => Err(AnswerFault),
         PendingAnswer::Handled(peer) => put_asked_handled(sink, replica, *peer),
         PendingAnswer::Interfering(key) => put_asked_interfering(alloc, sink, replica, key),
@@ -176,7 +176,7 @@ fn put_asked<K: Sink>(
     }
 }
 
-/// Appends the answer that waits, as the node's replica tells it, where all that it took is on the disk.
+/// Appends the answer that waits, as the node's replica reports it, where all that it took is on the disk.
 fn put_due<D: Device, K: Sink>(
     alloc: Global,
     sink: &mut K,
@@ -184,7 +184,7 @@ fn put_due<D: Device, K: Sink>(
     due: &PendingAnswer,
 ) -> Result<(), AnswerFault>
     ensures same { node.new ≡ node.old }
-    ensures told { OnOk result (AnswersOne node.old.replica due.now (K.held sink.old) (K.held sink.new)) }
+    ensures reported { OnOk result (AnswersOne node.old.replica due.now (K.held sink.old) (K.held sink.new)) }
 {
     if let PendingAnswer::Ready { after, most } = due {
         return put_ready(alloc, sink, node, *after, *most);
@@ -202,7 +202,7 @@ fn put_dues<D: Device, K: Sink>(
     dues: &[PendingAnswer],
 ) -> Result<(), AnswerFault>
     ensures same { node.new ≡ node.old }
-    ensures told { OnOk result (AnswersEach node.old.replica dues.now (K.held sink.old) (K.held sink.new)) }
+    ensures reported { OnOk result (AnswersEach node.old.replica dues.now (K.held sink.old) (K.held sink.new)) }
 {
     for due in dues {
         put_due(alloc, sink, node, due)?;
@@ -210,21 +210,22 @@ fn put_dues<D: Device, K: Sink>(
     Ok(())
 }
 
-/// The answers that wait, one after the other, as the node's replica tells them, where all that it took is on the disk.
+/// The answers that wait, one after the other, as the node's replica reports them, where all that it took is on the
+/// disk.
 pub(crate) fn answers_of<D: Device>(
     alloc: Global,
     node: &mut Node<D>,
     dues: &[PendingAnswer],
 ) -> Result<Vec<u8>, AnswerFault>
     ensures same { node.new ≡ node.old }
-    ensures told { IfOk result (λ out. AreAnswersTo node.old.replica dues.now out.items) }
+    ensures reported { IfOk result (λ out. AreAnswersTo node.old.replica dues.now out.items) }
 {
     let mut sink = Noted::new(Vec::with_capacity(alloc, ROOM)?);
     put_dues(alloc, &mut sink, node, dues)?;
     Ok(sink.into_inner())
 }
 
-/// The answers that wait, one after the other, and behind them all that there is to tell of the entries after the first ones, of which `after` were reported
+/// The answers that wait, one after the other, and behind them all that there is to report of the entries after the first ones, of which `after` were reported
 /// before, and of at most `most` open instances; where all that the node took is on the disk.
 pub fn all_answers<D: Device>(
     alloc: Global,
@@ -234,7 +235,7 @@ pub fn all_answers<D: Device>(
     most: u8,
 ) -> Result<Vec<u8>, AllocError>
     ensures same { node.new ≡ node.old }
-    ensures told { IfOk result (λ out. AllAnswered node.old.replica dues.now after most out.items) }
+    ensures reported { IfOk result (λ out. AllAnswered node.old.replica dues.now after most out.items) }
 {
     match answers_and_ready(alloc, node, dues, after, most) {
         Ok(out) => Ok(out),
@@ -250,7 +251,7 @@ fn answers_and_ready<D: Device>(
     most: u8,
 ) -> Result<Vec<u8>, AnswerFault>
     ensures same { node.new ≡ node.old }
-    ensures told { IfOk result (λ out. AllAnswered node.old.replica dues.now after most out.items) }
+    ensures reported { IfOk result (λ out. AllAnswered node.old.replica dues.now after most out.items) }
 {
     let mut sink = Noted::new(answers_of(alloc, node, dues)?);
     put_ready(alloc, &mut sink, node, after, most)?;

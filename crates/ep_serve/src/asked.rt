@@ -7,7 +7,7 @@ ghost use Rattle.ep_serve.specs.Answering.{leading_of, reading_bytes, AnswersOne
 ghost use Rattle.ep_serve.specs.declared.pending_answer.PendingAnswer.TheVariants.{Handled, Interfering, Leads, Open, Read, State, Value};
 
 use crate::answer_fault::AnswerFault;
-use crate::telling::told_state;
+use crate::reporting::reported_state;
 use ep_base::{Command, InstanceId, Key, ReplicaId, Sink};
 use ep_node::handled_from;
 use ep_phase::LeadPhase;
@@ -139,11 +139,11 @@ pub(crate) fn put_asked_read<K: Sink>(
     put_reading(sink, &reading)
 }
 
-/// What the node tells of itself.
+/// What the node says of itself.
 pub(crate) fn put_asked_state<K: Sink>(sink: &mut K, replica: &Replica) -> Result<(), AnswerFault>
     ensures { OnOk result (AnswersOne replica.now State (K.held sink.old) (K.held sink.new)) }
 {
-    let Some(state) = told_state(replica) else {
+    let Some(state) = reported_state(replica) else {
         return Err(AnswerFault);
     };
     write_state(sink, &state)?;

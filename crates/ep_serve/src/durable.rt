@@ -1,7 +1,7 @@
 //! What a node took, put on its disk.
 
 ghost use Rattle.std.specs.Prelude.{◌≡◌, false, OnOk, IfErr};
-ghost use Rattle.ep_base.specs.Devices.{FailsAsTold};
+ghost use Rattle.ep_base.specs.Devices.{FailsAsReported};
 ghost use Rattle.ep_node.specs.Nodes.{IsQuiet};
 ghost use Rattle.ep_serve.specs.Lasting.{GoesOn, IsKept, StaysKnown};
 ghost use Rattle.ep_serve.specs.Serving.{is_log_failed, IsEarly, Names};
@@ -20,7 +20,7 @@ pub(crate) fn put_on_disk<D: Device>(node: &mut Node<D>) -> Result<(), ServeFaul
     ensures known { OnOk result (StaysKnown D.seen node.old.device node.new.device) }
     ensures onward { GoesOn node.old.digest D.seen D.moment D.left_since node.old.device node.new.device node.old.replica node.old.synced }
     ensures err { IfErr result IsEarly }
-    ensures log_cause { FailsAsTold is_log_failed result (D.has_failed node.old.device) (D.has_failed node.new.device) }
+    ensures log_cause { FailsAsReported is_log_failed result (D.has_failed node.old.device) (D.has_failed node.new.device) }
     ensures log_why { IfErr result (λ fault. Names fault (D.why node.new.device)) }
 {
     node.sync()?;

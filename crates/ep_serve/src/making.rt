@@ -1,4 +1,4 @@
-//! What executions made, as it is told.
+//! What executions made, as it is reported.
 
 ghost use Rattle.std.specs.Prelude.{◌≡◌, IfOk};
 ghost use Rattle.ep_node.specs.Nodes.{Logged};
@@ -30,7 +30,7 @@ pub(crate) fn stopped_since<D: Device>(node: &Node<D>, from: usize) -> PendingAn
     }
 }
 
-/// What is told where an execution was refused by this fault: `Err` where that isn't want of a stamp.
+/// What is reported where an execution was refused by this fault: `Err` where that isn't want of a stamp.
 pub(crate) fn stopped_by<D: Device>(
     node: &Node<D>,
     from: usize,

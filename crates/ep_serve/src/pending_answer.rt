@@ -21,7 +21,7 @@ pub enum PendingAnswer {
     Synced,
     /// What the node is is asked.
     State,
-    /// What there is to tell is asked, of the entries after the first ones, of which so many were reported before, and of at most so many
+    /// What there is to report is asked, of the entries after the first ones, of which so many were reported before, and of at most so many
     /// open instances.
     Ready { after: u32, most: u8 },
     /// The greatest number of an entry of this replica of which a frame was handled is asked.

@@ -35,7 +35,7 @@ pub(crate) struct Queue {
 
 impl Queue {
     ghost use Rattle.std.specs.Prelude.{◌≡◌, ◌↔◌, ◌≤◌, ◌++◌, ◌∷◌, [], length, false, OnOk, OnErr, IfErr, IsTrue};
-    ghost use Rattle.ep_base.specs.Devices.{FailsAsTold};
+    ghost use Rattle.ep_base.specs.Devices.{FailsAsReported};
     ghost use Rattle.ep_node.specs.Nodes.{IsQuiet};
     ghost use Rattle.ep_serve.specs.Acting.{Acts};
     ghost use Rattle.ep_serve.specs.Answering.{AnswersEach};
@@ -87,8 +87,8 @@ impl Queue {
         ensures mode { self.new.mode ≡ self.old.mode }
         ensures ok { OnOk result (AnswersEach node.old.replica self.old.dues.items (K.held sink.old) (K.held sink.new) × (self.new.dues.items ≡ [])) }
         ensures silent { IfErr result (λ fault. IsSilent fault (K.held sink.old) (K.held sink.new)) }
-        ensures sink_cause { FailsAsTold is_write_failed result (K.has_failed sink.old) (K.has_failed sink.new) }
-        ensures log_cause { FailsAsTold is_log_failed result (D.has_failed node.old.device) (D.has_failed node.new.device) }
+        ensures sink_cause { FailsAsReported is_write_failed result (K.has_failed sink.old) (K.has_failed sink.new) }
+        ensures log_cause { FailsAsReported is_log_failed result (D.has_failed node.old.device) (D.has_failed node.new.device) }
         ensures log_why { IfErr result (λ fault. Names fault (D.why node.new.device)) }
     {
         let answers = answers_of(self.alloc, node, &self.dues)?;
@@ -114,8 +114,8 @@ impl Queue {
         ensures kept { IfSettled result (IsKept node.old.digest D.seen D.moment D.left_since node.old.device node.new.device node.old.replica) }
         ensures known { IfSettled result (StaysKnown D.seen node.old.device node.new.device) }
         ensures onward { GoesOn node.old.digest D.seen D.moment D.left_since node.old.device node.new.device node.old.replica node.old.synced }
-        ensures sink_cause { FailsAsTold is_write_failed result (K.has_failed sink.old) (K.has_failed sink.new) }
-        ensures log_cause { FailsAsTold is_log_failed result (D.has_failed node.old.device) (D.has_failed node.new.device) }
+        ensures sink_cause { FailsAsReported is_write_failed result (K.has_failed sink.old) (K.has_failed sink.new) }
+        ensures log_cause { FailsAsReported is_log_failed result (D.has_failed node.old.device) (D.has_failed node.new.device) }
         ensures log_why { IfErr result (λ fault. Names fault (D.why node.new.device)) }
     {
         put_on_disk(node)?;
@@ -140,8 +140,8 @@ impl Queue {
         ensures unwritten { IfUnwritten result (IsQuiet node.new × IsKept node.old.digest D.seen D.moment D.left_since node.old.device node.new.device node.new.replica) }
         ensures known { OnOk result (StaysKnown D.seen node.old.device node.new.device) }
         ensures onward { GoesOn node.old.digest D.seen D.moment D.left_since node.old.device node.new.device node.old.replica node.old.synced }
-        ensures sink_cause { FailsAsTold is_write_failed result (K.has_failed sink.old) (K.has_failed sink.new) }
-        ensures log_cause { FailsAsTold is_log_failed result (D.has_failed node.old.device) (D.has_failed node.new.device) }
+        ensures sink_cause { FailsAsReported is_write_failed result (K.has_failed sink.old) (K.has_failed sink.new) }
+        ensures log_cause { FailsAsReported is_log_failed result (D.has_failed node.old.device) (D.has_failed node.new.device) }
         ensures log_why { IfErr result (λ fault. Names fault (D.why node.new.device)) }
     {
         let asks = is_sync(&request);

@@ -1,4 +1,4 @@
-//! What there is to tell, as an answer.
+//! What there is to report, as an answer.
 
 ghost use Rattle.std.specs.Prelude.{◌≡◌, ◌<◌, ◌+◌, ◌++◌, ◌^◌, [], None, Some, drop, is_some, length, IfOk, OnOk};
 ghost use Rattle.std.specs.Io.KnownBytes.{Appends};
@@ -6,7 +6,7 @@ ghost use Rattle.std.specs.List.{flat_map};
 ghost use Rattle.std.specs.Option.{option_map};
 ghost use Rattle.ep_serve.specs.Answering.{happened_bytes, leading_of, open_instance_bytes, open_instances_bytes, outgoing_bytes, sent_frames_bytes, summary_bytes, AnswersOne};
 ghost use Rattle.ep_serve.specs.declared.pending_answer.PendingAnswer.TheVariants as due;
-ghost use Rattle.ep_wire.specs.Answers.{ready_bytes, sent_bytes, told_receipts_bytes};
+ghost use Rattle.ep_wire.specs.Answers.{ready_bytes, sent_bytes, reported_receipts_bytes};
 
 use crate::answer_fault::AnswerFault;
 use crate::asked::leading_of;
@@ -17,7 +17,8 @@ use ep_frame::Frame;
 use ep_node::{Node, OpenInstance, Ready};
 use ep_rules::Receipt;
 use ep_wire::{
-    LeadProgress, put_instances, put_open, put_sent, put_told_receipts, sealed_code, write_ready,
+    LeadProgress, put_instances, put_open, put_reported_receipts, put_sent, sealed_code,
+    write_ready,
 };
 use std::alloc::Global;
 
@@ -58,12 +59,12 @@ fn put_receipts<K: Sink>(
     version: Version,
     receipts: &[Receipt],
 ) -> Result<(), AnswerFault>
-    ensures { OnOk result (Appends (K.held sink.old) (K.held sink.new) (told_receipts_bytes version receipts.now)) }
+    ensures { OnOk result (Appends (K.held sink.old) (K.held sink.new) (reported_receipts_bytes version receipts.now)) }
 {
     if receipts.len() >= 0xffff_ffff {
         return Err(AnswerFault);
     }
-    put_told_receipts(sink, version, receipts)?;
+    put_reported_receipts(sink, version, receipts)?;
     Ok(())
 }
 
@@ -97,42 +98,42 @@ fn put_happened<K: Sink>(
 }
 
 /// What is led there, as it is written.
-fn leading_in(told: &OpenInstance) -> Option<LeadProgress>
-    ensures { result ≡ option_map leading_of told.now.leads }
+fn leading_in(reported: &OpenInstance) -> Option<LeadProgress>
+    ensures { result ≡ option_map leading_of reported.now.leads }
 {
-    match told.leads {
+    match reported.leads {
         Some((phase, answers)) => Some(leading_of(phase, answers)),
         None => None,
     }
 }
 
 /// An open instance.
-fn put_open_instance<K: Sink>(sink: &mut K, told: &OpenInstance) -> Result<(), AnswerFault>
-    ensures { OnOk result (Appends (K.held sink.old) (K.held sink.new) (open_instance_bytes told.now)) }
+fn put_open_instance<K: Sink>(sink: &mut K, reported: &OpenInstance) -> Result<(), AnswerFault>
+    ensures { OnOk result (Appends (K.held sink.old) (K.held sink.new) (open_instance_bytes reported.now)) }
 {
-    let leading = leading_in(told);
-    put_open(sink, told.instance, told.since, &leading)?;
+    let leading = leading_in(reported);
+    put_open(sink, reported.instance, reported.since, &leading)?;
     Ok(())
 }
 
-fn put_each_open<K: Sink>(sink: &mut K, told: &[OpenInstance]) -> Result<(), AnswerFault>
-    ensures { OnOk result (Appends (K.held sink.old) (K.held sink.new) (flat_map open_instance_bytes told.now)) }
+fn put_each_open<K: Sink>(sink: &mut K, reported: &[OpenInstance]) -> Result<(), AnswerFault>
+    ensures { OnOk result (Appends (K.held sink.old) (K.held sink.new) (flat_map open_instance_bytes reported.now)) }
 {
-    for one in told {
+    for one in reported {
         put_open_instance(sink, one)?;
     }
     Ok(())
 }
 
 /// Open instances, counted.
-fn put_open_instances<K: Sink>(sink: &mut K, told: &[OpenInstance]) -> Result<(), AnswerFault>
-    ensures { OnOk result (Appends (K.held sink.old) (K.held sink.new) (open_instances_bytes told.now)) }
+fn put_open_instances<K: Sink>(sink: &mut K, reported: &[OpenInstance]) -> Result<(), AnswerFault>
+    ensures { OnOk result (Appends (K.held sink.old) (K.held sink.new) (open_instances_bytes reported.now)) }
 {
-    let Ok(count) = u8::try_from(told.len()) else {
+    let Ok(count) = u8::try_from(reported.len()) else {
         return Err(AnswerFault);
     };
     put_u8(sink, count)?;
-    put_each_open(sink, told)
+    put_each_open(sink, reported)
 }
 
 /// How many entries there are, and whether a seal was executed.
@@ -160,7 +161,7 @@ fn put_second_half<K: Sink>(sink: &mut K, ready: &Ready) -> Result<(), AnswerFau
     put_open_instances(sink, &ready.still_open)
 }
 
-/// All that there is to tell.
+/// All that there is to report.
 fn put_all<K: Sink>(sink: &mut K, version: Version, ready: &Ready) -> Result<(), AnswerFault>
     ensures { OnOk result (Appends (K.held sink.old) (K.held sink.new)
         ((summary_bytes ready.now.entries ready.now.is_sealed ++ outgoing_bytes version ready.now.frames.items ready.now.receipts.items)
@@ -170,7 +171,7 @@ fn put_all<K: Sink>(sink: &mut K, version: Version, ready: &Ready) -> Result<(),
     put_second_half(sink, ready)
 }
 
-/// The bytes of all that there is to tell.
+/// The bytes of all that there is to report.
 fn body_of(alloc: Global, version: Version, ready: &Ready) -> Result<Vec<u8>, AnswerFault>
     ensures { IfOk result (λ body. Appends (Some []) (Some body.items)
         ((summary_bytes ready.now.entries ready.now.is_sealed ++ outgoing_bytes version ready.now.frames.items ready.now.receipts.items)
@@ -192,7 +193,7 @@ fn put_body<K: Sink>(sink: &mut K, body: &[u8]) -> Result<(), AnswerFault>
     Ok(())
 }
 
-/// What there is to tell of the node's entries after the first ones, so many, and of at most so many open instances.
+/// What there is to report of the node's entries after the first ones, so many, and of at most so many open instances.
 pub(crate) fn put_ready<D: Device, K: Sink>(
     alloc: Global,
     sink: &mut K,
@@ -201,7 +202,7 @@ pub(crate) fn put_ready<D: Device, K: Sink>(
     most: u8,
 ) -> Result<(), AnswerFault>
     ensures same { node.new ≡ node.old }
-    ensures told { OnOk result (AnswersOne node.old.replica (due.Ready after most) (K.held sink.old) (K.held sink.new)) }
+    ensures reported { OnOk result (AnswersOne node.old.replica (due.Ready after most) (K.held sink.old) (K.held sink.new)) }
 {
     let version = node.version();
     let Ok(ready) = node.ready(alloc, after, most) else {

@@ -1,4 +1,4 @@
--- What a node in a folder has told, and that it has served.
+-- What a node in a folder has reported, and that it has served.
 use Rattle.std.proofs.Common.{◌≡◌, inl, inr, ℕ, Bool, true, List, [], ◌++◌, Option, Some, None, Result, Ok, Err, IfOk, refl, append-nil, ap, sym, subst, ◌∙◌}
 use Rattle.std.proofs.KnownBytes.{Appends-nil}
 use Rattle.ep_base.specs.Devices.{Puts}
@@ -11,40 +11,40 @@ use Rattle.ep_serve.specs.Lasting.{crashes}
 use Rattle.ep_serve.specs.Serving.{dialect_of, Ends}
 use Rattle.ep_serve.specs.declared.mode.Mode.{Mode}
 use Rattle.ep_serve.specs.declared.serve_fault.ServeFault.{ServeFault}
-use Rattle.ep_server.proofs.Serving.{told_by, told_twice}
-use Rattle.ep_cli.specs.Outputs.{Input, Output, output, Told, WroteNothing}
-use Rattle.ep_server.specs.Served.{told_first, of_serve, Fails, HappensThere, HasServedThere, IsOfFile, IsOver, IsUnready, Shown, TellsCut, TellsCuts}
+use Rattle.ep_server.proofs.Serving.{reported_by, reported_twice}
+use Rattle.ep_cli.specs.Outputs.{Input, Output, output, Reported, WroteNothing}
+use Rattle.ep_server.specs.Served.{reported_first, of_serve, Fails, HappensThere, HasServedThere, IsOfFile, IsOver, IsUnready, Shown, ReportsCut, ReportsCuts}
 use Rattle.ep_server.specs.Replays.{HasOpened, origin_from}
 use Rattle.ep_server.specs.declared.named_file.NamedFile.{NamedFile}
 use Rattle.ep_server.specs.declared.server_fault.ServerFault.{ServerFault}
 use Rattle.ep_server.specs.declared.server_fault.ServerFault.TheVariants.{Open, Serve, Folder}
 
--- nothing is told where nothing is written
-pub tells_nothing : (a : Option (List ℕ)) (first : Bool) → TellsCut (output a a first first)
-tells_nothing a first = record { cut = None; told = inr (Appends-nil a); for_good = λ e. e }
+-- nothing is reported where nothing is written
+pub reports_nothing : (a : Option (List ℕ)) (first : Bool) → ReportsCut (output a a first first)
+reports_nothing a first = record { cut = None; reported = inr (Appends-nil a); for_good = λ e. e }
 
 -- what was cut off a log is reported
-pub tells_cut : {E : Type 0} (cut : Option Cut) (a b : Option (List ℕ)) (first second : Bool) (r : Result Unit E) → Puts a b first second r (told_first cut) → TellsCut (output a b first second)
-tells_cut cut a b first second r p = record { cut = cut; told = told_by a b first second (told_first cut) r p; for_good = stays r p }
+pub reports_cut : {E : Type 0} (cut : Option Cut) (a b : Option (List ℕ)) (first second : Bool) (r : Result Unit E) → Puts a b first second r (reported_first cut) → ReportsCut (output a b first second)
+reports_cut cut a b first second r p = record { cut = cut; reported = reported_by a b first second (reported_first cut) r p; for_good = stays r p }
   where
-    stays : {E : Type 0} (r : Result Unit E) → Puts a b first second r (told_first cut) → first ≡ true → second ≡ true
+    stays : {E : Type 0} (r : Result Unit E) → Puts a b first second r (reported_first cut) → first ≡ true → second ≡ true
     stays (Ok x) q had = q.1 ∙ had
     stays (Err e) q had = q
 
 -- one log, of two at most
-pub one_cut : (a b : Option (List ℕ)) (first second : Bool) → TellsCut (output a b first second) → TellsCuts (output a b first second)
+pub one_cut : (a b : Option (List ℕ)) (first second : Bool) → ReportsCut (output a b first second) → ReportsCuts (output a b first second)
 one_cut a b first second t = record {
   first = t.cut;
   then_ = None;
-  told = subst (λ (l : List ℕ). Told (output a b first second) l) (sym (append-nil (told_first t.cut))) t.told;
+  reported = subst (λ (l : List ℕ). Reported (output a b first second) l) (sym (append-nil (reported_first t.cut))) t.reported;
   for_good = t.for_good;
 }
 
-pub both_cuts : (a b c : Option (List ℕ)) (first second third : Bool) → TellsCut (output a b first second) → TellsCut (output b c second third) → TellsCuts (output a c first third)
+pub both_cuts : (a b c : Option (List ℕ)) (first second third : Bool) → ReportsCut (output a b first second) → ReportsCut (output b c second third) → ReportsCuts (output a c first third)
 both_cuts a b c first second third t u = record {
   first = t.cut;
   then_ = u.cut;
-  told = told_twice a b c first second third (told_first t.cut) (told_first u.cut) t.told u.for_good u.told;
+  reported = reported_twice a b c first second third (reported_first t.cut) (reported_first u.cut) t.reported u.for_good u.reported;
   for_good = λ had. u.for_good (t.for_good had);
 }
 

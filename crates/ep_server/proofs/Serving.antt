@@ -12,8 +12,8 @@ use Rattle.ep_serve.specs.Serving.{dialect_of, Ends}
 use Rattle.ep_serve.specs.declared.serve_fault.ServeFault.{ServeFault}
 use Rattle.ep_cli.proofs.Puts.{appends_twice}
 use Rattle.ep_server.specs.Faults.{line_of}
-use Rattle.ep_cli.specs.Outputs.{Input, Output, became, output, Told}
-use Rattle.ep_server.specs.Served.{told_first, of_serve, EndsWith, Fails, Happens, HasServed, IsFailure, IsOver, Role, Shown}
+use Rattle.ep_cli.specs.Outputs.{Input, Output, became, output, Reported}
+use Rattle.ep_server.specs.Served.{reported_first, of_serve, EndsWith, Fails, Happens, HasServed, IsFailure, IsOver, Role, Shown}
 use Rattle.ep_server.specs.declared.server_fault.ServerFault.{ServerFault}
 use Rattle.ep_cli.specs.declared.status.Status.{Status}
 
@@ -47,8 +47,8 @@ has_served {D = D} shown role o start bytes zs log cut outcome reader out cluste
 
 -- What was cut off is reported, and then how it ended.
 
-pub told_twice : (a b c : Option (List ℕ)) (first second third : Bool) (xs ys : List ℕ) → Told (output a b first second) xs → (second ≡ true → third ≡ true) → Told (output b c second third) ys → Told (output a c first third) (xs ++ ys)
-told_twice a b c first second third xs ys before stays after = elim before [
+pub reported_twice : (a b c : Option (List ℕ)) (first second third : Bool) (xs ys : List ℕ) → Reported (output a b first second) xs → (second ≡ true → third ≡ true) → Reported (output b c second third) ys → Reported (output a c first third) (xs ++ ys)
+reported_twice a b c first second third xs ys before stays after = elim before [
   | inl failed ↦ inl (stays failed)
   | inr wrote ↦ elim after [
     | inl failed ↦ inl failed
@@ -56,36 +56,36 @@ told_twice a b c first second third xs ys before stays after = elim before [
   ]
 ]
 
--- What was told before, and then how it ended, on a fault output that stayed as it was in between.
+-- What was reported before, and then how it ended, on a fault output that stayed as it was in between.
 pub ends_after :
-    {F : Type 0} (held : F → Option (List ℕ)) (has_failed : F → Bool) (outcome : Result Unit ServerFault) (status : Status) (a b b' c : F) (xs : List ℕ) → Told (became held has_failed a b) xs → b' ≡ b →
+    {F : Type 0} (held : F → Option (List ℕ)) (has_failed : F → Bool) (outcome : Result Unit ServerFault) (status : Status) (a b b' c : F) (xs : List ℕ) → Reported (became held has_failed a b) xs → b' ≡ b →
     (has_failed b' ≡ true → has_failed c ≡ true) → EndsWith [] outcome status (became held has_failed b' c) → EndsWith xs outcome status (became held has_failed a c)
-ends_after {F = F} held has_failed outcome status a b b' c xs told same stays ended = go outcome ended
+ends_after {F = F} held has_failed outcome status a b b' c xs reported same stays ended = go outcome ended
   where
-    before : Told (became held has_failed a b') xs
-    before = subst (λ (x : F). Told (became held has_failed a x) xs) (sym same) told
+    before : Reported (became held has_failed a b') xs
+    before = subst (λ (x : F). Reported (became held has_failed a x) xs) (sym same) reported
 
-    twice : (ys : List ℕ) → Told (became held has_failed b' c) ys → Told (became held has_failed a c) (xs ++ ys)
-    twice ys more = told_twice (held a) (held b') (held c) (has_failed a) (has_failed b') (has_failed c) xs ys before stays more
+    twice : (ys : List ℕ) → Reported (became held has_failed b' c) ys → Reported (became held has_failed a c) (xs ++ ys)
+    twice ys more = reported_twice (held a) (held b') (held c) (has_failed a) (has_failed b') (has_failed c) xs ys before stays more
 
     go : (outcome : Result Unit ServerFault) → EndsWith [] outcome status (became held has_failed b' c) → EndsWith xs outcome status (became held has_failed a c)
-    go (Ok x) h = (h.0, subst (λ (l : List ℕ). Told (became held has_failed a c) l) (append-nil xs) (twice [] h.1))
+    go (Ok x) h = (h.0, subst (λ (l : List ℕ). Reported (became held has_failed a c) l) (append-nil xs) (twice [] h.1))
     go (Err e) h = (h.0, twice (line_of e) h.1)
 
 -- what a call has put is reported
-pub told_by : {E : Type 0} (a b : Option (List ℕ)) (first second : Bool) (xs : List ℕ) (r : Result Unit E) → Puts a b first second r xs → Told (output a b first second) xs
-told_by a b first second xs (Ok x) p = inr p.0
-told_by a b first second xs (Err e) p = inl p
+pub reported_by : {E : Type 0} (a b : Option (List ℕ)) (first second : Bool) (xs : List ℕ) (r : Result Unit E) → Puts a b first second r xs → Reported (output a b first second) xs
+reported_by a b first second xs (Ok x) p = inr p.0
+reported_by a b first second xs (Err e) p = inl p
 
 pub concludes_after :
-    {F E : Type 0} (held : F → Option (List ℕ)) (has_failed : F → Bool) (cut told : Option Cut) (outcome : Result Unit ServerFault) (status : Status) (a b b' c : F) (r : Result Unit E) → told ≡ cut →
-    Puts (held a) (held b) (has_failed a) (has_failed b) r (told_first told) → b' ≡ b → (has_failed b' ≡ true → has_failed c ≡ true) → EndsWith [] outcome status (became held has_failed b' c) →
-    EndsWith (told_first cut) outcome status (became held has_failed a c)
-concludes_after held has_failed cut told outcome status a b b' c r is q same stays h =
-    ends_after held has_failed outcome status a b b' c (told_first cut)
-    (told_by (held a) (held b) (has_failed a) (has_failed b) (told_first cut) r (subst (λ (z : Option Cut). Puts (held a) (held b) (has_failed a) (has_failed b) r (told_first z)) is q)) same stays h
+    {F E : Type 0} (held : F → Option (List ℕ)) (has_failed : F → Bool) (cut reported : Option Cut) (outcome : Result Unit ServerFault) (status : Status) (a b b' c : F) (r : Result Unit E) → reported ≡ cut →
+    Puts (held a) (held b) (has_failed a) (has_failed b) r (reported_first reported) → b' ≡ b → (has_failed b' ≡ true → has_failed c ≡ true) → EndsWith [] outcome status (became held has_failed b' c) →
+    EndsWith (reported_first cut) outcome status (became held has_failed a c)
+concludes_after held has_failed cut reported outcome status a b b' c r is q same stays h =
+    ends_after held has_failed outcome status a b b' c (reported_first cut)
+    (reported_by (held a) (held b) (has_failed a) (has_failed b) (reported_first cut) r (subst (λ (z : Option Cut). Puts (held a) (held b) (has_failed a) (has_failed b) r (reported_first z)) is q)) same stays h
 
--- where the device failed, it did so first for the reason that is told
+-- where the device failed, it did so first for the reason that is reported
 pub is_failure : {D : Type 0} (shown : Shown D) (device : D) (why : OpenFault) → Names why (shown.why device) → IsFailure shown why
 is_failure shown device open_.OutOfRange names = tt
 is_failure shown device open_.Memory names = tt

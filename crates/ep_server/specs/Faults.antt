@@ -1,4 +1,4 @@
--- How the program ends at a fault, and the line that it then tells.
+-- How the program ends at a fault, and the line that it then reports.
 use Rattle.std.specs.Prelude.{ℕ, ◌+◌, List, [], ◌++◌, codes, decimal}
 use Rattle.ep_cli.specs.Causes.{cause_text}
 use Rattle.ep_cli.specs.Lines.{numbered, out_of_memory, reading_failed, writing_failed}

@@ -25,7 +25,7 @@ pub record AreUnread (Is : FilesFault → Type 0) (status : Status) (out fault :
   pub why : FilesFault
   pub of : Is why
   pub silent : WroteNothing out
-  pub told : TurnsAway why status fault
+  pub reported : TurnsAway why status fault
 
 -- out of memory; or a file in the folder of this name isn't read; or what it has is refused, which is reported behind its name
 abbrev pub IsUnopened : List ℕ → FilesFault → Type 0

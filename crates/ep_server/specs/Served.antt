@@ -1,8 +1,8 @@
 -- What the program does, by the status that it answers: of the bytes of its log and those that it reads, its output and its fault output.
 use Rattle.std.specs.Prelude.{◌≡◌, ◌++◌, ℕ, Bool, true, false, List, [], Option, Some, None, Result, Ok, Err, IfErr}
-use Rattle.ep_base.specs.Devices.{FailsAsTold}
+use Rattle.ep_base.specs.Devices.{FailsAsReported}
 use Rattle.ep_device.specs.declared.system_fault.SystemFault.{SystemFault}
-use Rattle.ep_cli.specs.Outputs.{Input, Output, Told, WroteNothing}
+use Rattle.ep_cli.specs.Outputs.{Input, Output, Reported, WroteNothing}
 use Rattle.ep_cli.specs.declared.status.Status.{Status}
 use Rattle.ep_cli.specs.declared.status.Status.TheVariants.{Done}
 use Rattle.ep_log.specs.Origins.{Origin, second}
@@ -42,14 +42,14 @@ pub record Shown (D : Type 0) : Type 1 where
   pub moment : D → ℕ
   pub left_since : D → ℕ → List ℕ → Type 0
 
--- Which device failed: the output, the log, and the reader, each where that is told; and why the log's did.
+-- Which device failed: the output, the log, and the reader, each where that is reported; and why the log's did.
 pub record Fails {D : Type 0} (shown : Shown D) (first last : D) (outcome : Result Unit ServeFault) (reader : Input) (out : Output) : Type 0 where
-  pub written : FailsAsTold is_write_failed outcome out.had_failed out.failed
-  pub logged : FailsAsTold is_log_failed outcome (shown.has_failed first) (shown.has_failed last)
+  pub written : FailsAsReported is_write_failed outcome out.had_failed out.failed
+  pub logged : FailsAsReported is_log_failed outcome (shown.has_failed first) (shown.has_failed last)
   pub why : IfErr outcome (λ fault. Names fault (shown.why last))
   pub read : IsReadTo outcome reader.had_failed reader.failed
 
--- The log holds this replica, which is of this origin, and from there the requests in zs were served, as `serve` tells, on a device whose bytes were known when the log had been
+-- The log holds this replica, which is of this origin, and from there the requests in zs were served, as `serve` reports, on a device whose bytes were known when the log had been
 -- written anew.
 pub record HasServed {D : Type 0} (shown : Shown D) (role : Role) (o : Origin) (bytes zs : List ℕ) (cut : Option Cut) (outcome : Result Unit ServeFault) (reader : Input) (out : Output) : Type 0 where
   pub start : Logged D
@@ -95,21 +95,21 @@ Happens shown role o bytes zs cut (Err (Serve why)) reader out = HasServed shown
 Happens shown role o bytes zs cut (Err (Folder why)) reader out = ⊥
 
 -- what was cut off the log is reported first
-abbrev pub told_first : Option Cut → List ℕ
-told_first None = []
-told_first (Some cut) = line_of_cut cut
+abbrev pub reported_first : Option Cut → List ℕ
+reported_first None = []
+reported_first (Some cut) = line_of_cut cut
 
 -- then a fault is reported, and decides on the status
 abbrev pub EndsWith : List ℕ → Result Unit ServerFault → Status → Output → Type 0
-EndsWith told (Ok x) status fault = (status ≡ Done) × Told fault told
-EndsWith told (Err e) status fault = (status ≡ status_of e) × Told fault (told ++ line_of e)
+EndsWith reported (Ok x) status fault = (status ≡ Done) × Reported fault reported
+EndsWith reported (Err e) status fault = (status ≡ status_of e) × Reported fault (reported ++ line_of e)
 
 -- Of a replica of version 2. At the status Done all requests were read and answered; at any other the line says what stopped that.
 pub record IsNode {D : Type 0} (shown : Shown D) (role : Role) (bytes zs : List ℕ) (status : Status) (reader : Input) (out fault : Output) : Type 0 where
   pub cut : Option Cut
   pub outcome : Result Unit ServerFault
   pub happens : Happens shown role second bytes zs cut outcome reader out
-  pub concluded : EndsWith (told_first cut) outcome status fault
+  pub concluded : EndsWith (reported_first cut) outcome status fault
 
 -- A node in the folder of a replica that lives through generations.
 
@@ -148,15 +148,15 @@ HappensThere shown mode faults me zs (Err (Open why)) reader out = WroteNothing 
 HappensThere shown mode faults me zs (Err (Folder why)) reader out = WroteNothing out
 
 -- what was cut off one log, or two, is reported, and nothing else; an output that has failed has failed for good
-pub record TellsCut (fault : Output) : Type 0 where
+pub record ReportsCut (fault : Output) : Type 0 where
   pub cut : Option Cut
-  pub told : Told fault (told_first cut)
+  pub reported : Reported fault (reported_first cut)
   pub for_good : fault.had_failed ≡ true → fault.failed ≡ true
 
-pub record TellsCuts (fault : Output) : Type 0 where
+pub record ReportsCuts (fault : Output) : Type 0 where
   pub first : Option Cut
   pub then_ : Option Cut
-  pub told : Told fault (told_first first ++ told_first then_)
+  pub reported : Reported fault (reported_first first ++ reported_first then_)
   pub for_good : fault.had_failed ≡ true → fault.failed ≡ true
 
 -- Whatever the folder has. At the status Done all requests were read and answered; at any other the line says what stopped that.
@@ -166,4 +166,4 @@ pub record IsFolderNode {D : Type 0} (shown : Shown D) (mode : Mode) (faults me 
   pub then_ : Option Cut
   pub outcome : Result Unit ServerFault
   pub happens : HappensThere shown mode faults me zs outcome reader out
-  pub concluded : EndsWith (told_first first ++ told_first then_) outcome status fault
+  pub concluded : EndsWith (reported_first first ++ reported_first then_) outcome status fault

@@ -25,7 +25,7 @@ pub(crate) fn held_in<R: Files<File = File> + AllocGlobal>(
     }
 }
 
-/// Passes where each of the folders has the generation; the first that lacks it is told.
+/// Passes where each of the folders has the generation; the first that lacks it is reported.
 pub(crate) fn check_all<R: Files<File = File> + AllocGlobal>(
     rt: &R,
     folders: &[String],

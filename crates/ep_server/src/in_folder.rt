@@ -6,13 +6,13 @@ ghost use Rattle.ep_node.specs.Nodes.{IsQuiet, origin_of};
 ghost use Rattle.ep_node.specs.declared.cut.Cut.{Cut as CutOff};
 ghost use Rattle.ep_opening.specs.Bytes.{file_digest};
 ghost use Rattle.ep_server.specs.Replays.{origin_from, HasOpened};
-ghost use Rattle.ep_server.specs.Served.{told_first, IsFolderNode, IsNextOf, IsOfFile, IsUnready, TellsCut, TellsCuts};
+ghost use Rattle.ep_server.specs.Served.{reported_first, IsFolderNode, IsNextOf, IsOfFile, IsUnready, ReportsCut, ReportsCuts};
 
 use crate::folder_fault::FolderFault;
 use crate::folder_options::FolderOptions;
 use crate::generation_start::GenerationStart;
 use crate::named_file::NamedFile;
-use crate::program::{concluded, opened_as, served, tell_first};
+use crate::program::{concluded, opened_as, served, write_first};
 use crate::server_fault::ServerFault;
 use crate::staging::{check_stage, first_stage, handed_stage};
 use ep_base::{Generation, ReplicaId, Sink, Size, Source};
@@ -26,7 +26,7 @@ use std::fs::File;
 use std::rt::Files;
 
 /// Serves as the replica of this folder, in the generation that it is in, until the source is over or a fault stops it, and answers how the
-/// program ends. What was cut off a log is told by a line on the fault output before anything is answered, and what stops the node by one more;
+/// program ends. What was cut off a log is reported by a line on the fault output before anything is answered, and what stops the node by one more;
 /// where reporting fails, the status stays.
 pub fn serve_folder<'a, R: Files<File = File> + AllocGlobal, S: Source, W: Sink, F: Sink>(
     rt: &'a R,
@@ -47,7 +47,7 @@ pub fn serve_folder<'a, R: Files<File = File> + AllocGlobal, S: Source, W: Sink,
 }
 
 /// The node of the generation that is served: of the cluster's size, and with the origin that a file has.
-#[tactic(auto, using(crate::proofs::InFolders::tells_nothing, crate::proofs::InFolders::one_cut, crate::proofs::InFolders::of_this_size))]
+#[tactic(auto, using(crate::proofs::InFolders::reports_nothing, crate::proofs::InFolders::one_cut, crate::proofs::InFolders::of_this_size))]
 fn ready<'a, R: Files<File = File> + AllocGlobal, F: Sink>(
     rt: &'a R,
     options: &FolderOptions<'_>,
@@ -55,7 +55,7 @@ fn ready<'a, R: Files<File = File> + AllocGlobal, F: Sink>(
 ) -> Result<Node<FileDevice<'a, R>>, ServerFault>
     ensures ok { IfOk result (λ node. IsQuiet node × IsOfFile options.now.size options.now.me node) }
     ensures err { IfErr result IsUnready }
-    ensures told { TellsCuts (became F.held F.has_failed fault_writer.old fault_writer.new) }
+    ensures reported { ReportsCuts (became F.held F.has_failed fault_writer.old fault_writer.new) }
 {
     let stage = first_stage(rt, options)?;
     check_stage(options.size, &stage)?;
@@ -75,7 +75,7 @@ fn ready<'a, R: Files<File = File> + AllocGlobal, F: Sink>(
 }
 
 /// The node of the generation that this file opens, which closes the one before.
-#[tactic(auto, using(crate::proofs::InFolders::tells_nothing))]
+#[tactic(auto, using(crate::proofs::InFolders::reports_nothing))]
 fn ready_next<'a, R: Files<File = File> + AllocGlobal, F: Sink>(
     rt: &'a R,
     options: &FolderOptions<'_>,
@@ -85,7 +85,7 @@ fn ready_next<'a, R: Files<File = File> + AllocGlobal, F: Sink>(
     ensures ok { IfOk result (λ node. IsQuiet node × IsOfFile options.now.size options.now.me node) }
     ensures origin { IfOk result (λ node. origin_of node ≡ origin_from (record { file = file; digest = file_digest file })) }
     ensures err { IfErr result IsUnready }
-    ensures told { TellsCut (became F.held F.has_failed fault_writer.old fault_writer.new) }
+    ensures reported { ReportsCut (became F.held F.has_failed fault_writer.old fault_writer.new) }
 {
     let stage = closed_stage(rt, options.folder, file)?;
     check_stage(options.size, &stage)?;
@@ -183,7 +183,7 @@ fn device_of<'a, R: Files<File = File> + AllocGlobal>(
 }
 
 /// The node of a generation, whose log is on the disk. The generations before it are left then.
-#[tactic(auto, using(crate::proofs::InFolders::tells_nothing, crate::proofs::InFolders::tells_cut))]
+#[tactic(auto, using(crate::proofs::InFolders::reports_nothing, crate::proofs::InFolders::reports_cut))]
 fn open_stage<'a, R: Files<File = File> + AllocGlobal, F: Sink>(
     rt: &'a R,
     options: &FolderOptions<'_>,
@@ -194,7 +194,7 @@ fn open_stage<'a, R: Files<File = File> + AllocGlobal, F: Sink>(
     ensures ok { IfOk result (λ node. IsQuiet node × IsOfFile node.replica.faults options.now.me node) }
     ensures origin { IfOk result (λ node. origin_of node ≡ origin_from stage.named) }
     ensures err { IfErr result IsUnready }
-    ensures told { TellsCut (became F.held F.has_failed fault_writer.old fault_writer.new) }
+    ensures reported { ReportsCut (became F.held F.has_failed fault_writer.old fault_writer.new) }
 {
     let GenerationStart { named, begin, held } = stage;
     let generation = named.file.generation();
@@ -202,7 +202,7 @@ fn open_stage<'a, R: Files<File = File> + AllocGlobal, F: Sink>(
     let device = device_of(rt, options.folder, generation)?;
     match opened_as(rt.alloc(), device, whose, begin) {
         Ok(node) => {
-            let _ = tell_first(node.cut(), fault_writer);
+            let _ = write_first(node.cut(), fault_writer);
             leaving(rt, options.folder, &held, generation, node)
         }
         Err(fault) => Err(ServerFault::Open(fault)),

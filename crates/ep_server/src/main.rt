@@ -11,7 +11,7 @@
 //! files that their commands name.
 //!
 //! Start with `program.rt` and specs/Served.antt, `collecting.rt` and specs/NamedFiles.antt. A fault has one line on the fault
-//! output and one status (`server_fault.rt`, `telling.rt`, `ep_cli`), as docs/CLI.md, section 6.1, and docs/FORMATS.md, section 10, list them.
+//! output and one status (`server_fault.rt`, `reporting.rt`, `ep_cli`), as docs/CLI.md, section 6.1, and docs/FORMATS.md, section 10, list them.
 #![tactic(auto)]
 
 mod absent;
@@ -36,10 +36,10 @@ mod opened_logs;
 mod options;
 mod program;
 mod replaying;
+mod reporting;
 mod server_asked;
 mod server_fault;
 mod staging;
-mod telling;
 mod unopened;
 mod upgrading;
 
@@ -52,12 +52,12 @@ use crate::generation_collecting::collect_folders;
 use crate::in_folder::serve_folder;
 use crate::options::Options;
 use crate::program::{concluded, serve_log};
+use crate::reporting::write_place_fault;
 use crate::server_asked::ServerAsked;
 use crate::server_fault::ServerFault;
-use crate::telling::tell_place;
 use crate::upgrading::upgrade_named;
 use ep_base::{Noted, Sink, Source};
-use ep_cli::{Status, Streams, WordsFault, decline, read_ahead, told, words};
+use ep_cli::{Status, Streams, WordsFault, decline, read_ahead, reported, words};
 use ep_device::{DeviceFault, FileDevice, SystemFault};
 use ep_folder::{lock_folder, make_place};
 use ep_node::OpenFault;
@@ -181,7 +181,7 @@ fn serve_locked<R: AllocGlobal + Files<File = File>, S: Source, W: Sink, F: Sink
             drop(lock);
             status
         }
-        Err(fault) => tell_place(options.folder, fault, &mut streams.fault_writer),
+        Err(fault) => write_place_fault(options.folder, fault, &mut streams.fault_writer),
     }
 }
 
@@ -216,7 +216,7 @@ fn hold_one<R: Files<File = File>>(rt: &R) -> Result<File, ServerFault> {
 fn show<S, W: Sink, F: Sink>(text: &str, streams: &mut Streams<S, W, F>) -> Status {
     match streams.writer.put(text.as_bytes()) {
         Ok(()) => Status::Done,
-        Err(_) => told(
+        Err(_) => reported(
             b"writing failed\n",
             Status::Failed,
             &mut streams.fault_writer,

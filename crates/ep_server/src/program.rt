@@ -6,11 +6,11 @@ ghost use Rattle.ep_cli.specs.Outputs.{became, turned};
 ghost use Rattle.ep_log.specs.Origins.{second};
 ghost use Rattle.ep_node.specs.Nodes.{IsQuiet, origin_of};
 ghost use Rattle.ep_node.specs.Opening.{IsOpened, IsUnopened, IsWrittenAnew};
-ghost use Rattle.ep_server.specs.Served.{told_first, EndsWith, IsFailure, IsNode, IsOver};
+ghost use Rattle.ep_server.specs.Served.{reported_first, EndsWith, IsFailure, IsNode, IsOver};
 
 use crate::options::Options;
+use crate::reporting::{write_cut, write_fault};
 use crate::server_fault::ServerFault;
-use crate::telling::{tell, tell_cut};
 use ep_base::{Sink, Source, WriteFailed};
 use ep_cli::{Status, Streams};
 use ep_device::Device;
@@ -20,7 +20,7 @@ use std::alloc::Global;
 use std::mem::forget;
 
 /// Serves as the node whose log the device holds, until the source is over or a fault stops it, and answers how the program
-/// ends. What was cut off the log is told by a line on the fault output before anything is answered, and what stops the node by
+/// ends. What was cut off the log is reported by a line on the fault output before anything is answered, and what stops the node by
 /// one more; where reporting fails, the status stays.
 pub fn serve_log<D: Device + Drop, S: Source, W: Sink, F: Sink>(
     alloc: Global,
@@ -34,7 +34,7 @@ pub fn serve_log<D: Device + Drop, S: Source, W: Sink, F: Sink>(
 {
     match opened(alloc, options, device) {
         Ok(node) => {
-            let _ = tell_first(node.cut(), &mut streams.fault_writer);
+            let _ = write_first(node.cut(), &mut streams.fault_writer);
             let outcome = served(alloc, node, options.mode, streams);
             concluded(outcome, &mut streams.fault_writer)
         }
@@ -74,7 +74,7 @@ pub(crate) fn served<D: Device + Drop, S: Source, W: Sink, F>(
     streams: &mut Streams<S, W, F>,
 ) -> Result<(), ServerFault>
     requires { IsQuiet node }
-    ensures untold { streams.new.fault_writer ≡ streams.old.fault_writer }
+    ensures unreported { streams.new.fault_writer ≡ streams.old.fault_writer }
     ensures over { (zs : List ℕ) → S.left streams.old.reader ≡ Some zs → IsOver (record { has_failed = D.has_failed; why = D.why; seen = D.seen; moment = D.moment; left_since = D.left_since }) mode node zs result
         (turned S.has_failed streams.old.reader streams.new.reader) (became W.held W.has_failed streams.old.writer streams.new.writer) }
 {
@@ -121,11 +121,14 @@ fn opened<D: Device + Drop>(
 }
 
 /// Says what was cut off the log, if anything was.
-pub(crate) fn tell_first<F: Sink>(cut: Option<Cut>, fault_writer: &mut F) -> Result<(), WriteFailed>
-    ensures { Puts (F.held fault_writer.old) (F.held fault_writer.new) (F.has_failed fault_writer.old) (F.has_failed fault_writer.new) result (told_first cut) }
+pub(crate) fn write_first<F: Sink>(
+    cut: Option<Cut>,
+    fault_writer: &mut F,
+) -> Result<(), WriteFailed>
+    ensures { Puts (F.held fault_writer.old) (F.held fault_writer.new) (F.has_failed fault_writer.old) (F.has_failed fault_writer.new) result (reported_first cut) }
 {
     match cut {
-        Some(cut) => tell_cut(cut, fault_writer),
+        Some(cut) => write_cut(cut, fault_writer),
         None => Ok(()),
     }
 }
@@ -139,7 +142,7 @@ pub(crate) fn concluded<F: Sink>(outcome: Result<(), ServerFault>, fault_writer:
         Ok(()) => Status::Done,
         Err(fault) => {
             let status = fault.status();
-            let _ = tell(fault, fault_writer);
+            let _ = write_fault(fault, fault_writer);
             status
         }
     }

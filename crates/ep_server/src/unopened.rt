@@ -1,4 +1,4 @@
-//! Why a folder doesn't give what a generation opens with, told by its name.
+//! Why a folder doesn't give what a generation opens with, reported by its name.
 
 ghost use Rattle.std.specs.Prelude.{◌≡◌, ◌++◌, codes, IfOk};
 ghost use Rattle.ep_base.specs.Devices.{Puts};
@@ -6,7 +6,7 @@ ghost use Rattle.ep_server.specs.Faults.{line_of_folder};
 ghost use Rattle.ep_server.specs.NamedFiles.{IsUnopened};
 
 use crate::folder_fault::FolderFault;
-use crate::telling::tell_folder;
+use crate::reporting::write_folder_fault;
 use ep_base::{Noted, Sink, WriteFailed};
 use ep_cli::{FilesFault, unread};
 use ep_device::DeviceFault;
@@ -50,5 +50,5 @@ fn put_line<F: Sink>(folder: &str, why: FolderFault, sink: &mut F) -> Result<(),
 {
     sink.put(folder.as_bytes())?;
     sink.put(b": ")?;
-    tell_folder(why, sink)
+    write_folder_fault(why, sink)
 }

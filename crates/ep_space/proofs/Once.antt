@@ -5,7 +5,7 @@ use Rattle.std.proofs.lemmas.Bool.{and_parts}
 use Rattle.ep_base.specs.Attributes.{same_list}
 use Rattle.ep_base.specs.Commands.{Command, Noop, Get, Put, Del, Swap, Cas, Seal, Opaque, Tx}
 use Rattle.ep_base.specs.Interference.{has_key, is_many, is_seal, keys_of, only_reads}
-use Rattle.ep_base.specs.Items.{Item, item_keys, rise_above, told_count, none_writes}
+use Rattle.ep_base.specs.Items.{Item, item_keys, rise_above, reported_count, none_writes}
 use Rattle.ep_base.specs.Ops.{is_items_len}
 use Rattle.ep_base.specs.CommandParts.{IsInRange, are_items, all_items, items_of, tx_bytes}
 use Rattle.ep_base.specs.Sameness.{is_noop}
@@ -41,9 +41,9 @@ once_marked r k (i ∷ is) h =
 rises : (is : List Item) → are_items is ≡ true → rise_above [] is ≡ true
 rises is h =
     let long = is_items_len (length (tx_bytes is)) in
-    let some = and_parts (nat_le 1 (length is) && nat_le (length is) 1024) (all_items is && (rise_above [] is && (nat_le (told_count is) 16 && long))) h in
-    let all = and_parts (all_items is) (rise_above [] is && (nat_le (told_count is) 16 && long)) some.1 in
-    (and_parts (rise_above [] is) (nat_le (told_count is) 16 && long) all.1).0
+    let some = and_parts (nat_le 1 (length is) && nat_le (length is) 1024) (all_items is && (rise_above [] is && (nat_le (reported_count is) 16 && long))) h in
+    let all = and_parts (all_items is) (rise_above [] is && (nat_le (reported_count is) 16 && long)) some.1 in
+    (and_parts (rise_above [] is) (nat_le (reported_count is) 16 && long) all.1).0
 
 pub many_once : (c : Command) → is_many c ≡ true → IsInRange c → AreOnce (index_keys c)
 many_once Noop e h = tt

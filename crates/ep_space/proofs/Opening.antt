@@ -17,7 +17,7 @@ use Rattle.ep_rules.specs.States.{committed_in}
 use Rattle.ep_rules.specs.Worlds.{In}
 use Rattle.ep_rules.specs.declared.record.Record.{Record}
 use Rattle.ep_space.specs.Entries.{held, flat, same, IsTable}
-use Rattle.ep_space.specs.Open.{deps_of, TellsOf, IsOpen, IsAbove, IsNextOpen, is_above, is_left, first_left, lesser, IsLeast, EntryTells, AreTelling, IsLeastOf, IsLeastIn, AreRecords}
+use Rattle.ep_space.specs.Open.{deps_of, ReportsOf, IsOpen, IsAbove, IsNextOpen, is_above, is_left, first_left, lesser, IsLeast, EntryReports, AreReporting, IsLeastOf, IsLeastIn, AreRecords}
 use Rattle.ep_space.proofs.Lookup.{get-held}
 use Rattle.ep_space.proofs.Order.{same_equiv, same_number}
 
@@ -63,32 +63,32 @@ least_itself m after i false e = λ j h. true≢false (sym h.1 ∙ ap (is_left m
 pub least_entry : (m : Map Record) (after : Option ℕ) (i : ℕ) (r : Record) (a b : Option ℕ) → IsLeast (λ j. (i ≡ j) × (is_left m after j ≡ true)) a
     → IsLeast (λ j. Has (deps_of r.vote) j × (is_left m after j ≡ true)) b → IsLeastOf m after i (Some r) (lesser a b)
 least_entry m after i r a b own named =
-    least_same (λ j. ((i ≡ j) × (is_left m after j ≡ true)) ⊎ (Has (deps_of r.vote) j × (is_left m after j ≡ true))) (λ j. EntryTells i (Some r) j × (is_left m after j ≡ true)) (lesser a b)
+    least_same (λ j. ((i ≡ j) × (is_left m after j ≡ true)) ⊎ (Has (deps_of r.vote) j × (is_left m after j ≡ true))) (λ j. EntryReports i (Some r) j × (is_left m after j ≡ true)) (lesser a b)
     (λ j h. elim h [ inl x ↦ (inl x.0, x.1) | inr x ↦ (inr x.0, x.1) ])
     (λ j h. elim h.0 [ inl x ↦ inl (x, h.1) | inr x ↦ inr (x, h.1) ])
     (least_lesser _ _ a b own named)
 
 -- One entry more.
 
-telling_more : (es : List (ℕ × Option Record)) (e : ℕ × Option Record) (j : ℕ) → AreTelling es j ⊎ EntryTells e.0 e.1 j → AreTelling (es ++ e ∷ []) j
-telling_more [] e j (inl h) = absurd h
-telling_more [] e j (inr h) = inl h
-telling_more (x ∷ es) e j (inl (inl h)) = inl h
-telling_more (x ∷ es) e j (inl (inr h)) = inr (telling_more es e j (inl h))
-telling_more (x ∷ es) e j (inr h) = inr (telling_more es e j (inr h))
+reporting_more : (es : List (ℕ × Option Record)) (e : ℕ × Option Record) (j : ℕ) → AreReporting es j ⊎ EntryReports e.0 e.1 j → AreReporting (es ++ e ∷ []) j
+reporting_more [] e j (inl h) = absurd h
+reporting_more [] e j (inr h) = inl h
+reporting_more (x ∷ es) e j (inl (inl h)) = inl h
+reporting_more (x ∷ es) e j (inl (inr h)) = inr (reporting_more es e j (inl h))
+reporting_more (x ∷ es) e j (inr h) = inr (reporting_more es e j (inr h))
 
-telling_split : (es : List (ℕ × Option Record)) (e : ℕ × Option Record) (j : ℕ) → AreTelling (es ++ e ∷ []) j → AreTelling es j ⊎ EntryTells e.0 e.1 j
-telling_split [] e j (inl h) = inr h
-telling_split [] e j (inr h) = absurd h
-telling_split (x ∷ es) e j (inl h) = inl (inl h)
-telling_split (x ∷ es) e j (inr h) = elim (telling_split es e j h) [ inl there ↦ inl (inr there) | inr there ↦ inr there ]
+reporting_split : (es : List (ℕ × Option Record)) (e : ℕ × Option Record) (j : ℕ) → AreReporting (es ++ e ∷ []) j → AreReporting es j ⊎ EntryReports e.0 e.1 j
+reporting_split [] e j (inl h) = inr h
+reporting_split [] e j (inr h) = absurd h
+reporting_split (x ∷ es) e j (inl h) = inl (inl h)
+reporting_split (x ∷ es) e j (inr h) = elim (reporting_split es e j h) [ inl there ↦ inl (inr there) | inr there ↦ inr there ]
 
 pub least_more : (m : Map Record) (after : Option ℕ) (i : ℕ) (o : Option Record) (a b : Option ℕ) → IsLeastOf m after i o b → (es : List (ℕ × Option Record)) → IsLeastIn m after es a
     → IsLeastIn m after (es ++ (i, o) ∷ []) (lesser a b)
 least_more m after i o a b this es before =
-    least_same (λ j. (AreTelling es j × (is_left m after j ≡ true)) ⊎ (EntryTells i o j × (is_left m after j ≡ true))) (λ j. AreTelling (es ++ (i, o) ∷ []) j × (is_left m after j ≡ true)) (lesser a b)
-    (λ j h. elim h [ inl x ↦ (telling_more es (i, o) j (inl x.0), x.1) | inr x ↦ (telling_more es (i, o) j (inr x.0), x.1) ])
-    (λ j h. elim (telling_split es (i, o) j h.0) [ inl x ↦ inl (x, h.1) | inr x ↦ inr (x, h.1) ])
+    least_same (λ j. (AreReporting es j × (is_left m after j ≡ true)) ⊎ (EntryReports i o j × (is_left m after j ≡ true))) (λ j. AreReporting (es ++ (i, o) ∷ []) j × (is_left m after j ≡ true)) (lesser a b)
+    (λ j h. elim h [ inl x ↦ (reporting_more es (i, o) j (inl x.0), x.1) | inr x ↦ (reporting_more es (i, o) j (inr x.0), x.1) ])
+    (λ j h. elim (reporting_split es (i, o) j h.0) [ inl x ↦ inl (x, h.1) | inr x ↦ inr (x, h.1) ])
     (least_lesser _ _ a b before this)
 
 -- after all entries
@@ -119,18 +119,18 @@ module _ {X : Type 0} where
   pub entries_are : (es : List (ℕ × Option X)) → IsTable es → (i : ℕ) (x : X) → (get (held es).held i ≡ Some x → In (i, Some x) es) × (In (i, Some x) es → get (held es).held i ≡ Some x)
   entries_are es table i x = (λ e. found_in i x es (sym (get-held i es table) ∙ e), λ h. get-held i es table ∙ looked_up i x es table h)
 
--- What entries tell of is what is known.
+-- What entries name is what is known.
 
-told_by : (es : List (ℕ × Option Record)) (i : ℕ) → AreTelling es i → (j : ℕ) × (r : Record) × In (j, Some r) es × TellsOf j r i
-told_by [] i h = absurd h
-told_by ((j, None) ∷ es) i (inl h) = absurd h
-told_by ((j, Some r) ∷ es) i (inl h) = (j, r, inl refl, h)
-told_by (e ∷ es) i (inr h) = let rest = told_by es i h in (rest.0, rest.1, inr rest.2, rest.3)
+reported_by : (es : List (ℕ × Option Record)) (i : ℕ) → AreReporting es i → (j : ℕ) × (r : Record) × In (j, Some r) es × ReportsOf j r i
+reported_by [] i h = absurd h
+reported_by ((j, None) ∷ es) i (inl h) = absurd h
+reported_by ((j, Some r) ∷ es) i (inl h) = (j, r, inl refl, h)
+reported_by (e ∷ es) i (inr h) = let rest = reported_by es i h in (rest.0, rest.1, inr rest.2, rest.3)
 
-telling : (es : List (ℕ × Option Record)) (i j : ℕ) (r : Record) → In (j, Some r) es → TellsOf j r i → AreTelling es i
-telling [] i j r h t = absurd h
-telling (e ∷ es) i j r (inl is) t = inl (subst (λ (z : ℕ × Option Record). EntryTells z.0 z.1 i) (sym is) t)
-telling (e ∷ es) i j r (inr h) t = inr (telling es i j r h t)
+reporting : (es : List (ℕ × Option Record)) (i j : ℕ) (r : Record) → In (j, Some r) es → ReportsOf j r i → AreReporting es i
+reporting [] i j r h t = absurd h
+reporting (e ∷ es) i j r (inl is) t = inl (subst (λ (z : ℕ × Option Record). EntryReports z.0 z.1 i) (sym is) t)
+reporting (e ∷ es) i j r (inr h) t = inr (reporting es i j r h t)
 
 above_is : (after : Option ℕ) (i : ℕ) → is_above after i ≡ true → IsAbove after i
 above_is None i e = tt
@@ -157,11 +157,11 @@ next_by m after (Some i) h = (h.0.0, h.0.1, λ j free above. h.1 j (free, above)
 pub next_found : (m : Map Record) (after : Option ℕ) (es : List (ℕ × Option Record)) (o : Option ℕ) → AreRecords m es → IsLeastIn m after es o → IsNextOpen m after o
 next_found m after es o all least =
     next_by m after o
-    (least_same (λ j. AreTelling es j × (is_left m after j ≡ true)) (λ j. IsOpen m j × IsAbove after j) o
+    (least_same (λ j. AreReporting es j × (is_left m after j ≡ true)) (λ j. IsOpen m j × IsAbove after j) o
     (λ j h.
-    let told = told_by es j h.0 in
+    let reported = reported_by es j h.0 in
     let left = left_is m after j h.1 in
-    (((told.0, told.1, (all told.0 told.1).1 told.2, told.3), left.1), left.0))
+    (((reported.0, reported.1, (all reported.0 reported.1).1 reported.2, reported.3), left.1), left.0))
     (λ j h.
-    let known = h.0.0 in (telling es j known.0 known.1 ((all known.0 known.1).0 known.2) known.3, is_left_so m after j h.1 h.0.1))
+    let known = h.0.0 in (reporting es j known.0 known.1 ((all known.0 known.1).0 known.2) known.3, is_left_so m after j h.1 h.0.1))
     least)

@@ -25,19 +25,19 @@ use Rattle.ep_space.proofs.Spots.{slot-is}
 
 pub seqs-none : (ns : List ℕ) → ns ≡ [] → AreSeqs (record { held = none; places = set.empty }) ns
 seqs-none ns e = record {
-  told = λ i h. ap (λ xs. slice_index_or xs (slot i) 0) e ∙ sym (ap recorded_seq (map.get-empty nat_cmp i));
+  reported = λ i h. ap (λ xs. slice_index_or xs (slot i) 0) e ∙ sym (ap recorded_seq (map.get-empty nat_cmp i));
   room = λ i h. absurd (true≢false (sym h ∙ set.contains-empty nat_cmp i));
 }
 
 pub seqs-written : (m : Map Record) (places : Places) (i n : ℕ) (o : Option Record) (ns : List ℕ) → AreSeqs (record { held = m; places = places }) ns → IsInstance i → slot i < length ns → n ≡ recorded_seq o
     → AreSeqs (record { held = with_held m i o; places = places }) (slice_set ns (slot i) n)
 seqs-written m places i n o ns s known within is = record {
-  told = λ q h. elim (cases_eq q i) [
+  reported = λ q h. elim (cases_eq q i) [
     | inl same ↦
         subst (λ j. slice_index_or (slice_set ns (slot i) n) (slot j) 0 ≡ recorded_seq (get (with_held m i o) j)) (sym same)
         (get_or-set_same ns (slot i) n 0 within ∙ is ∙ sym (ap recorded_seq (get-own m i o)))
     | inr apart ↦
-        get_or-set_other ns (slot i) (slot q) n 0 (λ t. apart (slot-is q i h known t)) ∙ s.told q h ∙ sym (ap recorded_seq (get-other m i o q apart))
+        get_or-set_other ns (slot i) (slot q) n 0 (λ t. apart (slot-is q i h known t)) ∙ s.reported q h ∙ sym (ap recorded_seq (get-other m i o q apart))
   ];
   room = λ q h. lt-length-set ns (slot i) n (s.room q h);
 }
@@ -46,11 +46,11 @@ seqs-written m places i n o ns s known within is = record {
 pub seqs-kept : (m : Map Record) (places : Places) (i : ℕ) (o : Option Record) (ns : List ℕ) → AreSeqs (record { held = m; places = places }) ns → recorded_seq o ≡ recorded_seq (get m i)
     → AreSeqs (record { held = with_held m i o; places = places }) ns
 seqs-kept m places i o ns s is = record {
-  told = λ q h. elim (cases_eq q i) [
+  reported = λ q h. elim (cases_eq q i) [
     | inl same ↦
         subst (λ j. slice_index_or ns (slot j) 0 ≡ recorded_seq (get (with_held m i o) j)) (sym same)
-        (s.told i (subst IsInstance same h) ∙ sym is ∙ sym (ap recorded_seq (get-own m i o)))
-    | inr apart ↦ s.told q h ∙ sym (ap recorded_seq (get-other m i o q apart))
+        (s.reported i (subst IsInstance same h) ∙ sym is ∙ sym (ap recorded_seq (get-own m i o)))
+    | inr apart ↦ s.reported q h ∙ sym (ap recorded_seq (get-other m i o q apart))
   ];
   room = s.room;
 }
@@ -72,7 +72,7 @@ seq_settled (Some r) = seq_committed r.vote
 -- with more slots
 pub longer-seqs : (t : Held Record) (ns more : List ℕ) → AreSeqs t ns → length ns ≤ length more → ((k : ℕ) → slice_index_or more k 0 ≡ slice_index_or ns k 0) → AreSeqs t more
 longer-seqs t ns more s longer same = record {
-  told = λ q h. same (slot q) ∙ s.told q h;
+  reported = λ q h. same (slot q) ∙ s.reported q h;
   room = λ q h. let low = s.room q h in omega (arith, low, longer);
 }
 
@@ -80,7 +80,7 @@ longer-seqs t ns more s longer same = record {
 module _ (old new : Held Record) (i : ℕ) (ns more : List ℕ) (s : AreSeqs old ns) (longer : length ns ≤ length more) (same : (k : ℕ) → slice_index_or more k 0 ≡ slice_index_or ns k 0) where
   placed-seqs : slot i < length more → AreSeqs (record { held = old.held; places = set.insert old.places i }) more
   placed-seqs within = record {
-    told = λ q h. same (slot q) ∙ s.told q h;
+    reported = λ q h. same (slot q) ∙ s.reported q h;
     room = λ q h. go q (eq_by_cmp nat_cmp q i) refl (sym (set.contains-insert nat_cmp_total old.places i q) ∙ h);
   }
     where

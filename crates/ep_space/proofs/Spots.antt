@@ -99,17 +99,17 @@ slot-is i j h k e = let a = h.0 in let b = k.0 in omega (arith, a, b, e)
 pub spots-same : (ns more ks : List ℕ) → AreSpots ns ks → ((k : ℕ) → slice_index_or more k 0 ≡ slice_index_or ns k 0) → AreSpots more ks
 spots-same ns more ks s same_at = record {
   distinct = s.distinct;
-  told = λ i h. same_at (slot i) ∙ s.told i h;
+  reported = λ i h. same_at (slot i) ∙ s.reported i h;
 }
 
 pub spots-push : (ns ks : List ℕ) (j n : ℕ) → AreSpots ns ks → IsInstance j → slot j < length ns → slice_index_or ns (slot j) 0 ≡ 0 → n ≡ suc (length ks) → AreSpots (slice_set ns (slot j) n) (ks ++ j ∷ [])
 spots-push ns ks j n s known within free is = record {
   distinct = IsDistinct-push same_equiv ks j s.distinct (absent j ks none);
-  told = λ i h. go i h (same i j) refl;
+  reported = λ i h. go i h (same i j) refl;
 }
   where
     none : spot j ks ≡ 0
-    none = sym (s.told j known) ∙ free
+    none = sym (s.reported j known) ∙ free
 
     go : (i : ℕ) → IsInstance i → (b : Bool) → same i j ≡ b → slice_index_or (slice_set ns (slot j) n) (slot i) 0 ≡ spot i (ks ++ j ∷ [])
     go i h true e =
@@ -117,13 +117,13 @@ spots-push ns ks j n s known within free is = record {
         subst (λ q. slice_index_or (slice_set ns (slot j) n) (slot q) 0 ≡ spot q (ks ++ j ∷ [])) it (get_or-set_same ns (slot j) n 0 within ∙ is ∙ sym (spot-push_new j ks none))
     go i h false e =
         get_or-set_other ns (slot j) (slot i) n 0 (λ t. true≢false (sym (same_equiv.refl j) ∙ subst (λ q. same q j ≡ false) (slot-is i j h known t) e))
-        ∙ s.told i h
+        ∙ s.reported i h
         ∙ sym (spot-push_other i j ks e)
 
 -- What a spot says.
 
-pub spot-told : (ns at ks : List ℕ) (i n : ℕ) → AreSpots ns ks → at ≡ ns → IsInstance i → n ≡ slice_index_or at (slot i) 0 → n ≡ spot i ks
-spot-told ns at ks i n s e h is = is ∙ ap (λ xs. slice_index_or xs (slot i) 0) e ∙ s.told i h
+pub spot-reported : (ns at ks : List ℕ) (i n : ℕ) → AreSpots ns ks → at ≡ ns → IsInstance i → n ≡ slice_index_or at (slot i) 0 → n ≡ spot i ks
+spot-reported ns at ks i n s e h is = is ∙ ap (λ xs. slice_index_or xs (slot i) 0) e ∙ s.reported i h
 
 module _ {X : Type 0} where
   pub placed-there : (es : List (ℕ × Option X)) (i n : ℕ) → n ≡ spot i (keys_of es) → n ≢ 0 → es ≡ with_place es i
@@ -214,7 +214,7 @@ module _ {X : Type 0} where
 
 pub spots-none : (ns ks : List ℕ) → ns ≡ [] → ks ≡ [] → AreSpots ns ks
 unfolding IsDistinct
-spots-none ns ks e f = subst (λ qs. AreSpots ns qs) (sym f) (subst (λ ms. AreSpots ms []) (sym e) (record { distinct = tt; told = λ i h. refl }))
+spots-none ns ks e f = subst (λ qs. AreSpots ns qs) (sym f) (subst (λ ms. AreSpots ms []) (sym e) (record { distinct = tt; reported = λ i h. refl }))
 
 -- The items in front of one, and this one.
 

@@ -11,7 +11,7 @@ use Rattle.ep_space.specs.Held.{Held}
 abbrev pub same : ℕ → ℕ → Bool
 same i j = i == j
 
--- where the list of spots tells of i
+-- where the list of spots names i
 abbrev pub slot : ℕ → ℕ
 slot i = number_of i * 8 + leader_of i
 
@@ -27,7 +27,7 @@ spot i (k ∷ ks) = cond (same i k) 1 (spot_after (spot i ks))
 -- no instance stands twice, and the spots say of each where it stands
 pub record AreSpots (ns ks : List ℕ) : Type 0 where
   pub distinct : IsDistinct same ks
-  pub told : (i : ℕ) → IsInstance i → slice_index_or ns (slot i) 0 ≡ spot i ks
+  pub reported : (i : ℕ) → IsInstance i → slice_index_or ns (slot i) 0 ≡ spot i ks
 
 module _ {X : Type 0} where
   abbrev pub held_as : ℕ → Option X → List (ℕ × X) → List (ℕ × X)

@@ -12,13 +12,13 @@ abbrev pub deps_of : Option Vote → List ℕ
 deps_of None = []
 deps_of (Some v) = v.decree.attrs.deps
 
--- the record of j tells of i: it is its own, or what it votes for depends on i
-abbrev pub TellsOf : ℕ → Record → ℕ → Type 0
-TellsOf j r i = (j ≡ i) ⊎ Has (deps_of r.vote) i
+-- the record of j names i: it is its own, or what it votes for depends on i
+abbrev pub ReportsOf : ℕ → Record → ℕ → Type 0
+ReportsOf j r i = (j ≡ i) ⊎ Has (deps_of r.vote) i
 
 -- i has a record, or is a dependency of what a record votes for
 abbrev pub IsKnown : Map Record → ℕ → Type 0
-IsKnown m i = (j : ℕ) × (r : Record) × (get m j ≡ Some r) × TellsOf j r i
+IsKnown m i = (j : ℕ) × (r : Record) × (get m j ≡ Some r) × ReportsOf j r i
 
 -- it is known, and not committed
 abbrev pub IsOpen : Map Record → ℕ → Type 0
@@ -59,23 +59,23 @@ abbrev pub IsLeast : (ℕ → Type 0) → Option ℕ → Type 0
 IsLeast P None = (j : ℕ) → ¬ P j
 IsLeast P (Some i) = P i × ((j : ℕ) → P j → ¬ (j < i))
 
--- an entry's record tells of i
-abbrev pub EntryTells : ℕ → Option Record → ℕ → Type 0
-EntryTells j None i = ⊥
-EntryTells j (Some r) i = TellsOf j r i
+-- an entry's record names i
+abbrev pub EntryReports : ℕ → Option Record → ℕ → Type 0
+EntryReports j None i = ⊥
+EntryReports j (Some r) i = ReportsOf j r i
 
--- a record among the entries of a table tells of i
-abbrev pub AreTelling : List (ℕ × Option Record) → ℕ → Type 0
-AreTelling [] i = ⊥
-AreTelling (e ∷ es) i = EntryTells e.0 e.1 i ⊎ AreTelling es i
+-- a record among the entries of a table names i
+abbrev pub AreReporting : List (ℕ × Option Record) → ℕ → Type 0
+AreReporting [] i = ⊥
+AreReporting (e ∷ es) i = EntryReports e.0 e.1 i ⊎ AreReporting es i
 
--- the least that an entry's record tells of and that is left
+-- the least that an entry's record names and that is left
 abbrev pub IsLeastOf : Map Record → Option ℕ → ℕ → Option Record → Option ℕ → Type 0
-IsLeastOf m after j written found = IsLeast (λ i. EntryTells j written i × (is_left m after i ≡ true)) found
+IsLeastOf m after j written found = IsLeast (λ i. EntryReports j written i × (is_left m after i ≡ true)) found
 
 -- the same of these entries
 abbrev pub IsLeastIn : Map Record → Option ℕ → List (ℕ × Option Record) → Option ℕ → Type 0
-IsLeastIn m after es found = IsLeast (λ i. AreTelling es i × (is_left m after i ≡ true)) found
+IsLeastIn m after es found = IsLeast (λ i. AreReporting es i × (is_left m after i ≡ true)) found
 
 -- the entries have each record, and no other
 abbrev pub AreRecords : Map Record → List (ℕ × Option Record) → Type 0

@@ -14,5 +14,5 @@ recorded_seq (Some r) = seq_of r.vote
 
 -- each instance's slot has that of its record, and where it has a place it has a slot
 pub record AreSeqs (t : Held Record) (ns : List ℕ) : Type 0 where
-  pub told : (i : ℕ) → IsInstance i → slice_index_or ns (slot i) 0 ≡ recorded_seq (get t.held i)
+  pub reported : (i : ℕ) → IsInstance i → slice_index_or ns (slot i) 0 ≡ recorded_seq (get t.held i)
   pub room : (i : ℕ) → HasPlace t.places i → slot i < length ns

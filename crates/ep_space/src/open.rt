@@ -81,7 +81,7 @@ fn itself(space: &Space, after: &Option<InstanceId>, id: InstanceId) -> Option<I
     }
 }
 
-/// The least instance of which the entry tells, by its record, that is above this one, where there is one, and isn't committed.
+/// The least instance that the entry's record names that is above this one, where there is one, and isn't committed.
 #[tactic(auto, using(crate::proofs::Opening::least_entry))]
 fn least_of(
     space: &Space,
@@ -97,7 +97,7 @@ fn least_of(
     }
 }
 
-/// The least that was found so far and that this entry tells of.
+/// The least that was found so far and that this entry names.
 #[tactic(auto, using(crate::proofs::Opening::least_more))]
 fn least_with(
     space: &Space,

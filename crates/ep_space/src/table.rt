@@ -24,7 +24,7 @@ type Entries<V> = Vec<(InstanceId, Option<V>)>;
 /// Values of instances. An instance first gets a place, which takes memory; a value is then written there without.
 ///
 /// No entry is ever taken out, so the index of an instance's entry stays, and is kept: an instance's number and leader say where `spots`
-/// tells of it: its index and one more, or 0 where it has none. So a look-up makes no hash, and compares nothing.
+/// says of it: its index and one more, or 0 where it has none. So a look-up makes no hash, and compares nothing.
 #[derive(Drop)]
 pub struct Table<V> {
     entries: Entries<V>,
@@ -185,7 +185,7 @@ fn duplicate_of<V: Duplicate>(value: &Option<V>, alloc: Global) -> Result<Option
     }
 }
 
-/// Where a list by instances tells of this one.
+/// Where a list by instances names this one.
 pub(crate) fn slot_of(id: InstanceId) -> usize
     ensures value { result ≡ slot id }
     ensures small { result < 72008 }

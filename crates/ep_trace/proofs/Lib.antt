@@ -1,3 +1,3 @@
 mod Opening
-mod Telling
+mod Reporting
 mod Tracing

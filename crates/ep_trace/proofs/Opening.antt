@@ -16,7 +16,7 @@ open_in k i = IsOpen (state_of k).records i
 abbrev pub line_of : Kept → ℕ → List ℕ
 line_of k i = open_line k.me i (progress_in k.faults k.me (get (state_of k).leads i))
 
--- those before the next one were told
+-- those before the next one were reported
 abbrev pub Listed : Kept → Option ℕ → List ℕ → List ℕ → Type 0
 Listed k next old new = listing.Listed (open_in k) (open_lines k) next old new
 
@@ -25,8 +25,8 @@ starts k next t found = listing.starts (open_in k) (line_of k) (open_lines k) (r
 
 pub goes_on :
     (k : Kept) (n : ℕ) (next : Option ℕ) (old mid new : List ℕ) → Listed k (Some n) old mid → IsNextOpen (state_of k).records (Some n) next → new ≡ mid ++ line_of k n → Listed k next old new
-goes_on k n next old mid new was found told =
-    listing.goes_on (open_in k) (line_of k) (open_lines k) (refl, λ i is. refl) n next old mid new was (next_least (state_of k).records (Some n) next found) told
+goes_on k n next old mid new was found reported =
+    listing.goes_on (open_in k) (line_of k) (open_lines k) (refl, λ i is. refl) n next old mid new was (next_least (state_of k).records (Some n) next found) reported
 
 pub over : (k : Kept) (old new : List ℕ) → Listed k None old new → AddsOpen k old new
 over k old new was =
@@ -36,10 +36,10 @@ over k old new was =
 -- Replicas, one after another.
 
 -- those of the replicas below n were reported
-abbrev pub ToldBelow : Played → ℕ → List ℕ → List ℕ → Type 0
-ToldBelow w n old new = (more : List ℕ) × OpenBelow w n more × (new ≡ old ++ more)
+abbrev pub ReportedBelow : Played → ℕ → List ℕ → List ℕ → Type 0
+ReportedBelow w n old new = (more : List ℕ) × OpenBelow w n more × (new ≡ old ++ more)
 
-pub one_below : (w : Played) (n m : ℕ) (old mid new : List ℕ) → m ≡ suc n → ToldBelow w n old mid → AddsOpen (replica_in w n) mid new → ToldBelow w m old new
-one_below w n m old mid new is below adds = subst (λ (j : ℕ). ToldBelow w j old new) (sym is) (
+pub one_below : (w : Played) (n m : ℕ) (old mid new : List ℕ) → m ≡ suc n → ReportedBelow w n old mid → AddsOpen (replica_in w n) mid new → ReportedBelow w m old new
+one_below w n m old mid new is below adds = subst (λ (j : ℕ). ReportedBelow w j old new) (sym is) (
     let lines : List ℕ = open_lines (replica_in w n) adds.0 in
     (below.0 ++ lines, (below.0, below.1, (adds.0, adds.1, refl)), adds.2 ∙ ap (λ (z : List ℕ). z ++ lines) below.2 ∙ append_assoc old below.0 lines))

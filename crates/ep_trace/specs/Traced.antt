@@ -1,4 +1,4 @@
--- Which events a trace tells, and in which order.
+-- Which events a trace reports, and in which order.
 use Rattle.std.specs.Prelude.{◌≡◌, ℕ, List, [], ◌∷◌, ◌++◌, Option, Some, None}
 use Rattle.ep_ending.specs.Endings.{AddsEndings}
 use Rattle.ep_journal.specs.declared.entry.Entry.{Entry}
@@ -49,12 +49,12 @@ tried_lines w (t ∷ ts) = tried_line w t ++ tried_lines w ts
 -- The whole.
 
 -- of where a script's lines have led: the line of the edition, each event that was tried, what is left, and what would end what is open
-pub record IsTold (d : Ended) (text : List ℕ) : Type 0 where
+pub record IsReported (d : Ended) (text : List ℕ) : Type 0 where
   pub before : List ℕ
   pub left : AddsLeft d.world d.ungiven.items (edition_line d.world.version d.world.opening ++ tried_lines d.world d.tried.items) before
   pub next : AddsEndings (collected d.world) before text
 
--- the text tells each event that a replay of the script tries, once and in order, then what is left, and then what would end what is open; of version 3 a line of its edition comes first
+-- the text reports each event that a replay of the script tries, once and in order, then what is left, and then what would end what is open; of version 3 a line of its edition comes first
 pub record IsTraced (script : Plan) (text : List ℕ) : Type 0 where
   pub last : Replay
   pub at_end : EndsAt script last

@@ -1,9 +1,9 @@
-//! A script's replay, told.
+//! A script's replay, reported.
 
 ghost use Rattle.std.specs.Prelude.{◌≡◌, ◌++◌, OnOk, IfOk};
 ghost use Rattle.ep_trace.specs.Left.{AddsLeft};
 ghost use Rattle.ep_ending.specs.Endings.{AddsEndings};
-ghost use Rattle.ep_trace.specs.Traced.{given_by, entry_line, tried_line, tried_lines, IsTold, IsTraced};
+ghost use Rattle.ep_trace.specs.Traced.{given_by, entry_line, tried_line, tried_lines, IsReported, IsTraced};
 ghost use Rattle.ep_view.specs.Editions.{edition_line};
 ghost use Rattle.ep_world.specs.Played.{collected, entries_in, numbered};
 
@@ -94,14 +94,14 @@ fn push_next(alloc: Global, text: &mut Vec<u8>, world: World) -> Result<(), Allo
     ensures { OnOk result (AddsEndings (collected world) text.old.items text.new.items) }
 {
     let journals = world.into_journals(alloc)?;
-    let told = push_endings(alloc, text, &journals);
+    let reported = push_endings(alloc, text, &journals);
     drop(journals);
-    told
+    reported
 }
 
-/// What is told of where a script's lines have led.
-fn told(alloc: Global, ended: Ended) -> Result<Vec<u8>, AllocError>
-    ensures { IfOk result (λ text. IsTold ended text.items) }
+/// What is reported of where a script's lines have led.
+fn reported(alloc: Global, ended: Ended) -> Result<Vec<u8>, AllocError>
+    ensures { IfOk result (λ text. IsReported ended text.items) }
 {
     let mut text = Vec::new(alloc);
     push_ended(&mut text, &ended)?;
@@ -118,15 +118,15 @@ fn told(alloc: Global, ended: Ended) -> Result<Vec<u8>, AllocError>
     Ok(text)
 }
 
-/// Plays the script in a world of its size and version, as `ep_replay` does, and tells each event, a line each, in
+/// Plays the script in a world of its size and version, as `ep_replay` does, and reports each event, a line each, in
 /// order: the number of its line in the script, and why it was refused, or its entry, with the number of the message
 /// that it gives and of each that it sends, to whom, and what it executes. At the end stand each message that was never
 /// given, and each instance that a replica knows of and hasn't committed, with what it waits for; and then what would
-/// end what is open. Of version 3 a line stands first that tells the generation, the stamp that clocks went on from,
+/// end what is open. Of version 3 a line stands first that reports the generation, the stamp that clocks went on from,
 /// and how many keys the opening has, with the digest of what they have.
 pub fn trace(alloc: Global, script: &Script) -> Result<Vec<u8>, AllocError>
     ensures { IfOk result (λ text. IsTraced script.now text.items) }
 {
     let ended = play(alloc, script)?;
-    told(alloc, ended)
+    reported(alloc, ended)
 }

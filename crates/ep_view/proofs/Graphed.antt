@@ -14,4 +14,4 @@ is_history_of c s is = record { summary = s; is_summary = is; is = refl }
 pub is_graph :
     (c : Collected) (part : Selection) (kept : List ℕ) (history : List Happening) (text : List ℕ) → kept ≡ begun part c → IsHistoryOf c history →
     text ≡ whole_text c history kept → IsGraph c part text
-is_graph c part kept history text are told is = record { history = history; is_history = told; is = is ∙ ap (whole_text c history) are }
+is_graph c part kept history text are reported is = record { history = history; is_history = reported; is = is ∙ ap (whole_text c history) are }

@@ -1,4 +1,4 @@
--- What is told of what journals are of, and of what they begin with.
+-- What is reported of what journals are of, and of what they begin with.
 use Rattle.std.specs.Prelude.{ℕ, List, [], ◌++◌, codes, decimal}
 use Rattle.ep_base.specs.declared.version.Version.{Version}
 use Rattle.ep_base.specs.declared.version_kind.VersionKind.TheVariants.{V1, V2, V3}
@@ -17,7 +17,7 @@ opening_text o = codes " since " ++ decimal o.base_stamp ++ codes " opening " ++
 abbrev pub edition_text : ℕ → Opening → List ℕ
 edition_text g o = generation_text g ++ opening_text o
 
--- the line that begins what is told of journals; those of versions 1 and 2 have none
+-- the line that begins what is reported of journals; those of versions 1 and 2 have none
 abbrev pub edition_line : Version → Opening → List ℕ
 edition_line V1 o = []
 edition_line V2 o = []

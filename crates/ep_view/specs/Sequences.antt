@@ -17,7 +17,7 @@ use Rattle.ep_view.specs.Editions.{edition_text}
 use Rattle.ep_view.specs.Handled.{is_handled}
 use Rattle.ep_view.specs.Labels.{mermaid_words}
 use Rattle.ep_view.specs.Shown.{IsInOrder}
-use Rattle.ep_view.specs.Walks.{told_at}
+use Rattle.ep_view.specs.Walks.{reported_at}
 use Rattle.ep_view.specs.Words.{event_text, sparing_text}
 use Rattle.ep_view.specs.declared.selection.Selection.{Selection}
 
@@ -101,4 +101,4 @@ sequence_text n edition lines = sequence_start n ++ edition ++ lines
 pub record IsSequence (c : Collected) (part : Selection) (text : List ℕ) : Type 0 where
   pub all : List (ℕ × ℕ)
   pub ordered : IsInOrder c all
-  pub is : text ≡ sequence_text (size c.faults) (edition_note c.version c.opening) (told_at (entry_lines (is_handled c)) part c all)
+  pub is : text ≡ sequence_text (size c.faults) (edition_note c.version c.opening) (reported_at (entry_lines (is_handled c)) part c all)

@@ -8,7 +8,7 @@ use Rattle.ep_view.specs.Editions.{edition_line}
 use Rattle.ep_view.specs.declared.selection.Selection.{Selection}
 use Rattle.ep_view.specs.Handled.{is_handled}
 use Rattle.ep_view.specs.Lines.{entry_text}
-use Rattle.ep_view.specs.Walks.{told_at}
+use Rattle.ep_view.specs.Walks.{reported_at}
 
 -- the line of an entry, where `handled` is the test for frames that some entry handles
 abbrev pub entry_line : (List ℕ → Bool) → ℕ → Entry → List ℕ
@@ -34,4 +34,4 @@ pub record IsInOrder (c : Collected) (all : List (ℕ × ℕ)) : Type 0 where
 pub record IsShown (c : Collected) (part : Selection) (text : List ℕ) : Type 0 where
   pub all : List (ℕ × ℕ)
   pub ordered : IsInOrder c all
-  pub lines : text ≡ edition_line c.version c.opening ++ or_none (length all) (told_at (entry_line (is_handled c)) part c all)
+  pub lines : text ≡ edition_line c.version c.opening ++ or_none (length all) (reported_at (entry_line (is_handled c)) part c all)

@@ -4,7 +4,7 @@ use Rattle.ep_base.specs.Quorums.{size}
 use Rattle.ep_journal.specs.Entries.{Collected}
 use Rattle.ep_view.specs.Handled.{is_handled}
 use Rattle.ep_view.specs.Shown.{IsInOrder}
-use Rattle.ep_view.specs.Walks.{told_at}
+use Rattle.ep_view.specs.Walks.{reported_at}
 use Rattle.ep_view.specs.declared.selection.Selection.{Selection}
 use Rattle.ep_view.specs.TraceEvents.{entry_events, process_text, first_event, edition_event}
 
@@ -24,4 +24,4 @@ file_text n edition events = opening n ++ edition ++ events ++ codes "\n]}\n"
 pub record IsTraceFile (c : Collected) (part : Selection) (text : List ℕ) : Type 0 where
   pub all : List (ℕ × ℕ)
   pub ordered : IsInOrder c all
-  pub is : text ≡ file_text (size c.faults) (edition_event c.version c.opening) (told_at (entry_events (is_handled c)) part c all)
+  pub is : text ≡ file_text (size c.faults) (edition_event c.version c.opening) (reported_at (entry_events (is_handled c)) part c all)

@@ -1,4 +1,4 @@
--- What is asked for of journals, where some of it is told by what was proposed.
+-- What is asked for of journals, where some of it is reported by what was proposed.
 use Rattle.std.specs.Prelude.{ℕ, zero, suc, Bool, true, false, ◌&&◌, cond, eqb, List, [], ◌∷◌, Option, Some, None}
 use Rattle.ep_base.specs.Deps.{union}
 use Rattle.ep_base.specs.Interference.{has_key, keys_of}

@@ -46,7 +46,7 @@ fn push_opening(text: &mut Vec<u8>, opening: &Opening) -> Result<(), AllocError>
 }
 
 /// Appends version 3 with this generation, the stamp that its clocks went on from, and how many keys its opening has, with the digest
-/// that a report of the generation before tells of its contents.
+/// that a report of the generation before says of its contents.
 pub fn push_generation(
     text: &mut Vec<u8>,
     generation: u32,
@@ -71,7 +71,7 @@ pub(crate) fn generation_words(
     Ok(words)
 }
 
-/// Appends the line that begins what is told of journals: of version 3 their generation and what they begin with. Of versions 1 and 2 there
+/// Appends the line that begins what is reported of journals: of version 3 their generation and what they begin with. Of versions 1 and 2 there
 /// is none, and nothing is appended.
 pub fn push_edition(
     text: &mut Vec<u8>,

@@ -205,7 +205,7 @@ fn push_graph(
     text.extend_from_slice(b"}\n")
 }
 
-// What the journals tell of their history.
+// What the journals say of their history.
 fn history_of(alloc: Global, journals: &Journals) -> Result<Vec<Happening>, AllocError>
     ensures { IfOk result (λ v. IsHistoryOf journals.now v.items) }
 {
@@ -235,9 +235,9 @@ fn graph_of(
 }
 
 /// The dependency graph of what the journals commit, for Graphviz: in rising order the committed instances that entries propose or recover that the
-/// part keeps, each with its command, the reply that its first execution told, and an arrow to each instance that it depends on, but for those
+/// part keeps, each with its command, the reply that its first execution reported, and an arrow to each instance that it depends on, but for those
 /// that another dependency which is kept implies: one of a seq between theirs, which depends on it too. A dashed node isn't
-/// committed, or isn't kept. Of journals of version 3 the title tells their generation and what they begin with. Graphviz reads the words of commands
+/// committed, or isn't kept. Of journals of version 3 the title reports their generation and what they begin with. Graphviz reads the words of commands
 /// and replies as they are (`are_labels`).
 #[tactic(auto, using(crate::proofs::Graphed::is_graph))]
 pub fn graph(alloc: Global, journals: &Journals, part: &Selection) -> Result<Vec<u8>, AllocError>

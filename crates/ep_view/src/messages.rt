@@ -162,10 +162,10 @@ fn push_nack(
     push_ballot(text, promised)
 }
 
-fn push_told(text: &mut Vec<u8>, told: &Message) -> Result<(), AllocError>
-    ensures { OnOk result (text.new.items ≡ text.old.items ++ message_text told.now) }
+fn push_reported(text: &mut Vec<u8>, reported: &Message) -> Result<(), AllocError>
+    ensures { OnOk result (text.new.items ≡ text.old.items ++ message_text reported.now) }
 {
-    match told {
+    match reported {
         Message::PreAccept {
             instance,
             ballot,
@@ -205,9 +205,9 @@ fn push_told(text: &mut Vec<u8>, told: &Message) -> Result<(), AllocError>
 pub fn push_message(text: &mut Vec<u8>, frame: &Frame) -> Result<(), AllocError>
     ensures { OnOk result (text.new.items ≡ text.old.items ++ message_text (message_at frame.now)) }
 {
-    let told = frame.view().to_message(*text.allocator())?;
-    let pushed = push_told(text, &told);
-    drop(told);
+    let reported = frame.view().to_message(*text.allocator())?;
+    let pushed = push_reported(text, &reported);
+    drop(reported);
     pushed
 }
 

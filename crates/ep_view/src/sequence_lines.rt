@@ -66,10 +66,10 @@ fn push_pre_accept_ok(text: &mut Vec<u8>, instance: InstanceId) -> Result<(), Al
     )
 }
 
-fn push_told(text: &mut Vec<u8>, told: &Message) -> Result<(), AllocError>
-    ensures { OnOk result (text.new.items ≡ text.old.items ++ brief_text told.now) }
+fn push_reported(text: &mut Vec<u8>, reported: &Message) -> Result<(), AllocError>
+    ensures { OnOk result (text.new.items ≡ text.old.items ++ brief_text reported.now) }
 {
-    match told {
+    match reported {
         Message::PreAccept { instance, .. } => push_kind(text, b"PreAccept ", *instance),
         Message::PreAcceptOk { instance, .. } => push_pre_accept_ok(text, *instance),
         Message::Accept { instance, .. } => push_kind(text, b"Accept ", *instance),
@@ -85,9 +85,9 @@ fn push_told(text: &mut Vec<u8>, told: &Message) -> Result<(), AllocError>
 fn push_brief(text: &mut Vec<u8>, frame: &Frame) -> Result<(), AllocError>
     ensures { OnOk result (text.new.items ≡ text.old.items ++ brief_text (message_at frame.now)) }
 {
-    let told = frame.view().to_message(*text.allocator())?;
-    let pushed = push_told(text, &told);
-    drop(told);
+    let reported = frame.view().to_message(*text.allocator())?;
+    let pushed = push_reported(text, &reported);
+    drop(reported);
     pushed
 }
 

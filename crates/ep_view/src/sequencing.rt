@@ -5,7 +5,7 @@ ghost use Rattle.ep_base.specs.Quorums.{size};
 ghost use Rattle.ep_journal.specs.Entries.{AreJournals};
 ghost use Rattle.ep_view.specs.Handled.{is_in};
 ghost use Rattle.ep_view.specs.Sequences.{participant_text, participants, sequence_start, edition_note, entry_lines, sequence_text, IsSequence};
-ghost use Rattle.ep_view.specs.Walks.{told_at};
+ghost use Rattle.ep_view.specs.Walks.{reported_at};
 
 use crate::editions::generation_words;
 use crate::handled::Handled;
@@ -19,14 +19,14 @@ use ep_journal::{Entry, Journals, Opening};
 use ep_report::{Part, push_parts};
 use std::alloc::{AllocError, Global};
 
-/// Tells an entry as its lines in a sequence diagram.
+/// Reports an entry as its lines in a sequence diagram.
 #[derive(Clone, Copy)]
 struct Arrows<'a> {
     handled: &'a Handled,
 }
 
 impl<'a> Printer for Arrows<'a> {
-    ghost told = { λ p r e. entry_lines (is_in p.handled.now) r e };
+    ghost reported = { λ p r e. entry_lines (is_in p.handled.now) r e };
 
     fn push(
         &self,
@@ -100,7 +100,7 @@ fn push_sequence(
     places: &[(ReplicaId, u32)],
 ) -> Result<(), AllocError>
     requires { AreJournals journals.now }
-    ensures { OnOk result (text.new.items ≡ text.old.items ++ sequence_text (size journals.now.faults) (edition_note journals.now.version journals.now.opening) (told_at (entry_lines (is_in handled.now)) part.now journals.now places.now)) }
+    ensures { OnOk result (text.new.items ≡ text.old.items ++ sequence_text (size journals.now.faults) (edition_note journals.now.version journals.now.opening) (reported_at (entry_lines (is_in handled.now)) part.now journals.now places.now)) }
 {
     push_sequence_start(text, journals.size().count())?;
     push_edition_note(text, journals.version(), journals.opening())?;
@@ -110,7 +110,7 @@ fn push_sequence(
 /// The entries of the journals that the part keeps as a sequence diagram for Mermaid: a participant a replica, and by stamp and then by replica a
 /// note for each proposal, recovery and execution, with the answers, an arrow from its sender for each frame that is handled, with the kind and
 /// the instance of its message, and an arrow with a cross for each frame that is sent and that no entry of any journal handles. Of journals of
-/// version 3 the first note tells their generation and what they begin with. Mermaid reads the words of commands and answers as they are (`are_labels`).
+/// version 3 the first note reports their generation and what they begin with. Mermaid reads the words of commands and answers as they are (`are_labels`).
 #[tactic(auto, using(crate::proofs::Sequenced::is_sequence))]
 pub fn sequence(alloc: Global, journals: &Journals, part: &Selection) -> Result<Vec<u8>, AllocError>
     ensures { IfOk result (λ text. IsSequence journals.now part.now text.items) }

@@ -4,7 +4,7 @@ ghost use Rattle.std.specs.Prelude.{◌≡◌, ◌++◌, [], cond, eqb, length, 
 ghost use Rattle.ep_journal.specs.Entries.{AreJournals};
 ghost use Rattle.ep_view.specs.Handled.{is_in, AreHandled};
 ghost use Rattle.ep_view.specs.Shown.{entry_line, none_kept, or_none, IsInOrder, IsShown};
-ghost use Rattle.ep_view.specs.Walks.{told_at};
+ghost use Rattle.ep_view.specs.Walks.{reported_at};
 
 use crate::editions::push_edition;
 use crate::handled::Handled;
@@ -34,14 +34,14 @@ pub fn schedule(alloc: Global, journals: &Journals) -> Result<Vec<(ReplicaId, u3
     Ok(schedule)
 }
 
-/// Tells an entry as its line.
+/// Reports an entry as its line.
 #[derive(Clone, Copy)]
 struct Lines<'a> {
     handled: &'a Handled,
 }
 
 impl<'a> Printer for Lines<'a> {
-    ghost told = { λ p r e. entry_line (is_in p.handled.now) r e };
+    ghost reported = { λ p r e. entry_line (is_in p.handled.now) r e };
 
     fn push(
         &self,
@@ -82,7 +82,7 @@ fn push_shown(
     places: &[(ReplicaId, u32)],
 ) -> Result<(), AllocError>
     requires { AreJournals journals.now }
-    ensures { OnOk result (text.new.items ≡ text.old.items ++ or_none (length places.now) (told_at (entry_line (is_in handled.now)) part.now journals.now places.now)) }
+    ensures { OnOk result (text.new.items ≡ text.old.items ++ or_none (length places.now) (reported_at (entry_line (is_in handled.now)) part.now journals.now places.now)) }
 {
     let before = text.len();
     push_kept(text, journals, part, &Lines { handled }, places)?;
@@ -95,7 +95,7 @@ fn push_shown(
 /// The entries of the journals that the part keeps, a line each, by stamp and then by replica: the event, what it sends to
 /// whom, with `NEVER HANDLED` at each receiver whose frame no entry of any journal handles, and what it executes, with the
 /// answers. Where it keeps none of them, a line that says how many there are. Of journals of version 3 a line stands first
-/// that tells their generation and what they begin with.
+/// that reports their generation and what they begin with.
 pub fn show(alloc: Global, journals: &Journals, part: &Selection) -> Result<Vec<u8>, AllocError>
     ensures { IfOk result (λ text. IsShown journals.now part.now text.items) }
 {

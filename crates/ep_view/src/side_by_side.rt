@@ -63,7 +63,7 @@ fn push_cell(text: &mut Vec<u8>, replica: u8, cell: &[u8]) -> Result<(), AllocEr
     Ok(())
 }
 
-// What is told of an entry in its replica's column.
+// What is reported of an entry in its replica's column.
 fn cell_of(alloc: Global, handled: &Handled, entry: &Entry) -> Result<Vec<u8>, AllocError> {
     let mut cell = Vec::new(alloc);
     push_parts(
@@ -129,7 +129,7 @@ fn push_names(text: &mut Vec<u8>, count: u8) -> Result<(), AllocError> {
     Ok(())
 }
 
-/// The entries of the journals that the part keeps, as `show` tells them, by stamp and then by replica, each in the column of
+/// The entries of the journals that the part keeps, as `show` reports them, by stamp and then by replica, each in the column of
 /// its replica, or that it keeps none. A column is 32 wide, with two spaces between two: 100 for three replicas. The line of the
 /// journals' edition, if there is one, stands first, in no column.
 pub fn columns(
@@ -138,12 +138,12 @@ pub fn columns(
     part: &Selection,
 ) -> Result<Vec<u8>, AllocError> {
     let handled = Handled::of(alloc, journals)?;
-    let told = told_in_columns(alloc, journals, &handled, part);
+    let reported = reported_in_columns(alloc, journals, &handled, part);
     drop(handled);
-    told
+    reported
 }
 
-fn told_in_columns(
+fn reported_in_columns(
     alloc: Global,
     journals: &Journals,
     handled: &Handled,

@@ -6,7 +6,7 @@ ghost use Rattle.ep_journal.specs.Entries.{AreJournals};
 ghost use Rattle.ep_view.specs.Handled.{is_in};
 ghost use Rattle.ep_view.specs.TraceEvents.{entry_events, edition_event};
 ghost use Rattle.ep_view.specs.TraceFiles.{processes, opening, file_text, IsTraceFile};
-ghost use Rattle.ep_view.specs.Walks.{told_at};
+ghost use Rattle.ep_view.specs.Walks.{reported_at};
 
 use crate::handled::Handled;
 use crate::selection::Selection;
@@ -18,14 +18,14 @@ use ep_base::ReplicaId;
 use ep_journal::{Entry, Journals};
 use std::alloc::{AllocError, Global};
 
-/// Tells an entry as its trace events.
+/// Reports an entry as its trace events.
 #[derive(Clone, Copy)]
 struct TraceEvents<'a> {
     handled: &'a Handled,
 }
 
 impl<'a> Printer for TraceEvents<'a> {
-    ghost told = { λ p r e. entry_events (is_in p.handled.now) r e };
+    ghost reported = { λ p r e. entry_events (is_in p.handled.now) r e };
 
     fn push(
         &self,
@@ -64,7 +64,7 @@ fn push_file(
     places: &[(ReplicaId, u32)],
 ) -> Result<(), AllocError>
     requires { AreJournals journals.now }
-    ensures { OnOk result (text.new.items ≡ text.old.items ++ file_text (size journals.now.faults) (edition_event journals.now.version journals.now.opening) (told_at (entry_events (is_in handled.now)) part.now journals.now places.now)) }
+    ensures { OnOk result (text.new.items ≡ text.old.items ++ file_text (size journals.now.faults) (edition_event journals.now.version journals.now.opening) (reported_at (entry_events (is_in handled.now)) part.now journals.now places.now)) }
 {
     push_opening(text, journals.size().count())?;
     push_edition_event(text, journals.version(), journals.opening())?;
@@ -74,8 +74,8 @@ fn push_file(
 
 /// The entries of the journals that the part keeps as trace events: a file of JSON in the Trace Event Format, which Perfetto and
 /// chrome://tracing open. Each replica is a process, each entry a slice of a microsecond at its stamp, with its words among the slice's arguments.
-/// An arrow leads from where each handled frame says that it was sent to where it is handled. Instants tell where an instance is committed, and
-/// where a frame is sent that no entry of any journal handles. Of journals of version 3 a label of the first process tells their generation
+/// An arrow leads from where each handled frame says that it was sent to where it is handled. Instants show where an instance is committed, and
+/// where a frame is sent that no entry of any journal handles. Of journals of version 3 a label of the first process reports their generation
 /// and what they begin with.
 #[tactic(auto, using(crate::proofs::Traced::is_traced))]
 pub fn trace_events(

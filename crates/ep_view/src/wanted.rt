@@ -1,4 +1,4 @@
-//! What is asked for of journals, where some of it is told by what was proposed.
+//! What is asked for of journals, where some of it is reported by what was proposed.
 
 ghost use Rattle.std.specs.Prelude.{◌≡◌, ◌≤◌, [], cond, Option, Some, None, List, ℕ, IfOk, OnOk};
 ghost use Rattle.ep_base.specs.Quorums.{size};
@@ -12,7 +12,7 @@ use ep_frame::Frame;
 use ep_journal::{Entry, Event, Journals};
 use std::alloc::{AllocError, Global};
 
-/// Which entries of journals are asked for, as words of a command line tell it.
+/// Which entries of journals are asked for, as words of a command line report it.
 #[derive(Drop)]
 pub struct Wanted {
     /// Those about this instance alone.

@@ -1,7 +1,7 @@
 -- What became of what the program was asked for.
 use Rattle.std.proofs.Common.{◌≡◌, ℕ, Bool, true, false, List, Option, Result, Ok, Err, IfOk, IfErr, refl, sym, ◌∙◌, ap, subst, codes, string_bytes}
 use Rattle.std.specs.Prelude.{◌||◌, IsErrAnd}
-use Rattle.ep_base.specs.Devices.{FailsAsTold}
+use Rattle.ep_base.specs.Devices.{FailsAsReported}
 use Rattle.std.specs.Global.{Vec}
 use Rattle.ep_bundle.specs.Journals.{ReadsBundle, Finds}
 use Rattle.ep_bundle.specs.Reading.{Left, is_read_failed}
@@ -87,15 +87,15 @@ not_read view b r zs place left is found = not_made (Does (OfBundle view)) r (of
 pub viewed :
     (view : View) (journals : Collected) (receipts : List Receipt) (end : Left) (zs text : List ℕ) (out : Output) → ReadsBundle (record { at = 0; bytes = zs }) (Ok ((journals, receipts), end)) →
     Displays view journals text → Wrote out text → Does (OfBundle view) (Ok Done) zs out
-viewed view journals receipts end zs text out read tells wrote =
-    (refl, record { journals = journals; receipts = receipts; end = end; read = read; text = text; tells = tells; wrote = wrote })
+viewed view journals receipts end zs text out read reports wrote =
+    (refl, record { journals = journals; receipts = receipts; end = end; read = read; text = text; reports = reports; wrote = wrote })
 
 -- or there is none, when out of memory
 pub not_viewed : (view : View) (zs : List ℕ) (e : ViewerFault) (out : Output) → e ≡ Memory → WroteNothing out → Does (OfBundle view) (Err e) zs out
 not_viewed view zs e out is silent = subst (λ (x : ViewerFault). Does (OfBundle view) (Err x) zs out) (sym is) silent
 
 -- and then neither the reader nor the output has failed
-pub no_text_read : (e : ViewerFault) (had has : Bool) → e ≡ Memory → has ≡ (false || had) → FailsAsTold {T = Made} is_read (Err e) had has
+pub no_text_read : (e : ViewerFault) (had has : Bool) → e ≡ Memory → has ≡ (false || had) → FailsAsReported {T = Made} is_read (Err e) had has
 no_text_read e had has is flag = flag ∙ ap (λ (b : Bool). b || had) (sym (ap is_read is))
 
 pub no_text_not_written : (e : ViewerFault) → e ≡ Memory → is_write e ≡ false
@@ -128,16 +128,16 @@ write_of_script script.Memory = refl
 write_of_script script.ReadFailed = refl
 write_of_script (script.Refused n) = refl
 
--- an answer tells the fault e, of which `is_its` says this
-as_told : {A : Type 0} (is_its : ViewerFault → Bool) (e : ViewerFault) (told had has : Bool) (r : Result A ViewerFault) → IsErrAnd r (λ x. x ≡ e) → is_its e ≡ told → has ≡ (told || had) → FailsAsTold is_its r had has
-as_told is_its e told had has (Ok a) is same flag = absurd is
-as_told is_its e told had has (Err x) is same flag = flag ∙ ap (λ (b : Bool). b || had) (sym (ap is_its is ∙ same))
+-- an answer reports the fault e, of which `is_its` says this
+as_reported : {A : Type 0} (is_its : ViewerFault → Bool) (e : ViewerFault) (reported had has : Bool) (r : Result A ViewerFault) → IsErrAnd r (λ x. x ≡ e) → is_its e ≡ reported → has ≡ (reported || had) → FailsAsReported is_its r had has
+as_reported is_its e reported had has (Ok a) is same flag = absurd is
+as_reported is_its e reported had has (Err x) is same flag = flag ∙ ap (λ (b : Bool). b || had) (sym (ap is_its is ∙ same))
 
-pub bundle_read : {A : Type 0} (b : BundleFault) (r : Result A ViewerFault) (had has : Bool) → IsErrAnd r (λ x. x ≡ of_bundle b) → has ≡ (is_read_failed b || had) → FailsAsTold is_read r had has
-bundle_read b r had has is flag = as_told is_read (of_bundle b) (is_read_failed b) had has r is (read_of_bundle b) flag
+pub bundle_read : {A : Type 0} (b : BundleFault) (r : Result A ViewerFault) (had has : Bool) → IsErrAnd r (λ x. x ≡ of_bundle b) → has ≡ (is_read_failed b || had) → FailsAsReported is_read r had has
+bundle_read b r had has is flag = as_reported is_read (of_bundle b) (is_read_failed b) had has r is (read_of_bundle b) flag
 
-pub script_read : {A : Type 0} (s : ScriptFault) (r : Result A ViewerFault) (had has : Bool) → IsErrAnd r (λ x. x ≡ of_script s) → has ≡ (is_script_read s || had) → FailsAsTold is_read r had has
-script_read s r had has is flag = as_told is_read (of_script s) (is_script_read s) had has r is (read_of_script s) flag
+pub script_read : {A : Type 0} (s : ScriptFault) (r : Result A ViewerFault) (had has : Bool) → IsErrAnd r (λ x. x ≡ of_script s) → has ≡ (is_script_read s || had) → FailsAsReported is_read r had has
+script_read s r had has is flag = as_reported is_read (of_script s) (is_script_read s) had has r is (read_of_script s) flag
 
 read_of_explained : (x : ExplainFault) → is_read (of_explained x) ≡ is_explain_read x
 read_of_explained explain.Memory = refl
@@ -147,10 +147,10 @@ write_of_explained : (x : ExplainFault) → is_write (of_explained x) ≡ false
 write_of_explained explain.Memory = refl
 write_of_explained explain.ReadFailed = refl
 
-pub explained_read : {A : Type 0} (x : ExplainFault) (r : Result A ViewerFault) (had has : Bool) → IsErrAnd r (λ e. e ≡ of_explained x) → has ≡ (is_explain_read x || had) → FailsAsTold is_read r had has
-explained_read x r had has is flag = as_told is_read (of_explained x) (is_explain_read x) had has r is (read_of_explained x) flag
+pub explained_read : {A : Type 0} (x : ExplainFault) (r : Result A ViewerFault) (had has : Bool) → IsErrAnd r (λ e. e ≡ of_explained x) → has ≡ (is_explain_read x || had) → FailsAsReported is_read r had has
+explained_read x r had has is flag = as_reported is_read (of_explained x) (is_explain_read x) had has r is (read_of_explained x) flag
 
--- what a reader tells is not that the output has failed
+-- what a reader reports is not that the output has failed
 as_err : {A : Type 0} (f : ViewerFault) (r : Result A ViewerFault) → IsErrAnd r (λ e. e ≡ f) → is_write f ≡ false → IfErr r (λ e. is_write e ≡ false)
 as_err f (Ok a) is same = absurd is
 as_err f (Err e) is same = ap is_write is ∙ same

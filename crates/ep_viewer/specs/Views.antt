@@ -17,9 +17,9 @@ use Rattle.ep_view.specs.TraceFiles.{IsTraceFile}
 use Rattle.ep_view.specs.Wanted.{part_of}
 use Rattle.ep_view.specs.declared.selection.Selection.{Selection}
 use Rattle.ep_viewer.specs.declared.parts.TheConstants.{HEAD, TAIL}
-use Rattle.ep_base.specs.Devices.{FailsAsTold}
+use Rattle.ep_base.specs.Devices.{FailsAsReported}
 use Rattle.ep_viewer.specs.Faults.{line_of, status_of, status_found, is_read, is_write}
-use Rattle.ep_cli.specs.Outputs.{Input, Output, Wrote, WroteNothing, Told}
+use Rattle.ep_cli.specs.Outputs.{Input, Output, Wrote, WroteNothing, Reported}
 use Rattle.ep_viewer.specs.declared.viewer_asked.ViewerAsked.{ViewerAsked}
 use Rattle.ep_viewer.specs.declared.viewer_asked.ViewerAsked.TheVariants.{View as OfBundle, Trace, Explain, Version, Help}
 use Rattle.ep_viewer.specs.declared.view.View.{View}
@@ -36,7 +36,7 @@ pub record IsView (Displays : Collected → List ℕ → Type 0) (zs : List ℕ)
   pub end : Left
   pub read : ReadsBundle (record { at = 0; bytes = zs }) (Ok ((journals, receipts), end))
   pub text : List ℕ
-  pub tells : Displays journals text
+  pub reports : Displays journals text
   pub wrote : Wrote out text
 
 -- a bundle is viewed, or is refused, and then nothing is written
@@ -99,7 +99,7 @@ Explains (Err Write) zs out = Unit {0}
 unfoldable pub IsOwnPage : Collected → Selection → List ℕ → Type 0
 IsOwnPage journals part text = IsPage HEAD.now TAIL.now journals part text
 
--- what is told of a bundle's journals; of columns nothing is promised
+-- what is reported of a bundle's journals; of columns nothing is promised
 abbrev pub Displays : View → Collected → List ℕ → Type 0
 Displays (Show wanted) journals text = IsShown journals (part_of journals wanted) text
 Displays (Columns wanted) journals text = Unit {0}
@@ -118,12 +118,12 @@ Does (Help text) outcome zs out = Prints outcome (string_bytes text) out
 -- a fault is reported, and decides on the status
 abbrev pub Concludes : Result Status ViewerFault → Status → Output → Type 0
 Concludes (Ok found) status fault = (status ≡ found) × WroteNothing fault
-Concludes (Err e) status fault = (status ≡ status_of e) × Told fault (line_of e)
+Concludes (Err e) status fault = (status ≡ status_of e) × Reported fault (line_of e)
 
 -- what was asked for was done, or why it wasn't is reported; the input and the output failed where the outcome says so, and nowhere else
 pub record Performs (asked : ViewerAsked) (status : Status) (zs : List ℕ) (reader : Input) (out fault : Output) : Type 0 where
   pub outcome : Result Status ViewerFault
   pub does : Does asked outcome zs out
   pub concludes : Concludes outcome status fault
-  pub read : FailsAsTold is_read outcome reader.had_failed reader.failed
-  pub written : FailsAsTold is_write outcome out.had_failed out.failed
+  pub read : FailsAsReported is_read outcome reader.had_failed reader.failed
+  pub written : FailsAsReported is_write outcome out.had_failed out.failed

@@ -2,7 +2,7 @@
 
 ghost use Rattle.std.specs.Prelude.{◌≡◌, ℕ, List, Some, IfErr, false};
 ghost use Rattle.ep_explain.specs.Kept.{known_left};
-ghost use Rattle.ep_base.specs.Devices.{FailsAsTold};
+ghost use Rattle.ep_base.specs.Devices.{FailsAsReported};
 ghost use Rattle.ep_cli.specs.Printed.{Makes};
 ghost use Rattle.ep_viewer.specs.Faults.{is_read, is_write, status_found};
 ghost use Rattle.ep_viewer.specs.Views.{Does};
@@ -20,13 +20,13 @@ pub(crate) fn explanation_of<S: Source>(
     reader: &mut Kept<S>,
 ) -> Result<Made, ViewerFault>
     ensures made { (zs : List ℕ) → known_left S.left reader.old ≡ Some zs → Makes (Does Explain) result zs }
-    ensures read { FailsAsTold is_read result (S.has_failed reader.old.source) (S.has_failed reader.new.source) }
+    ensures read { FailsAsReported is_read result (S.has_failed reader.old.source) (S.has_failed reader.new.source) }
     ensures unwritten { IfErr result (λ e. is_write e ≡ false) }
 {
-    let told = explain(alloc, reader)?;
-    let status = status_found(told.finding);
+    let reported = explain(alloc, reader)?;
+    let status = status_found(reported.finding);
     Ok(Made {
-        text: told.text,
+        text: reported.text,
         status,
     })
 }

@@ -6,7 +6,7 @@
 //! page stand in page.html, beside src/; `tools/generate` makes `parts.rt` of it.
 //!
 //! Start with `program.rt` and specs/Views.antt. A fault has one line on the fault output and one status (`viewer_fault.rt`,
-//! `telling.rt`, and `ep_cli`), as docs/CLI.md, section 6, lists them.
+//! `reporting.rt`, and `ep_cli`), as docs/CLI.md, section 6, lists them.
 #![tactic(auto)]
 
 mod command_line;
@@ -14,7 +14,7 @@ mod commands;
 mod explaining;
 mod parts;
 mod program;
-mod telling;
+mod reporting;
 mod tracing;
 mod view;
 mod viewer_asked;

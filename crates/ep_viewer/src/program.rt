@@ -2,13 +2,13 @@
 
 ghost use Rattle.std.specs.Prelude.{◌≡◌, ℕ, List, Some};
 ghost use Rattle.ep_explain.specs.Kept.{known_left};
-ghost use Rattle.ep_base.specs.Devices.{FailsAsTold};
+ghost use Rattle.ep_base.specs.Devices.{FailsAsReported};
 ghost use Rattle.ep_cli.specs.Outputs.{became, input};
 ghost use Rattle.ep_viewer.specs.Faults.{is_read, is_write};
 ghost use Rattle.ep_viewer.specs.Views.{Concludes, Does, Performs};
 
 use crate::explaining::explanation_of;
-use crate::telling::tell;
+use crate::reporting::write_fault;
 use crate::tracing::trace_of;
 use crate::viewer_asked::ViewerAsked;
 use crate::viewer_fault::ViewerFault;
@@ -18,7 +18,7 @@ use ep_cli::{Status, Streams, put_made, put_text};
 use ep_explain::Kept;
 use std::alloc::Global;
 
-/// Does what is asked, and answers how the program ends. What stops it is told by one line on the fault output; where telling
+/// Does what is asked, and answers how the program ends. What stops it is reported by one line on the fault output; where reporting
 /// fails, the status stays.
 pub fn perform<S: Source, W: Sink, F: Sink>(
     alloc: Global,
@@ -39,9 +39,9 @@ fn attempt<S: Source, W: Sink, F>(
     streams: &mut Streams<Kept<S>, W, F>,
 ) -> Result<Status, ViewerFault>
     ensures done { (zs : List ℕ) → known_left S.left streams.old.reader ≡ Some zs → Does asked.now result zs (became W.held W.has_failed streams.old.writer streams.new.writer) }
-    ensures read { FailsAsTold is_read result (S.has_failed streams.old.reader.source) (S.has_failed streams.new.reader.source) }
-    ensures written { FailsAsTold is_write result (W.has_failed streams.old.writer) (W.has_failed streams.new.writer) }
-    ensures untold { streams.new.fault_writer ≡ streams.old.fault_writer }
+    ensures read { FailsAsReported is_read result (S.has_failed streams.old.reader.source) (S.has_failed streams.new.reader.source) }
+    ensures written { FailsAsReported is_write result (W.has_failed streams.old.writer) (W.has_failed streams.new.writer) }
+    ensures unreported { streams.new.fault_writer ≡ streams.old.fault_writer }
 {
     match asked {
         ViewerAsked::View(view) => {
@@ -79,7 +79,7 @@ fn concluded<F: Sink>(outcome: Result<Status, ViewerFault>, fault_writer: &mut F
         Ok(status) => status,
         Err(fault) => {
             let status = fault.status();
-            let _ = tell(&fault, fault_writer);
+            let _ = write_fault(&fault, fault_writer);
             status
         }
     }

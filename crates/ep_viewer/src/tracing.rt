@@ -1,7 +1,7 @@
 //! Traces of scripts.
 
 ghost use Rattle.std.specs.Prelude.{◌≡◌, ℕ, List, Some, IfErr, false};
-ghost use Rattle.ep_base.specs.Devices.{FailsAsTold};
+ghost use Rattle.ep_base.specs.Devices.{FailsAsReported};
 ghost use Rattle.ep_cli.specs.Printed.{Makes};
 ghost use Rattle.ep_viewer.specs.Faults.{is_read, is_write};
 ghost use Rattle.ep_viewer.specs.Views.{Does};
@@ -18,7 +18,7 @@ use std::mem::forget;
 /// Reads a script to its end, plays it, and makes its trace.
 pub(crate) fn trace_of<S: Source>(alloc: Global, reader: &mut S) -> Result<Made, ViewerFault>
     ensures made { (zs : List ℕ) → S.left reader.old ≡ Some zs → Makes (Does Trace) result zs }
-    ensures read { FailsAsTold is_read result (S.has_failed reader.old) (S.has_failed reader.new) }
+    ensures read { FailsAsReported is_read result (S.has_failed reader.old) (S.has_failed reader.new) }
     ensures unwritten { IfErr result (λ e. is_write e ≡ false) }
 {
     let script = read_script(alloc, reader)?;

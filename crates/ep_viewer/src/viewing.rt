@@ -1,7 +1,7 @@
 //! Views of bundles.
 
 ghost use Rattle.std.specs.Prelude.{◌≡◌, ℕ, List, Some, IfOk, IfErr, false};
-ghost use Rattle.ep_base.specs.Devices.{FailsAsTold};
+ghost use Rattle.ep_base.specs.Devices.{FailsAsReported};
 ghost use Rattle.ep_cli.specs.Printed.{Makes};
 ghost use Rattle.ep_viewer.specs.Faults.{is_read, is_write};
 ghost use Rattle.ep_viewer.specs.Views.{Does, Displays};
@@ -27,7 +27,7 @@ pub(crate) fn view_of<S: Source>(
     reader: &mut S,
 ) -> Result<Made, ViewerFault>
     ensures made { (zs : List ℕ) → S.left reader.old ≡ Some zs → Makes (Does (OfBundle view.now)) result zs }
-    ensures read { FailsAsTold is_read result (S.has_failed reader.old) (S.has_failed reader.new) }
+    ensures read { FailsAsReported is_read result (S.has_failed reader.old) (S.has_failed reader.new) }
     ensures unwritten { IfErr result (λ e. is_write e ≡ false) }
 {
     let bundle = read_bundle(alloc, reader)?;
@@ -45,7 +45,7 @@ pub(crate) fn view_of<S: Source>(
 
 /// What is printed of the journals.
 fn text_of(alloc: Global, view: &View, journals: &Journals) -> Result<Vec<u8>, ViewerFault>
-    ensures tells { IfOk result (λ text. Displays view.now journals.now text.items) }
+    ensures reports { IfOk result (λ text. Displays view.now journals.now text.items) }
     ensures refused { IfErr result (λ e. e ≡ Memory) }
 {
     match view {
@@ -60,7 +60,7 @@ fn text_of(alloc: Global, view: &View, journals: &Journals) -> Result<Vec<u8>, V
 
 /// The entries that are wanted, a line each.
 fn lines_of(alloc: Global, wanted: &Wanted, journals: &Journals) -> Result<Vec<u8>, ViewerFault>
-    ensures tells { IfOk result (λ text. Displays (Show wanted.now) journals.now text.items) }
+    ensures reports { IfOk result (λ text. Displays (Show wanted.now) journals.now text.items) }
     ensures refused { IfErr result (λ e. e ≡ Memory) }
 {
     let part = wanted.part(alloc, journals)?;
@@ -79,7 +79,7 @@ fn columns_of(alloc: Global, wanted: &Wanted, journals: &Journals) -> Result<Vec
 
 /// A page for a browser, of the entries that are wanted.
 fn page_of(alloc: Global, wanted: &Wanted, journals: &Journals) -> Result<Vec<u8>, ViewerFault>
-    ensures tells { IfOk result (λ text. Displays (Page wanted.now) journals.now text.items) }
+    ensures reports { IfOk result (λ text. Displays (Page wanted.now) journals.now text.items) }
     ensures refused { IfErr result (λ e. e ≡ Memory) }
 {
     let part = wanted.part(alloc, journals)?;
@@ -89,7 +89,7 @@ fn page_of(alloc: Global, wanted: &Wanted, journals: &Journals) -> Result<Vec<u8
 
 /// A sequence diagram of the entries that are wanted, for Mermaid.
 fn sequence_of(alloc: Global, wanted: &Wanted, journals: &Journals) -> Result<Vec<u8>, ViewerFault>
-    ensures tells { IfOk result (λ text. Displays (Sequence wanted.now) journals.now text.items) }
+    ensures reports { IfOk result (λ text. Displays (Sequence wanted.now) journals.now text.items) }
     ensures refused { IfErr result (λ e. e ≡ Memory) }
 {
     let part = wanted.part(alloc, journals)?;
@@ -99,7 +99,7 @@ fn sequence_of(alloc: Global, wanted: &Wanted, journals: &Journals) -> Result<Ve
 
 /// The dependency graph of what the entries propose and recover that are wanted, for Graphviz.
 fn graph_of(alloc: Global, wanted: &Wanted, journals: &Journals) -> Result<Vec<u8>, ViewerFault>
-    ensures tells { IfOk result (λ text. Displays (Graph wanted.now) journals.now text.items) }
+    ensures reports { IfOk result (λ text. Displays (Graph wanted.now) journals.now text.items) }
     ensures refused { IfErr result (λ e. e ≡ Memory) }
 {
     let part = wanted.part(alloc, journals)?;
@@ -109,7 +109,7 @@ fn graph_of(alloc: Global, wanted: &Wanted, journals: &Journals) -> Result<Vec<u
 
 /// The entries that are wanted, as trace events.
 fn events_of(alloc: Global, wanted: &Wanted, journals: &Journals) -> Result<Vec<u8>, ViewerFault>
-    ensures tells { IfOk result (λ text. Displays (Events wanted.now) journals.now text.items) }
+    ensures reports { IfOk result (λ text. Displays (Events wanted.now) journals.now text.items) }
     ensures refused { IfErr result (λ e. e ≡ Memory) }
 {
     let part = wanted.part(alloc, journals)?;

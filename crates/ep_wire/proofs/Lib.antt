@@ -1,4 +1,4 @@
 pub mod Parsed
 pub mod Lengths
 pub mod Keyed
-pub mod ToldLengths
+pub mod ReportedLengths

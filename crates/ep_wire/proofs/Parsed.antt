@@ -20,9 +20,9 @@ given_none {A = A} o (BadBundle x) at p left f h = ap (λ (y : ℕ). Err y) f.2 
 given_none {A = A} o (NotARun r n) at p left f h = ap (λ (y : ℕ). Err y) f.2 ∙ sym (ap (λ (y : Reading A). given y) h)
 
 -- the request of a kind that there is, and of a body that is at fault
-pub malformed_so : (how : JournalDialect) (kind : ℕ) (bs read told : List ℕ) (at : ℕ) (o : Result Request ℕ) (m : Fault) → is_kind how.version kind ≡ true → o ≡ body_of how kind read → o ≡ Err at → read ≡ bs → told ≡ bs
-    → m ≡ record { field = field_in (fields_of how.version kind told) at; at = at } → Malformed m ≡ request_of how kind bs
-malformed_so how kind bs read told at o m there is wrong same same' named =
+pub malformed_so : (how : JournalDialect) (kind : ℕ) (bs read reported : List ℕ) (at : ℕ) (o : Result Request ℕ) (m : Fault) → is_kind how.version kind ≡ true → o ≡ body_of how kind read → o ≡ Err at → read ≡ bs → reported ≡ bs
+    → m ≡ record { field = field_in (fields_of how.version kind reported) at; at = at } → Malformed m ≡ request_of how kind bs
+malformed_so how kind bs read reported at o m there is wrong same same' named =
     let fault : Err at ≡ body_of how kind bs = sym wrong ∙ is ∙ ap (λ (b : List ℕ). body_of how kind b) same in
     ap (λ (x : Fault). Malformed x) named ∙ ap (λ (b : List ℕ). Malformed (record { field = field_in (fields_of how.version kind b) at; at = at })) same'
     ∙ ap (λ (x : Result Request ℕ). or_malformed how.version kind bs x) fault

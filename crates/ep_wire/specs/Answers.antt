@@ -5,7 +5,7 @@ use Rattle.ep_base.specs.declared.reply.Reply.{Reply}
 use Rattle.ep_base.specs.declared.reply.Reply.TheVariants.{Absent, Present, Closed, Ordered, Done, Undone}
 use Rattle.ep_base.specs.declared.version.Version.{Version}
 use Rattle.ep_base.specs.declared.version_kind.VersionKind.TheVariants.{V3}
-use Rattle.ep_bundle.specs.Bytes.{frame_bytes, receipt_bytes, told_bytes}
+use Rattle.ep_bundle.specs.Bytes.{frame_bytes, receipt_bytes, reported_bytes}
 use Rattle.ep_bundle.specs.Writing.{FramesFit}
 use Rattle.ep_frame.specs.Fields.{number_bytes, dep_bytes}
 use Rattle.ep_frame.specs.Meaning.{instance_at, origin_at}
@@ -144,7 +144,7 @@ space_bytes s = number_bytes 2 s.used ++ number_bytes 2 s.deps ++ number_bytes 1
 abbrev pub state_bytes : NodeState → List ℕ
 state_bytes s = number_bytes 4 22 ++ number_bytes 1 8 ++ (counts_bytes s ++ space_bytes s)
 
--- What there is to tell.
+-- What there is to report.
 
 -- instances, counted
 abbrev pub instances_bytes : List ℕ → List ℕ
@@ -160,7 +160,7 @@ interfering_bytes is = number_bytes 4 (5 + 3 * length is) ++ number_bytes 1 11 +
 abbrev pub waits_bytes : ℕ → List ℕ
 waits_bytes i = number_bytes 4 5 ++ number_bytes 1 12 ++ number_bytes 1 2 ++ dep_bytes i
 
--- it is told a value, or what has none
+-- it is answered a value, or one of the codes that have none
 abbrev pub present_bytes : List ℕ → List ℕ
 present_bytes v = number_bytes 4 (4 + length v) ++ number_bytes 1 12 ++ (number_bytes 1 1 ++ number_bytes 2 (length v) ++ v)
 
@@ -168,20 +168,20 @@ abbrev pub plain_bytes : ℕ → List ℕ
 plain_bytes code = number_bytes 4 2 ++ number_bytes 1 12 ++ number_bytes 1 code
 
 -- what many keys had, as it stands in an answer of version 3, of whatever generation
-abbrev pub told_reply_bytes : ℕ → List (Option (List ℕ)) → List ℕ
-told_reply_bytes code os = number_bytes 4 (2 + length (told_bytes (V3 1) os)) ++ number_bytes 1 12 ++ number_bytes 1 code ++ told_bytes (V3 1) os
+abbrev pub reported_reply_bytes : ℕ → List (Option (List ℕ)) → List ℕ
+reported_reply_bytes code os = number_bytes 4 (2 + length (reported_bytes (V3 1) os)) ++ number_bytes 1 12 ++ number_bytes 1 code ++ reported_bytes (V3 1) os
 
 abbrev pub reply_bytes : Reply → List ℕ
 reply_bytes Absent = plain_bytes 0
 reply_bytes (Present v) = present_bytes v
 reply_bytes Closed = plain_bytes 3
 reply_bytes Ordered = plain_bytes 4
-reply_bytes (Done os) = told_reply_bytes 5 os
-reply_bytes (Undone os) = told_reply_bytes 6 os
+reply_bytes (Done os) = reported_reply_bytes 5 os
+reply_bytes (Undone os) = reported_reply_bytes 6 os
 
 -- receipts, counted, each as it stands in a bundle of the version
-abbrev pub told_receipts_bytes : Version → List Receipt → List ℕ
-told_receipts_bytes v rs = number_bytes 4 (length rs) ++ flat_map (receipt_bytes v) rs
+abbrev pub reported_receipts_bytes : Version → List Receipt → List ℕ
+reported_receipts_bytes v rs = number_bytes 4 (length rs) ++ flat_map (receipt_bytes v) rs
 
 -- what is led, or two zero bytes
 abbrev pub led_bytes : Option LeadProgress → List ℕ

@@ -1,5 +1,5 @@
 -- The bytes of requests, in the dialect of the node that is asked: a length, a kind, and a body, of which nothing may be left. Where all bytes of the length
--- came, there is a request, which is malformed where kind or body is that of none; it is told by the first field at fault, in their order.
+-- came, there is a request, which is malformed where kind or body is that of none; it is reported by the first field at fault, in their order.
 use Rattle.std.specs.Prelude.{◌≡◌, ℕ, ◌+◌, ◌-◌, ◌*◌, ◌||◌, ◌&&◌, leb, Bool, true, false, cond, eqb, ltb, get_or, List, [], ◌∷◌, length, Option, Some, None, Result, Ok, Err, IsErr}
 use Rattle.ep_base.specs.Attributes.{same_list}
 use Rattle.ep_base.specs.Quorums.{size}

@@ -314,7 +314,7 @@ fn put_space<K: Sink>(sink: &mut K, state: &NodeState) -> Result<(), WriteFailed
     put_u64(sink, state.stamp)
 }
 
-/// Writes what a node tells of itself.
+/// Writes what a node says of itself.
 pub fn write_state<K: Sink>(sink: &mut K, state: &NodeState) -> Result<(), WriteFailed>
     ensures { Puts (K.held sink.old) (K.held sink.new) (K.has_failed sink.old) (K.has_failed sink.new) result (state_bytes state.now) }
 {

@@ -1,7 +1,7 @@
 //! The first bytes that a source gives.
 
 ghost use Rattle.std.specs.Prelude.{◌≡◌, ◌≤◌, ℕ, List, Some, length, IfOk, true};
-ghost use Rattle.ep_base.specs.Devices.{FailsAsTold};
+ghost use Rattle.ep_base.specs.Devices.{FailsAsReported};
 ghost use Rattle.ep_wire.specs.Front.{Gathers};
 
 use ep_base::{ReadFailed, Source};
@@ -12,7 +12,7 @@ pub(crate) fn gather<S: Source>(source: &mut S, buf: &mut [u8]) -> Result<usize,
     ensures bytes { (zs : List ℕ) → S.left source.old ≡ Some zs → IfOk result (λ n. Gathers n zs buf.new (S.left source.new)) }
     ensures long { length buf.new ≡ length buf.old }
     ensures within { IfOk result (λ n. n ≤ length buf.new) }
-    ensures told { FailsAsTold (λ _. true) result (S.has_failed source.old) (S.has_failed source.new) }
+    ensures reported { FailsAsReported (λ _. true) result (S.has_failed source.old) (S.has_failed source.new) }
 {
     let mut at = 0;
     while at < buf.len() {

@@ -1,7 +1,7 @@
 //! The bytes of a node's requests and answers.
 //!
 //! `ep_serve` reads requests and writes answers by this crate. It keeps to docs/FORMATS.md, section 10: a request is read
-//! exactly where its bytes are one, a malformed one is told by its first wrong field, and an answer's bytes are those of specs/Answers.antt.
+//! exactly where its bytes are one, a malformed one is reported by its first wrong field, and an answer's bytes are those of specs/Answers.antt.
 //!
 //! Start with `request.rt`, `reading.rt` and specs/Requests.antt; then `answers.rt` and specs/Answers.antt.
 //!
@@ -19,10 +19,10 @@ mod node_state;
 mod places;
 mod reading;
 mod reads;
+mod reporting;
 mod request;
 mod request_fault;
 mod request_field;
-mod telling;
 
 pub use answers::{
     put_entry, put_sent, sealed_code, taken_as, write_handled, write_instance, write_leading,
@@ -36,7 +36,7 @@ pub use malformed::Malformed;
 pub use node_state::NodeState;
 pub use reading::read_request;
 pub use reads::{write_interfering, write_reply, write_waits};
+pub use reporting::{put_instances, put_open, put_reported_receipts, write_ready};
 pub use request::Request;
 pub use request_fault::RequestFault;
 pub use request_field::RequestField;
-pub use telling::{put_instances, put_open, put_told_receipts, write_ready};

@@ -1,6 +1,6 @@
-//! What a node tells of itself.
+//! What a node says of itself.
 
-/// What a node tells of itself, once all that it took is on the disk.
+/// What a node says of itself, once all that it took is on the disk.
 #[derive(Clone, Copy, Debug, PartialEq, Eq)]
 pub struct NodeState {
     /// Its generation; 0 in version 2, which has none.

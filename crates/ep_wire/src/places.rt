@@ -159,7 +159,7 @@ fn key_field(at: u64) -> RequestField
     }
 }
 
-/// The field at this place of a request for what there is to tell.
+/// The field at this place of a request for what there is to report.
 fn ready_field(at: u64) -> RequestField
     ensures { result ≡ field_in ready_fields at }
 {

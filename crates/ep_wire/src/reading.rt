@@ -1,7 +1,7 @@
 //! Reading requests.
 
 ghost use Rattle.std.specs.Prelude.{◌≡◌, ◌≤◌, ℕ, List, Some, true, IfOk, IfSome};
-ghost use Rattle.ep_base.specs.Devices.{FailsAsTold};
+ghost use Rattle.ep_base.specs.Devices.{FailsAsReported};
 ghost use Rattle.ep_bundle.specs.Reading.{is_read_failed as has_read_failed, Reads};
 ghost use Rattle.ep_wire.specs.Requests.{is_length, is_read_failed, most_length, next_request, request_of, size_field, sized, unless_over, ReadsRequest};
 
@@ -40,7 +40,7 @@ fn read_length<S: Source>(
 ) -> Result<Option<u32>, BundleFault>
     ensures bytes { (zs : List ℕ) → S.left source.old ≡ Some zs → Reads (unless_over (record { at = place.old; bytes = zs }) (size_field version (record { at = place.old; bytes = zs }))) result place.new (S.left source.new) }
     ensures range { IfOk result (λ o. IfSome o (λ n. 1 ≤ n)) }
-    ensures told { FailsAsTold has_read_failed result (S.has_failed source.old) (S.has_failed source.new) }
+    ensures reported { FailsAsReported has_read_failed result (S.has_failed source.old) (S.has_failed source.new) }
 {
     let mut bytes = [0; 4];
     let count = gather(source, &mut bytes)?;
@@ -78,7 +78,7 @@ fn read_sized<S: Source>(
 ) -> Result<Request, BundleFault>
     requires { 1 ≤ length }
     ensures bytes { (zs : List ℕ) → S.left source.old ≡ Some zs → Reads (sized dialect.now length (record { at = place.old; bytes = zs })) result place.new (S.left source.new) }
-    ensures told { FailsAsTold has_read_failed result (S.has_failed source.old) (S.has_failed source.new) }
+    ensures reported { FailsAsReported has_read_failed result (S.has_failed source.old) (S.has_failed source.new) }
 {
     let kind = field_u8(source, place, BundleField::Other, 0, 255)?;
     let body = read_run(
@@ -100,7 +100,7 @@ fn read_next<S: Source>(
     dialect: &JournalDialect,
 ) -> Result<Option<Request>, BundleFault>
     ensures bytes { (zs : List ℕ) → S.left source.old ≡ Some zs → Reads (next_request dialect.now (record { at = place.old; bytes = zs })) result place.new (S.left source.new) }
-    ensures told { FailsAsTold has_read_failed result (S.has_failed source.old) (S.has_failed source.new) }
+    ensures reported { FailsAsReported has_read_failed result (S.has_failed source.old) (S.has_failed source.new) }
 {
     let next = read_length(source, place, dialect.version)?;
     let Some(length) = next else {
@@ -120,7 +120,7 @@ pub fn read_request<S: Source>(
     dialect: &JournalDialect,
 ) -> Result<Option<Request>, RequestFault>
     ensures bytes { (zs : List ℕ) → S.left source.old ≡ Some zs → ReadsRequest dialect.now (record { at = place.old; bytes = zs }) result place.new (S.left source.new) }
-    ensures told { FailsAsTold is_read_failed result (S.has_failed source.old) (S.has_failed source.new) }
+    ensures reported { FailsAsReported is_read_failed result (S.has_failed source.old) (S.has_failed source.new) }
 {
     let at = *place;
     match read_next(alloc, source, place, dialect) {

@@ -2,25 +2,25 @@
 
 ghost use Rattle.std.specs.Prelude.{◌≡◌, ◌≤◌, ◌+◌, ◌*◌, ℕ, List, Some, IfOk, IfErr, length};
 ghost use Rattle.std.specs.List.{sum_by};
-ghost use Rattle.ep_base.specs.Devices.{FailsAsTold, Puts};
+ghost use Rattle.ep_base.specs.Devices.{FailsAsReported, Puts};
 ghost use Rattle.ep_base.specs.Quorums.{size};
 ghost use Rattle.ep_base.specs.declared.version_kind.VersionKind.TheVariants.{V3};
-ghost use Rattle.ep_bundle.specs.Bytes.{one_told_bytes, told_bytes};
+ghost use Rattle.ep_bundle.specs.Bytes.{one_reported_bytes, reported_bytes};
 ghost use Rattle.ep_bundle.specs.Reading.{is_read_failed, Reads};
 ghost use Rattle.ep_bundle.specs.declared.bundle_fault.BundleFault.TheVariants.{Memory};
-ghost use Rattle.ep_wire.specs.Answers.{interfering_bytes, plain_bytes, present_bytes, reply_bytes, told_reply_bytes, waits_bytes};
+ghost use Rattle.ep_wire.specs.Answers.{interfering_bytes, plain_bytes, present_bytes, reply_bytes, reported_reply_bytes, waits_bytes};
 ghost use Rattle.ep_wire.specs.Requests.{alone, found, given, key_field, read, whole};
 
 use crate::bodies::place_of;
 use crate::instances::Instances;
+use crate::reporting::put_instances;
 use crate::request::Request;
-use crate::telling::put_instances;
 use ep_base::{
-    InstanceId, Key, Noted, Reply, Sink, Source, ToldValues, Value, Version, WriteFailed,
+    InstanceId, Key, Noted, Reply, ReplyValues, Sink, Source, Value, Version, WriteFailed,
 };
 use ep_bundle::{
-    BundleFault, BundleField, JournalDialect, field_u8, field_u32, put_instance, put_told, put_u8,
-    put_u32, put_value, read_end, read_instance, read_run,
+    BundleFault, BundleField, JournalDialect, field_u8, field_u32, put_instance, put_reported,
+    put_u8, put_u32, put_value, read_end, read_instance, read_run,
 };
 use std::alloc::{AllocError, Global};
 
@@ -42,7 +42,7 @@ fn key_of(alloc: Global, bytes: &[u8]) -> Result<Key, BundleFault>
 /// A key, with its length before it.
 fn read_key<S: Source>(alloc: Global, source: &mut S, place: &mut u64) -> Result<Key, BundleFault>
     ensures bytes { (zs : List ℕ) → S.left source.old ≡ Some zs → Reads (key_field (record { at = place.old; bytes = zs })) result place.new (S.left source.new) }
-    ensures told { FailsAsTold is_read_failed result (S.has_failed source.old) (S.has_failed source.new) }
+    ensures reported { FailsAsReported is_read_failed result (S.has_failed source.old) (S.has_failed source.new) }
 {
     let len = field_u8(source, place, BundleField::Other, 1, 255)?;
     let bytes = read_run(alloc, source, place, BundleField::Other, len as usize)?;
@@ -57,7 +57,7 @@ fn read_found<S: Source>(
     dialect: &JournalDialect,
 ) -> Result<Instances, BundleFault>
     ensures bytes { (zs : List ℕ) → S.left source.old ≡ Some zs → Reads (found dialect.now (record { at = place.old; bytes = zs })) result place.new (S.left source.new) }
-    ensures told { FailsAsTold is_read_failed result (S.has_failed source.old) (S.has_failed source.new) }
+    ensures reported { FailsAsReported is_read_failed result (S.has_failed source.old) (S.has_failed source.new) }
 {
     let count = field_u32(source, place, BundleField::Other, 0, MOST_FOUND)?;
     let mut items = Vec::new(alloc);
@@ -76,7 +76,7 @@ fn read_read<S: Source>(
     dialect: &JournalDialect,
 ) -> Result<Request, BundleFault>
     ensures bytes { (zs : List ℕ) → S.left source.old ≡ Some zs → Reads (read dialect.now (record { at = place.old; bytes = zs })) result place.new (S.left source.new) }
-    ensures told { FailsAsTold is_read_failed result (S.has_failed source.old) (S.has_failed source.new) }
+    ensures reported { FailsAsReported is_read_failed result (S.has_failed source.old) (S.has_failed source.new) }
 {
     let key = read_key(alloc, source, place)?;
     let found = read_found(alloc, source, place, dialect)?;
@@ -91,7 +91,7 @@ fn read_lone_read<S: Source>(
     dialect: &JournalDialect,
 ) -> Result<Request, BundleFault>
     ensures bytes { (zs : List ℕ) → S.left source.old ≡ Some zs → Reads (alone (read dialect.now (record { at = place.old; bytes = zs }))) result place.new (S.left source.new) }
-    ensures told { FailsAsTold is_read_failed result (S.has_failed source.old) (S.has_failed source.new) }
+    ensures reported { FailsAsReported is_read_failed result (S.has_failed source.old) (S.has_failed source.new) }
 {
     let request = read_read(alloc, source, place, dialect)?;
     read_end(source, place)?;
@@ -146,51 +146,55 @@ pub fn write_reply<K: Sink>(sink: &mut K, reply: &Reply) -> Result<(), WriteFail
         Reply::Present(value) => write_present(sink, value),
         Reply::Closed => write_plain(sink, 3),
         Reply::Ordered => write_plain(sink, 4),
-        Reply::Done(told) => write_told(sink, 5, told),
-        Reply::Undone(told) => write_told(sink, 6, told),
+        Reply::Done(reported) => write_reported(sink, 5, reported),
+        Reply::Undone(reported) => write_reported(sink, 6, reported),
     }
 }
 
-/// Writes the reply of this code that tells these values, as they stand in an answer of version 3.
-fn write_told<K: Sink>(sink: &mut K, code: u8, told: &ToldValues) -> Result<(), WriteFailed>
-    ensures { Puts (K.held sink.old) (K.held sink.new) (K.has_failed sink.old) (K.has_failed sink.new) result (told_reply_bytes code told.now) }
+/// Writes the reply of this code that reports these values, as they stand in an answer of version 3.
+fn write_reported<K: Sink>(
+    sink: &mut K,
+    code: u8,
+    reported: &ReplyValues,
+) -> Result<(), WriteFailed>
+    ensures { Puts (K.held sink.old) (K.held sink.new) (K.has_failed sink.old) (K.has_failed sink.new) result (reported_reply_bytes code reported.now) }
 {
-    put_u32(sink, told_reply_len(told))?;
+    put_u32(sink, reported_reply_len(reported))?;
     put_u8(sink, 12)?;
     put_u8(sink, code)?;
-    put_told_in_third(sink, told)
+    put_reported_in_third(sink, reported)
 }
 
 /// Writes these values as an answer of version 3 has them, of whatever generation.
-fn put_told_in_third<K: Sink>(sink: &mut K, told: &ToldValues) -> Result<(), WriteFailed>
-    ensures { Puts (K.held sink.old) (K.held sink.new) (K.has_failed sink.old) (K.has_failed sink.new) result (told_bytes (V3 1) told.now) }
+fn put_reported_in_third<K: Sink>(sink: &mut K, reported: &ReplyValues) -> Result<(), WriteFailed>
+    ensures { Puts (K.held sink.old) (K.held sink.new) (K.has_failed sink.old) (K.has_failed sink.new) result (reported_bytes (V3 1) reported.now) }
 {
-    put_told(sink, Version::from_valid(3, 1), told)
+    put_reported(sink, Version::from_valid(3, 1), reported)
 }
 
-/// How many bytes follow the length of the reply that tells these values.
-fn told_reply_len(told: &ToldValues) -> u32
-    ensures { result ≡ 2 + length (told_bytes (V3 1) told.now) }
+/// How many bytes follow the length of the reply that reports these values.
+fn reported_reply_len(reported: &ReplyValues) -> u32
+    ensures { result ≡ 2 + length (reported_bytes (V3 1) reported.now) }
 {
-    4 + told_len(told.as_slice())
+    4 + reported_len(reported.as_slice())
 }
 
 /// How many bytes these values take behind their count.
-fn told_len(values: &[Option<Value>]) -> u32
+fn reported_len(values: &[Option<Value>]) -> u32
     requires { length values.now ≤ 16 }
-    ensures value { result ≡ sum_by (λ o. length (one_told_bytes (V3 1) o)) values.now }
+    ensures value { result ≡ sum_by (λ o. length (one_reported_bytes (V3 1) o)) values.now }
     ensures bound { result ≤ 16 * 65540 }
 {
     let mut len = 0;
     for value in values {
-        len += one_told_len(value);
+        len += one_reported_len(value);
     }
     len
 }
 
-#[tactic(auto, using(crate::proofs::ToldLengths::none_size, crate::proofs::ToldLengths::some_size))]
-fn one_told_len(value: &Option<Value>) -> u32
-    ensures value { result ≡ length (one_told_bytes (V3 1) value.now) }
+#[tactic(auto, using(crate::proofs::ReportedLengths::none_size, crate::proofs::ReportedLengths::some_size))]
+fn one_reported_len(value: &Option<Value>) -> u32
+    ensures value { result ≡ length (one_reported_bytes (V3 1) value.now) }
     ensures bound { result ≤ 65540 }
 {
     match value {
@@ -208,7 +212,7 @@ fn write_plain<K: Sink>(sink: &mut K, code: u8) -> Result<(), WriteFailed>
     put_u8(sink, code)
 }
 
-/// Writes the reply that tells this value.
+/// Writes the reply that reports this value.
 fn write_present<K: Sink>(sink: &mut K, value: &Value) -> Result<(), WriteFailed>
     ensures { Puts (K.held sink.old) (K.held sink.new) (K.has_failed sink.old) (K.has_failed sink.new) result (present_bytes value.now) }
 {

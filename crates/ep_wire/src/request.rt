@@ -26,7 +26,7 @@ pub enum Request {
     State,
     /// All that is committed and waits for nothing that isn't is executed, own or not.
     ExecuteAll,
-    /// What there is to tell of the node's entries after the first ones, of which so many were reported before, and of the least instances
+    /// What there is to report of the node's entries after the first ones, of which so many were reported before, and of the least instances
     /// that are open, at most so many.
     Ready { after: u32, most: u8 },
     /// The greatest number of an entry of this replica of which the node has handled a frame.

@@ -104,7 +104,7 @@ none_more (x ∷ ks) k is old (suc r) = none_more ks k is (λ q. old (suc q)) r
 pub still_none : (v : Version) (o : Opening) (f r : ℕ) (ks more : List Kept) (k : Kept) → more ≡ ks ++ k ∷ [] → k ≡ fresh_one v o f r → ((q : ℕ) → get_or (all_entries ks) q [] ≡ []) → (q : ℕ) → get_or (all_entries more) q [] ≡ []
 still_none v o f r ks more k is fresh old q = subst (λ (xs : List Kept). get_or (all_entries xs) q [] ≡ []) (sym is) (none_more ks k (ap (λ (z : Kept). z.entries) fresh) old q)
 
--- all of a cluster, which tell its version and opening
+-- all of a cluster, which give its version and opening
 pub record Whole (v : Version) (o : Opening) (f : ℕ) (ks : List Kept) : Type 0 where
   pub version : first_version ks ≡ v
   pub opening : first_opening ks ≡ o
@@ -192,7 +192,7 @@ theirs_in_order v o f r (k ∷ ks) (l ∷ ls) opens all h =
 pub in_order : (f : ℕ) (ks : List Kept) (ls : List Log) → OpensIn (first_version ks) (first_opening ks) → AreAll f ks → AreTheirs ks ls → (v : Version) × (o : Opening) × (n : ℕ) × AreInOrder v o n 0 ls
 in_order f ks ls opens all h = (first_version ks, first_opening ks, f, theirs_in_order (first_version ks) (first_opening ks) f 0 ks ls opens all h)
 
--- they tell the version, the opening and the cluster
+-- they give the version, the opening and the cluster
 same_named : (f n : ℕ) (v : Version) (p : Opening) (ks : List Kept) → AreAll f ks → AreInOrder v p n 0 ks → (v ≡ first_version ks) × (p ≡ first_opening ks) × (n ≡ f)
 same_named f n v p [] all o = absurd (let a : 0 ≡ size f = all in omega arith)
 same_named f n v p (k ∷ ks) all o = (sym o.0.version, sym o.0.opening, sym o.0.faults ∙ all.2)

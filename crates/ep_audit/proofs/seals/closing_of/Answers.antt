@@ -6,7 +6,7 @@ use Rattle.ep_audit.specs.declared.happening.Happening.{Happening}
 use Rattle.ep_rules.specs.Journals.{Journals}
 use Rattle.ep_audit.specs.Closings.{IsExecuted}
 use Rattle.ep_audit.specs.Sealed.{first_sealing, least_below}
-use Rattle.ep_audit.proofs.FirstSeals.{closing_told, first_line, no_line}
+use Rattle.ep_audit.proofs.FirstSeals.{closing_reported, first_line, no_line}
 use Rattle.ep_audit.proofs.Stamps.{least_is, some_stamp}
 use Rattle.ep_audit.proofs.seals.closing_of.Goals as goal
 
@@ -28,4 +28,4 @@ returns c =
     let first : first_sealing c.args.history.now ≡ Some h = sym c.first_sealing.ensures ∙ ap option_copied c.in-Some.is in
     let t : ℕ = c.unwrap-stamp.result in
     let least : least_below (size c.args.journals.now.faults) journal h.instance ≡ Some t = sym c.least_stamp.ensures ∙ c.unwrap-stamp.ensures in
-    closing_told journal c.args.history.now h t c.closing_by.result first (least_is (opens c.args.journals.now.opening) c.args.journals.now.faults journal h.instance t c.are_local_runs.ensures least) c.closing_by.ensures
+    closing_reported journal c.args.history.now h t c.closing_by.result first (least_is (opens c.args.journals.now.opening) c.args.journals.now.faults journal h.instance t c.are_local_runs.ensures least) c.closing_by.ensures

@@ -10,7 +10,7 @@ pub loop-init : goal.loop-init
 loop-init g c = record {
   bytes = none_filled c.args.count c.new-map.result c.args.place.now (g.S.Source.left c.args.source.now) c.new-map.ensures;
   many = none_many c.new-map.result c.new-map.ensures;
-  told = refl;
+  reported = refl;
 }
 
 pub returns-in_err-read_pair-clause-bytes : goal.returns-in_err-read_pair-clause-bytes
@@ -24,7 +24,7 @@ loop-preserved g c = record {
       one_filled c.args.count c.loop.counter (entries c.loop.map) (entries c.read_pair.new.map) c.args.place.now c.loop.place c.read_pair.new.place (g.S.Source.left c.args.source.now) (g.S.Source.left c.loop.source) (g.S.Source.left c.read_pair.new.source)
       c.loop-test.true c.loop.invariant.bytes c.in_ok-read_pair.ensures.one c.in_ok-read_pair.ensures.bytes;
   many = one_many c.loop.counter (entries c.loop.map) (entries c.read_pair.new.map) c.loop.invariant.many c.in_ok-read_pair.ensures.one;
-  told = c.in_ok-read_pair.ensures.told ∙ c.loop.invariant.told;
+  reported = c.in_ok-read_pair.ensures.reported ∙ c.loop.invariant.reported;
 }
 
 pub returns-clause-bytes : goal.returns-clause-bytes

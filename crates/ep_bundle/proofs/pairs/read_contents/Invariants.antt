@@ -7,5 +7,5 @@ abbrev pub invariant-loop : goal.invariant-loop
 invariant-loop g l = record {
   bytes : Filling l.fn.count l.counter (entries l.map) l.initial.place l.place (g.S.Source.left l.initial.source) (g.S.Source.left l.source);
   many : length (entries l.map) ≡ l.counter;
-  told : g.S.Source.has_failed l.source ≡ g.S.Source.has_failed l.initial.source;
+  reported : g.S.Source.has_failed l.source ≡ g.S.Source.has_failed l.initial.source;
 }

@@ -8,4 +8,4 @@ returns-in-Ok-clause-ok c = let found = c.in-Ok.ensures.bytes c.args.bytes.now (
 pub returns-in-Err-clause-err : goal.returns-in-Err-clause-err
 returns-in-Err-clause-err c =
     let found = c.in-Err.ensures.bytes c.args.bytes.now (λ t. Some (c.new-source.ensures t).inner.now) in
-    c.told.ensures c.args.bytes.now (is_unread c.args.bytes.now c.in-Err.fault found.0 _ found.1)
+    c.reported.ensures c.args.bytes.now (is_unread c.args.bytes.now c.in-Err.fault found.0 _ found.1)

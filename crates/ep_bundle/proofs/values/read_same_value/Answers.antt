@@ -16,6 +16,6 @@ returns-in_err-read_over-clause-bytes g c = λ y0 e0.
 
 pub returns-clause-bytes : goal.returns-clause-bytes
 returns-clause-bytes g c = λ y0 e0.
-    value_compared c.args.answer.now (λ x. Replied (Present x)) c.args.version _ c.deref.result.now c.tells-same.result c.read_over.new.place (g.S.Source.left c.read_over.new.source)
+    value_compared c.args.answer.now (λ x. Replied (Present x)) c.args.version _ c.deref.result.now c.reports-same.result c.read_over.new.place (g.S.Source.left c.read_over.new.source)
     (goes_on _ (run named.AnswerValue) c.in_ok-len.len _ _ (Ok c.deref.result.now) c.read_over.new.place (g.S.Source.left c.read_over.new.source) (c.in_ok-len.ensures.bytes y0 e0) (λ y1 e1. gives _ _ _ _ _ (c.in_ok-read_over.ensures.bytes y1 e1) c.deref.ensures.value))
-    c.tells-same.ensures.yes c.tells-same.ensures.other
+    c.reports-same.ensures.yes c.reports-same.ensures.other

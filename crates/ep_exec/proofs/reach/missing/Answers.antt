@@ -6,7 +6,7 @@ use Rattle.ep_rules.specs.States.{graph_in}
 use Rattle.ep_exec.specs.Cut.{left_in}
 use Rattle.ep_exec.specs.Missing.{Visits}
 use Rattle.ep_exec.proofs.OverMap.{universe, deps_within}
-use Rattle.ep_exec.proofs.Searching.{IsSearch, search_begins, search_goes_on, search_falls, search_ends, told_some, told_none}
+use Rattle.ep_exec.proofs.Searching.{IsSearch, search_begins, search_goes_on, search_falls, search_ends, reported_some, reported_none}
 use Rattle.ep_exec.proofs.Size.{weight}
 use Rattle.ep_exec.proofs.reach.missing.Goals as goal
 
@@ -25,7 +25,7 @@ returns-then-is_some c =
     let rest = c.pop.new.self.items in
     let i = c.in-Some.instance in
     let s : IsSearch g c.args.executed.now.list us c.args.root c.loop-instance.seen (rest ++ i ∷ []) = subst (IsSearch g c.args.executed.now.list us c.args.root c.loop-instance.seen) c.in-Some.ensures.items c.loop-instance.invariant in
-    told_some g c.args.executed.now.list us c.args.root c.loop-instance.seen rest i s c.in_ok-found.found c.visit.new.seen c.visit.new.edges.items (sym c.is_some.ensures ∙ c.if-is_some.true) c.in_ok-found.ensures
+    reported_some g c.args.executed.now.list us c.args.root c.loop-instance.seen rest i s c.in_ok-found.found c.visit.new.seen c.visit.new.edges.items (sym c.is_some.ensures ∙ c.if-is_some.true) c.in_ok-found.ensures
 
 pub loop-instance-smaller : goal.loop-instance-smaller
 loop-instance-smaller c =
@@ -36,7 +36,7 @@ loop-instance-smaller c =
     let rest = c.pop.new.self.items in
     let i = c.in-Some.instance in
     let s : IsSearch g done us c.args.root c.loop-instance.seen (rest ++ i ∷ []) = subst (IsSearch g done us c.args.root c.loop-instance.seen) c.in-Some.ensures.items c.loop-instance.invariant in
-    let v : Visits g done c.loop-instance.seen rest i None c.visit.new.seen c.visit.new.edges.items = told_none g done c.loop-instance.seen rest i c.in_ok-found.found c.visit.new.seen c.visit.new.edges.items (sym c.is_some.ensures ∙ c.if-is_some.false) c.in_ok-found.ensures in
+    let v : Visits g done c.loop-instance.seen rest i None c.visit.new.seen c.visit.new.edges.items = reported_none g done c.loop-instance.seen rest i c.in_ok-found.found c.visit.new.seen c.visit.new.edges.items (sym c.is_some.ensures ∙ c.if-is_some.false) c.in_ok-found.ensures in
     subst (λ (es : List ℕ). weight (left_in m done) c.visit.new.seen (c.args.root ∷ us) + length c.visit.new.edges.items < weight (left_in m done) c.loop-instance.seen (c.args.root ∷ us) + length es) (sym c.in-Some.ensures.items)
     (search_falls g done us c.args.root c.loop-instance.seen rest i s c.visit.new.seen c.visit.new.edges.items v)
 
@@ -49,7 +49,7 @@ loop-instance-preserved c =
     let rest = c.pop.new.self.items in
     let i = c.in-Some.instance in
     let s : IsSearch g done us c.args.root c.loop-instance.seen (rest ++ i ∷ []) = subst (IsSearch g done us c.args.root c.loop-instance.seen) c.in-Some.ensures.items c.loop-instance.invariant in
-    let v : Visits g done c.loop-instance.seen rest i None c.visit.new.seen c.visit.new.edges.items = told_none g done c.loop-instance.seen rest i c.in_ok-found.found c.visit.new.seen c.visit.new.edges.items (sym c.is_some.ensures ∙ c.if-is_some.false) c.in_ok-found.ensures in
+    let v : Visits g done c.loop-instance.seen rest i None c.visit.new.seen c.visit.new.edges.items = reported_none g done c.loop-instance.seen rest i c.in_ok-found.found c.visit.new.seen c.visit.new.edges.items (sym c.is_some.ensures ∙ c.if-is_some.false) c.in_ok-found.ensures in
     search_goes_on g done us c.args.root c.loop-instance.seen rest i s c.visit.new.seen c.visit.new.edges.items (λ j d a e h. deps_within m j d a e h) v
 
 pub returns : goal.returns

@@ -1,5 +1,5 @@
 use Rattle.std.proofs.Common.{◌∙◌}
-use Rattle.ep_explain.proofs.Telling.{led_by}
+use Rattle.ep_explain.proofs.Reporting.{led_by}
 use Rattle.ep_explain.proofs.scripts.refused_for.Goals as goal
 
 pub returns : goal.returns

@@ -9,7 +9,7 @@ returns-in_err-bundle-clause-finishes g c zs known =
     finishes c.args.form _ _ zs found.0 _ c.from_residual.ensures.1 found.1
 
 pub returns-in_err-bundle-clause-read : goal.returns-in_err-bundle-clause-read
-returns-in_err-bundle-clause-read g c = bundle_read c.in_err-bundle.field-0.0 _ _ _ c.from_residual.ensures.1 c.in_err-bundle.ensures.told
+returns-in_err-bundle-clause-read g c = bundle_read c.in_err-bundle.field-0.0 _ _ _ c.from_residual.ensures.1 c.in_err-bundle.ensures.reported
 
 pub returns-in_err-bundle-clause-unwritten : goal.returns-in_err-bundle-clause-unwritten
 returns-in_err-bundle-clause-unwritten g c = bundle_unwritten c.in_err-bundle.field-0.0 _ c.from_residual.ensures.1
@@ -24,7 +24,7 @@ pub returns-clause-verdict : goal.returns-clause-verdict
 returns-clause-verdict g c = audit_verdict c.args.form c.in_ok-bundle.bundle.journals c.in_ok-bundle.bundle.receipts.items c.judge_bundle-judged.result c.judge_bundle-judged.ensures.value
 
 pub returns-clause-read : goal.returns-clause-read
-returns-clause-read g c = memory_read c.judge_bundle-judged.result _ _ c.judge_bundle-judged.ensures.memory c.in_ok-bundle.ensures.told
+returns-clause-read g c = memory_read c.judge_bundle-judged.result _ _ c.judge_bundle-judged.ensures.memory c.in_ok-bundle.ensures.reported
 
 pub returns-clause-unwritten : goal.returns-clause-unwritten
 returns-clause-unwritten g c = memory_unwritten c.judge_bundle-judged.result c.judge_bundle-judged.ensures.memory

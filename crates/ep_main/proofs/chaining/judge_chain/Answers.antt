@@ -4,8 +4,8 @@ use Rattle.ep_audit.specs.declared.verdict.Verdict.{Verdict}
 use Rattle.ep_main.proofs.Linked.{fault_less}
 use Rattle.ep_main.proofs.chaining.judge_chain.Goals as goal
 
-pub told_chain-requires : goal.told_chain-requires
-told_chain-requires c = subst (λ (vs : List Verdict). length vs ≡ length c.args.links.now) (sym c.deref.ensures.value) c.in-Ok.ensures.ok.count
+pub reported_chain-requires : goal.reported_chain-requires
+reported_chain-requires c = subst (λ (vs : List Verdict). length vs ≡ length c.args.links.now) (sym c.deref.ensures.value) c.in-Ok.ensures.ok.count
 
 pub refused_chain-requires-clause-there : goal.refused_chain-requires-clause-there
 refused_chain-requires-clause-there c =

@@ -10,5 +10,5 @@ returns c = record {
   refused = c.requires.fault;
   link = c.index-links-place.result;
   there = slice_get-get_or c.args.links.now c.args.place c.index-links-place.result c.requires.there ∙ ap (λ (l : ChainLink). Some l) (sym c.index-links-place.is);
-  told = search rules;
+  reported = search rules;
 }

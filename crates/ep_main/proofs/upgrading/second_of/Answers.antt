@@ -17,7 +17,7 @@ returns-in_err-bundle-clause-rewrites g c zs known =
     second_not_read _ _ zs found.0 _ c.from_residual.ensures.1 found.1
 
 pub returns-in_err-bundle-clause-read : goal.returns-in_err-bundle-clause-read
-returns-in_err-bundle-clause-read g c = bundle_read c.in_err-bundle.field-0.0 _ _ _ c.from_residual.ensures.1 c.in_err-bundle.ensures.told
+returns-in_err-bundle-clause-read g c = bundle_read c.in_err-bundle.field-0.0 _ _ _ c.from_residual.ensures.1 c.in_err-bundle.ensures.reported
 
 pub returns-in_err-bundle-clause-unwritten : goal.returns-in_err-bundle-clause-unwritten
 returns-in_err-bundle-clause-unwritten g c = bundle_unwritten c.in_err-bundle.field-0.0 _ c.from_residual.ensures.1

@@ -1,7 +1,7 @@
 use Rattle.std.proofs.Common.{refl}
 use Rattle.ep_main.proofs.Ending.{third_not_read, third_refused}
 use Rattle.ep_main.proofs.Flags.{bundle_read, bundle_unwritten}
-use Rattle.ep_main.proofs.Rewriting.{in_third, third_told, third_unwritten}
+use Rattle.ep_main.proofs.Rewriting.{in_third, third_reported, third_unwritten}
 use Rattle.ep_main.proofs.upgrading.third_from.Goals as goal
 
 pub returns-in_err-bundle-clause-rewrites : goal.returns-in_err-bundle-clause-rewrites
@@ -10,7 +10,7 @@ returns-in_err-bundle-clause-rewrites g c zs known =
     third_not_read _ _ zs found.0 _ c.from_residual.ensures.1 found.1
 
 pub returns-in_err-bundle-clause-read : goal.returns-in_err-bundle-clause-read
-returns-in_err-bundle-clause-read g c = bundle_read c.in_err-bundle.field-0.0 _ _ _ c.from_residual.ensures.1 c.in_err-bundle.ensures.told
+returns-in_err-bundle-clause-read g c = bundle_read c.in_err-bundle.field-0.0 _ _ _ c.from_residual.ensures.1 c.in_err-bundle.ensures.reported
 
 pub returns-in_err-bundle-clause-unwritten : goal.returns-in_err-bundle-clause-unwritten
 returns-in_err-bundle-clause-unwritten g c = bundle_unwritten c.in_err-bundle.field-0.0 _ c.from_residual.ensures.1
@@ -21,7 +21,7 @@ returns-in-Err-clause-rewrites g c zs known out silent =
     third_refused c.in-Err.fault zs c.in_ok-bundle.bundle.journals c.in_ok-bundle.bundle.receipts.items (record { at = found.0; bytes = found.1.0 }) out found.1.2 c.in-Err.ensures.refused c.in-Err.ensures.memory silent
 
 pub returns-in-Err-clause-read : goal.returns-in-Err-clause-read
-returns-in-Err-clause-read g c = third_told c.in_ok-bundle.bundle.journals c.in_ok-bundle.bundle.receipts.items c.in-Err.fault _ _ c.in-Err.ensures.refused c.in-Err.ensures.memory c.in_ok-bundle.ensures.told
+returns-in-Err-clause-read g c = third_reported c.in_ok-bundle.bundle.journals c.in_ok-bundle.bundle.receipts.items c.in-Err.fault _ _ c.in-Err.ensures.refused c.in-Err.ensures.memory c.in_ok-bundle.ensures.reported
 
 pub returns-in-Err-clause-unwritten : goal.returns-in-Err-clause-unwritten
 returns-in-Err-clause-unwritten g c = third_unwritten c.in_ok-bundle.bundle.journals c.in_ok-bundle.bundle.receipts.items c.in-Err.fault c.in-Err.ensures.refused c.in-Err.ensures.memory

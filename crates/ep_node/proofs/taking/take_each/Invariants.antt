@@ -4,6 +4,6 @@ use Rattle.ep_node.proofs.taking.take_each.Given as goal
 
 abbrev pub invariant-loop-event : goal.invariant-loop-event
 invariant-loop-event l = record {
-  so_far : TakesEach l.fn.replica l.yielded l.told.items l.replica;
-  room : vec_len l.told + l.event-iterator.rest.len ≤ vec_capacity l.told;
+  so_far : TakesEach l.fn.replica l.yielded l.reported.items l.replica;
+  room : vec_len l.reported + l.event-iterator.rest.len ≤ vec_capacity l.reported;
 }

@@ -5,6 +5,6 @@ use Rattle.ep_patience.proofs.writing.write_asked.Given as goal
 
 abbrev pub invariant-loop-remedy : goal.invariant-loop-remedy
 invariant-loop-remedy l = record {
-  so_far : l.told.items ≡ l.fn.told.items ++ asked_bytes (take l.remedy-index l.asked);
-  room : vec_len l.told + 4 * length l.asked ≤ vec_capacity l.told + 4 * l.remedy-index;
+  so_far : l.reported.items ≡ l.fn.reported.items ++ asked_bytes (take l.remedy-index l.asked);
+  room : vec_len l.reported + 4 * length l.asked ≤ vec_capacity l.reported + 4 * l.remedy-index;
 }

@@ -19,4 +19,4 @@ returns-clause-opening c = ended_opening c.args.script.now c.in_ok-ended.ended (
 pub returns-clause-own : goal.returns-clause-own
 returns-clause-own c =
     subst (λ (w : Played). AreOwn w c.in_ok-ended.ended.receipts.items) (sym c.in_ok-ended.ensures.world)
-    (subst (λ (ts : List Receipt). AreOwn c.in_ok-player.player.world ts) (sym c.in_ok-ended.ensures.receipts) c.in_ok-player.ensures.tells.own)
+    (subst (λ (ts : List Receipt). AreOwn c.in_ok-player.player.world ts) (sym c.in_ok-ended.ensures.receipts) c.in_ok-player.ensures.reports.own)

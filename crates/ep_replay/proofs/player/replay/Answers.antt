@@ -2,7 +2,7 @@ use Rattle.std.proofs.Common.{◌≤◌, ◌∙◌, ℕ, false, subst}
 use Rattle.ep_journal.specs.Entries.{journals_of}
 use Rattle.ep_journal.specs.Openings.{opens}
 use Rattle.ep_rules.proofs.OnceDone.{as_once}
-use Rattle.ep_replay.specs.Told.{instances_of}
+use Rattle.ep_replay.specs.Reported.{instances_of}
 use Rattle.ep_replay.proofs.Keeping.{replay_version, replay_opening}
 use Rattle.ep_replay.proofs.Leading.{replayed}
 use Rattle.ep_replay.proofs.OneReceipt.{few_receipts}
@@ -19,7 +19,7 @@ pub returns-clause-opening : goal.returns-clause-opening
 returns-clause-opening c = replay_opening c.args.script.now c.in_ok-left.left (returns-clause-value c)
 
 pub returns-clause-accepted : goal.returns-clause-accepted
-returns-clause-accepted c = c.in_ok-left.ensures.accepted c.in_ok-player.ensures.tells.own
+returns-clause-accepted c = c.in_ok-left.ensures.accepted c.in_ok-player.ensures.reports.own
 
 pub returns-clause-once : goal.returns-clause-once
 returns-clause-once c = as_once (instances_of c.in_ok-left.left.receipts.items) (replay_once c.args.script.now c.in_ok-left.left (returns-clause-value c))

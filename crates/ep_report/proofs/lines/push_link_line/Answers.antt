@@ -1,7 +1,7 @@
 use Rattle.std.proofs.Common.{◌≡◌, ◌++◌, List, ℕ, codes, decimal, ap, subst, ◌∙◌, OnOk}
 use Rattle.ep_report.specs.Contents.{contents_line}
 use Rattle.ep_report.specs.Lives.{Life, generation_line, closing_line}
-use Rattle.ep_report.proofs.Texts.{link_told}
+use Rattle.ep_report.proofs.Texts.{link_reported}
 use Rattle.ep_report.proofs.lines.push_link_line.Goals as goal
 
 pub returns : goal.returns
@@ -17,7 +17,7 @@ returns c =
     ∙ ap (λ (x : ℕ). o ++ (codes "generation " ++ decimal x ++ codes " since " ++ decimal c.base_stamp.result ++ codes " committed " ++ decimal c.args.committed ++ codes " history " ++ decimal c.args.history ++ codes " ")) n
     ∙ ap (λ (x : ℕ). o ++ (codes "generation " ++ decimal l.generation ++ codes " since " ++ decimal x ++ codes " committed " ++ decimal c.args.committed ++ codes " history " ++ decimal c.args.history ++ codes " ")) c.base_stamp.ensures
     in
-    link_told c.push_contents_line.result o g (closing_line l.closing) (contents_line l.contents) t1 t2 c.push_contents_line.new.text.items
+    link_reported c.push_contents_line.result o g (closing_line l.closing) (contents_line l.contents) t1 t2 c.push_contents_line.new.text.items
     start
     (c.in_ok-push_closing.ensures ∙ ap (λ x. t1 ++ closing_line x ++ codes " ") c.closing.ensures)
     (subst (λ m. OnOk c.push_contents_line.result (c.push_contents_line.new.text.items ≡ t2 ++ contents_line m ++ codes "\n")) c.contents.ensures.value c.push_contents_line.ensures)

@@ -4,6 +4,6 @@ use Rattle.ep_serve.proofs.answering.put_dues.Given as goal
 
 abbrev pub invariant-loop-due : goal.invariant-loop-due
 invariant-loop-due g l = record {
-  told : AnswersEach l.initial.node.replica (take l.due-index l.dues) (g.K.Sink.held l.initial.sink) (g.K.Sink.held l.sink);
+  reported : AnswersEach l.initial.node.replica (take l.due-index l.dues) (g.K.Sink.held l.initial.sink) (g.K.Sink.held l.sink);
   same : l.node ≡ l.initial.node;
 }

@@ -53,7 +53,7 @@ loop-preserved g c = record {
   own = c.serve.ensures.own ∙ c.loop.invariant.own;
   sink = c.in_ok-serve-in-Ok-Some.ensures.sink_cause ∙ c.loop.invariant.sink;
   log = c.in_ok-serve-in-Ok-Some.ensures.log_cause ∙ c.loop.invariant.log;
-  source = c.in-Ok-Some.ensures.told ∙ c.loop.invariant.source;
+  source = c.in-Ok-Some.ensures.reported ∙ c.loop.invariant.source;
   served = λ mode is zs h.
       let i = c.loop.invariant.served mode is zs h in
       stands_next g.D.Device.seen g.D.Device.moment g.D.Device.left_since mode _ _ _ zs _ _ _ _ _ _ _ _ _ _ _ _ i c.loop.invariant.own c.dialect_of-dialect.ensures (c.in-Ok-Some.ensures.bytes i.ys i.left_is) c.in-Ok-Some.field-0-is _ (c.loop.invariant.mode ∙ is) c.in_ok-serve-in-Ok-Some.ensures.ok c.serve.ensures.onward c.loop.invariant.known;

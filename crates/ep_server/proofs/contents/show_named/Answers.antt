@@ -9,4 +9,4 @@ returns-in-Ok g c =
     c.show_files-shown.ensures.ok c.show_files-shown.ensures.err c.put_printout.ensures
 
 pub returns-in-Err : goal.returns-in-Err
-returns-in-Err g c = inr (record { why = c.in-Err.fault; of = c.in-Err.ensures.err; silent = Appends-nil _; told = c.turned_away.ensures })
+returns-in-Err g c = inr (record { why = c.in-Err.fault; of = c.in-Err.ensures.err; silent = Appends-nil _; reported = c.turned_away.ensures })

@@ -13,4 +13,4 @@ returns-in-Ok g c =
     (subst (λ (ks : List OpenedLog). All IsNamedLog ks) (sym c.deref.ensures.value) c.in-Ok.ensures.named) (ap (λ (vs : List (Vec ℕ)). length vs) c.deref-in-Ok.ensures.value ∙ c.in-Ok.ensures.receipts) c.collect_generation-collected.ensures.ok c.collect_generation-collected.ensures.err c.put_printout.ensures
 
 pub returns-in-Err : goal.returns-in-Err
-returns-in-Err g c = inr (record { why = c.in-Err.fault; of = c.in-Err.ensures.err; silent = Appends-nil _; told = c.turned_away.ensures })
+returns-in-Err g c = inr (record { why = c.in-Err.fault; of = c.in-Err.ensures.err; silent = Appends-nil _; reported = c.turned_away.ensures })

@@ -1,14 +1,14 @@
 use Rattle.ep_server.proofs.InFolders.{both_cuts, one_cut, sized_as}
 use Rattle.ep_server.proofs.in_folder.ready.Goals as goal
 
-pub returns-in-Ok-Some-clause-told : goal.returns-in-Ok-Some-clause-told
-returns-in-Ok-Some-clause-told g c = both_cuts _ _ _ _ _ _ c.open_stage.ensures.told c.ready_next.ensures.told
+pub returns-in-Ok-Some-clause-reported : goal.returns-in-Ok-Some-clause-reported
+returns-in-Ok-Some-clause-reported g c = both_cuts _ _ _ _ _ _ c.open_stage.ensures.reported c.ready_next.ensures.reported
 
-pub returns-in-Ok-None-clause-told : goal.returns-in-Ok-None-clause-told
-returns-in-Ok-None-clause-told g c = one_cut _ _ _ _ c.open_stage.ensures.told
+pub returns-in-Ok-None-clause-reported : goal.returns-in-Ok-None-clause-reported
+returns-in-Ok-None-clause-reported g c = one_cut _ _ _ _ c.open_stage.ensures.reported
 
-pub returns-in-Err-clause-told : goal.returns-in-Err-clause-told
-returns-in-Err-clause-told g c = one_cut _ _ _ _ c.open_stage.ensures.told
+pub returns-in-Err-clause-reported : goal.returns-in-Err-clause-reported
+returns-in-Err-clause-reported g c = one_cut _ _ _ _ c.open_stage.ensures.reported
 
 pub returns-in-Ok-None-clause-ok : goal.returns-in-Ok-None-clause-ok
 returns-in-Ok-None-clause-ok g c =

@@ -12,7 +12,7 @@ returns-in-Ok g c = λ bytes zs was left.
       cut = c.in-Ok.node.cut;
       outcome = c.served-outcome.result;
       happens = has_served _ _ _ c.in-Ok.node bytes zs written.0 _ _ _ _ ok.1 ok.2 c.in-Ok.ensures.origin (ok.3 bytes was) written.1 written.2 (c.served-outcome.ensures.over zs left);
-      concluded = concludes_after g.F.Sink.held g.F.Sink.has_failed _ _ _ _ _ _ _ _ _ c.cut.ensures c.tell_first.ensures c.served-outcome.ensures.untold c.concluded.ensures.for_good c.concluded.ensures.concluded;
+      concluded = concludes_after g.F.Sink.held g.F.Sink.has_failed _ _ _ _ _ _ _ _ _ c.cut.ensures c.write_first.ensures c.served-outcome.ensures.unreported c.concluded.ensures.for_good c.concluded.ensures.concluded;
     }
 
 pub returns-in-Err : goal.returns-in-Err

@@ -1,20 +1,20 @@
 use Rattle.std.proofs.Common.{◌≡◌, ◌∙◌, ◌++◌, ◌∷◌, [], None, List, ℕ, suc, ◌<◌, sym, ap, subst, slice_index_or, slice_set, length, arith}
 use Rattle.std.specs.Map.{keys_of}
 use Rattle.ep_space.specs.Entries.{slot, AreSpots}
-use Rattle.ep_space.proofs.Spots.{spot-told, placed-there, placed-new, spots-same, spots-push, keys-push, length-keys, length-push}
+use Rattle.ep_space.proofs.Spots.{spot-reported, placed-there, placed-new, spots-same, spots-push, keys-push, length-keys, length-push}
 use Rattle.ep_space.proofs.table.add_place.Goals as goal
 
 pub returns-then-spot_of-ne0-clause-ok : goal.returns-then-spot_of-ne0-clause-ok
 returns-then-spot_of-ne0-clause-ok g c =
     placed-there c.args.entries.now.items c.args.id c.spot_of.result
-    (spot-told c.args.spots.now.items c.deref.result.now (keys_of c.args.entries.now.items) c.args.id c.spot_of.result c.requires c.deref.ensures.value c.spot_of.ensures.in_range c.spot_of.ensures.value)
+    (spot-reported c.args.spots.now.items c.deref.result.now (keys_of c.args.entries.now.items) c.args.id c.spot_of.result c.requires c.deref.ensures.value c.spot_of.ensures.in_range c.spot_of.ensures.value)
     c.if-spot_of-ne0.true
 
 pub returns-clause-ok : goal.returns-clause-ok
 returns-clause-ok g c =
     c.in_ok-add_entry.ensures.ok
     ∙ placed-new c.args.entries.now.items c.args.id c.spot_of.result
-    (spot-told c.args.spots.now.items c.deref.result.now (keys_of c.args.entries.now.items) c.args.id c.spot_of.result c.requires c.deref.ensures.value c.spot_of.ensures.in_range c.spot_of.ensures.value)
+    (spot-reported c.args.spots.now.items c.deref.result.now (keys_of c.args.entries.now.items) c.args.id c.spot_of.result c.requires c.deref.ensures.value c.spot_of.ensures.in_range c.spot_of.ensures.value)
     c.if-spot_of-ne0.false
 
 pub returns-clause-spots : goal.returns-clause-spots

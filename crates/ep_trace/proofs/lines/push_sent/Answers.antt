@@ -1,5 +1,5 @@
 use Rattle.ep_view.proofs.Sending.{from_first}
-use Rattle.ep_trace.proofs.Telling.{sent}
+use Rattle.ep_trace.proofs.Reporting.{sent}
 use Rattle.ep_trace.proofs.lines.push_sent.Goals as goal
 
 pub returns : goal.returns

@@ -5,7 +5,7 @@ pub returns : goal.returns
 returns g c zs known = record {
   outcome = _;
   does = c.attempt-outcome.ensures.done zs known;
-  concludes = concludes_from g.F.Sink.held g.F.Sink.has_failed _ _ _ _ _ c.attempt-outcome.ensures.untold c.concluded.ensures;
+  concludes = concludes_from g.F.Sink.held g.F.Sink.has_failed _ _ _ _ _ c.attempt-outcome.ensures.unreported c.concluded.ensures;
   read = c.attempt-outcome.ensures.read;
   written = c.attempt-outcome.ensures.written;
 }

@@ -3,5 +3,5 @@ use Rattle.ep_view.specs.Sequences.{IsSequence}
 use Rattle.ep_view.specs.declared.selection.Selection.{Selection}
 use Rattle.ep_viewer.proofs.viewing.sequence_of.Goals as goal
 
-pub returns-clause-tells : goal.returns-clause-tells
-returns-clause-tells c = subst (λ (p : Selection). IsSequence c.args.journals.now p c.in_ok-text.text.items) c.in_ok-part.ensures c.in_ok-text.ensures
+pub returns-clause-reports : goal.returns-clause-reports
+returns-clause-reports c = subst (λ (p : Selection). IsSequence c.args.journals.now p c.in_ok-text.text.items) c.in_ok-part.ensures c.in_ok-text.ensures

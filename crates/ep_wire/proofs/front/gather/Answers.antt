@@ -12,5 +12,5 @@ loop-at-preserved g c =
       bytes = λ zs h.
           subst (λ bs. Begun zs bs (g.S.Source.left c.pull.new.self)) (front c.loop-at.at (length c.loop-at.buf - c.loop-at.at) c.in_ok-count.count c.loop-at.buf c.pull.new.buf c.loop-at.invariant.within step.bound)
           (more zs _ _ _ _ (c.loop-at.invariant.bytes zs h) step.bytes.0);
-      told = step.bytes.2 ∙ c.loop-at.invariant.told;
+      reported = step.bytes.2 ∙ c.loop-at.invariant.reported;
     }

@@ -7,7 +7,7 @@ invariant-loop-at g l = record {
   long : length l.buf ≡ length l.initial.buf;
   within : l.at ≤ length l.buf;
   bytes : (zs : List ℕ) → g.S.Source.left l.initial.source ≡ Some zs → Begun zs (take l.at l.buf) (g.S.Source.left l.source);
-  told : g.S.Source.has_failed l.source ≡ g.S.Source.has_failed l.initial.source;
+  reported : g.S.Source.has_failed l.source ≡ g.S.Source.has_failed l.initial.source;
 }
 
 abbrev pub decreases-loop-at : goal.decreases-loop-at

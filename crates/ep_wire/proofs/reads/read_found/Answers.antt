@@ -12,7 +12,7 @@ returns-in_err-count-clause-bytes g c = λ y0 e0. fails _ _ _ _ _ _ _ _ (c.in_er
 pub loop-init : goal.loop-init
 loop-init g c = record {
   bytes = begins (instance c.args.dialect.now.version (size c.args.dialect.now.size)) c.in_ok-count.count c.new-items.result.items _ _ c.new-items.ensures.items;
-  told = refl;
+  reported = refl;
 }
 
 pub returns-in_err-instance-clause-bytes : goal.returns-in_err-instance-clause-bytes
@@ -21,7 +21,7 @@ returns-in_err-instance-clause-bytes g c = λ y0 e0. goes_on _ _ _ _ _ _ _ _ (c.
 pub loop-preserved : goal.loop-preserved
 loop-preserved g c = record {
   bytes = steps (instance c.args.dialect.now.version (size c.args.dialect.now.size)) c.in_ok-count.count c.loop.counter c.loop.items.items c.push.new.self.items c.in_ok-instance.instance _ _ _ _ _ _ c.loop-test.true c.loop.invariant.bytes (λ ys k. c.in_ok-instance.ensures.bytes ys k) c.in_ok-push.ensures.items;
-  told = c.in_ok-instance.ensures.told ∙ c.loop.invariant.told;
+  reported = c.in_ok-instance.ensures.reported ∙ c.loop.invariant.reported;
 }
 
 pub returns-clause-bytes : goal.returns-clause-bytes

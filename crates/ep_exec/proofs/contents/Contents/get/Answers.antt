@@ -1,7 +1,7 @@
 use Rattle.std.proofs.Common.{◌∙◌, ap}
 use Rattle.ep_rules.specs.OneMap.{value_at}
 use Rattle.ep_exec.specs.Layers.{said_or}
-use Rattle.ep_exec.proofs.Layered.{told_in}
+use Rattle.ep_exec.proofs.Layered.{reported_in}
 use Rattle.ep_exec.proofs.contents.Contents.get.Goals as goal
 
 pub returns-in-Some : goal.returns-in-Some
@@ -10,7 +10,7 @@ returns-in-Some c =
     let k = c.args.key.now in
     c.as_ref.ensures.value
     ∙ ap (λ t. said_or t (value_at m k)) c.in-Some.ensures
-    ∙ told_in m c.args.self.now k c.deref.result.now c.self.inside.layers.items c.deref.ensures.value c.self.view_is
+    ∙ reported_in m c.args.self.now k c.deref.result.now c.self.inside.layers.items c.deref.ensures.value c.self.view_is
 
 pub returns-in-None : goal.returns-in-None
 returns-in-None c =
@@ -18,4 +18,4 @@ returns-in-None c =
     let k = c.args.key.now in
     c.get.ensures
     ∙ ap (λ t. said_or t (value_at m k)) c.in-None.ensures
-    ∙ told_in m c.args.self.now k c.deref.result.now c.self.inside.layers.items c.deref.ensures.value c.self.view_is
+    ∙ reported_in m c.args.self.now k c.deref.result.now c.self.inside.layers.items c.deref.ensures.value c.self.view_is

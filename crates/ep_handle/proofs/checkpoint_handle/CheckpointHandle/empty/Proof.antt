@@ -18,7 +18,7 @@ use Rattle.std.specs.declared.option.Option.{Option}
 use Rattle.std.specs.declared.option.Option.TheVariants.{None}
 use Rattle.std.proofs.raw_atomic.Walks.{proved_at, leaves}
 use Rattle.ep_handle.proofs.CheckpointValues.{word, word_good, handle_in}
-use Rattle.ep_hosted.specs.contracts.hosted_checkpoint.HostedCheckpoint.{the_row as K}
+use Rattle.ep_embedded.specs.contracts.hosted_checkpoint.HostedCheckpoint.{the_row as K}
 use Rattle.ep_handle.specs.contracts.checkpoint_handle.CheckpointHandle.empty.{ended, clauses}
 use Rattle.ep_handle.specs.contracts.checkpoint_handle.CheckpointHandle.empty.Key.{name as #self}
 use Rattle.ep_handle.proofs.checkpoint_handle.CheckpointHandle.empty.Statement.{statement}

@@ -30,7 +30,7 @@ use Rattle.std_alloc.proofs.ResultValues.{and_tt}
 use Rattle.std.proofs.raw_atomic.Walks.{proved_at, leaves}
 use Rattle.ep_handle.proofs.Values.{both, Loose, loose_good, loose_in}
 use Rattle.ep_handle.proofs.CheckpointValues.{H as Hd, word, word_good, handle_out, either_held}
-use Rattle.ep_hosted.specs.contracts.hosted_checkpoint.HostedCheckpoint.{the_row as K}
+use Rattle.ep_embedded.specs.contracts.hosted_checkpoint.HostedCheckpoint.{the_row as K}
 use Rattle.ep_handle.specs.contracts.checkpoint_handle.CheckpointHandle.into_loose.{ended, clauses}
 use Rattle.ep_handle.specs.contracts.checkpoint_handle.CheckpointHandle.into_loose.Key.{name as #self}
 use Rattle.ep_handle.proofs.checkpoint_handle.CheckpointHandle.into_loose.Statement.{statement}

@@ -10,11 +10,11 @@ use denote.Struct.Owning.{shape, fields, to}
 use Rattle.std.proofs.Crossing.{frees}
 use Rattle.std.specs.declared.option.Option.{Option}
 use Rattle.std.specs.declared.option.Option.TheVariants.{None, Some}
-use Rattle.ep_hosted.proofs.hosted.Hosted.TheSendSync.{the_send}
+use Rattle.ep_embedded.proofs.hosted.Hosted.TheSendSync.{the_send}
 use Rattle.std_alloc.proofs.SendSync.{lies, quiet}
 use Rattle.ep_handle.specs.Held.{heap, held}
 use Rattle.ep_handle.specs.contracts.handle.Handle.{the_row, the_type}
-use Rattle.ep_hosted.specs.contracts.hosted.Hosted.{the_row as K}
+use Rattle.ep_embedded.specs.contracts.hosted.Hosted.{the_row as K}
 
 pointer_send : IsSend RawPtr
 pointer_send = search sendable

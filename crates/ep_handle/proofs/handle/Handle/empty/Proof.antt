@@ -18,7 +18,7 @@ use Rattle.std.specs.declared.option.Option.{Option}
 use Rattle.std.specs.declared.option.Option.TheVariants.{None}
 use Rattle.std.proofs.raw_atomic.Walks.{proved_at, leaves}
 use Rattle.ep_handle.proofs.HandleValues.{word, word_good, handle_in}
-use Rattle.ep_hosted.specs.contracts.hosted.Hosted.{the_row as K}
+use Rattle.ep_embedded.specs.contracts.hosted.Hosted.{the_row as K}
 use Rattle.ep_handle.specs.contracts.handle.Handle.empty.{ended, clauses}
 use Rattle.ep_handle.specs.contracts.handle.Handle.empty.Key.{name as #self}
 use Rattle.ep_handle.proofs.handle.Handle.empty.Statement.{statement}

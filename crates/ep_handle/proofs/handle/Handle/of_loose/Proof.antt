@@ -23,7 +23,7 @@ use Rattle.std.specs.contracts.impls.GlobalAllocator.TheImpl.{ghosts}
 use Rattle.std.proofs.raw_atomic.Walks.{proved_at, leaves}
 use Rattle.ep_handle.proofs.Values.{both, Loose, loose_good, loose_out}
 use Rattle.ep_handle.proofs.HandleValues.{word, word_good, handle_in}
-use Rattle.ep_hosted.specs.contracts.hosted.Hosted.{the_row as K}
+use Rattle.ep_embedded.specs.contracts.hosted.Hosted.{the_row as K}
 use Rattle.ep_handle.specs.contracts.handle.Handle.of_loose.{ended, clauses}
 use Rattle.ep_handle.specs.contracts.handle.Handle.of_loose.Key.{name as #self}
 use Rattle.ep_handle.proofs.handle.Handle.of_loose.Statement.{statement}

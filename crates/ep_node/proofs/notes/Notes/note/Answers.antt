@@ -1,5 +1,5 @@
 use Rattle.std.proofs.Common.{refl, take}
-use Rattle.ep_node.specs.Telling.{about_by, learnt_by}
+use Rattle.ep_node.specs.Reporting.{about_by, learnt_by}
 use Rattle.ep_node.proofs.Noting.{first_more, knows_next, knows_same}
 use Rattle.ep_node.proofs.notes.Notes.note.Goals as goal
 

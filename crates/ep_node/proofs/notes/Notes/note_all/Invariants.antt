@@ -1,5 +1,5 @@
 use Rattle.std.proofs.Common.{◌-◌, length}
-use Rattle.ep_node.specs.Telling.{Knows}
+use Rattle.ep_node.specs.Reporting.{Knows}
 use Rattle.ep_node.proofs.notes.Notes.note_all.Given as goal
 
 abbrev pub invariant-loop-self : goal.invariant-loop-self

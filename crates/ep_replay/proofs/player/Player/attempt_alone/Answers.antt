@@ -11,4 +11,4 @@ returns-in_ok-collect-in-Ok c =
 pub returns-in_ok-list-in-Err : goal.returns-in_ok-list-in-Err
 returns-in_ok-list-in-Err c =
     listed c.args.self.now (record { world = c.step.new.self; clients = c.args.self.now.clients; given = c.args.self.now.given; receipts = c.args.self.now.receipts; refused = c.list.new.refused; keeps = c.args.self.now.keeps; tried = c.args.self.now.tried; alloc = c.args.self.now.alloc })
-    c.args.line c.args.event c.in-Err.refusal c.in-Err.ensures.refused c.in_ok-list-in-Err.ensures.told c.in_ok-list-in-Err.ensures.listed c.in-Err.ensures.err refl refl refl refl (unkept c.args.self.now.keeps c.requires)
+    c.args.line c.args.event c.in-Err.refusal c.in-Err.ensures.refused c.in_ok-list-in-Err.ensures.reported c.in_ok-list-in-Err.ensures.listed c.in-Err.ensures.err refl refl refl refl (unkept c.args.self.now.keeps c.requires)

@@ -13,6 +13,6 @@ returns-in_ok-keep-in-Ok c =
 pub returns-in_ok-keep-in-Err : goal.returns-in_ok-keep-in-Err
 returns-in_ok-keep-in-Err c =
     listed c.args.self.now (record { world = c.step.new.self; clients = c.args.self.now.clients; given = c.args.self.now.given; receipts = c.args.self.now.receipts; refused = c.list.new.refused; keeps = c.args.self.now.keeps; tried = c.keep-in-Err.new.tried; alloc = c.args.self.now.alloc })
-    c.args.line c.args.event c.in-Err.refusal c.in-Err.ensures.refused c.in_ok-list-in-Err.ensures.told c.in_ok-list-in-Err.ensures.listed c.in-Err.ensures.err refl refl refl refl
+    c.args.line c.args.event c.in-Err.refusal c.in-Err.ensures.refused c.in_ok-list-in-Err.ensures.reported c.in_ok-list-in-Err.ensures.listed c.in-Err.ensures.err refl refl refl refl
     (λ _. refused_so c.args.line c.args.event c.in_ok-copy.copy c.in-Err.refusal c.args.self.now.tried.items
     c.keep-in-Err.new.tried.items c.in_ok-copy.ensures c.in_ok-keep-in-Err.ensures)

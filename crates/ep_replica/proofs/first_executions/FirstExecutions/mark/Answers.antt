@@ -6,8 +6,8 @@ use Rattle.ep_replica.specs.declared.execution_place.ExecutionPlace.{ExecutionPl
 use Rattle.ep_replica.proofs.FirstDone.{firsts_more}
 use Rattle.ep_replica.proofs.first_executions.FirstExecutions.mark.Goals as goal
 
-pub returns-clause-told : goal.returns-clause-told
-returns-clause-told c = λ es count firsts.
+pub returns-clause-reported : goal.returns-clause-reported
+returns-clause-reported c = λ es count firsts.
     firsts_more c.args.me c.args.before es c.args.entry.now c.args.self.now c.note_all.new.items.items count firsts
     (λ number low.
     c.note_all.ensures.noted number low

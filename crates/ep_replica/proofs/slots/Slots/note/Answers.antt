@@ -1,4 +1,4 @@
-use Rattle.ep_replica.proofs.Noted.{own_place, tells_more, still_tells, others_tell}
+use Rattle.ep_replica.proofs.Noted.{own_place, reports_more, still_reports, others_report}
 use Rattle.std.proofs.Common.{◌∙◌, sym, subst, List, Option, arith}
 use Rattle.std.proofs.lemmas.Bool.{eqb-true, eqb-false}
 use Rattle.ep_base.specs.Instances.{instance_of}
@@ -13,14 +13,14 @@ index_mut-requires c =
     let long = c.self.inside.items.ok.0 in
     omega (arith, low, long)
 
-pub returns-then-eq-clause-told : goal.returns-then-eq-clause-told
-returns-then-eq-clause-told c = λ es tells.
-    tells_more c.args.me es c.args.entry.now c.self.inside.items.items _ c.number.result _ (own_place c.args.me c.args.entry.now c.self.inside.items.items _ c.number.result _ (subst (λ (xs : List (Option Proposal)). HasPlace c.args.me c.args.entry.now xs) (sym c.self.view_is) c.requires.room) (sym c.replica.ensures ∙ eqb-true c.replica.result c.args.me (sym c.eq.ensures ∙ c.if-eq.true)) c.number.ensures.value c.number.ensures.in_range.2 c.in-Some.ensures)
-    (sym c.replica.ensures ∙ eqb-true c.replica.result c.args.me (sym c.eq.ensures ∙ c.if-eq.true)) c.number.ensures.value c.number.ensures.in_range.2 c.in-Some.ensures (subst (λ (xs : List (Option Proposal)). HoldsProposals c.args.me es xs) (sym c.self.view_is) tells)
+pub returns-then-eq-clause-reported : goal.returns-then-eq-clause-reported
+returns-then-eq-clause-reported c = λ es reports.
+    reports_more c.args.me es c.args.entry.now c.self.inside.items.items _ c.number.result _ (own_place c.args.me c.args.entry.now c.self.inside.items.items _ c.number.result _ (subst (λ (xs : List (Option Proposal)). HasPlace c.args.me c.args.entry.now xs) (sym c.self.view_is) c.requires.room) (sym c.replica.ensures ∙ eqb-true c.replica.result c.args.me (sym c.eq.ensures ∙ c.if-eq.true)) c.number.ensures.value c.number.ensures.in_range.2 c.in-Some.ensures)
+    (sym c.replica.ensures ∙ eqb-true c.replica.result c.args.me (sym c.eq.ensures ∙ c.if-eq.true)) c.number.ensures.value c.number.ensures.in_range.2 c.in-Some.ensures (subst (λ (xs : List (Option Proposal)). HoldsProposals c.args.me es xs) (sym c.self.view_is) reports)
 
-pub returns-in_default-clause-told : goal.returns-in_default-clause-told
-returns-in_default-clause-told c = λ es tells. still_tells c.args.me es c.args.entry.now c.args.self.now (λ number limit. c.in_default.ensures (instance_of c.args.me number)) tells
+pub returns-in_default-clause-reported : goal.returns-in_default-clause-reported
+returns-in_default-clause-reported c = λ es reports. still_reports c.args.me es c.args.entry.now c.args.self.now (λ number limit. c.in_default.ensures (instance_of c.args.me number)) reports
 
-pub returns-else-eq-clause-told : goal.returns-else-eq-clause-told
-returns-else-eq-clause-told c = λ es tells.
-    others_tell c.args.me es c.args.entry.now c.args.self.now _ _ (λ same. eqb-false c.replica.result c.args.me (sym c.eq.ensures ∙ c.if-eq.false) (c.replica.ensures ∙ same)) c.in-Some.ensures tells
+pub returns-else-eq-clause-reported : goal.returns-else-eq-clause-reported
+returns-else-eq-clause-reported c = λ es reports.
+    others_report c.args.me es c.args.entry.now c.args.self.now _ _ (λ same. eqb-false c.replica.result c.args.me (sym c.eq.ensures ∙ c.if-eq.false) (c.replica.ensures ∙ same)) c.in-Some.ensures reports

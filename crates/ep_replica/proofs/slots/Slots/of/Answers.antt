@@ -13,4 +13,4 @@ loop-entry-preserved c =
     let es : List Entry = c.args.entries.now in
     let e : Entry = c.entry-item.result in
     let more : take (n + 1) es ≡ take n es ++ (e ∷ []) = take_more es n e c.loop-entry-test.true ∙ ap (λ (x : Entry). take n es ++ (x ∷ [])) (sym c.entry-item.is) in
-    subst (λ (xs : List Entry). HoldsProposals c.args.me xs c.note.new.self) (sym more) (c.note.ensures.told (take n es) (c.reserve.ensures.tells c.args.me (take n es) c.loop-entry.invariant))
+    subst (λ (xs : List Entry). HoldsProposals c.args.me xs c.note.new.self) (sym more) (c.note.ensures.reported (take n es) (c.reserve.ensures.reports c.args.me (take n es) c.loop-entry.invariant))

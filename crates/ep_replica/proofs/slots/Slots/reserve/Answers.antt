@@ -15,5 +15,5 @@ loop-preserved c =
       same = λ n. ap (λ (xs : List (Option Proposal)). found xs n) more ∙ pushed_none was n ∙ c.loop.invariant.same n;
     }
 
-pub returns-clause-tells : goal.returns-clause-tells
-returns-clause-tells c = λ me es tells number low. c.loop.invariant.same number ∙ tells number low
+pub returns-clause-reports : goal.returns-clause-reports
+returns-clause-reports c = λ me es reports number low. c.loop.invariant.same number ∙ reports number low

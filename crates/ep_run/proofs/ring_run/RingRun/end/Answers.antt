@@ -1,7 +1,7 @@
 use Rattle.std.proofs.Common.{List, subst, sym, refl, ◌∙◌}
-use Rattle.ep_host.specs.RingFinishing.{replicas_in, their_journals}
+use Rattle.ep_threads.specs.RingFinishing.{replicas_in, their_journals}
 use Rattle.ep_rules.specs.Verdicts.{AreOwn}
-use Rattle.ep_rules.specs.declared.receipt.Receipt.{Receipt as Told}
+use Rattle.ep_rules.specs.declared.receipt.Receipt.{Receipt as Reported}
 use Rattle.ep_run.proofs.Running.{of_own, version_is, opening_is}
 use Rattle.ep_run.proofs.Ending.{are_done}
 use Rattle.ep_run.proofs.ring_run.RingRun.end.Goals as goal
@@ -13,7 +13,7 @@ finish_with-requires c =
     let f = c.requires.0.faults in
     let h = c.requires.2 in
     let nodes = c.args.self.nodes.items in
-    (f, h.host, subst (λ (l : List Told). AreOwn (opens (first_opening (replicas_in nodes))) f (their_journals (replicas_in nodes)) l) (sym c.deref-3.ensures.value) (of_own f nodes c.args.self.receipts.items h.host h.own))
+    (f, h.host, subst (λ (l : List Reported). AreOwn (opens (first_opening (replicas_in nodes))) f (their_journals (replicas_in nodes)) l) (sym c.deref-3.ensures.value) (of_own f nodes c.args.self.receipts.items h.host h.own))
 
 pub returns-in-Ok-finish_with-clause-lines : goal.returns-in-Ok-finish_with-clause-lines
 returns-in-Ok-finish_with-clause-lines c = λ b turns h.

@@ -4,14 +4,14 @@ use Rattle.std.specs.Map.{keys_of, lookup}
 use Rattle.ep_rules.specs.Maps.{get}
 use Rattle.ep_space.specs.Entries.{flat, same}
 use Rattle.ep_space.proofs.Lookup.{contains-held, get-held, none_of}
-use Rattle.ep_space.proofs.Spots.{spot-told, has-spot}
+use Rattle.ep_space.proofs.Spots.{spot-reported, has-spot}
 use Rattle.ep_space.proofs.table.Table.has_place.Goals as goal
 
 pub returns-clause-value : goal.returns-clause-value
 returns-clause-value g c =
     let es = c.self.inside.entries.items in
     has-spot es c.args.id c.spot_of.result
-    (spot-told c.self.inside.spots.items c.deref.result.now (keys_of es) c.args.id c.spot_of.result c.self.invariant c.deref.ensures.value c.spot_of.ensures.in_range c.spot_of.ensures.value)
+    (spot-reported c.self.inside.spots.items c.deref.result.now (keys_of es) c.args.id c.spot_of.result c.self.invariant c.deref.ensures.value c.spot_of.ensures.in_range c.spot_of.ensures.value)
     ∙ sym (contains-held c.args.id es) ∙ ap (λ h. set.contains h.places c.args.id) c.self.view_is
 
 pub returns-clause-none : goal.returns-clause-none
@@ -24,5 +24,5 @@ returns-clause-none g c =
     (none_of (lookup (same c.args.id) es)
     (sym
     (has-spot es c.args.id c.spot_of.result
-    (spot-told c.self.inside.spots.items c.deref.result.now (keys_of es) c.args.id c.spot_of.result c.self.invariant c.deref.ensures.value c.spot_of.ensures.in_range c.spot_of.ensures.value))
+    (spot-reported c.self.inside.spots.items c.deref.result.now (keys_of es) c.args.id c.spot_of.result c.self.invariant c.deref.ensures.value c.spot_of.ensures.in_range c.spot_of.ensures.value))
     ∙ f))

@@ -6,14 +6,14 @@ use Rattle.ep_rules.specs.Maps.{get}
 use Rattle.ep_rules.specs.States.{with_held}
 use Rattle.ep_space.specs.Entries.{flat, held, same, AreSpots}
 use Rattle.ep_space.proofs.Lookup.{contains-held, get-held, held-set_value}
-use Rattle.ep_space.proofs.Spots.{spot-told, spot-there}
+use Rattle.ep_space.proofs.Spots.{spot-reported, spot-there}
 use Rattle.ep_space.proofs.table.Table.put_back.Goals as goal
 
 pub replace-requires-clause-there : goal.replace-requires-clause-there
 replace-requires-clause-there g c =
     let es = c.self.inside.entries.items in
     spot-there es c.args.id c.spot_of-spot.result
-    (spot-told c.self.inside.spots.items c.deref.result.now (keys_of es) c.args.id c.spot_of-spot.result c.self.invariant c.deref.ensures.value c.spot_of-spot.ensures.in_range c.spot_of-spot.ensures.value)
+    (spot-reported c.self.inside.spots.items c.deref.result.now (keys_of es) c.args.id c.spot_of-spot.result c.self.invariant c.deref.ensures.value c.spot_of-spot.ensures.in_range c.spot_of-spot.ensures.value)
     (sym (contains-held c.args.id es) ∙ ap (λ h. set.contains h.places c.args.id) c.self.view_is ∙ c.requires)
 
 pub invariant_of-self : goal.invariant_of-self

@@ -1,0 +1,31 @@
+use Rattle.std.proofs.Common.{[], Err, Ok, refl, ◌∙◌}
+use Rattle.ep_bundle.specs.Reading.{many}
+use Rattle.ep_bundle.specs.Stages.{one_reported}
+use Rattle.ep_bundle.proofs.Readings.{fails}
+use Rattle.ep_bundle.proofs.Compared.{fault_as, compares_on, comparing_begins, comparing_steps, comparing_fails, comparing_ends}
+use Rattle.ep_bundle.proofs.values.read_same_reported.Goals as goal
+
+pub returns-in_err-count-clause-bytes : goal.returns-in_err-count-clause-bytes
+returns-in_err-count-clause-bytes g c = λ y0 e0. fault_as c.args.values.now _ c.in_err-count.field-0.0 _ _ _ (fails _ (λ x l. many (one_reported c.args.version) x [] l) _ (Err c.in_err-count.field-0.0) _ _ _ _ (c.in_err-count.ensures.bytes y0 e0) refl) c.from_residual.ensures.1
+
+pub loop-index-init : goal.loop-index-init
+loop-index-init g c = record {
+  bytes = comparing_begins (one_reported c.args.version) c.in_ok-count.count c.args.values.now c.are_as_many-same.result _ _ c.are_as_many-same.ensures.yes c.are_as_many-same.ensures.other;
+  reported = refl;
+}
+
+pub returns-in_err-next-clause-bytes : goal.returns-in_err-next-clause-bytes
+returns-in_err-next-clause-bytes g c = λ y0 e0.
+    compares_on c.args.values.now _ (λ x l. many (one_reported c.args.version) x [] l) c.in_ok-count.count _ _ _ _ _ (c.in_ok-count.ensures.bytes y0 e0)
+    (λ y1 e1. comparing_fails _ _ _ _ _ c.in_err-next.field-0.0 _ _ _ _ _ _ _ c.loop-index-test.true c.loop-index.invariant.bytes (λ ys k. c.in_err-next.ensures.bytes ys k) c.from_residual-in_err-next.ensures.1 y1 e1)
+
+pub loop-index-preserved : goal.loop-index-preserved
+loop-index-preserved g c = record {
+  bytes = comparing_steps (one_reported c.args.version) c.in_ok-count.count c.loop-index.index c.args.values.now c.loop-index.same c.in_ok-next.next c.value_at-this.result.now _ _ _ _ _ _ _ c.value_at-this.ensures c.loop-index-test.true c.loop-index.invariant.bytes (λ ys k. c.in_ok-next.ensures.bytes ys k);
+  reported = c.in_ok-next.ensures.reported ∙ c.loop-index.invariant.reported;
+}
+
+pub returns-clause-bytes : goal.returns-clause-bytes
+returns-clause-bytes g c = λ y0 e0.
+    compares_on c.args.values.now _ (λ x l. many (one_reported c.args.version) x [] l) c.in_ok-count.count _ _ (Ok c.loop-index.same) c.loop-index.place (g.S.Source.left c.loop-index.source) (c.in_ok-count.ensures.bytes y0 e0)
+    (λ y1 e1. comparing_ends _ _ _ _ _ _ _ _ _ c.loop-index-test.false c.loop-index.invariant.bytes y1 e1)

@@ -1,0 +1,9 @@
+pub mod Faults
+pub mod Hosting
+pub mod Beginning
+pub mod Taking
+pub mod Asking
+pub mod Reporting
+pub mod Succeeding
+pub mod Bound
+pub mod Following

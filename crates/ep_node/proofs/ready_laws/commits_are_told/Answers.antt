@@ -1,5 +1,0 @@
-use Rattle.ep_node.proofs.Learnt.{commits_are_told_lem}
-use Rattle.ep_node.proofs.ready_laws.commits_are_told.Goals as goal
-
-pub returns : goal.returns
-returns c = commits_are_told_lem

@@ -1,8 +1,0 @@
-use Rattle.std.proofs.Common.{◌≡◌, ◌-◌, ◌++◌, List, None}
-use Rattle.ep_node.specs.Telling.{AreOpen}
-use Rattle.ep_node.specs.declared.open_instance.OpenInstance.{OpenInstance}
-use Rattle.ep_node.proofs.telling.open_in.Given as goal
-
--- whatever is told of the others completes the whole
-abbrev pub invariant-loop : goal.invariant-loop
-invariant-loop l = (rest : List OpenInstance) → AreOpen l.replica (l.most - l.counter) l.above rest → AreOpen l.replica l.most None (l.told.items ++ rest)
